@@ -1,0 +1,13 @@
+use Rattle.std.proofs.Common.{◌≡◌, true, sym, ◌∙◌, ap}
+use Rattle.std.specs.Char.{is_digit}
+use Rattle.pp_lexer.specs.Scan.{further}
+use Rattle.pp_lexer.proofs.ScanLemmas.{digit_taken, fewer_left}
+use Rattle.pp_lexer.proofs.lexer.number.scan.take_digits.Goals as goal
+
+pub digits-smaller : goal.digits-smaller
+digits-smaller c = fewer_left _ _ _ c.in-Some.ensures.value (c.take.ensures ∙ ap (further 1) c.peek.ensures.same)
+
+pub digits-preserved : goal.digits-preserved
+digits-preserved c =
+    let d : is_digit c.in-Some.c c.args.radix ≡ true = sym c.is_digit.ensures.value ∙ c.if-not-is_digit.false in
+    digit_taken (λ x. is_digit x c.args.radix) _ _ _ c.in-Some.ensures.value d (c.take.ensures ∙ ap (further 1) c.peek.ensures.same) ∙ c.digits.invariant

@@ -1,0 +1,9 @@
+use Rattle.pp_lexer.specs.Longest.{front_len}
+use Rattle.pp_lexer.specs.Numbers.{is_decimal, exponent, fraction}
+use Rattle.pp_lexer.specs.Scan.{upcoming}
+use Rattle.pp_lexer.proofs.NumbersLemmas.{fraction_len}
+use Rattle.pp_lexer.proofs.ScanLemmas.{then_takes}
+use Rattle.pp_lexer.proofs.lexer.number.scan.take_fraction.Goals as goal
+
+pub returns : goal.returns
+returns c = then_takes fraction exponent (front_len is_decimal (upcoming c.args.text.now)) _ _ _ (fraction_len _) c.take_digits.ensures c.take_exponent.ensures

@@ -1,0 +1,18 @@
+-- Laws of the items of a text.
+use Rattle.std.specs.Prelude.{ℕ, ◌+◌, ◌≤◌, List, Result, Ok, Err, All, length}
+use Rattle.std.specs.Str.{IsUtf8}
+use Rattle.pp_lexer.specs.Spots.{spots_of}
+use Rattle.pp_lexer.specs.Items.{Lexeme, items_of}
+
+-- a token lies in a source of that many bytes; an error has no place
+abbrev pub IsWithin : ℕ → Lexeme → Type 0
+IsWithin total (Ok t) = (t.location.start ≤ t.location.end) × (t.location.end ≤ total)
+IsWithin total (Err e) = Unit {0}
+
+-- Every token of a source has its start at most at its end, and its end in the source.
+abbrev pub TokensLieWithin : Type 0
+TokensLieWithin = (source : List ℕ) → IsUtf8 source → All (λ i. IsWithin (length source) i.item) (items_of (spots_of source))
+
+-- A source has at most as many items as bytes, and one.
+abbrev pub ItemsAreFinite : Type 0
+ItemsAreFinite = (source : List ℕ) → IsUtf8 source → length (items_of (spots_of source)) ≤ length source + 1

@@ -1,0 +1,109 @@
+-- The items of a text: its tokens and errors, each by the segments that stand before it (docs/RULES.md, Characters 6, Tokens 1, 7 and 8).
+-- Of the segments before a place the nearest comes first.
+use Rattle.std.specs.Prelude.{ℕ, Bool, true, false, ◌||◌, ◌&&◌, if◌then◌else◌, List, [], ◌∷◌, ◌++◌, reverse, Result, Ok, Err, count_by}
+use Rattle.std.specs.List.{flat_map}
+use Rattle.pp_lexer.specs.declared.token.Location.{Location}
+use Rattle.pp_lexer.specs.declared.token.PreprocessorError.{PreprocessorError}
+use Rattle.pp_lexer.specs.declared.lexer.item.Token.{Token}
+use Rattle.pp_lexer.specs.declared.lexer.item.TokenValue.{TokenValue}
+use Rattle.pp_lexer.specs.declared.lexer.item.TokenValue.TheVariants.{Hash, NewLine, Ident, Integer, Float, Punct}
+use Rattle.pp_lexer.specs.declared.lexer.char_iterator.Spot.{Spot}
+use Rattle.pp_lexer.specs.Location.{nowhere}
+use Rattle.pp_lexer.specs.Surroundings.{Surrounded, surrounded}
+use Rattle.pp_lexer.specs.Segments.{Kind, blank, comment, item, Segment, segments}
+
+-- a token, or an error with its place
+abbrev pub Lexeme : Type 0
+Lexeme = Result Token (PreprocessorError × Location)
+
+-- an item, and how many comments stand before it that were passed as blanks
+pub record Item : Type 0 where
+  pub item : Lexeme
+  pub comments : ℕ
+
+abbrev pub is_comment : Kind → Bool
+is_comment blank = false
+is_comment comment = true
+is_comment (item r) = false
+
+abbrev pub is_blank_or_comment : Kind → Bool
+is_blank_or_comment blank = true
+is_blank_or_comment comment = true
+is_blank_or_comment (item r) = false
+
+abbrev pub is_newline_value : TokenValue → Bool
+is_newline_value NewLine = true
+is_newline_value Hash = false
+is_newline_value (Ident t) = false
+is_newline_value (Integer n) = false
+is_newline_value (Float x) = false
+is_newline_value (Punct p) = false
+
+abbrev pub is_newline_result : Result TokenValue PreprocessorError → Bool
+is_newline_result (Ok v) = is_newline_value v
+is_newline_result (Err e) = false
+
+abbrev pub is_newline : Kind → Bool
+is_newline blank = false
+is_newline comment = false
+is_newline (item r) = is_newline_result r
+
+-- the nearest segment before is a blank or a newline, or there is none
+abbrev pub leading_whitespace : List Segment → Bool
+leading_whitespace [] = true
+leading_whitespace (g ∷ gs) = is_blank_or_comment g.kind || is_newline g.kind
+
+-- only blanks stand before, up to the nearest newline or the start of the text
+abbrev pub start_of_line : List Segment → Bool
+start_of_line [] = true
+start_of_line (g ∷ gs) = is_newline g.kind || (is_blank_or_comment g.kind && start_of_line gs)
+
+abbrev pub comments_in : List Segment → ℕ
+comments_in gs = count_by (λ g. is_comment g.kind) gs
+
+-- where the segment's token lies
+abbrev pub place_of : Segment → Location
+place_of g = record { start = g.first.begin; end = g.last.end; line = g.first.line }
+
+-- an error of the lexer has no place of its own
+abbrev pub lexeme : List Segment → Segment → Result TokenValue PreprocessorError → Lexeme
+lexeme before g (Ok v) = Ok (record {
+  value = v;
+  location = place_of g;
+  leading_whitespace = leading_whitespace before;
+  start_of_line = start_of_line before;
+})
+lexeme before g (Err e) = Err (e, nowhere)
+
+-- a blank is no item
+abbrev pub item_at : List Segment → Segment → Kind → List Item
+item_at before g blank = []
+item_at before g comment = []
+item_at before g (item r) = record { item = lexeme before g r; comments = comments_in before } ∷ []
+
+-- the newline that ends a last line which has none
+abbrev pub final_newline : List Segment → List Item
+final_newline [] = []
+final_newline (g ∷ gs) =
+    if start_of_line (g ∷ gs) then []
+    else record {
+      item = Ok (record {
+        value = NewLine;
+        location = record { start = g.last.end; end = g.last.end; line = g.last.line };
+        leading_whitespace = leading_whitespace (g ∷ gs);
+        start_of_line = false;
+      });
+      comments = comments_in (g ∷ gs);
+    } ∷ []
+
+-- the item of a segment, by what stands before it
+abbrev pub item_of : Surrounded Segment → List Item
+item_of s = item_at s.before s.here s.here.kind
+
+-- the items of a text, by its characters behind the phases: those of its segments, and that of its end
+abbrev pub items_of : List Spot → List Item
+items_of ss = flat_map item_of (surrounded (segments ss)) ++ final_newline (reverse (segments ss))
+
+-- how many comments were passed as blanks by the end of the text
+abbrev pub comments_of : List Spot → ℕ
+comments_of ss = comments_in (segments ss)

@@ -1,0 +1,70 @@
+-- What a lexer stands for, and what a call of `next` gives.
+use Rattle.std.specs.Prelude.{◌≡◌, ℕ, Bool, true, false, ◌⊎◌, IsTrue, nat_lt, List, [], ◌∷◌, map, Option, Some, None, Result, Ok, Err, MatchBool}
+use Rattle.pp_lexer.specs.declared.lexer.char_iterator.Spot.{Spot}
+use Rattle.pp_lexer.specs.LexerToken.{holds_memory}
+use Rattle.pp_lexer.specs.PreprocessorError.{out_of_memory}
+use Rattle.pp_lexer.specs.Items.{Lexeme, Item, items_of, comments_of}
+
+-- an item, and whether a comment stands before it that was passed as a blank
+pub record Seen : Type 0 where
+  pub item : Lexeme
+  pub had_comments : Bool
+
+-- the items to come, whether comments were passed so far and will have been at the end, and whether memory was refused
+pub record Lexed : Type 0 where
+  pub rest : List Seen
+  pub had_comments : Bool
+  pub at_end : Bool
+  pub spent : Bool
+
+abbrev pub seen : Item → Seen
+seen i = record { item = i.item; had_comments = nat_lt 0 i.comments }
+
+-- a lexer at the start of a text
+abbrev pub start_of : List Spot → Lexed
+start_of ss = record { rest = map seen (items_of ss); had_comments = false; at_end = nat_lt 0 (comments_of ss); spent = false }
+
+-- the first item to come
+abbrev pub first_item : List Seen → Option Lexeme
+first_item [] = None
+first_item (s ∷ ss) = Some s.item
+
+-- the items behind it
+abbrev pub behind_first_item : List Seen → List Seen
+behind_first_item [] = []
+behind_first_item (s ∷ ss) = ss
+
+-- whether comments stand before the first item, or before the end
+abbrev pub comments_before : List Seen → Bool → Bool
+comments_before [] at_end = at_end
+comments_before (s ∷ ss) at_end = s.had_comments
+
+-- the lexer once the first item is taken, or its end is met
+abbrev pub behind_first : Lexed → Lexed
+behind_first l = record l { rest = behind_first_item l.rest; had_comments = comments_before l.rest l.at_end }
+
+-- identifiers and floats are kept in memory, and nothing else is
+abbrev pub lexeme_takes_memory : Lexeme → Bool
+lexeme_takes_memory (Ok t) = holds_memory t.value
+lexeme_takes_memory (Err e) = false
+
+-- the first item to come takes memory; the end takes none
+abbrev pub first_takes_memory : List Seen → Bool
+first_takes_memory [] = false
+first_takes_memory (s ∷ ss) = lexeme_takes_memory s.item
+
+-- an item that takes memory was refused it, and the lexer gives nothing more
+pub record IsRefused (old : Lexed) (answer : Option Lexeme) (new : Lexed) : Type 0 where
+  pub takes_memory : IsTrue (first_takes_memory old.rest)
+  pub item : answer ≡ Some (Err out_of_memory)
+  pub comments : new.had_comments ≡ comments_before old.rest old.at_end
+  pub spent : new.spent ≡ true
+
+-- the first item to come, or the end
+pub record IsGiven (old : Lexed) (answer : Option Lexeme) (new : Lexed) : Type 0 where
+  pub item : answer ≡ first_item old.rest
+  pub state : new ≡ behind_first old
+
+-- one call of `next`: a spent lexer gives nothing and stays as it is
+abbrev pub IsNext : Lexed → Option Lexeme → Lexed → Type 0
+IsNext old answer new = MatchBool old.spent ((answer ≡ None) × (new ≡ old)) (IsRefused old answer new ⊎ IsGiven old answer new)

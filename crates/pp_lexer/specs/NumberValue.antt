@@ -1,0 +1,139 @@
+-- What a number is worth, by its spelling and the characters behind it: GLSL ES 3.20, sections 4.1.3 and 4.1.4. What the
+-- language's types can't hold, as 64-bit literals, is an error.
+use Rattle.std.specs.Prelude.{◌≡◌, ℕ, ◌+◌, ◌^◌, pos, Bool, not, ◌&&◌, ◌||◌, ◌==◌, true, false, nat_lt, ◌⊎◌, if◌then◌else◌, List, [], ◌∷◌, Option, Some, None, Result, Ok, Err, length, take, drop, map, filter}
+use Rattle.std.specs.List.{list_all, list_any}
+use Rattle.std.specs.Char.{is_digit}
+use Rattle.std.specs.Str.Parse.{digits_value_after}
+use Rattle.pp_lexer.specs.declared.token.PreprocessorError.{PreprocessorError}
+use Rattle.pp_lexer.specs.declared.token.PreprocessorError.TheVariants.{NotSupported64BitLiteral, NotSupported16BitLiteral, IntegerOverflow, FloatParsingError}
+use Rattle.pp_lexer.specs.declared.lexer.item.TokenValue.{TokenValue}
+use Rattle.pp_lexer.specs.declared.lexer.item.TokenValue.TheVariants.{Integer, Float}
+use Rattle.pp_lexer.specs.Longest.{longest}
+use Rattle.pp_lexer.specs.Numbers.{is_zero, is_x, is_point, is_e, is_sign, is_decimal, digits, is_number}
+use Rattle.pp_lexer.specs.Outcome.{Answer, Outcome}
+use Rattle.pp_lexer.specs.Spellings.{one, many, maybe, optional, begins_with, behind_first}
+
+-- the suffix letters, each also as a capital
+abbrev pub is_l : ℕ → Bool
+is_l c = (c == 108) || (c == 76)
+
+abbrev pub is_h : ℕ → Bool
+is_h c = (c == 104) || (c == 72)
+
+abbrev pub is_f : ℕ → Bool
+is_f c = (c == 102) || (c == 70)
+
+abbrev pub is_u : ℕ → Bool
+is_u c = (c == 117) || (c == 85)
+
+abbrev pub is_s : ℕ → Bool
+is_s c = (c == 115) || (c == 83)
+
+-- the letter of a width that is not supported, which is never taken: `l` for 64 bits, another for 16
+abbrev pub width_refusal : (ℕ → Bool) → List ℕ → Option PreprocessorError
+width_refusal is_short behind =
+    if begins_with is_l behind then Some NotSupported64BitLiteral else if begins_with is_short behind then Some NotSupported16BitLiteral else None
+
+-- such a letter is reported before any fault of the value
+abbrev pub unless_refused : Option PreprocessorError → Answer → Answer
+unless_refused None answer = answer
+unless_refused (Some fault) answer = Err fault
+
+-- the spelling begins with `0x`
+abbrev pub begins_hex : List ℕ → Bool
+begins_hex w = begins_with is_zero w && begins_with is_x (behind_first w)
+
+-- a digit follows a leading `0`
+abbrev pub begins_octal : List ℕ → Bool
+begins_octal w = begins_with is_zero w && begins_with is_decimal (behind_first w)
+
+-- a point, or outside of the `0x` form the `e` of an exponent
+abbrev pub is_float_mark : Bool → ℕ → Bool
+is_float_mark hex c = is_point c || (not hex && is_e c)
+
+abbrev pub is_float : List ℕ → Bool
+is_float w = list_any (is_float_mark (begins_hex w)) w
+
+-- Floats
+
+abbrev pub small_e : ℕ → ℕ
+small_e c = if is_e c then 101 else c
+
+-- the number without its `x`, and with a small `e`
+abbrev pub float_text : List ℕ → List ℕ
+float_text w = map small_e (filter (λ c. not (is_x c)) w)
+
+abbrev pub is_small_e : ℕ → Bool
+is_small_e c = c == 101
+
+-- [+-]?D+
+abbrev pub float_power : List ℕ → Bool
+float_power = maybe is_sign (one is_decimal digits)
+
+-- (e[+-]?D+)?
+abbrev pub float_exponent : List ℕ → Bool
+float_exponent = optional (one is_small_e float_power)
+
+-- (.D*)?(e[+-]?D+)?
+abbrev pub float_tail : List ℕ → Bool
+float_tail cs = float_exponent cs || one is_point (many is_decimal float_exponent) cs
+
+-- D+(.D*)?(e[+-]?D+)? or .D+(e[+-]?D+)?
+abbrev pub is_float_text : List ℕ → Bool
+is_float_text cs = one is_decimal (many is_decimal float_tail) cs || one is_point (one is_decimal (many is_decimal float_exponent)) cs
+
+abbrev pub float_value : List ℕ → Answer
+float_value w = if is_float_text (float_text w) then Ok (Float (record { text = float_text w; width = pos 32 })) else Err FloatParsingError
+
+-- an `f` behind a float is taken
+abbrev pub float_suffix_len : List ℕ → ℕ
+float_suffix_len behind = if begins_with is_f behind then 1 else 0
+
+abbrev pub float_outcome : List ℕ → List ℕ → Outcome
+float_outcome w behind = record {
+  value = unless_refused (width_refusal is_h behind) (float_value w);
+  taken = length w + float_suffix_len behind;
+}
+
+-- Integers
+
+abbrev pub base_of : List ℕ → ℕ
+base_of w = if begins_hex w then 16 else if begins_octal w then 8 else 10
+
+-- the characters that have to be digits of the base
+abbrev pub digits_of : List ℕ → List ℕ
+digits_of w = if begins_hex w then drop 2 w else w
+
+-- what the digits write when they follow those of n, where all are digits of the base and it is below 2^64
+abbrev pub whole_after : ℕ → ℕ → List ℕ → Option ℕ
+whole_after base n ds =
+    if list_all (λ c. is_digit c base) ds && nat_lt (digits_value_after base n ds) (2 ^ 64) then Some (digits_value_after base n ds) else None
+
+-- the same of one digit or more
+abbrev pub whole : ℕ → List ℕ → Option ℕ
+whole base [] = None
+whole base (c ∷ cs) = whole_after base 0 (c ∷ cs)
+
+abbrev pub integer_of : Bool → Option ℕ → Answer
+integer_of signed None = Err IntegerOverflow
+integer_of signed (Some n) = Ok (Integer (record { value = n; signed = signed; width = pos 32 }))
+
+abbrev pub integer_value : Bool → List ℕ → Answer
+integer_value signed w = integer_of signed (whole (base_of w) (digits_of w))
+
+-- a `u` behind an integer is taken and makes it unsigned
+abbrev pub unsigned_suffix_len : List ℕ → ℕ
+unsigned_suffix_len behind = if begins_with is_u behind then 1 else 0
+
+abbrev pub integer_outcome : List ℕ → List ℕ → Outcome
+integer_outcome w behind = record {
+  value = unless_refused (width_refusal is_s (drop (unsigned_suffix_len behind) behind)) (integer_value (not (begins_with is_u behind)) w);
+  taken = length w + unsigned_suffix_len behind;
+}
+
+abbrev pub number_outcome : List ℕ → List ℕ → Outcome
+number_outcome w behind = if is_float w then float_outcome w behind else integer_outcome w behind
+
+-- the longest number here, with what stands behind it
+unfoldable pub number_at : List ℕ → Outcome
+number_at cs = number_outcome (take (longest is_number cs) cs) (drop (longest is_number cs) cs)

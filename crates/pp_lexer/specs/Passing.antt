@@ -1,0 +1,82 @@
+-- A lexer in the midst of a text: what it has passed, as far as the items to come depend on it.
+use Rattle.std.specs.Prelude.{◌≡◌, Bool, true, false, ◌||◌, ◌⊎◌, IsTrue, IsErr, if◌then◌else◌, List, [], ◌∷◌, ◌++◌, Option, Result, Ok, Err}
+use Rattle.std.specs.List.{list_any}
+use Rattle.std.specs.declared.alloc.AllocError.{AllocError}
+use Rattle.pp_lexer.specs.declared.token.PreprocessorError.{PreprocessorError}
+use Rattle.pp_lexer.specs.declared.lexer.item.TokenValue.{TokenValue}
+use Rattle.pp_lexer.specs.declared.lexer.item.TokenValue.TheVariants.{NewLine}
+use Rattle.pp_lexer.specs.declared.lexer.char_iterator.Spot.{Spot}
+use Rattle.pp_lexer.specs.declared.lexer.Flags.{Flags}
+use Rattle.pp_lexer.specs.LexerToken.{holds_memory}
+use Rattle.pp_lexer.specs.Location.{nowhere}
+use Rattle.pp_lexer.specs.Reading.{Reading, letters, advanced}
+use Rattle.pp_lexer.specs.Words.{word_at}
+use Rattle.pp_lexer.specs.Segments.{Kind, blank, comment, item, Segment, segments}
+use Rattle.pp_lexer.specs.Items.{Lexeme, is_comment, is_newline_result}
+use Rattle.pp_lexer.specs.Lexed.{Seen, Lexed, first_item, behind_first_item, comments_before, first_takes_memory}
+
+-- the flags behind a segment
+abbrev pub passed : Flags → Kind → Flags
+passed f blank = record { leading_whitespace = true; start_of_line = f.start_of_line; had_comments = f.had_comments }
+passed f comment = record { leading_whitespace = true; start_of_line = f.start_of_line; had_comments = true }
+passed f (item r) = record { leading_whitespace = is_newline_result r; start_of_line = is_newline_result r; had_comments = f.had_comments }
+
+abbrev pub lexeme_seen : Flags → Spot → Spot → Result TokenValue PreprocessorError → Lexeme
+lexeme_seen f first last (Ok v) = Ok (record {
+  value = v;
+  location = record { start = first.begin; end = last.end; line = first.line };
+  leading_whitespace = f.leading_whitespace;
+  start_of_line = f.start_of_line;
+})
+lexeme_seen f first last (Err e) = Err (e, nowhere)
+
+abbrev pub item_seen : Flags → Segment → Kind → List Seen
+item_seen f g blank = []
+item_seen f g comment = []
+item_seen f g (item r) = record { item = lexeme_seen f g.first g.last r; had_comments = f.had_comments } ∷ []
+
+abbrev pub newline_seen : Flags → Spot → List Seen
+newline_seen f last =
+    if f.start_of_line then []
+    else record {
+      item = Ok (record {
+        value = NewLine;
+        location = record { start = last.end; end = last.end; line = last.line };
+        leading_whitespace = f.leading_whitespace;
+        start_of_line = false;
+      });
+      had_comments = f.had_comments;
+    } ∷ []
+
+-- the items of the segments, behind this character
+abbrev pub seen_from : Flags → Spot → List Segment → List Seen
+seen_from f last [] = newline_seen f last
+seen_from f last (g ∷ gs) = item_seen f g g.kind ++ seen_from (passed f g.kind) g.last gs
+
+-- the items to come
+abbrev pub seen_of : Flags → Reading → List Seen
+seen_of f r = seen_from f r.last (segments r.rest)
+
+-- whether comments will have been passed at the end
+abbrev pub comments_at_end : Flags → Reading → Bool
+comments_at_end f r = f.had_comments || list_any (λ g. is_comment g.kind) (segments r.rest)
+
+-- a lexer in the midst of a text
+abbrev pub lexed : Flags → Reading → Bool → Lexed
+lexed f r spent = record { rest = seen_of f r; had_comments = f.had_comments; at_end = comments_at_end f r; spent = spent }
+
+-- memory was refused, where the first item needs it
+pub record IsLexRefused (f : Flags) (r : Reading) (g : Flags) (answer : Result (Option Lexeme) AllocError) : Type 0 where
+  pub value : IsErr answer
+  pub needed : IsTrue (first_takes_memory (seen_of f r))
+  pub comments : g.had_comments ≡ comments_before (seen_of f r) (comments_at_end f r)
+
+-- the first item was taken, or the end was met
+pub record IsLexTaken (f : Flags) (r : Reading) (g : Flags) (q : Reading) (answer : Result (Option Lexeme) AllocError) : Type 0 where
+  pub value : answer ≡ Ok (first_item (seen_of f r))
+  pub rest : seen_of g q ≡ behind_first_item (seen_of f r)
+  pub comments : g.had_comments ≡ comments_before (seen_of f r) (comments_at_end f r)
+  pub at_end : comments_at_end g q ≡ comments_at_end f r
+
+abbrev pub IsLexed : Flags → Reading → Result (Option Lexeme) AllocError → Flags → Reading → Type 0
+IsLexed f r answer g q = IsLexRefused f r g answer ⊎ IsLexTaken f r g q answer

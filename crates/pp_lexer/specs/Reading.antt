@@ -1,0 +1,63 @@
+-- What the reader of characters stands for.
+use Rattle.std.specs.Prelude.{ℕ, zero, suc, Bool, ◌+◌, if◌then◌else◌, List, [], ◌∷◌, Option, Some, None}
+use Rattle.std.specs.Char.{len_utf8}
+use Rattle.pp_lexer.specs.Cursor.{Placed}
+use Rattle.pp_lexer.specs.declared.lexer.char_iterator.Spot.{Spot}
+
+-- the characters to come, and the one taken last
+pub record Reading : Type 0 where
+  pub rest : List Spot
+  pub last : Spot
+
+-- the characters with where they begin, where the first one begins here
+abbrev pub spots : ℕ → List Placed → List Spot
+spots at [] = []
+spots at (p ∷ ps) = record { c = p.char; line = p.line; begin = at; end = at + len_utf8 p.char } ∷ spots p.end ps
+
+abbrev pub ahead : Option Spot → List Spot → List Spot
+ahead None ss = ss
+ahead (Some s) ss = s ∷ ss
+
+abbrev pub first_of : List Spot → Option Spot
+first_of [] = None
+first_of (s ∷ ss) = Some s
+
+abbrev pub behind_first : List Spot → List Spot
+behind_first [] = []
+behind_first (s ∷ ss) = ss
+
+abbrev pub first_char : Reading → Option Spot
+first_char r = first_of r.rest
+
+abbrev pub past : List Spot → Spot → Reading
+past [] last = record { rest = []; last = last }
+past (s ∷ ss) last = record { rest = ss; last = s }
+
+abbrev pub after_first : Reading → Reading
+after_first r = past r.rest r.last
+
+-- the characters alone
+abbrev pub letters : List Spot → List ℕ
+letters [] = []
+letters (s ∷ ss) = s.c ∷ letters ss
+
+-- the longest front of characters that pass, and the reader behind it
+abbrev pub front_while : (ℕ → Bool) → List Spot → List ℕ
+front_while p [] = []
+front_while p (s ∷ ss) = if p s.c then s.c ∷ front_while p ss else []
+
+abbrev pub past_while_of : (ℕ → Bool) → List Spot → Spot → Reading
+past_while_of p [] last = record { rest = []; last = last }
+past_while_of p (s ∷ ss) last = if p s.c then past_while_of p ss s else record { rest = s ∷ ss; last = last }
+
+abbrev pub past_while : (ℕ → Bool) → Reading → Reading
+past_while p r = past_while_of p r.rest r.last
+
+-- the reader that many characters further on
+abbrev pub advanced_of : ℕ → List Spot → Spot → Reading
+advanced_of n [] last = record { rest = []; last = last }
+advanced_of zero (s ∷ ss) last = record { rest = s ∷ ss; last = last }
+advanced_of (suc n) (s ∷ ss) last = advanced_of n ss s
+
+abbrev pub advanced : ℕ → Reading → Reading
+advanced n r = advanced_of n r.rest r.last

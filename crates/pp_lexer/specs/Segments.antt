@@ -1,0 +1,48 @@
+-- The text cut into segments, from the left: blanks, tokens, and characters that begin no token (GLSL ES 3.20, section 3.10, phase 7, and docs/RULES.md, Tokens 1, 2 and 6).
+use Rattle.std.specs.Prelude.{◌≡◌, ℕ, zero, suc, Bool, true, false, ◌||◌, ◌==◌, if◌then◌else◌, List, [], ◌∷◌, Result, Ok, Err, length, take, drop}
+use Rattle.pp_lexer.specs.declared.token.PreprocessorError.{PreprocessorError}
+use Rattle.pp_lexer.specs.declared.lexer.item.TokenValue.{TokenValue}
+use Rattle.pp_lexer.specs.declared.lexer.char_iterator.Spot.{Spot}
+use Rattle.pp_lexer.specs.Reading.{letters}
+use Rattle.pp_lexer.specs.Words.{is_blank, word_at}
+
+-- a carriage return, which stands for a comment: behind the phases no other is left
+abbrev pub is_mark : ℕ → Bool
+is_mark c = c == 13
+
+pub data Kind : Type 0 where
+  blank : Kind
+  comment : Kind
+  item : Result TokenValue PreprocessorError → Kind
+
+-- what the segment is, its first character and its last one
+pub record Segment : Type 0 where
+  pub kind : Kind
+  pub first : Spot
+  pub last : Spot
+
+-- the last of the characters, which stand behind this one
+abbrev pub last_of : Spot → List Spot → Spot
+last_of s [] = s
+last_of s (t ∷ ts) = last_of t ts
+
+-- a blank is a segment alone
+abbrev pub kind_of : Spot → List Spot → Kind
+kind_of s ss = if is_blank s.c then (if is_mark s.c then comment else blank) else item (word_at (letters (s ∷ ss))).value
+
+abbrev pub taken_by : Spot → List Spot → ℕ
+taken_by s ss = if is_blank s.c then 1 else (word_at (letters (s ∷ ss))).taken
+
+-- the segment at the front of the characters
+abbrev pub segment_at : Spot → List Spot → Segment
+segment_at s ss = record { kind = kind_of s ss; first = s; last = last_of s (take (taken_by s ss) (s ∷ ss)) }
+
+-- the first segment, and the segments of what stands behind it: at most this many
+abbrev pub segments_within : ℕ → List Spot → List Segment
+segments_within zero ss = []
+segments_within (suc n) [] = []
+segments_within (suc n) (s ∷ ss) = segment_at s ss ∷ segments_within n (drop (taken_by s ss) (s ∷ ss))
+
+-- no text has more segments than characters
+unfoldable pub segments : List Spot → List Segment
+segments ss = segments_within (length ss) ss

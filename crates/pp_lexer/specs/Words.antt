@@ -1,0 +1,37 @@
+-- The words of a source, behind the phases: GLSL ES 3.20, sections 3.4 to 3.8.
+use Rattle.std.specs.Prelude.{ℕ, Bool, ◌||◌, ◌==◌, if◌then◌else◌, List, Ok, length, take, drop}
+use Rattle.pp_lexer.specs.declared.lexer.item.TokenValue.TheVariants.{NewLine, Ident}
+use Rattle.pp_lexer.specs.Identifiers.{is_identifier}
+use Rattle.pp_lexer.specs.Longest.{longest}
+use Rattle.pp_lexer.specs.Numbers.{is_number}
+use Rattle.pp_lexer.specs.NumberValue.{number_outcome}
+use Rattle.pp_lexer.specs.Outcome.{Outcome}
+use Rattle.pp_lexer.specs.Punctuators.{is_punctuation, punctuation_value, punctuation_outcome}
+use Rattle.pp_lexer.specs.Spellings.{nothing, one}
+
+-- what stands between words: space, tab, vertical tab, form feed, and the carriage return that marks a comment
+abbrev pub is_blank : ℕ → Bool
+is_blank c = (c == 32) || ((c == 9) || ((c == 11) || ((c == 12) || (c == 13))))
+
+abbrev pub is_line_end : ℕ → Bool
+is_line_end c = c == 10
+
+-- a newline alone
+unfoldable pub is_newline_word : List ℕ → Bool
+is_newline_word = one is_line_end nothing
+
+-- a newline, an identifier, a number, or a punctuator or `#`
+unfoldable pub is_word : List ℕ → Bool
+is_word w = is_newline_word w || (is_identifier w || (is_number w || is_punctuation w))
+
+-- what a word is worth, with what stands behind it; no word at all is a bad character
+abbrev pub word_outcome : List ℕ → List ℕ → Outcome
+word_outcome w behind =
+    if is_newline_word w then record { value = Ok NewLine; taken = 1 }
+    else if is_identifier w then record { value = Ok (Ident w); taken = length w }
+    else if is_number w then number_outcome w behind
+    else punctuation_outcome (length w) (punctuation_value w)
+
+-- what stands at a place that holds no blank: the longest word, or a bad character
+unfoldable pub word_at : List ℕ → Outcome
+word_at cs = word_outcome (take (longest is_word cs) cs) (drop (longest is_word cs) cs)

@@ -1,0 +1,216 @@
+//! The character phases and the tokens.
+
+ghost use Rattle.std.specs.Prelude.{◌≡◌, ◌-◌, ◌^◌, ◌<◌, ◌+◌, ◌⊎◌, length, false, if◌then◌else◌, ⊤, MatchOption};
+ghost use Rattle.std.specs.Iterator.{at_most};
+ghost use Rattle.pp_lexer.specs.Reading.{first_char};
+ghost use Rattle.pp_lexer.specs.Spots.{spots_of};
+ghost use Rattle.pp_lexer.specs.Segments.{is_mark};
+ghost use Rattle.pp_lexer.specs.Words.{is_blank};
+ghost use Rattle.pp_lexer.specs.Lexed.{start_of, first_item, behind_first_item, IsNext};
+ghost use Rattle.pp_lexer.specs.Items.{is_newline_result};
+ghost use Rattle.pp_lexer.specs.Passing.{seen_of, newline_seen, lexeme_seen, comments_at_end, IsLexed};
+
+use crate::token::{Location, NOWHERE, PreprocessorError, out_of_memory};
+use std::alloc::{AllocError, Global};
+use std::marker::Model;
+
+mod char_iterator;
+mod chars_and_line;
+mod identifier;
+mod item;
+pub mod laws;
+mod look_ahead;
+mod number;
+mod punctuation;
+mod replace_comments;
+mod skip_backslash_newline;
+mod word;
+
+pub use char_iterator::{LexerCharIterator, NONE_CONSUMED_SENTINEL_VALUE, Spot};
+pub use chars_and_line::CharsAndLine;
+pub use item::{LexerItem, Token, TokenValue};
+pub use replace_comments::{COMMENT_SENTINEL_VALUE, ReplaceComments};
+pub use skip_backslash_newline::SkipBackslashNewline;
+use word::parse_word;
+
+// What the flags of the next token will be, and whether a comment was passed.
+#[derive(Clone, Copy)]
+struct Flags {
+    leading_whitespace: bool,
+    start_of_line: bool,
+    had_comments: bool,
+}
+
+// Whether the character stands between tokens.
+fn is_blank_char(c: char) -> bool
+    ensures { result ≡ is_blank c }
+{
+    c == ' ' || c == '\t' || c == '\x0b' || c == '\x0c' || c == COMMENT_SENTINEL_VALUE
+}
+
+// Passes the blanks before the next item.
+fn skip_blanks(inner: &mut LexerCharIterator<'_>, flags: &mut Flags)
+    ensures same { seen_of flags.new inner.new ≡ seen_of flags.old inner.old }
+    ensures at_end { comments_at_end flags.new inner.new ≡ comments_at_end flags.old inner.old }
+    ensures stops { MatchOption (first_char inner.new) ⊤ (λ s. is_blank s.c ≡ false) }
+{
+    'blanks: loop {
+        let Some(c) = inner.peek_char() else {
+            return;
+        };
+        if !is_blank_char(c) {
+            return;
+        }
+        inner.next_char();
+        flags.leading_whitespace = true;
+        flags.had_comments |= c == COMMENT_SENTINEL_VALUE;
+    }
+}
+
+// The newline that ends a last line which has none.
+fn final_newline(last: Spot, flags: &mut Flags) -> Option<LexerItem>
+    ensures value { result ≡ first_item (newline_seen flags.old last) }
+    ensures rest { newline_seen flags.new last ≡ behind_first_item (newline_seen flags.old last) }
+    ensures comments { flags.new.had_comments ≡ flags.old.had_comments }
+{
+    if flags.start_of_line {
+        return None;
+    }
+    flags.start_of_line = true;
+    Some(Ok(Token {
+        value: TokenValue::NewLine,
+        location: Location {
+            start: last.end,
+            end: last.end,
+            line: last.line,
+        },
+        leading_whitespace: flags.leading_whitespace,
+        start_of_line: false,
+    }))
+}
+
+// Whether the next item stands at the start of a line.
+fn ends_line(value: &Result<TokenValue, PreprocessorError>) -> bool
+    ensures { result ≡ is_newline_result value.now }
+{
+    match value {
+        Ok(TokenValue::NewLine) => true,
+        _ => false,
+    }
+}
+
+// The item of this value, which begins at `first`.
+fn item_of(
+    value: Result<TokenValue, PreprocessorError>,
+    flags: Flags,
+    first: Spot,
+    last: Spot,
+) -> LexerItem
+    ensures { result ≡ lexeme_seen flags first last value }
+{
+    let value = match value {
+        Ok(value) => value,
+        Err(error) => return Err((error, NOWHERE)),
+    };
+    Ok(Token {
+        value,
+        location: Location {
+            start: first.begin,
+            end: last.end,
+            line: first.line,
+        },
+        leading_whitespace: flags.leading_whitespace,
+        start_of_line: flags.start_of_line,
+    })
+}
+
+// The next item, or none at the end.
+fn lex(
+    alloc: Global,
+    inner: &mut LexerCharIterator<'_>,
+    flags: &mut Flags,
+) -> Result<Option<LexerItem>, AllocError>
+    ensures { IsLexed flags.old inner.old result flags.new inner.new }
+{
+    skip_blanks(inner, flags);
+    let Some(first) = inner.peek_spot() else {
+        return Ok(final_newline(inner.last_consumed(), flags));
+    };
+    let value = parse_word(alloc, inner)?;
+    let before = *flags;
+    let at_line_end = ends_line(&value);
+    flags.leading_whitespace = at_line_end;
+    flags.start_of_line = at_line_end;
+    Ok(Some(item_of(value, before, first, inner.last_consumed())))
+}
+
+/// The tokens of a text, one a call of `next`.
+#[derive(Drop)]
+pub struct Lexer<'a> {
+    alloc: Global,
+    inner: LexerCharIterator<'a>,
+    flags: Flags,
+    spent: bool,
+}
+
+impl<'a> Model for Lexer<'a> {
+    ghost use Rattle.pp_lexer.specs.Lexed.{Lexed};
+
+    ghost Value = { Lexed };
+
+    ghost use Rattle.pp_lexer.specs.Passing.{lexed};
+
+    ghost view = { λ s. lexed s.flags s.inner s.spent };
+}
+
+impl<'a> Lexer<'a> {
+    /// A lexer at the start of the text.
+    pub fn new(alloc: Global, input: &'a str) -> Lexer<'a>
+        requires { length input.now < 2 ^ 32 - 1 }
+        ensures { result ≡ start_of (spots_of input.now) }
+    {
+        Lexer {
+            alloc,
+            inner: LexerCharIterator::new(input),
+            flags: Flags {
+                leading_whitespace: true,
+                start_of_line: true,
+                had_comments: false,
+            },
+            spent: false,
+        }
+    }
+
+    /// Whether a comment has been passed as a blank so far.
+    pub fn had_comments(&self) -> bool
+        ensures { result ≡ self.now.had_comments }
+    {
+        self.flags.had_comments
+    }
+
+    // The next item.
+    fn next_item(&mut self) -> Option<LexerItem>
+        ensures { IsNext self.old result self.new }
+    {
+        if self.spent {
+            return None;
+        }
+        let Ok(item) = lex(self.alloc, &mut self.inner, &mut self.flags) else {
+            self.spent = true;
+            return Some(Err(out_of_memory()));
+        };
+        item
+    }
+}
+
+impl<'a> Iterator for Lexer<'a> {
+    type Item = LexerItem;
+
+    ghost next_gives = { IsNext };
+
+    ghost remaining = { λ s. at_most (if s.spent then 0 else length s.rest + 1) };
+
+    fn next(&mut self) -> Option<LexerItem> {
+        self.next_item()
+    }
+}

@@ -1,0 +1,42 @@
+//! The word that stands at a place.
+
+ghost use Rattle.std.specs.Prelude.{◌≡◌, OnOk};
+ghost use Rattle.pp_lexer.specs.Outcome.{IsGiven};
+ghost use Rattle.pp_lexer.specs.Reading.{letters, advanced};
+ghost use Rattle.pp_lexer.specs.Words.{word_at};
+
+use crate::lexer::char_iterator::LexerCharIterator;
+use crate::lexer::identifier::parse_identifier;
+use crate::lexer::item::TokenValue;
+use crate::lexer::look_ahead::{begins_identifier, begins_number, is_next};
+use crate::lexer::number::parse_number;
+use crate::lexer::punctuation::parse_punctuation;
+use crate::token::PreprocessorError;
+use std::alloc::{AllocError, Global};
+
+/// Takes the longest word here, with the suffix of a number: a newline, an identifier, a number, a punctuator or a `#`.
+/// Any other character is [`PreprocessorError::UnexpectedCharacter`], which takes it and up to two more. The errors of
+/// numbers are those of [`parse_number`].
+///
+/// The outer error is that memory was refused. It comes only in place of an identifier or of a float, and then some of
+/// the characters of an identifier may be taken.
+pub fn parse_word(
+    alloc: Global,
+    inner: &mut LexerCharIterator<'_>,
+) -> Result<Result<TokenValue, PreprocessorError>, AllocError>
+    ensures value { IsGiven result (word_at (letters inner.old.rest)).value }
+    ensures state { OnOk result (inner.new ≡ advanced (word_at (letters inner.old.rest)).taken inner.old) }
+{
+    if is_next(inner, '\n') {
+        inner.next_char();
+        return Ok(Ok(TokenValue::NewLine));
+    }
+    if begins_identifier(inner) {
+        let name = parse_identifier(alloc, inner)?;
+        return Ok(Ok(TokenValue::Ident(name)));
+    }
+    if begins_number(inner) {
+        return parse_number(alloc, inner);
+    }
+    Ok(parse_punctuation(inner))
+}

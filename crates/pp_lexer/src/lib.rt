@@ -1,0 +1,5 @@
+//! Tokens of GLSL source, with their places.
+#![tactic(auto)]
+
+pub mod lexer;
+pub mod token;

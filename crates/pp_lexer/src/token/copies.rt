@@ -1,0 +1,201 @@
+//! Copies of tokens and of errors. A copy takes memory, so it may be refused.
+
+ghost use Rattle.std.specs.Prelude.{◌≡◌, false, IfOk, IsOk, MatchResult};
+ghost use Rattle.pp_lexer.specs.PreprocessorError.{out_of_memory, error_holds_memory};
+ghost use Rattle.pp_lexer.specs.TokenValue.{holds_memory};
+
+use crate::token::{
+    Extension, Float, Location, Pragma, PreprocessorError, Token, TokenValue, Tokens, Version,
+    refused,
+};
+use std::alloc::{AllocError, Global};
+
+impl Float {
+    /// A copy. Its one error is `OutOfMemory`, by `out_of_memory`.
+    pub fn clone(&self, alloc: Global) -> Result<Self, (PreprocessorError, Location)>
+        ensures { MatchResult result (λ copy. copy ≡ self.now) (λ error. error ≡ out_of_memory) }
+    {
+        self.try_clone(alloc).map_err(refused)
+    }
+
+    pub(crate) fn try_clone(&self, alloc: Global) -> Result<Self, AllocError>
+        ensures { IfOk result (λ copy. copy ≡ self.now) }
+    {
+        Ok(Float {
+            text: self.text.try_clone(alloc)?,
+            width: self.width,
+        })
+    }
+}
+
+impl Tokens {
+    /// A copy. Its error is that memory was refused.
+    #[cycle(copy)]
+    pub fn try_clone(&self, alloc: Global) -> Result<Self, AllocError>
+        ensures { IfOk result (λ copy. copy ≡ self.now) }
+    {
+        Ok(Tokens {
+            items: copy_items(alloc, &self.items)?,
+        })
+    }
+}
+
+#[cycle(copy)]
+fn copy_items(alloc: Global, items: &Vec<Token>) -> Result<Vec<Token>, AllocError>
+    ensures { IfOk result (λ copy. copy.items ≡ items.now.items) }
+{
+    let mut copies = Vec::new(alloc);
+    for item in items {
+        copies.push(item.try_clone(alloc)?)?;
+    }
+    Ok(copies)
+}
+
+impl Version {
+    /// A copy. Its one error is `OutOfMemory`, by `out_of_memory`.
+    pub fn clone(&self, alloc: Global) -> Result<Self, (PreprocessorError, Location)>
+        ensures { MatchResult result (λ copy. copy ≡ self.now) (λ error. error ≡ out_of_memory) }
+    {
+        self.try_clone(alloc).map_err(refused)
+    }
+
+    #[cycle(copy)]
+    fn try_clone(&self, alloc: Global) -> Result<Self, AllocError>
+        ensures { IfOk result (λ copy. copy ≡ self.now) }
+    {
+        Ok(Version {
+            tokens: self.tokens.try_clone(alloc)?,
+            is_first_directive: self.is_first_directive,
+            has_comments_before: self.has_comments_before,
+        })
+    }
+}
+
+impl Extension {
+    /// A copy. Its one error is `OutOfMemory`, by `out_of_memory`.
+    pub fn clone(&self, alloc: Global) -> Result<Self, (PreprocessorError, Location)>
+        ensures { MatchResult result (λ copy. copy ≡ self.now) (λ error. error ≡ out_of_memory) }
+    {
+        self.try_clone(alloc).map_err(refused)
+    }
+
+    #[cycle(copy)]
+    fn try_clone(&self, alloc: Global) -> Result<Self, AllocError>
+        ensures { IfOk result (λ copy. copy ≡ self.now) }
+    {
+        Ok(Extension {
+            tokens: self.tokens.try_clone(alloc)?,
+            has_non_directive_before: self.has_non_directive_before,
+        })
+    }
+}
+
+impl Pragma {
+    /// A copy. Its one error is `OutOfMemory`, by `out_of_memory`.
+    pub fn clone(&self, alloc: Global) -> Result<Self, (PreprocessorError, Location)>
+        ensures { MatchResult result (λ copy. copy ≡ self.now) (λ error. error ≡ out_of_memory) }
+    {
+        self.try_clone(alloc).map_err(refused)
+    }
+
+    #[cycle(copy)]
+    fn try_clone(&self, alloc: Global) -> Result<Self, AllocError>
+        ensures { IfOk result (λ copy. copy ≡ self.now) }
+    {
+        Ok(Pragma {
+            tokens: self.tokens.try_clone(alloc)?,
+        })
+    }
+}
+
+impl TokenValue {
+    /// A copy. Its one error is `OutOfMemory`, by `out_of_memory`, which an integer or a
+    /// punctuator never gives.
+    pub fn clone(&self, alloc: Global) -> Result<Self, (PreprocessorError, Location)>
+        ensures copied { MatchResult result (λ copy. copy ≡ self.now) (λ error. error ≡ out_of_memory) }
+        ensures without_memory { holds_memory self.now ≡ false → IsOk result }
+    {
+        self.try_clone(alloc).map_err(refused)
+    }
+
+    #[cycle(copy)]
+    fn try_clone(&self, alloc: Global) -> Result<Self, AllocError>
+        ensures copied { IfOk result (λ copy. copy ≡ self.now) }
+        ensures without_memory { holds_memory self.now ≡ false → IsOk result }
+    {
+        Ok(match self {
+            TokenValue::Ident(text) => TokenValue::Ident(text.try_clone(alloc)?),
+            TokenValue::Integer(integer) => TokenValue::Integer(*integer),
+            TokenValue::Float(float) => TokenValue::Float(float.try_clone(alloc)?),
+            TokenValue::Punct(punct) => TokenValue::Punct(*punct),
+            TokenValue::Version(version) => TokenValue::Version(version.try_clone(alloc)?),
+            TokenValue::Extension(extension) => TokenValue::Extension(extension.try_clone(alloc)?),
+            TokenValue::Pragma(pragma) => TokenValue::Pragma(pragma.try_clone(alloc)?),
+        })
+    }
+}
+
+impl Token {
+    /// A copy. Its one error is `OutOfMemory`, by `out_of_memory`, which the token of an integer
+    /// or a punctuator never gives.
+    pub fn clone(&self, alloc: Global) -> Result<Self, (PreprocessorError, Location)>
+        ensures copied { MatchResult result (λ copy. copy ≡ self.now) (λ error. error ≡ out_of_memory) }
+        ensures without_memory { holds_memory self.now.value ≡ false → IsOk result }
+    {
+        self.try_clone(alloc).map_err(refused)
+    }
+
+    #[cycle(copy)]
+    fn try_clone(&self, alloc: Global) -> Result<Self, AllocError>
+        ensures copied { IfOk result (λ copy. copy ≡ self.now) }
+        ensures without_memory { holds_memory self.now.value ≡ false → IsOk result }
+    {
+        Ok(Token {
+            value: self.value.try_clone(alloc)?,
+            location: self.location,
+        })
+    }
+}
+
+impl PreprocessorError {
+    /// A copy. Its one error is `OutOfMemory`, by `out_of_memory`, which only an
+    /// `UnexpectedToken` gives.
+    pub fn clone(&self, alloc: Global) -> Result<Self, (PreprocessorError, Location)>
+        ensures copied { MatchResult result (λ copy. copy ≡ self.now) (λ error. error ≡ out_of_memory) }
+        ensures without_memory { error_holds_memory self.now ≡ false → IsOk result }
+    {
+        Ok(match self {
+            PreprocessorError::UnexpectedToken(value) => {
+                PreprocessorError::UnexpectedToken(value.clone(alloc)?)
+            }
+            PreprocessorError::IntegerOverflow => PreprocessorError::IntegerOverflow,
+            PreprocessorError::FloatParsingError => PreprocessorError::FloatParsingError,
+            PreprocessorError::UnexpectedCharacter => PreprocessorError::UnexpectedCharacter,
+            PreprocessorError::UnexpectedHash => PreprocessorError::UnexpectedHash,
+            PreprocessorError::UnexpectedNewLine => PreprocessorError::UnexpectedNewLine,
+            PreprocessorError::UnexpectedEndOfInput => PreprocessorError::UnexpectedEndOfInput,
+            PreprocessorError::TooFewDefineArguments => PreprocessorError::TooFewDefineArguments,
+            PreprocessorError::TooManyDefineArguments => PreprocessorError::TooManyDefineArguments,
+            PreprocessorError::ErrorDirective => PreprocessorError::ErrorDirective,
+            PreprocessorError::DuplicateParameter => PreprocessorError::DuplicateParameter,
+            PreprocessorError::UnknownDirective => PreprocessorError::UnknownDirective,
+            PreprocessorError::DefineRedefined => PreprocessorError::DefineRedefined,
+            PreprocessorError::ElifOutsideOfBlock => PreprocessorError::ElifOutsideOfBlock,
+            PreprocessorError::ElseOutsideOfBlock => PreprocessorError::ElseOutsideOfBlock,
+            PreprocessorError::EndifOutsideOfBlock => PreprocessorError::EndifOutsideOfBlock,
+            PreprocessorError::ElifAfterElse => PreprocessorError::ElifAfterElse,
+            PreprocessorError::MoreThanOneElse => PreprocessorError::MoreThanOneElse,
+            PreprocessorError::UnfinishedBlock => PreprocessorError::UnfinishedBlock,
+            PreprocessorError::LineOverflow => PreprocessorError::LineOverflow,
+            PreprocessorError::NotSupported16BitLiteral =>
+                PreprocessorError::NotSupported16BitLiteral,
+            PreprocessorError::NotSupported64BitLiteral =>
+                PreprocessorError::NotSupported64BitLiteral,
+            PreprocessorError::MacroNotDefined => PreprocessorError::MacroNotDefined,
+            PreprocessorError::RecursionLimitReached => PreprocessorError::RecursionLimitReached,
+            PreprocessorError::DivisionByZero => PreprocessorError::DivisionByZero,
+            PreprocessorError::RemainderByZero => PreprocessorError::RemainderByZero,
+            PreprocessorError::OutOfMemory => PreprocessorError::OutOfMemory,
+        })
+    }
+}
