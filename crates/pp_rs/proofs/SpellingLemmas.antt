@@ -1,0 +1,80 @@
+-- A text that grows token by token.
+use Rattle.std.proofs.Common.{◌≡◌, ℕ, ◌^◌, ◌<◌, Bool, true, false, if◌then◌else◌, List, [], ◌∷◌, ◌++◌, map, Result, Ok, Err, OnOk, refl, sym, ◌∙◌, ap, append_assoc, length, drop, get_or, ◌+◌, ◌≤◌, arith, suc, subst, All}
+use Rattle.std.specs.Prelude.{is_ok}
+use Rattle.std.specs.Fmt.{decimal}
+use Rattle.std.specs.List.{join_with_byte}
+use Rattle.std.specs.Str.{chars, IsUtf8}
+use Rattle.std.proofs.lemmas.List.{append-nil, at_drop_more, at_drop_all}
+use Rattle.std.proofs.lemmas.Fmt.{IsAscii-decimal}
+use Rattle.std.proofs.lemmas.Str.{chars-append, chars-IsAscii, chars-nil}
+use Rattle.pp_lexer.specs.Spelling.{punctuator, integer_literal, spelling, spelled_text, values_of}
+use Rattle.pp_lexer.specs.declared.token.Integer.{Integer}
+use Rattle.pp_lexer.specs.declared.token.Punct.{Punct}
+use Rattle.pp_lexer.specs.declared.token.Punct.TheVariants.{AddAssign}
+use Rattle.pp_lexer.specs.declared.token.Token.{Token}
+use Rattle.pp_lexer.specs.declared.token.TokenValue.{TokenValue}
+
+-- each punctuator is plain ASCII
+pub chars-punctuator : (p : Punct) → chars (punctuator p) ≡ punctuator p
+unfolding chars
+chars-punctuator AddAssign = refl
+chars-punctuator _ = refl
+
+pub chars-decimal : (n : ℕ) → n < 2 ^ 64 → chars (decimal n) ≡ decimal n
+chars-decimal n h = chars-IsAscii (decimal n) (IsAscii-decimal n h)
+
+-- an integer written behind a text
+module _ (i : Integer) (old digits : List ℕ) (u : IsUtf8 old) (fits : i.value < 2 ^ 64) (written : digits ≡ old ++ decimal i.value) where
+  pub chars-digits : chars digits ≡ chars old ++ decimal i.value
+  chars-digits = ap chars written ∙ chars-append old (decimal i.value) u ∙ ap (λ t. chars old ++ t) (chars-decimal i.value fits)
+
+  pub signed-pushed : i.signed ≡ true → chars digits ≡ chars old ++ integer_literal i
+  signed-pushed e = rw e (chars-digits ∙ ap (λ t. chars old ++ t) (sym (append-nil (decimal i.value))))
+
+  pub unsigned-pushed : (new : List ℕ) → IsUtf8 digits → i.signed ≡ false → new ≡ digits ++ (117 ∷ []) → chars new ≡ chars old ++ integer_literal i
+  unfolding chars
+  unsigned-pushed new v e f = rw e (ap chars f ∙ chars-append digits (117 ∷ []) v ∙ ap (λ t. t ++ (117 ∷ [])) chars-digits ∙ append_assoc (chars old) (decimal i.value) (117 ∷ []))
+
+-- a text put behind another puts its characters behind those of the other
+pub chars-pushed : {E : Type 0} (r : Result (Unit {0}) E) (new old more : List ℕ) → IsUtf8 old → new ≡ (if is_ok r then old ++ more else old)
+    → OnOk r (chars new ≡ chars old ++ chars more)
+chars-pushed (Ok x) new old more u e = ap chars e ∙ chars-append old more u
+chars-pushed (Err x) new old more u e = tt
+
+-- the spellings behind a first one, each behind a space
+abbrev pub spaced_spellings : List TokenValue → List ℕ
+spaced_spellings [] = []
+spaced_spellings (v ∷ vs) = 32 ∷ (spelling v ++ spaced_spellings vs)
+
+pub spelled_text-cons : (v : TokenValue) (vs : List TokenValue) → spelled_text (v ∷ vs) ≡ spelling v ++ spaced_spellings vs
+spelled_text-cons v [] = sym (append-nil (spelling v))
+spelled_text-cons v (w ∷ ws) = ap (λ t. spelling v ++ (32 ∷ t)) (spelled_text-cons w ws)
+
+-- a text to which the tokens behind the first are added one by one
+pub spelled_none : (text : List ℕ) (ts : List Token) → length ts ≡ 0 → text ≡ [] → chars text ≡ spelled_text (values_of ts)
+spelled_none text [] e f = rw f chars-nil
+spelled_none text (t ∷ ts) e f = absurd (omega arith)
+
+pub spelled_first : (text start : List ℕ) (ts others : List Token) (t : Token) → ts ≡ t ∷ others → start ≡ [] → chars text ≡ chars start ++ spelling t.value
+    → chars text ++ spaced_spellings (values_of others) ≡ spelled_text (values_of ts)
+spelled_first text start ts others t e f g = rw (e, g, f, chars-nil) (sym (spelled_text-cons t.value (values_of others)))
+
+module _ (whole text : List ℕ) (others : List Token) (i : ℕ) (so_far : chars text ++ spaced_spellings (values_of (drop i others)) ≡ whole) where
+  pub spelled_more : (mid new : List ℕ) (t : Token) → IsUtf8 text → i < length others → t ≡ get_or others i t → mid ≡ text ++ (32 ∷ []) → chars new ≡ chars mid ++ spelling t.value
+      → chars new ++ spaced_spellings (values_of (drop (i + 1) others)) ≡ whole
+  unfolding chars
+  spelled_more mid new t u low is e g =
+      let rest = spaced_spellings (values_of (drop (i + 1) others)) in
+      let p : spaced_spellings (values_of (drop i others)) ≡ 32 ∷ (spelling t.value ++ rest) =
+      at_drop_more (λ ts. spaced_spellings (values_of ts)) others i t low ∙ ap (λ (x : Token). 32 ∷ (spelling x.value ++ rest)) (sym is) in
+      let q : chars mid ≡ chars text ++ (32 ∷ []) = ap chars e ∙ chars-append text (32 ∷ []) u in
+      rw (g, q) (simp append_assoc (ap (λ t. chars text ++ t) (sym p) ∙ so_far))
+
+  pub spelled_all : length others ≤ i → chars text ≡ whole
+  spelled_all high = sym (append-nil (chars text)) ∙ ap (λ t. chars text ++ t) (sym (at_drop_all (λ ts. spaced_spellings (values_of ts)) others i high)) ∙ so_far
+
+-- what holds of each token holds of those behind the first
+pub all_behind_first : (P : Token → Type 0) (ts others : List Token) (t x : Token) (i : ℕ) → All P ts → ts ≡ t ∷ others → i < length others → x ≡ get_or others i x → P x
+all_behind_first P ts others t x i all e low is =
+    let n : length ts ≡ suc (length others) = ap length e in
+    subst P (ap (λ l. get_or l (suc i) x) e ∙ sym is) (all (suc i) x (omega arith))

@@ -1,0 +1,15 @@
+pub use Rattle.pp_lexer.specs.Location
+pub use Rattle.pp_lexer.specs.Entry
+pub use Rattle.pp_lexer.specs.Preorder
+pub use Rattle.pp_lexer.specs.TokenValue
+pub use Rattle.pp_lexer.specs.PreprocessorError
+pub use Rattle.pp_lexer.specs.Spelling
+pub use Rattle.pp_lexer.specs.Spots
+pub use Rattle.pp_lexer.specs.Lexed
+pub mod Item
+pub mod Held
+pub mod Conversion
+pub mod Unexpected
+pub mod SourceItems
+pub mod Reads
+pub mod Preprocessing

@@ -1,0 +1,6 @@
+//! A preprocessor for GLSL: source text becomes preprocessed tokens.
+#![tactic(auto)]
+
+pub use pp_lexer::{lexer, token};
+
+pub mod pp;

@@ -1,0 +1,18 @@
+//! Directives and tokens: from the lexer's tokens to those of the preprocessed source.
+
+mod convert;
+mod directives;
+mod preprocessor;
+mod spelling;
+mod step;
+
+pub use convert::{convert_lexer_token, convert_lexer_token_to_step};
+pub use preprocessor::{Preprocessor, PreprocessorItem};
+pub use spelling::spell_tokens;
+pub use step::{Step, StepExit};
+
+/// How many expansions of arguments may stand inside each other.
+pub const EXPANSION_LIMIT: u32 = 128;
+
+#[cfg(test)]
+mod tests;

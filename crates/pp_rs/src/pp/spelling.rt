@@ -1,0 +1,122 @@
+//! The text of tokens.
+
+ghost use Rattle.std.specs.Prelude.{◌≡◌, ◌++◌, IsTrue, All, OnOk, IfOk, MatchResult, IfErr, string_bytes};
+ghost use Rattle.std.specs.Str.{chars};
+ghost use Rattle.pp_lexer.specs.TokenValue.{is_ordinary};
+ghost use Rattle.pp_lexer.specs.PreprocessorError.{out_of_memory};
+ghost use Rattle.pp_lexer.specs.Spelling.{punctuator, integer_literal, spelling, spelled_text, values_of};
+
+use crate::token::{Integer, Location, PreprocessorError, Punct, Token, TokenValue, out_of_memory};
+use std::alloc::{AllocError, Global};
+
+/// The text of ordinary tokens, with one space between each two and none at the ends.
+///
+/// A word and a float have their text, an integer its decimal digits with `u` where it is
+/// unsigned, a punctuator its characters. No tokens give the empty text. The one refusal is
+/// `OutOfMemory`, at the start of the source.
+pub fn spell_tokens(
+    alloc: Global,
+    tokens: &[Token],
+) -> Result<String, (PreprocessorError, Location)>
+    requires ordinary { All (λ t. IsTrue (is_ordinary t.value)) tokens.now }
+    ensures { MatchResult result (λ text. chars (string_bytes text) ≡ spelled_text (values_of tokens.now)) (λ e. e ≡ out_of_memory) }
+{
+    match join_spellings(alloc, tokens) {
+        Ok(text) => Ok(text),
+        Err(_) => Err(out_of_memory()),
+    }
+}
+
+// The spellings of the tokens, joined by spaces.
+fn join_spellings(alloc: Global, tokens: &[Token]) -> Result<String, AllocError>
+    requires { All (λ t. IsTrue (is_ordinary t.value)) tokens.now }
+    ensures { IfOk result (λ text. chars (string_bytes text) ≡ spelled_text (values_of tokens.now)) }
+{
+    let mut text = String::new(alloc);
+    let Some((first, others)) = tokens.split_first() else {
+        return Ok(text);
+    };
+    push_value(&mut text, &first.value)?;
+    for token in others {
+        text.push(' ')?;
+        push_value(&mut text, &token.value)?;
+    }
+    Ok(text)
+}
+
+fn push_value(text: &mut String, value: &TokenValue) -> Result<(), AllocError>
+    requires { IsTrue (is_ordinary value.now) }
+    ensures { OnOk result (chars (string_bytes text.new) ≡ chars (string_bytes text.old) ++ spelling value.now) }
+{
+    match value {
+        TokenValue::Ident(name) => text.push_str(name.as_str()),
+        TokenValue::Integer(integer) => push_integer(text, *integer),
+        TokenValue::Float(float) => text.push_str(float.text.as_str()),
+        TokenValue::Punct(punct) => text.push_str(punct_text(*punct)),
+        TokenValue::Version(_) | TokenValue::Extension(_) | TokenValue::Pragma(_) => {
+            unreachable!()
+        }
+    }
+}
+
+fn push_integer(text: &mut String, integer: Integer) -> Result<(), AllocError>
+    ensures { OnOk result (chars (string_bytes text.new) ≡ chars (string_bytes text.old) ++ integer_literal integer) }
+{
+    write!(text, "{}", integer.value)?;
+    if !integer.signed {
+        text.push('u')?;
+    }
+    Ok(())
+}
+
+fn punct_text(punct: Punct) -> &'static str
+    ensures { result.now ≡ punctuator punct }
+{
+    match punct {
+        Punct::AddAssign => "+=",
+        Punct::SubAssign => "-=",
+        Punct::MulAssign => "*=",
+        Punct::DivAssign => "/=",
+        Punct::ModAssign => "%=",
+        Punct::LeftShiftAssign => "<<=",
+        Punct::RightShiftAssign => ">>=",
+        Punct::AndAssign => "&=",
+        Punct::XorAssign => "^=",
+        Punct::OrAssign => "|=",
+        Punct::Increment => "++",
+        Punct::Decrement => "--",
+        Punct::LogicalAnd => "&&",
+        Punct::LogicalOr => "||",
+        Punct::LogicalXor => "^^",
+        Punct::LessEqual => "<=",
+        Punct::GreaterEqual => ">=",
+        Punct::EqualEqual => "==",
+        Punct::NotEqual => "!=",
+        Punct::LeftShift => "<<",
+        Punct::RightShift => ">>",
+        Punct::LeftBrace => "{",
+        Punct::RightBrace => "}",
+        Punct::LeftParen => "(",
+        Punct::RightParen => ")",
+        Punct::LeftBracket => "[",
+        Punct::RightBracket => "]",
+        Punct::LeftAngle => "<",
+        Punct::RightAngle => ">",
+        Punct::Semicolon => ";",
+        Punct::Comma => ",",
+        Punct::Colon => ":",
+        Punct::Dot => ".",
+        Punct::Equal => "=",
+        Punct::Bang => "!",
+        Punct::Minus => "-",
+        Punct::Tilde => "~",
+        Punct::Plus => "+",
+        Punct::Star => "*",
+        Punct::Slash => "/",
+        Punct::Percent => "%",
+        Punct::Pipe => "|",
+        Punct::Caret => "^",
+        Punct::Ampersand => "&",
+        Punct::Question => "?",
+    }
+}
