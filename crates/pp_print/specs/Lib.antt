@@ -1,0 +1,5 @@
+pub mod Words
+pub mod Ends
+pub mod Input
+pub mod Output
+pub mod Runs

@@ -1,0 +1,135 @@
+//! Where the source comes from and where the output goes.
+
+ghost use Rattle.std.specs.Prelude.{◌≡◌, ◌<◌, ℕ, List, Option, Bool, true, false, length, OnOk, OnErr, IfOk};
+ghost use Rattle.std.specs.Io.{ReadsAtMost, WritesAtMost};
+ghost use Rattle.std.specs.Io.KnownBytes.{ReadConsumes, WriteAppends};
+
+use std::io::{Read, Write};
+
+/// That a read or a write failed.
+#[derive(Clone, Copy, PartialEq, Eq, Debug)]
+pub struct DeviceFailed;
+
+/// What a source is read from.
+pub trait Source {
+    // The bytes that reads will give from here on, where they are known.
+    ghost remaining: { Self → Option (List ℕ) };
+
+    // Whether a read has failed so far.
+    ghost failed: { Self → Bool };
+
+    /// Puts bytes at the start of `buf` and gives their number, which is at most the length of `buf`.
+    /// No bytes in a `buf` that has room is the end of the input. Fails where the bytes can't be had.
+    fn read(&mut self, buf: &mut [u8]) -> Result<usize, DeviceFailed>
+        ensures bound { ReadsAtMost result buf.new }
+        ensures bytes { ReadConsumes (remaining self.old) (remaining self.new) result buf.new }
+        ensures kept { OnOk result (failed self.new ≡ failed self.old) }
+        ensures noted { OnErr result (failed self.new ≡ true) };
+
+    /// Whether a read has failed so far.
+    fn has_failed(&self) -> bool
+        ensures { result ≡ failed self.now };
+}
+
+/// What the output is written to.
+pub trait Sink {
+    // The bytes that were written, where they are known.
+    ghost contents: { Self → Option (List ℕ) };
+
+    // Whether a write has failed so far.
+    ghost failed: { Self → Bool };
+
+    /// Writes bytes from the start of `bytes` and gives their number, which is at most the length of
+    /// `bytes`. Fails where none of them can be written, unless there are none.
+    fn write(&mut self, bytes: &[u8]) -> Result<usize, DeviceFailed>
+        ensures bound { WritesAtMost result bytes.now }
+        ensures progress { 0 < length bytes.now → IfOk result (λ count. 0 < count) }
+        ensures bytes { WriteAppends (contents self.old) (contents self.new) result bytes.now }
+        ensures kept { OnOk result (failed self.new ≡ failed self.old) }
+        ensures noted { OnErr result (failed self.new ≡ true) };
+
+    /// Whether a write has failed so far.
+    fn has_failed(&self) -> bool
+        ensures { result ≡ failed self.now };
+}
+
+/// A [`Source`] over a reader of std. An interruption is a failure like any other.
+#[derive(Drop)]
+pub struct OverRead<R> {
+    inner: R,
+    failed: bool,
+}
+
+impl<R: Read> OverRead<R> {
+    /// Reads from `inner`. Nothing has failed yet.
+    pub fn new(inner: R) -> OverRead<R>
+        ensures bytes { ⟦<OverRead<R> as Source>⟧.remaining result ≡ R.remaining inner }
+        ensures fresh { ⟦<OverRead<R> as Source>⟧.failed result ≡ false }
+    {
+        OverRead {
+            inner,
+            failed: false,
+        }
+    }
+}
+
+impl<R: Read> Source for OverRead<R> {
+    ghost remaining = { λ s. R.remaining s.inner };
+
+    ghost failed = { λ s. s.failed };
+
+    fn read(&mut self, buf: &mut [u8]) -> Result<usize, DeviceFailed> {
+        match self.inner.read(buf) {
+            Ok(count) => Ok(count),
+            Err(_) => {
+                self.failed = true;
+                Err(DeviceFailed)
+            }
+        }
+    }
+
+    fn has_failed(&self) -> bool {
+        self.failed
+    }
+}
+
+/// A [`Sink`] over a writer of std. An interruption is a failure like any other, and so is a write
+/// that takes none of the bytes that it is given.
+#[derive(Drop)]
+pub struct OverWrite<W> {
+    inner: W,
+    failed: bool,
+}
+
+impl<W: Write> OverWrite<W> {
+    /// Writes to `inner`. Nothing has failed yet.
+    pub fn new(inner: W) -> OverWrite<W>
+        ensures bytes { ⟦<OverWrite<W> as Sink>⟧.contents result ≡ W.contents inner }
+        ensures fresh { ⟦<OverWrite<W> as Sink>⟧.failed result ≡ false }
+    {
+        OverWrite {
+            inner,
+            failed: false,
+        }
+    }
+}
+
+impl<W: Write> Sink for OverWrite<W> {
+    ghost contents = { λ s. W.contents s.inner };
+
+    ghost failed = { λ s. s.failed };
+
+    fn write(&mut self, bytes: &[u8]) -> Result<usize, DeviceFailed> {
+        match self.inner.write(bytes) {
+            Ok(count) if count > 0 || bytes.is_empty() => Ok(count),
+            _ => {
+                self.failed = true;
+                Err(DeviceFailed)
+            }
+        }
+    }
+
+    fn has_failed(&self) -> bool {
+        self.failed
+    }
+}

@@ -1,0 +1,57 @@
+//! The program `pp_print` but for its `main`: preprocesses a source and prints what comes of it.
+#![tactic(auto)]
+
+ghost use Rattle.std.specs.Prelude.{◌≡◌, ◌<◌, ◌↔◌, true, false, length, OnOk, IfOk, IfErr, IfSome, IsErrOf};
+ghost use Rattle.pp_print.specs.Output.{IsStoppedBySource};
+ghost use Rattle.pp_print.specs.Runs.{FitsSource, IsBeforeOutput};
+
+use pp_rs::pp::Preprocessor;
+use std::alloc::Global;
+
+mod devices;
+mod ends;
+mod input;
+mod output;
+#[cfg(test)]
+mod tests;
+mod words;
+
+pub use devices::{DeviceFailed, OverRead, OverWrite, Sink, Source};
+pub use ends::{RunEnd, RunFault, message, status};
+pub use words::split_word;
+
+/// Reads the source whole, but no more than 2^32 - 1 bytes of it, adds the definitions in order, each a
+/// name and its content, and prints the items up to the first error item. Each longest run of ordinary
+/// tokens is printed as one line, spelled with a space between two tokens. Each directive item is a line
+/// of its own: `#version`, `#extension` or `#pragma`, and its tokens if it has any. Each line ends with
+/// LF.
+///
+/// Ends with [`RunEnd::Done`] where there is no error item, and with [`RunEnd::Stopped`] at the first.
+/// Faults come in this order: [`RunFault::ReadFailed`], [`RunFault::TooLong`], [`RunFault::NotUtf8`],
+/// [`RunFault::BadWord`], all before anything is written, then [`RunFault::WriteFailed`].
+/// [`RunFault::OutOfMemory`] comes wherever memory is refused. Every definition is refused for now.
+pub fn run<R: Source, W: Sink>(
+    alloc: Global,
+    defs: &[(&str, &str)],
+    reader: &mut R,
+    writer: &mut W,
+) -> Result<RunEnd, RunFault>
+    requires reader { R.failed reader.old ≡ false }
+    requires writer { W.failed writer.old ≡ false }
+    ensures source { IfSome (R.remaining reader.old) (FitsSource result) }
+    ensures defined { OnOk result (length defs.now ≡ 0) }
+    ensures bad_word { IsErrOf result RunFault.BadWord → 0 < length defs.now }
+    ensures stopped { IfOk result IsStoppedBySource }
+
+    // The devices fail where the run says so, and before the output nothing is written.
+    ensures read_failed { IsErrOf result RunFault.ReadFailed ↔ (R.failed reader.new ≡ true) }
+    ensures write_failed { IsErrOf result RunFault.WriteFailed ↔ (W.failed writer.new ≡ true) }
+    ensures unwritten { IfErr result (λ fault. IsBeforeOutput fault → writer.new ≡ writer.old) }
+{
+    let source = input::read_source(alloc, reader)?;
+    let text = source.as_str();
+    if !defs.is_empty() {
+        return Err(RunFault::BadWord);
+    }
+    output::print_items(alloc, Preprocessor::new(alloc, text), writer)
+}
