@@ -1,0 +1,17 @@
+//! Worked examples as tests: tables of a source and what is given for it.
+#![tactic(auto)]
+
+#[cfg(test)]
+mod lexer_items;
+#[cfg(test)]
+mod lexer_tokens;
+#[cfg(test)]
+mod phases;
+#[cfg(test)]
+mod preprocessed;
+#[cfg(test)]
+mod program;
+#[cfg(test)]
+mod shown;
+#[cfg(test)]
+mod tokens;

@@ -1,0 +1,72 @@
+//! Characters, items and tokens as the tables show them.
+
+use pp_rs::lexer;
+use pp_rs::token::{Integer, Location, PreprocessorError, TokenValue};
+use std::alloc::{AllocError, Global};
+
+/// The parts with a comma and a space between each two.
+pub fn joined(alloc: Global, parts: &[String]) -> Result<String, AllocError> {
+    let mut text = String::new(alloc);
+    for (index, part) in parts.iter().enumerate() {
+        if index > 0 {
+            text.push_str(", ")?;
+        }
+        text.push_str(part.as_str())?;
+    }
+    Ok(text)
+}
+
+/// A place, as `3..4 L1`.
+pub fn place(alloc: Global, location: Location) -> Result<String, AllocError> {
+    let start = location.start;
+    let end = location.end;
+    let line = location.line;
+    format!(in alloc; "{start}..{end} L{line}")
+}
+
+fn integer(alloc: Global, integer: Integer) -> Result<String, AllocError> {
+    let value = integer.value;
+    if integer.signed {
+        format!(in alloc; "{value}")
+    } else {
+        format!(in alloc; "{value}u")
+    }
+}
+
+/// A value of the lexer: an identifier's text, an integer's digits, `Float` and its text, else
+/// the name of the variant.
+pub fn lexer_value(alloc: Global, value: &lexer::TokenValue) -> Result<String, AllocError> {
+    match value {
+        lexer::TokenValue::Hash => format!(in alloc; "Hash"),
+        lexer::TokenValue::NewLine => format!(in alloc; "NL"),
+        lexer::TokenValue::Ident(name) => format!(in alloc; "{}", name.as_str()),
+        lexer::TokenValue::Integer(n) => integer(alloc, *n),
+        lexer::TokenValue::Float(float) => format!(in alloc; "Float {}", float.text.as_str()),
+        lexer::TokenValue::Punct(punct) => format!(in alloc; "{punct:?}"),
+    }
+}
+
+/// The same of a preprocessed token.
+pub fn value(alloc: Global, value: &TokenValue) -> Result<String, AllocError> {
+    match value {
+        TokenValue::Ident(name) => format!(in alloc; "{}", name.as_str()),
+        TokenValue::Integer(n) => integer(alloc, *n),
+        TokenValue::Float(float) => format!(in alloc; "Float {}", float.text.as_str()),
+        TokenValue::Punct(punct) => format!(in alloc; "{punct:?}"),
+        TokenValue::Version(_) => format!(in alloc; "Version"),
+        TokenValue::Extension(_) => format!(in alloc; "Extension"),
+        TokenValue::Pragma(_) => format!(in alloc; "Pragma"),
+    }
+}
+
+/// An error: its name, with the value of an unexpected token.
+pub fn error(alloc: Global, error: &PreprocessorError) -> Result<String, AllocError> {
+    let name = error.name();
+    match error {
+        PreprocessorError::UnexpectedToken(token) => {
+            let shown = value(alloc, token)?;
+            format!(in alloc; "{name}({})", shown.as_str())
+        }
+        _ => format!(in alloc; "{name}"),
+    }
+}
