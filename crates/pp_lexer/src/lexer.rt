@@ -1,4 +1,7 @@
-//! The character phases and the tokens.
+//! The character phases of GLSL ES 3.20, section 3.10, and the tokens behind them.
+//!
+//! [`CharsAndLine`], [`SkipBackslashNewline`] and [`ReplaceComments`] give the characters behind phases 4 and 5, 6 and 7,
+//! each with its line. [`Lexer`] gives the tokens. The rules are those of docs/RULES.md, Characters and Tokens.
 
 ghost use Rattle.std.specs.Prelude.{◌≡◌, ◌-◌, ◌^◌, ◌<◌, ◌+◌, ◌⊎◌, length, false, if◌then◌else◌, ⊤, MatchOption};
 ghost use Rattle.std.specs.Iterator.{at_most};
@@ -26,7 +29,8 @@ mod replace_comments;
 mod skip_backslash_newline;
 mod word;
 
-pub use char_iterator::{LexerCharIterator, NONE_CONSUMED_SENTINEL_VALUE, Spot};
+pub use char_iterator::NONE_CONSUMED_SENTINEL_VALUE;
+use char_iterator::{LexerCharIterator, Spot};
 pub use chars_and_line::CharsAndLine;
 pub use item::{LexerItem, Token, TokenValue};
 pub use replace_comments::{COMMENT_SENTINEL_VALUE, ReplaceComments};
@@ -144,7 +148,20 @@ fn lex(
     Ok(Some(item_of(value, before, first, inner.last_consumed())))
 }
 
-/// The tokens of a text, one a call of `next`.
+/// The items of a source, one a call of `next`: tokens with places and flags, and errors.
+///
+/// Blanks and comments are passed. Where none stands, the item is the longest word there: a newline, `#`, an identifier, a
+/// number or a punctuator; behind the last one a [`TokenValue::NewLine`] is added where the last line has none.
+/// Places are byte offsets and 1-based lines of the source.
+///
+/// The errors, each at (0, 0, line 1): [`PreprocessorError::UnexpectedCharacter`], which takes its character and up to two
+/// more; of a number [`PreprocessorError::NotSupported64BitLiteral`], [`PreprocessorError::NotSupported16BitLiteral`],
+/// [`PreprocessorError::IntegerOverflow`] and [`PreprocessorError::FloatParsingError`]; and
+/// [`PreprocessorError::OutOfMemory`], which can come only in place of an identifier or of a float. Behind an
+/// `OutOfMemory` it gives `None` for good, and behind each other error it goes on.
+///
+/// From the Rust crate's `Lexer`, but that an error for want of memory stands in place of an abort. GLSL ES 3.20 has words
+/// in sections 3.4 to 3.8.
 #[derive(Drop)]
 pub struct Lexer<'a> {
     alloc: Global,
@@ -164,7 +181,7 @@ impl<'a> Model for Lexer<'a> {
 }
 
 impl<'a> Lexer<'a> {
-    /// A lexer at the start of the text.
+    /// A lexer at the start of a source of fewer than 2^32 - 1 bytes. It takes no memory and reads nothing yet.
     pub fn new(alloc: Global, input: &'a str) -> Lexer<'a>
         requires { length input.now < 2 ^ 32 - 1 }
         ensures { result ≡ start_of (spots_of input.now) }
@@ -181,7 +198,8 @@ impl<'a> Lexer<'a> {
         }
     }
 
-    /// Whether a comment has been passed as a blank so far.
+    /// Whether a comment has been passed as a blank so far: before the item given last, or anywhere in the source once
+    /// `None` was given. A comment that an error took doesn't count.
     pub fn had_comments(&self) -> bool
         ensures { result ≡ self.now.had_comments }
     {

@@ -1,4 +1,4 @@
-//! Tokens of GLSL source, with their places.
+//! The lexer of a preprocessor for GLSL: the character phases, and tokens with their places.
 #![tactic(auto)]
 
 pub mod lexer;

@@ -6,6 +6,8 @@ pub use Rattle.pp_lexer.specs.PreprocessorError
 pub use Rattle.pp_lexer.specs.Spelling
 pub use Rattle.pp_lexer.specs.Spots
 pub use Rattle.pp_lexer.specs.Lexed
+pub use Rattle.pp_lexer.specs.PhaseLaws
+pub use Rattle.pp_lexer.specs.ItemLaws
 pub mod Item
 pub mod Held
 pub mod Conversion

@@ -3,4 +3,5 @@
 
 pub use pp_lexer::{lexer, token};
 
+pub mod laws;
 pub mod pp;

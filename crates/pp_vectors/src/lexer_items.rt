@@ -132,6 +132,7 @@ fn floats(rt: HostRuntime) -> Result<(), Fail> {
         ("0x1.5", "Float 01.5, NL"),
         ("1.0e", "FloatParsingError, NL"),
         ("1..2", "Float 1., Float .2, NL"),
+        ("1e+", "FloatParsingError, NL"),
     ] {
         let found = values(rt.alloc(), source)?;
         assert_eq!(rt; found.as_str(), expected, "of {source:?}");
@@ -210,6 +211,10 @@ fn comments_that_were_passed(rt: HostRuntime) {
     assert!(rt; hash.value == TokenValue::Hash);
     assert_eq!(rt; (hash.location.start, hash.location.end), (4, 5));
     assert!(rt; version.had_comments());
+
+    let mut taken = Lexer::new(rt.alloc(), "@/*c*/x");
+    while taken.next().is_some() {}
+    assert!(rt; !taken.had_comments());
 
     let mut behind = Lexer::new(rt.alloc(), "x\n/* c */");
     behind.next();

@@ -1,3 +1,5 @@
+//! The characters behind the phases, with their places and one of them looked at ahead.
+
 ghost use Rattle.std.specs.Prelude.{◌≡◌, ◌-◌, ◌^◌, ◌<◌, length, option_map};
 ghost use Rattle.std.specs.Str.{chars};
 ghost use Rattle.pp_lexer.specs.Reading.{first_char, first_of, behind_first, after_first, spots};
@@ -9,12 +11,16 @@ use std::marker::Model;
 /// What counts as the last character taken before there was one.
 pub const NONE_CONSUMED_SENTINEL_VALUE: char = '\r';
 
-/// A character, with its line, where its stretch of the source begins, and where it would end there.
+/// A character with its place, in byte offsets and a 1-based line of the source.
 #[derive(Clone, Copy)]
 pub struct Spot {
+    /// The character; a comment's is [`COMMENT_SENTINEL_VALUE`](crate::lexer::COMMENT_SENTINEL_VALUE).
     pub c: char,
+    /// Its line.
     pub line: u32,
+    /// Where its stretch of the source begins.
     pub begin: u32,
+    /// That offset plus its UTF-8 length. A token that ends with it ends here.
     pub end: u32,
 }
 
@@ -55,6 +61,7 @@ fn next_spot(inner: &mut ReplaceComments<'_>) -> Option<Spot>
 }
 
 impl<'a> LexerCharIterator<'a> {
+    /// A reader at the start of a source of fewer than 2^32 - 1 bytes.
     pub fn new(input: &'a str) -> Self
         requires { length input.now < 2 ^ 32 - 1 }
         ensures { result ≡ record { rest = spots_of input.now; last = record { c = 13; line = 0; begin = 0; end = 1 } } }
@@ -71,6 +78,7 @@ impl<'a> LexerCharIterator<'a> {
         }
     }
 
+    /// Takes the next character, if there is one.
     pub fn next_char(&mut self) -> Option<char>
         ensures value { result ≡ option_map (λ s. s.c) (first_char self.old) }
         ensures state { self.new ≡ after_first self.old }
@@ -86,6 +94,7 @@ impl<'a> LexerCharIterator<'a> {
         Some(spot.c)
     }
 
+    /// The next character with its place, which stays.
     pub fn peek_spot(&mut self) -> Option<Spot>
         ensures value { result ≡ first_char self.old }
         ensures same { self.new ≡ self.old }
@@ -98,6 +107,7 @@ impl<'a> LexerCharIterator<'a> {
         Some(spot)
     }
 
+    /// The next character, which stays.
     pub fn peek_char(&mut self) -> Option<char>
         ensures value { result ≡ option_map (λ s. s.c) (first_char self.old) }
         ensures same { self.new ≡ self.old }
