@@ -162,7 +162,7 @@ fn a_text_is_a_string(rt: HostRuntime) -> Result<(), Fail> {
     assert_eq!(rt; grown.as_str(), "été");
     assert_eq!(rt; grown, text(alloc, "été")?);
     assert_eq!(rt; grown.try_clone(alloc)?, grown);
-    assert_eq!(rt; String::from(grown), String::from_str(alloc, "été")?);
+    assert_eq!(rt; grown.into_string(), String::from_str(alloc, "été")?);
     Ok(())
 }
 
@@ -175,7 +175,7 @@ fn tokens_are_a_vec(rt: HostRuntime) -> Result<(), Fail> {
     assert_eq!(rt; list.len(), 2);
     let second = list.as_slice().get(1).ok_or("no second token")?;
     assert_eq!(rt; second.location, PLACE);
-    let items: Vec<Token> = list.into();
+    let items = list.into_vec();
     assert_eq!(rt; items.as_slice(), tokens(alloc)?.as_slice());
     Ok(())
 }

@@ -21,6 +21,14 @@ impl Tokens {
         self.items.len()
     }
 
+    /// The tokens as a `Vec`. It takes no memory.
+    pub fn into_vec(self) -> Vec<Token>
+        ensures { preorder result.items ≡ self }
+    {
+        let Tokens { items } = self;
+        items
+    }
+
     /// Whether it has no token.
     pub fn is_empty(&self) -> bool
         ensures { IsTrue result ↔ (self.now ≡ []) }
@@ -34,14 +42,5 @@ impl From<Vec<Token>> for Tokens {
 
     fn from(items: Vec<Token>) -> Self {
         Tokens { items }
-    }
-}
-
-impl From<Tokens> for Vec<Token> {
-    ghost from_gives = { λ tokens items. preorder items.items ≡ tokens };
-
-    fn from(tokens: Tokens) -> Self {
-        let Tokens { items } = tokens;
-        items
     }
 }

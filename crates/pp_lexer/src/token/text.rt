@@ -1,6 +1,6 @@
 //! A text, which contracts see as the list of its characters.
 
-ghost use Rattle.std.specs.Prelude.{◌≡◌, ◌++◌, ◌∷◌, [], ◌↔◌, IsTrue, OnOk, OnErr, IfOk};
+ghost use Rattle.std.specs.Prelude.{◌≡◌, ◌++◌, ◌∷◌, [], ◌↔◌, IsTrue, OnOk, OnErr, IfOk, string_bytes};
 
 use std::alloc::{AllocError, Global};
 use std::marker::Model;
@@ -56,6 +56,14 @@ impl Text {
         self.text.push(character)
     }
 
+    /// The text as a `String`. It takes no memory.
+    pub fn into_string(self) -> String
+        ensures { chars (string_bytes result) ≡ self }
+    {
+        let Text { text } = self;
+        text
+    }
+
     /// A copy. Its error is that memory was refused.
     pub fn try_clone(&self, alloc: Global) -> Result<Self, AllocError>
         ensures { IfOk result (λ copy. copy ≡ self.now) }
@@ -73,18 +81,6 @@ impl From<String> for Text {
 
     fn from(text: String) -> Self {
         Text { text }
-    }
-}
-
-impl From<Text> for String {
-    ghost use Rattle.std.specs.Prelude.{◌≡◌, string_bytes};
-    ghost use Rattle.std.specs.Str.{chars};
-
-    ghost from_gives = { λ text string. chars (string_bytes string) ≡ text };
-
-    fn from(text: Text) -> Self {
-        let Text { text } = text;
-        text
     }
 }
 
