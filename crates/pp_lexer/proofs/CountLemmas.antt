@@ -1,10 +1,10 @@
 -- How many items a text has at most.
-use Rattle.std.proofs.Common.{◌≡◌, ℕ, zero, suc, ◌+◌, ◌≤◌, List, [], ◌∷◌, ◌++◌, length, drop, Bool, true, false, refl, sym, ◌∙◌, ap, arith, Result, Ok, Err, length-append, subst}
+use Rattle.std.proofs.Common.{◌≡◌, ℕ, zero, suc, ◌+◌, ◌≤◌, List, [], ◌∷◌, length, drop, Bool, true, false, refl, ap, arith, length-append}
 use Rattle.pp_lexer.specs.declared.lexer.char_iterator.Spot.{Spot}
 use Rattle.pp_lexer.specs.Cursor.{Placed}
 use Rattle.pp_lexer.specs.Reading.{spots}
 use Rattle.pp_lexer.specs.Segments.{Kind, blank, comment, item, Segment, taken_by, segments_within, segments}
-use Rattle.pp_lexer.specs.Items.{Item, item_at, start_of_line, final_newline, items_of}
+use Rattle.pp_lexer.specs.Items.{item_at, start_of_line, final_newline, items_of}
 use Rattle.pp_lexer.proofs.SpotsLemmas.{length-spots}
 use Rattle.pp_lexer.proofs.ItemsLemmas.{items_from, items_at_start}
 

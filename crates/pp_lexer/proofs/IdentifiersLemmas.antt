@@ -1,12 +1,11 @@
 -- The longest identifier is a first character and all that may continue it.
-use Rattle.std.proofs.Common.{◌≡◌, ℕ, suc, List, [], ◌∷◌, take, Bool, true, refl, sym, ◌∙◌, ap, Some, Option, option_map}
+use Rattle.std.proofs.Common.{◌≡◌, ℕ, suc, List, [], ◌∷◌, take, true, refl, sym, ◌∙◌, ap, Some, option_map}
 use Rattle.unicode_ident.specs.Ident.{is_xid_continue}
 use Rattle.pp_lexer.specs.declared.lexer.char_iterator.Spot.{Spot}
 use Rattle.pp_lexer.specs.Identifiers.{is_start, is_identifier, begins_identifier}
 use Rattle.pp_lexer.specs.Longest.{longest, front_len}
 use Rattle.pp_lexer.specs.Reading.{Reading, letters, first_of, past, advanced_of, advanced}
 use Rattle.pp_lexer.specs.Spellings.{nothing, many}
-use Rattle.pp_lexer.proofs.AdvancedLemmas.{advanced_zero}
 use Rattle.pp_lexer.proofs.LongestLemmas.{longest_step, longest_all}
 
 pub longest_identifier : (c : ℕ) (cs : List ℕ) → is_start c ≡ true → longest is_identifier (c ∷ cs) ≡ suc (front_len is_xid_continue cs)

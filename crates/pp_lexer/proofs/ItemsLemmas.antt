@@ -1,21 +1,19 @@
 -- A lexer that passes segments gives the items of the text.
-use Rattle.std.proofs.Common.{◌≡◌, ℕ, ◌+◌, zero-add, List, [], ◌∷◌, ◌++◌, map, reverse, append_assoc, Bool, true, false, ◌||◌, ◌&&◌, refl, sym, ◌∙◌, ap, arith, cond, Result, Ok, Err}
-use Rattle.std.specs.Prelude.{count_by, nat_lt}
+use Rattle.std.proofs.Common.{◌≡◌, ℕ, ◌+◌, zero-add, List, [], ◌∷◌, ◌++◌, map, reverse, append_assoc, Bool, true, false, ◌||◌, refl, sym, ◌∙◌, ap, arith, cond, Ok, Err}
+use Rattle.std.specs.Prelude.{nat_lt}
 use Rattle.std.specs.List.{list_any, flat_map}
 use Rattle.std.proofs.lemmas.List.Sums.{sum_by-cons}
 use Rattle.std.proofs.lemmas.List.{map-append, append-nil, reverse-append}
 use Rattle.std.proofs.lemmas.List.Concat.{flat_map-cons}
 use Rattle.std.proofs.lemmas.Bool.Decides.{nat_tests}
-use Rattle.pp_lexer.specs.declared.token.PreprocessorError.{PreprocessorError}
-use Rattle.pp_lexer.specs.declared.lexer.item.TokenValue.{TokenValue}
 use Rattle.pp_lexer.specs.declared.lexer.char_iterator.Spot.{Spot}
 use Rattle.pp_lexer.specs.declared.lexer.Flags.{Flags}
 use Rattle.pp_lexer.specs.Reading.{Reading}
-use Rattle.pp_lexer.specs.Surroundings.{Surrounded, surrounded_from, surrounded}
+use Rattle.pp_lexer.specs.Surroundings.{surrounded_from, surrounded}
 use Rattle.pp_lexer.specs.Segments.{Kind, blank, comment, item, Segment, segments}
-use Rattle.pp_lexer.specs.Items.{is_comment, is_newline_result, leading_whitespace, start_of_line, comments_in, item_at, final_newline, item_of, items_of, comments_of, Item}
-use Rattle.pp_lexer.specs.Lexed.{Seen, seen, start_of}
-use Rattle.pp_lexer.specs.Passing.{passed, lexeme_seen, item_seen, newline_seen, seen_from, seen_of, comments_at_end, lexed}
+use Rattle.pp_lexer.specs.Items.{is_comment, is_newline_result, leading_whitespace, start_of_line, comments_in, item_at, final_newline, item_of, items_of, Item}
+use Rattle.pp_lexer.specs.Lexed.{seen, start_of}
+use Rattle.pp_lexer.specs.Passing.{passed, lexeme_seen, item_seen, newline_seen, seen_from, lexed}
 
 -- the items of the segments from a place on, and of the end
 unfoldable pub items_from : List Segment → List Segment → List Item

@@ -1,5 +1,5 @@
 -- What a lexer gives at a token, at an error and at the end, behind the blanks.
-use Rattle.std.proofs.Common.{◌≡◌, ℕ, zero, suc, ◌<◌, List, [], ◌∷◌, ◌++◌, take, drop, Bool, true, false, ◌||◌, refl, sym, ◌∙◌, ap, arith, inl, inr, ◌⊎◌, IsTrue, Option, Some, None, Result, Ok, Err, IsErr, MatchOption, subst}
+use Rattle.std.proofs.Common.{◌≡◌, List, [], ◌∷◌, Bool, true, false, ◌||◌, refl, sym, ◌∙◌, ap, inl, inr, IsTrue, Option, Some, None, Result, Ok, Err, IsErr, MatchOption, subst}
 use Rattle.std.specs.Bool.{⊤}
 use Rattle.std.specs.List.{list_any}
 use Rattle.std.proofs.lemmas.Bool.{false≢true}
@@ -8,14 +8,14 @@ use Rattle.pp_lexer.specs.declared.token.PreprocessorError.{PreprocessorError}
 use Rattle.pp_lexer.specs.declared.lexer.item.TokenValue.{TokenValue}
 use Rattle.pp_lexer.specs.declared.lexer.char_iterator.Spot.{Spot}
 use Rattle.pp_lexer.specs.declared.lexer.Flags.{Flags}
-use Rattle.pp_lexer.specs.Reading.{Reading, letters, first_of, first_char, advanced_of, advanced}
+use Rattle.pp_lexer.specs.Reading.{Reading, letters, first_of, first_char, advanced}
 use Rattle.pp_lexer.specs.Words.{word_at}
 use Rattle.pp_lexer.specs.Outcome.{Answer, takes_memory, IsGiven}
-use Rattle.pp_lexer.specs.Segments.{item, segments}
+use Rattle.pp_lexer.specs.Segments.{item}
 use Rattle.pp_lexer.specs.Words.{is_blank}
 use Rattle.pp_lexer.specs.Items.{Lexeme, is_comment, is_newline_result}
-use Rattle.pp_lexer.specs.Lexed.{Seen, first_item, behind_first_item, comments_before, lexeme_takes_memory, first_takes_memory}
-use Rattle.pp_lexer.specs.Passing.{passed, lexeme_seen, newline_seen, seen_from, seen_of, comments_at_end, IsLexRefused, IsLexTaken, IsLexed}
+use Rattle.pp_lexer.specs.Lexed.{first_item, behind_first_item, comments_before, lexeme_takes_memory, first_takes_memory}
+use Rattle.pp_lexer.specs.Passing.{passed, lexeme_seen, newline_seen, seen_from, seen_of, comments_at_end, IsLexRefused, IsLexed}
 use Rattle.pp_lexer.proofs.WordAtLemmas.{word_at-some}
 use Rattle.pp_lexer.proofs.SegmentsLemmas.{segments_none, advanced-rest}
 use Rattle.pp_lexer.proofs.PassingLemmas.{front_first, last_same}

@@ -1,10 +1,9 @@
 -- The longest number of a text, and the reader behind it.
-use Rattle.std.proofs.Common.{◌≡◌, ℕ, ◌+◌, ◌≤◌, List, length, take, drop, Bool, true, false, refl, sym, ◌∙◌, ap, if◌then◌else◌}
+use Rattle.std.proofs.Common.{◌≡◌, ℕ, ◌+◌, List, length, take, drop, true, false, sym, ◌∙◌, ap, if◌then◌else◌}
 use Rattle.std.proofs.lemmas.List.{length-take-le}
 use Rattle.pp_lexer.specs.Longest.{longest}
 use Rattle.pp_lexer.specs.Numbers.{is_number}
 use Rattle.pp_lexer.specs.NumberValue.{is_float, float_outcome, integer_outcome, number_outcome, number_at}
-use Rattle.pp_lexer.specs.Outcome.{Outcome}
 use Rattle.pp_lexer.specs.Reading.{Reading, letters, advanced}
 use Rattle.pp_lexer.proofs.AdvancedLemmas.{letters-advanced, advanced-advanced}
 use Rattle.pp_lexer.proofs.LongestLemmas.{longest_le}

@@ -1,17 +1,15 @@
 -- How a lexer in the midst of a text passes a blank, and what stands at the front.
-use Rattle.std.proofs.Common.{◌≡◌, ◌≢◌, ℕ, zero, suc, ◌<◌, List, [], ◌∷◌, ◌++◌, take, drop, Bool, true, false, ◌||◌, refl, sym, ◌∙◌, ap, arith, cond, Option, Some, None, Result, Ok, Err, option_map}
+use Rattle.std.proofs.Common.{◌≡◌, ℕ, zero, suc, ◌<◌, List, [], ◌∷◌, ◌++◌, take, drop, Bool, true, false, ◌||◌, refl, sym, ◌∙◌, ap, arith, cond, Some, option_map}
 use Rattle.std.specs.List.{list_any}
-use Rattle.pp_lexer.specs.declared.token.PreprocessorError.{PreprocessorError}
-use Rattle.pp_lexer.specs.declared.lexer.item.TokenValue.{TokenValue}
 use Rattle.pp_lexer.specs.declared.lexer.char_iterator.Spot.{Spot}
 use Rattle.pp_lexer.specs.declared.lexer.Flags.{Flags}
-use Rattle.pp_lexer.specs.Reading.{Reading, letters, first_of, first_char, past, after_first, advanced_of, advanced}
+use Rattle.pp_lexer.specs.Reading.{Reading, letters, first_of, first_char, past, after_first, advanced_of}
 use Rattle.pp_lexer.specs.Words.{word_at}
-use Rattle.pp_lexer.specs.Segments.{Kind, blank, comment, item, is_mark, last_of, kind_of, taken_by, segment_at, segments}
+use Rattle.pp_lexer.specs.Segments.{blank, comment, item, is_mark, last_of, kind_of, taken_by, segments}
 use Rattle.pp_lexer.specs.Words.{is_blank}
-use Rattle.pp_lexer.specs.Items.{is_comment, is_newline_result}
-use Rattle.pp_lexer.specs.Passing.{passed, lexeme_seen, item_seen, newline_seen, seen_from, seen_of, comments_at_end}
-use Rattle.pp_lexer.proofs.SegmentsLemmas.{segments_none, segments_first, advanced-rest, advanced-last}
+use Rattle.pp_lexer.specs.Items.{is_comment}
+use Rattle.pp_lexer.specs.Passing.{passed, item_seen, seen_from, seen_of, comments_at_end}
+use Rattle.pp_lexer.proofs.SegmentsLemmas.{segments_first, advanced-last}
 
 -- the flags behind a blank
 abbrev pub blanked : Flags → ℕ → Flags

@@ -1,12 +1,11 @@
 -- What stands where neither an identifier nor a number begins.
-use Rattle.std.proofs.Common.{◌≡◌, ◌≢◌, ℕ, zero, suc, ◌<◌, ◌≤◌, List, [], ◌∷◌, length, take, Bool, true, false, ◌&&◌, ◌||◌, ◌==◌, refl, sym, ◌∙◌, ap, arith, Option, Some, None, option_map, is_some, Ok, Err, nat_eq}
+use Rattle.std.proofs.Common.{◌≡◌, ℕ, zero, suc, ◌<◌, ◌≤◌, List, [], ◌∷◌, length, take, true, false, ◌==◌, refl, sym, ◌∙◌, ap, arith, Option, Some, None, option_map, is_some, Ok, Err}
 use Rattle.std.proofs.lemmas.Bool.{ne_eqb, eqb-true, eqb-false, false≢true}
 use Rattle.pp_lexer.specs.Spellings.{begins_with}
 use Rattle.pp_lexer.specs.declared.token.Punct.{Punct as Punctuator}
 use Rattle.pp_lexer.specs.declared.token.PreprocessorError.TheVariants.{UnexpectedCharacter}
 use Rattle.pp_lexer.specs.declared.lexer.item.TokenValue.TheVariants.{Hash, Punct}
 use Rattle.pp_lexer.specs.Longest.{longest}
-use Rattle.pp_lexer.specs.Outcome.{Outcome}
 use Rattle.pp_lexer.specs.Punctuators.{punct_of, is_punctuator, is_hash, is_punctuation, punctuation_value, punctuation_outcome, punctuation_at}
 use Rattle.pp_lexer.proofs.LongestLemmas.{longest_is, longest_in, longest_same, longest_empty}
 use Rattle.pp_lexer.proofs.PunctuatorsLemmas.{none_here}

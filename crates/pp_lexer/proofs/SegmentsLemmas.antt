@@ -1,8 +1,7 @@
 -- The first segment of a text, and those behind it.
-use Rattle.std.proofs.Common.{◌≡◌, ℕ, zero, suc, ◌+◌, ◌-◌, ◌<◌, ◌≤◌, List, [], ◌∷◌, length, take, drop, Bool, true, false, refl, sym, ◌∙◌, ap, arith, length-drop}
+use Rattle.std.proofs.Common.{◌≡◌, ℕ, zero, suc, ◌-◌, ◌<◌, ◌≤◌, List, [], ◌∷◌, length, take, drop, Bool, true, false, refl, ap, arith, length-drop}
 use Rattle.pp_lexer.specs.declared.lexer.char_iterator.Spot.{Spot}
-use Rattle.pp_lexer.specs.Reading.{Reading, letters, advanced_of}
-use Rattle.pp_lexer.specs.Words.{word_at}
+use Rattle.pp_lexer.specs.Reading.{letters, advanced_of}
 use Rattle.pp_lexer.specs.Segments.{last_of, taken_by, segment_at, segments_within, segments}
 use Rattle.pp_lexer.specs.Words.{is_blank}
 use Rattle.pp_lexer.proofs.WordAtLemmas.{word_at-some}

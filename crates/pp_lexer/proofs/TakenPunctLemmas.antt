@@ -1,10 +1,10 @@
 -- A reader once the longest punctuator is taken.
-use Rattle.std.proofs.Common.{◌≡◌, ℕ, List, [], ◌∷◌, take, refl, sym, ◌∙◌, ap, Option, Some, None, option_map}
+use Rattle.std.proofs.Common.{◌≡◌, ℕ, List, [], ◌∷◌, take, sym, ◌∙◌, ap, Option, Some, None, option_map}
 use Rattle.pp_lexer.specs.declared.lexer.char_iterator.Spot.{Spot}
 use Rattle.pp_lexer.specs.declared.token.Punct.{Punct as Punctuator}
 use Rattle.pp_lexer.specs.Longest.{longest}
 use Rattle.pp_lexer.specs.Punctuators.{punct_of, is_punctuator}
-use Rattle.pp_lexer.specs.Reading.{Reading, letters, first_of, past, after_first, first_char, advanced_of, advanced}
+use Rattle.pp_lexer.specs.Reading.{Reading, letters, first_of, past, after_first, advanced_of}
 use Rattle.pp_lexer.proofs.AdvancedLemmas.{advanced_zero}
 use Rattle.pp_lexer.proofs.LongestLemmas.{longest_empty}
 use Rattle.pp_lexer.proofs.PunctuatorsLemmas.{IsLongest, no_punct, one_at_end, one_alone, two_at_end, two_alone, three_of}

@@ -1,6 +1,5 @@
 -- What stands at a place, by the first characters there.
-use Rattle.std.proofs.Common.{◌≡◌, ℕ, zero, suc, ◌<◌, List, [], ◌∷◌, length, take, drop, Bool, true, false, refl, sym, ◌∙◌, ap, arith, Ok, Err, if◌then◌else◌, Option, Some, None}
-use Rattle.std.proofs.lemmas.Bool.{false≢true}
+use Rattle.std.proofs.Common.{◌≡◌, ℕ, zero, suc, ◌<◌, List, ◌∷◌, length, take, drop, Bool, true, false, refl, ◌∙◌, ap, arith, Ok, Err, Option, Some, None}
 use Rattle.std.proofs.lemmas.List.{length-take-le}
 use Rattle.pp_lexer.specs.declared.lexer.item.TokenValue.{TokenValue}
 use Rattle.pp_lexer.specs.declared.lexer.item.TokenValue.TheVariants.{NewLine, Ident}
@@ -9,7 +8,6 @@ use Rattle.pp_lexer.specs.Identifiers.{is_identifier, begins_identifier}
 use Rattle.pp_lexer.specs.Longest.{longest}
 use Rattle.pp_lexer.specs.Numbers.{is_number, begins_number}
 use Rattle.pp_lexer.specs.NumberValue.{is_float, number_outcome, number_at}
-use Rattle.pp_lexer.specs.Outcome.{Outcome}
 use Rattle.pp_lexer.specs.Punctuators.{punct_of, is_punctuation, punctuation_value, punctuation_outcome, punctuation_at}
 use Rattle.pp_lexer.specs.Spellings.{begins_with}
 use Rattle.pp_lexer.specs.Words.{is_line_end, is_newline_word, is_word, word_outcome, word_at}

@@ -1,24 +1,20 @@
 -- Which class the longest word is of, by the first characters.
-use Rattle.std.proofs.Common.{◌≡◌, ◌≢◌, ℕ, zero, suc, ◌<◌, ◌≤◌, ◌⊎◌, inl, inr, max, List, [], ◌∷◌, length, take, drop, Bool, true, false, ◌&&◌, ◌||◌, ◌==◌, refl, sym, ◌∙◌, ap, subst, arith, Option, Some, None, Ok, unwrap_or, nat_lt, if◌then◌else◌}
+use Rattle.std.proofs.Common.{◌≡◌, ◌≢◌, ℕ, zero, suc, ◌<◌, ◌≤◌, inl, inr, max, List, [], ◌∷◌, take, Bool, true, false, ◌&&◌, ◌||◌, ◌==◌, refl, sym, ◌∙◌, ap, subst, arith, Option, Some, None, unwrap_or, nat_lt}
 use Rattle.std.specs.Char.{is_ascii_alphabetic, digit_value}
 use Rattle.std.proofs.lemmas.Bool.{ne_eqb, eqb-true, false≢true, ltb-true, or_cases, and_parts}
 use Rattle.std.proofs.lemmas.Bool.Decides.{nat_tests}
-use Rattle.std.proofs.lemmas.List.{length-take-le}
 use Rattle.std.proofs.lemmas.Str.Parse.{digit_from_value}
 use Rattle.unicode_ident.proofs.IdentLemmas.{is_xid_start-ascii}
-use Rattle.pp_lexer.specs.declared.lexer.item.TokenValue.TheVariants.{NewLine, Ident}
 use Rattle.pp_lexer.specs.declared.token.Punct.{Punct as Punctuator}
 use Rattle.pp_lexer.specs.declared.token.Punct.TheVariants.{AddAssign, Dot}
 use Rattle.pp_lexer.specs.Identifiers.{is_start, is_identifier, begins_identifier}
 use Rattle.pp_lexer.specs.Longest.{longest}
 use Rattle.pp_lexer.specs.Numbers.{is_decimal, is_point, is_hex_number, is_number, begins_number}
-use Rattle.pp_lexer.specs.NumberValue.{number_outcome, number_at}
-use Rattle.pp_lexer.specs.Outcome.{Outcome}
-use Rattle.pp_lexer.specs.Punctuators.{punctuator, punct_of, is_punctuator, is_punctuation, punctuation_value, punctuation_outcome, punctuation_at}
-use Rattle.pp_lexer.specs.Spellings.{nothing, one, begins_with, behind_first, next_of}
-use Rattle.pp_lexer.specs.Words.{is_blank, is_line_end, is_newline_word, is_word, word_outcome, word_at}
+use Rattle.pp_lexer.specs.Punctuators.{punctuator, punct_of, is_punctuation}
+use Rattle.pp_lexer.specs.Spellings.{nothing, begins_with, behind_first, next_of}
+use Rattle.pp_lexer.specs.Words.{is_blank, is_line_end, is_newline_word, is_word}
 use Rattle.pp_lexer.proofs.IdentifiersLemmas.{longest_identifier}
-use Rattle.pp_lexer.proofs.LongestLemmas.{longest_none, longest_empty, longest_step, longest_nothing, longest_in, longest_le, longest_above}
+use Rattle.pp_lexer.proofs.LongestLemmas.{longest_none, longest_empty, longest_step, longest_nothing, longest_above}
 use Rattle.pp_lexer.proofs.NumbersLemmas.{no_number_len, no_number_front}
 use Rattle.pp_lexer.proofs.PunctuatorsLemmas.{no_punct, one_alone, found}
 use Rattle.pp_lexer.proofs.PunctuationLemmas.{punct_longest}

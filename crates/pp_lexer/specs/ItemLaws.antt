@@ -1,5 +1,5 @@
 -- Laws of the items of a text.
-use Rattle.std.specs.Prelude.{ℕ, ◌+◌, ◌≤◌, List, Result, Ok, Err, All, length}
+use Rattle.std.specs.Prelude.{ℕ, ◌+◌, ◌≤◌, List, Ok, Err, All, length}
 use Rattle.std.specs.Str.{IsUtf8}
 use Rattle.pp_lexer.specs.Spots.{spots_of}
 use Rattle.pp_lexer.specs.Items.{Lexeme, items_of}

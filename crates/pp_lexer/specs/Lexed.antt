@@ -1,5 +1,5 @@
 -- What a lexer stands for, and what a call of `next` gives.
-use Rattle.std.specs.Prelude.{◌≡◌, ℕ, Bool, true, false, ◌⊎◌, IsTrue, nat_lt, List, [], ◌∷◌, map, Option, Some, None, Result, Ok, Err, MatchBool}
+use Rattle.std.specs.Prelude.{◌≡◌, Bool, true, false, ◌⊎◌, IsTrue, nat_lt, List, [], ◌∷◌, map, Option, Some, None, Ok, Err, MatchBool}
 use Rattle.pp_lexer.specs.declared.lexer.char_iterator.Spot.{Spot}
 use Rattle.pp_lexer.specs.LexerToken.{holds_memory}
 use Rattle.pp_lexer.specs.PreprocessorError.{out_of_memory}

@@ -6,7 +6,6 @@ pub mod EntryEq
 pub mod TokenValue
 pub mod PreprocessorError
 pub mod LexerToken
-pub mod Spelling
 pub mod Surroundings
 pub mod Cut
 pub mod Cursor
@@ -22,6 +21,7 @@ pub mod Longest
 pub mod Identifiers
 pub mod Numbers
 pub mod Punctuators
+pub mod Spelling
 pub mod Outcome
 pub mod NumberValue
 pub mod Words

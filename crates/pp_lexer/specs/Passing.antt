@@ -7,10 +7,8 @@ use Rattle.pp_lexer.specs.declared.lexer.item.TokenValue.{TokenValue}
 use Rattle.pp_lexer.specs.declared.lexer.item.TokenValue.TheVariants.{NewLine}
 use Rattle.pp_lexer.specs.declared.lexer.char_iterator.Spot.{Spot}
 use Rattle.pp_lexer.specs.declared.lexer.Flags.{Flags}
-use Rattle.pp_lexer.specs.LexerToken.{holds_memory}
 use Rattle.pp_lexer.specs.Location.{nowhere}
-use Rattle.pp_lexer.specs.Reading.{Reading, letters, advanced}
-use Rattle.pp_lexer.specs.Words.{word_at}
+use Rattle.pp_lexer.specs.Reading.{Reading}
 use Rattle.pp_lexer.specs.Segments.{Kind, blank, comment, item, Segment, segments}
 use Rattle.pp_lexer.specs.Items.{Lexeme, is_comment, is_newline_result}
 use Rattle.pp_lexer.specs.Lexed.{Seen, Lexed, first_item, behind_first_item, comments_before, first_takes_memory}

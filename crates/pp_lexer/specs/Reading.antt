@@ -1,5 +1,5 @@
--- What the reader of characters stands for.
-use Rattle.std.specs.Prelude.{ℕ, zero, suc, Bool, ◌+◌, if◌then◌else◌, List, [], ◌∷◌, Option, Some, None}
+-- What the reader of characters stands for: the characters behind the phases, each with its line and its place.
+use Rattle.std.specs.Prelude.{ℕ, zero, suc, ◌+◌, List, [], ◌∷◌, Option, Some, None}
 use Rattle.std.specs.Char.{len_utf8}
 use Rattle.pp_lexer.specs.Cursor.{Placed}
 use Rattle.pp_lexer.specs.declared.lexer.char_iterator.Spot.{Spot}
@@ -41,19 +41,7 @@ abbrev pub letters : List Spot → List ℕ
 letters [] = []
 letters (s ∷ ss) = s.c ∷ letters ss
 
--- the longest front of characters that pass, and the reader behind it
-abbrev pub front_while : (ℕ → Bool) → List Spot → List ℕ
-front_while p [] = []
-front_while p (s ∷ ss) = if p s.c then s.c ∷ front_while p ss else []
-
-abbrev pub past_while_of : (ℕ → Bool) → List Spot → Spot → Reading
-past_while_of p [] last = record { rest = []; last = last }
-past_while_of p (s ∷ ss) last = if p s.c then past_while_of p ss s else record { rest = s ∷ ss; last = last }
-
-abbrev pub past_while : (ℕ → Bool) → Reading → Reading
-past_while p r = past_while_of p r.rest r.last
-
--- the reader that many characters further on
+-- the reader that many characters further on, or at its end
 abbrev pub advanced_of : ℕ → List Spot → Spot → Reading
 advanced_of n [] last = record { rest = []; last = last }
 advanced_of zero (s ∷ ss) last = record { rest = s ∷ ss; last = last }

@@ -1,6 +1,5 @@
 -- What is known of a reader's bytes after several reads
-use Rattle.std.proofs.Common.{◌≡◌, ℕ, ◌≤◌, List, [], ◌++◌, drop, length, Option, None, Some, IfSome, arith, rules, ap, sym, ◌∙◌, append_assoc, append-nil, take-append-drop, length-append}
-use Rattle.std.proofs.lemmas.Grind.{common_steps}
+use Rattle.std.proofs.Common.{◌≡◌, ℕ, ◌≤◌, List, ◌++◌, drop, length, Option, None, Some, IfSome, arith, ap, sym, ◌∙◌, append_assoc, append-nil, take-append-drop, length-append}
 use Rattle.std.specs.Io.{StartsWith, appended_bytes}
 use Rattle.std.specs.Io.KnownBytes.{Consumes, IsAtEnd}
 

@@ -1,5 +1,5 @@
 -- A text with or without a separator
-use Rattle.std.proofs.Common.{◌≡◌, ℕ, ◌<◌, List, ◌++◌, ◌∷◌, length, get_or, Contains, Bor, Option, None, Some, IsSome, MatchOption, IfSome, ◌↔◌, arith, rules, sym, ◌∙◌}
+use Rattle.std.proofs.Common.{◌≡◌, ℕ, ◌<◌, List, ◌++◌, ◌∷◌, length, get_or, Contains, Bor, Option, None, Some, IsSome, MatchOption, IfSome, ◌↔◌, arith, rules}
 use Rattle.std.proofs.lemmas.Grind.{common_steps}
 use Rattle.pp_print.specs.Words.{IsCutAtFirst}
 

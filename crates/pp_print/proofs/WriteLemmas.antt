@@ -1,5 +1,5 @@
 -- What is known of a writer's bytes after several writes
-use Rattle.std.proofs.Common.{◌≡◌, ℕ, List, [], ◌++◌, take, drop, Option, None, Some, arith, rules, ap, sym, ◌∙◌, append_assoc, append-nil, take-append-drop, length, length-drop, ◌-◌}
+use Rattle.std.proofs.Common.{◌≡◌, ℕ, List, [], ◌++◌, take, drop, Option, None, Some, arith, ap, sym, ◌∙◌, append_assoc, append-nil, take-append-drop, length, length-drop, ◌-◌}
 use Rattle.std.proofs.lemmas.List.{take_all}
 use Rattle.std.specs.Io.KnownBytes.{Appends}
 

@@ -1,5 +1,5 @@
 -- The items that are printed, and the error item that printing stops at
-use Rattle.std.specs.Prelude.{◌≡◌, ◌≢◌, List, All, IsTrue, ⊤}
+use Rattle.std.specs.Prelude.{◌≢◌, List, All, IsTrue, ⊤}
 use Rattle.pp_rs.specs.declared.token.Token.{Token}
 use Rattle.pp_rs.specs.declared.token.PreprocessorError.TheVariants.{OutOfMemory}
 use Rattle.pp_rs.specs.TokenValue.{is_ordinary}

@@ -1,16 +1,14 @@
 -- A step that begins with a number sign.
-use Rattle.std.proofs.Common.{◌≡◌, ◌≢◌, ◌<◌, ◌≤◌, Bool, true, false, List, [], ◌∷◌, length, Result, Ok, Err, ◌⊎◌, inl, inr, refl, sym, ◌∙◌, ap, arith}
+use Rattle.std.proofs.Common.{◌≡◌, ◌≢◌, Bool, true, false, List, [], ◌∷◌, length, Ok, Err, inl, inr, refl, sym, ◌∙◌, ap, arith}
 use Rattle.pp_lexer.specs.Lexed.{Seen, Lexed}
 use Rattle.pp_lexer.specs.declared.lexer.item.Token.{Token as LexerToken}
 use Rattle.pp_lexer.specs.declared.lexer.item.TokenValue.TheVariants.{Hash}
 use Rattle.pp_lexer.specs.declared.token.Location.{Location}
-use Rattle.pp_lexer.specs.declared.token.PreprocessorError.{PreprocessorError}
 use Rattle.pp_lexer.specs.declared.token.Token.{Token}
 use Rattle.pp_rs.specs.Conversion.{as_step}
 use Rattle.pp_rs.specs.Item.{LexerItem, Step}
-use Rattle.pp_rs.specs.SourceItems.{text_items, directive_items, lexer_items, source_items}
+use Rattle.pp_rs.specs.SourceItems.{text_items, directive_items, lexer_items}
 use Rattle.pp_rs.specs.Reads.{Takes, ReadsWord, Reads}
-use Rattle.pp_rs.specs.declared.pp.step.StepExit.{StepExit}
 use Rattle.pp_rs.specs.declared.pp.step.StepExit.TheVariants.{Error, Continue, Finished}
 
 -- a step that is a token comes from that token

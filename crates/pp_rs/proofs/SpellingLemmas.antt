@@ -1,13 +1,13 @@
 -- A text that grows token by token.
-use Rattle.std.proofs.Common.{◌≡◌, ℕ, ◌^◌, ◌<◌, Bool, true, false, if◌then◌else◌, List, [], ◌∷◌, ◌++◌, map, Result, Ok, Err, OnOk, refl, sym, ◌∙◌, ap, append_assoc, length, drop, get_or, ◌+◌, ◌≤◌, arith, suc, subst, All}
+use Rattle.std.proofs.Common.{◌≡◌, ℕ, ◌^◌, ◌<◌, true, false, if◌then◌else◌, List, [], ◌∷◌, ◌++◌, Result, Ok, Err, OnOk, refl, sym, ◌∙◌, ap, append_assoc, length, drop, get_or, ◌+◌, ◌≤◌, arith, suc, subst, All}
 use Rattle.std.specs.Prelude.{is_ok}
 use Rattle.std.specs.Fmt.{decimal}
-use Rattle.std.specs.List.{join_with_byte}
 use Rattle.std.specs.Str.{chars, IsUtf8}
 use Rattle.std.proofs.lemmas.List.{append-nil, at_drop_more, at_drop_all}
 use Rattle.std.proofs.lemmas.Fmt.{IsAscii-decimal}
 use Rattle.std.proofs.lemmas.Str.{chars-append, chars-IsAscii, chars-nil}
-use Rattle.pp_lexer.specs.Spelling.{punctuator, integer_literal, spelling, spelled_text, values_of}
+use Rattle.pp_lexer.specs.Punctuators.{punctuator}
+use Rattle.pp_lexer.specs.Spelling.{integer_literal, spelling, spelled_text, values_of}
 use Rattle.pp_lexer.specs.declared.token.Integer.{Integer}
 use Rattle.pp_lexer.specs.declared.token.Punct.{Punct}
 use Rattle.pp_lexer.specs.declared.token.Punct.TheVariants.{AddAssign}

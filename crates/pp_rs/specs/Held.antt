@@ -1,6 +1,6 @@
 -- What a directive item holds: the tokens of its line, which are ordinary (GLSL ES 3.20, section 3.4).
 use Rattle.std.specs.Prelude.{Bool, true, false, IsTrue, All, Option, Some, None, Ok, Err, ⊤}
-use Rattle.pp_lexer.specs.Entry.{Entry, Leaf, ident, integer, float, punct, version, extension, pragma}
+use Rattle.pp_lexer.specs.Entry.{Leaf, ident, integer, float, punct, version, extension, pragma}
 use Rattle.pp_lexer.specs.Preorder.{inner}
 use Rattle.pp_lexer.specs.declared.token.TokenValue.{TokenValue}
 use Rattle.pp_rs.specs.Item.{Item}

@@ -3,6 +3,7 @@ pub use Rattle.pp_lexer.specs.Entry
 pub use Rattle.pp_lexer.specs.Preorder
 pub use Rattle.pp_lexer.specs.TokenValue
 pub use Rattle.pp_lexer.specs.PreprocessorError
+pub use Rattle.pp_lexer.specs.Punctuators
 pub use Rattle.pp_lexer.specs.Spelling
 pub use Rattle.pp_lexer.specs.Spots
 pub use Rattle.pp_lexer.specs.Lexed

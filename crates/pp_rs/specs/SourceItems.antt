@@ -3,7 +3,7 @@ use Rattle.std.specs.Prelude.{Bool, true, false, ◌&&◌, if◌then◌else◌, 
 use Rattle.pp_lexer.specs.Lexed.{Seen}
 use Rattle.pp_lexer.specs.declared.lexer.item.Token.{Token as LexerToken}
 use Rattle.pp_lexer.specs.declared.lexer.item.TokenValue.{TokenValue as LexerTokenValue}
-use Rattle.pp_lexer.specs.declared.lexer.item.TokenValue.TheVariants.{Hash, NewLine, Ident as LexerIdent, Integer as LexerInteger, Float as LexerFloat, Punct as LexerPunct}
+use Rattle.pp_lexer.specs.declared.lexer.item.TokenValue.TheVariants.{Hash, NewLine, Ident as LexerIdent}
 use Rattle.pp_lexer.specs.declared.token.Location.{Location}
 use Rattle.pp_lexer.specs.declared.token.PreprocessorError.TheVariants.{UnknownDirective, UnexpectedEndOfInput}
 use Rattle.pp_rs.specs.Conversion.{conversion}

@@ -4,7 +4,8 @@ ghost use Rattle.std.specs.Prelude.{◌≡◌, ◌++◌, IsTrue, All, OnOk, IfOk
 ghost use Rattle.std.specs.Str.{chars};
 ghost use Rattle.pp_lexer.specs.TokenValue.{is_ordinary};
 ghost use Rattle.pp_lexer.specs.PreprocessorError.{out_of_memory};
-ghost use Rattle.pp_lexer.specs.Spelling.{punctuator, integer_literal, spelling, spelled_text, values_of};
+ghost use Rattle.pp_lexer.specs.Punctuators.{punctuator};
+ghost use Rattle.pp_lexer.specs.Spelling.{integer_literal, spelling, spelled_text, values_of};
 
 use crate::token::{Integer, Location, PreprocessorError, Punct, Token, TokenValue, out_of_memory};
 use std::alloc::{AllocError, Global};

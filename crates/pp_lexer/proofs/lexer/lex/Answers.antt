@@ -1,4 +1,4 @@
-use Rattle.std.proofs.Common.{sym, ◌∙◌, refl}
+use Rattle.std.proofs.Common.{sym, ◌∙◌}
 use Rattle.pp_lexer.proofs.LexLemmas.{lexed_before, lexed_front, lexed_refused, lexed_end}
 use Rattle.pp_lexer.proofs.lexer.lex.Goals as goal
 

@@ -170,7 +170,6 @@ fn reads_as_float(text: &mut FloatText<'_>) -> bool
     if skip_digits(text) {
         if skip_char('.', text) {
             skip_digits(text);
-            return ends_in_exponent(text);
         }
         return ends_in_exponent(text);
     }

@@ -1,4 +1,4 @@
-use Rattle.std.proofs.Common.{ℕ, arith, length-take}
+use Rattle.std.proofs.Common.{arith, length-take}
 use Rattle.pp_print.proofs.ReadLemmas.{consumes_more, consumes_all, consumes_within}
 use Rattle.pp_print.proofs.input.read_bytes.Goals as goal
 

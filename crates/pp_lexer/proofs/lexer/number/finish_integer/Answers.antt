@@ -1,4 +1,4 @@
-use Rattle.std.proofs.Common.{◌≡◌, sym, ◌∙◌, ap, not, drop, if◌then◌else◌, List, ℕ}
+use Rattle.std.proofs.Common.{◌≡◌, ◌∙◌, ap, not, drop, if◌then◌else◌}
 use Rattle.pp_lexer.specs.NumberValue.{is_u, is_s, unsigned_suffix_len, width_refusal, unless_refused, integer_value}
 use Rattle.pp_lexer.specs.Reading.{Reading, letters, advanced}
 use Rattle.pp_lexer.specs.Spellings.{begins_with}

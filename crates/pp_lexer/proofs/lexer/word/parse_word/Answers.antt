@@ -1,10 +1,10 @@
-use Rattle.std.proofs.Common.{Result, Err, OnOk, ◌≡◌, true, false, refl, sym, ◌∙◌, ap, subst, inl, inr, Ok, take}
+use Rattle.std.proofs.Common.{Result, Err, OnOk, ◌≡◌, true, false, sym, ◌∙◌, ap, subst, inl, inr, Ok, take}
 use Rattle.pp_lexer.specs.declared.lexer.item.TokenValue.TheVariants.{Ident}
 use Rattle.pp_lexer.specs.Identifiers.{is_identifier, begins_identifier}
 use Rattle.pp_lexer.specs.Longest.{longest}
 use Rattle.pp_lexer.specs.Numbers.{begins_number}
 use Rattle.pp_lexer.specs.NumberValue.{number_at}
-use Rattle.pp_lexer.specs.Outcome.{Outcome, IsGiven, takes_memory}
+use Rattle.pp_lexer.specs.Outcome.{IsGiven, takes_memory}
 use Rattle.pp_lexer.specs.Punctuators.{punctuation_at}
 use Rattle.pp_lexer.specs.Reading.{letters, after_first, advanced}
 use Rattle.pp_lexer.proofs.AdvancedLemmas.{after_first-one}

@@ -1,4 +1,4 @@
-use Rattle.std.proofs.Common.{◌≡◌, ◌++◌, ◌∙◌, ap, arith, string_bytes, IsTrue}
+use Rattle.std.proofs.Common.{◌++◌, ◌∙◌, ap, arith, string_bytes, IsTrue}
 use Rattle.pp_lexer.specs.TokenValue.{is_ordinary}
 use Rattle.std.proofs.lemmas.Str.{IsUtf8-string_bytes}
 use Rattle.pp_rs.proofs.SpellingLemmas.{spelled_none, spelled_first, spelled_more, spelled_all, all_behind_first}

@@ -1,8 +1,6 @@
-use Rattle.std.proofs.Common.{◌≡◌, ◌++◌, ap, ◌∙◌, append_assoc, arith, rules}
-use Rattle.std.specs.Str.{chars}
-use Rattle.std.specs.Fmt.{decimal}
+use Rattle.std.proofs.Common.{◌++◌, ap, ◌∙◌, arith, rules}
 use Rattle.std.specs.String.{string_bytes}
-use Rattle.std.proofs.lemmas.Str.{IsUtf8-string_bytes, chars-append}
+use Rattle.std.proofs.lemmas.Str.{IsUtf8-string_bytes}
 use Rattle.pp_rs.proofs.SpellingLemmas.{unsigned-pushed, signed-pushed}
 use Rattle.pp_rs.proofs.pp.spelling.push_integer.Goals as goal
 

@@ -1,4 +1,3 @@
-use Rattle.std.proofs.Common.{◌≡◌, OnOk, ap}
 use Rattle.std.proofs.lemmas.Str.{IsUtf8-string_bytes}
 use Rattle.pp_rs.proofs.SpellingLemmas.{chars-punctuator, chars-pushed}
 use Rattle.pp_rs.proofs.pp.spelling.push_value.Goals as goal

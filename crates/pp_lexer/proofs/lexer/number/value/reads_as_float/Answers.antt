@@ -1,17 +1,17 @@
 use Rattle.std.proofs.Common.{◌∙◌, ap}
-use Rattle.pp_lexer.specs.NumberValue.{is_float_text}
+use Rattle.pp_lexer.specs.NumberValue.{float_exponent}
 use Rattle.pp_lexer.proofs.FloatLemmas.{pointed_is, plain_is, point_first_is}
 use Rattle.pp_lexer.proofs.lexer.number.value.reads_as_float.Goals as goal
-
-pub returns-then-skip_char : goal.returns-then-skip_char
-returns-then-skip_char c =
-    c.ends_in_exponent.ensures ∙ pointed_is c.args.text.now _ _ _ _ _ c.skip_digits.ensures.any c.if-skip_digits.true c.skip_digits.ensures.state
-    c.skip_char.ensures.test c.if-skip_char.true c.skip_char.ensures.state c.skip_digits-then-skip_char.ensures.state
+use Rattle.pp_lexer.proofs.lexer.number.value.reads_as_float.Goals.{then-skip_char, else-skip_char}
 
 pub returns-then-skip_digits : goal.returns-then-skip_digits
 returns-then-skip_digits c =
-    c.ends_in_exponent-then-skip_digits.ensures ∙ plain_is c.args.text.now _ _ _ _ c.skip_digits.ensures.any c.if-skip_digits.true c.skip_digits.ensures.state
-    c.skip_char.ensures.test c.if-skip_char.false c.skip_char.ensures.state
+    elim c.if-skip_char.branch [
+      | then-skip_char w ↦ c.ends_in_exponent.ensures ∙ ap float_exponent w.text-is
+          ∙ pointed_is c.args.text.now _ _ _ _ _ c.skip_digits.ensures.any c.if-skip_digits.true c.skip_digits.ensures.state c.skip_char.ensures.test w.if-skip_char.true c.skip_char.ensures.state w.skip_digits-then-skip_char.ensures.state
+      | else-skip_char w ↦ c.ends_in_exponent.ensures ∙ ap float_exponent w.text-is
+          ∙ plain_is c.args.text.now _ _ _ _ c.skip_digits.ensures.any c.if-skip_digits.true c.skip_digits.ensures.state c.skip_char.ensures.test w.if-skip_char.false c.skip_char.ensures.state
+    ]
 
 pub returns : goal.returns
 returns c =
