@@ -96,6 +96,24 @@ fn an_open_comment_ends_with_the_source(rt: HostRuntime) {
 
 #[test]
 fn a_clone_goes_on_by_itself(rt: HostRuntime) {
+    let mut chars = CharsAndLine::new("é\r\nb");
+    assert_eq!(rt; chars.next(), Some(('é', 1)));
+    let mut later = chars.clone().expect(&rt, "no memory is taken");
+    assert_eq!(rt; later.next(), Some(('\n', 1)));
+    assert_eq!(rt;
+        (chars.get_current_offset(), later.get_current_offset()),
+        (2, 4)
+    );
+
+    let mut joined = SkipBackslashNewline::new("a\\\nb");
+    assert_eq!(rt; joined.next(), Some(('a', 1)));
+    let mut behind = joined.clone().expect(&rt, "no memory is taken");
+    assert_eq!(rt; behind.next(), Some(('b', 2)));
+    assert_eq!(rt;
+        (joined.get_current_offset(), behind.get_current_offset()),
+        (1, 4)
+    );
+
     let mut reader = ReplaceComments::new("a/**/\nb");
     assert_eq!(rt; reader.next(), Some(('a', 1)));
     let mut ahead = reader.clone().expect(&rt, "no memory is taken");

@@ -1,15 +1,9 @@
 //! The items of the preprocessor: values and places, up to the end.
 
-ghost use Rattle.std.specs.Prelude.{All, IsTrue};
-ghost use Rattle.pp_rs.specs.TokenValue.{is_ordinary};
-
 use crate::shown::{error, joined, place, value};
-use pp_rs::lexer;
-use pp_rs::pp::{
-    EXPANSION_LIMIT, Preprocessor, PreprocessorItem, StepExit, convert_lexer_token,
-    convert_lexer_token_to_step, spell_tokens,
-};
-use pp_rs::token::{Location, PreprocessorError, Punct, Token, TokenValue};
+use pp_rs::laws;
+use pp_rs::pp::{EXPANSION_LIMIT, Preprocessor, PreprocessorItem, spell_tokens};
+use pp_rs::token::Token;
 use std::alloc::{AllocError, Global};
 use std::test::Fail;
 
@@ -112,4 +106,12 @@ fn spelled_text_gives_the_same_values(rt: HostRuntime) -> Result<(), Fail> {
     let none = spelled(rt.alloc(), &[])?;
     assert_eq!(rt; none.as_str(), "");
     Ok(())
+}
+
+// The laws say something by their contracts alone.
+#[test]
+fn laws_and_limits(rt: HostRuntime) {
+    laws::places();
+    laws::line_ends();
+    assert_eq!(rt; EXPANSION_LIMIT, 128);
 }
