@@ -1,0 +1,9 @@
+pub mod Trees
+pub mod Faults
+pub mod Run
+pub mod Unique
+pub mod Steps
+pub mod First
+pub mod PossibleFaults
+pub mod Sound
+pub mod OneOutcome

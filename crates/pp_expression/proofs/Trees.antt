@@ -1,0 +1,189 @@
+-- What stands at the front of a line, and trees read one operator further.
+use Rattle.std.proofs.Common.{◌≡◌, ℕ, ◌+◌, ◌≤◌, false, List, [], ◌∷◌, ◌++◌, drop, Option, Some, None, Ok, ℤ, refl, sym, ap, ◌∙◌, arith, append_assoc}
+use Rattle.std.proofs.lemmas.Grind.{common_steps}
+use Rattle.pp_lexer.specs.declared.token.Punct.{Punct}
+use Rattle.pp_lexer.specs.declared.token.Punct.TheVariants as mark
+use Rattle.pp_expression.specs.declared.symbol.Symbol.{Symbol}
+use Rattle.pp_expression.specs.declared.symbol.Symbol.TheVariants as symbol
+use Rattle.pp_expression.specs.declared.operator.Unary.{Unary}
+use Rattle.pp_expression.specs.declared.operator.Unary.TheVariants as unary
+use Rattle.pp_expression.specs.declared.operator.Binary.{Binary}
+use Rattle.pp_expression.specs.declared.operator.Binary.TheVariants as binary
+use Rattle.pp_expression.specs.declared.symbol.ExpressionFault.{ExpressionFault}
+use Rattle.pp_expression.specs.Operators.{unary_of, binary_of, level_of, unary_punct, binary_punct}
+use Rattle.pp_expression.specs.Arithmetic.{unary_value, binary_value, literal}
+use Rattle.pp_expression.specs.Trees.{Tree, Number, Group, Prefix, Infix, spelling, Fits, value, ◌>>=◌}
+use Rattle.pp_expression.specs.Lines.{Line, next, next_of, binds_from, goes_on, Stops, Reads}
+use Rattle.pp_expression.specs.FirstFault.{sign_of}
+use Rattle.pp_expression.specs.Parsing.{behind_next, of_level, operator_of, operator_at, sign_at}
+
+same_unary : (a o : Unary) → Some a ≡ Some o → unary_punct a ≡ unary_punct o
+same_unary a o e = let h : a ≡ o = cc in ap unary_punct h
+
+unary_inverse : (p : Punct) (o : Unary) → unary_of p ≡ Some o → p ≡ unary_punct o
+unary_inverse mark.Plus o e = same_unary unary.Plus o e
+unary_inverse mark.Minus o e = same_unary unary.Minus o e
+unary_inverse mark.Bang o e = same_unary unary.Not o e
+unary_inverse mark.Tilde o e = same_unary unary.Complement o e
+unary_inverse _ o e = cc
+
+same_binary : (a o : Binary) → Some a ≡ Some o → binary_punct a ≡ binary_punct o
+same_binary a o e = let h : a ≡ o = cc in ap binary_punct h
+
+binary_inverse : (p : Punct) (o : Binary) → binary_of p ≡ Some o → p ≡ binary_punct o
+binary_inverse mark.Star o e = same_binary binary.Multiply o e
+binary_inverse mark.Slash o e = same_binary binary.Divide o e
+binary_inverse mark.Percent o e = same_binary binary.Remainder o e
+binary_inverse mark.Plus o e = same_binary binary.Add o e
+binary_inverse mark.Minus o e = same_binary binary.Subtract o e
+binary_inverse mark.LeftShift o e = same_binary binary.ShiftLeft o e
+binary_inverse mark.RightShift o e = same_binary binary.ShiftRight o e
+binary_inverse mark.LeftAngle o e = same_binary binary.Less o e
+binary_inverse mark.RightAngle o e = same_binary binary.Greater o e
+binary_inverse mark.LessEqual o e = same_binary binary.LessEqual o e
+binary_inverse mark.GreaterEqual o e = same_binary binary.GreaterEqual o e
+binary_inverse mark.EqualEqual o e = same_binary binary.Equal o e
+binary_inverse mark.NotEqual o e = same_binary binary.NotEqual o e
+binary_inverse mark.Ampersand o e = same_binary binary.And o e
+binary_inverse mark.Caret o e = same_binary binary.Xor o e
+binary_inverse mark.Pipe o e = same_binary binary.Or o e
+binary_inverse mark.LogicalAnd o e = same_binary binary.LogicalAnd o e
+binary_inverse mark.LogicalOr o e = same_binary binary.LogicalOr o e
+binary_inverse _ o e = cc
+
+-- the symbols behind their first, x
+abbrev pub Begins : List Symbol → Symbol → Type 0
+Begins symbols x = symbols ≡ x ∷ drop 1 symbols
+
+pub next_is : (symbols : List Symbol) (ending : Option ExpressionFault) (x : Symbol) → next_of symbols ending ≡ Ok (Some x) → Begins symbols x
+next_is (y ∷ ys) ending x e = let h : y ≡ x = cc in ap (λ (z : Symbol). z ∷ ys) h
+next_is [] None x e = cc
+next_is [] (Some d) x e = cc
+
+sign_at_front : (symbols : List Symbol) (ending : Option ExpressionFault) (o : Unary) → (next_of symbols ending >>= (λ x. Ok (sign_of x))) ≡ Ok (Some o) → Begins symbols (symbol.Punct (unary_punct o))
+sign_at_front (symbol.Punct q ∷ ys) ending o e =
+    let some : unary_of q ≡ Some o = cc in
+    let same : q ≡ unary_punct o = unary_inverse q o some in
+    ap (λ (z : Punct). symbol.Punct z ∷ ys) same
+sign_at_front (symbol.Number n ∷ ys) ending o e = cc
+sign_at_front (symbol.Fault ∷ ys) ending o e = cc
+sign_at_front (symbol.Other ∷ ys) ending o e = cc
+sign_at_front [] None o e = cc
+sign_at_front [] (Some d) o e = cc
+
+pub sign_is : (line : Line) (o : Unary) → sign_at line ≡ Ok (Some o) → Begins line.symbols (symbol.Punct (unary_punct o))
+sign_is line o e = sign_at_front line.symbols line.ending o e
+
+of_level_is : (level : ℕ) (m : Option Binary) (o : Binary) → of_level level m ≡ Some o → (m ≡ Some o) × (level_of o ≡ level)
+of_level_is level (Some a) o e = grind (arith, common_steps)
+of_level_is level None o e = cc
+
+operator_at_front : (level : ℕ) (symbols : List Symbol) (ending : Option ExpressionFault) (o : Binary) → (next_of symbols ending >>= (λ x. Ok (operator_of level x))) ≡ Ok (Some o) → Begins symbols (symbol.Punct (binary_punct o)) × (level_of o ≡ level)
+operator_at_front level (symbol.Punct q ∷ ys) ending o e =
+    let some : of_level level (binary_of q) ≡ Some o = cc in
+    let is = of_level_is level (binary_of q) o some in
+    let same : q ≡ binary_punct o = binary_inverse q o is.0 in
+    (ap (λ (z : Punct). symbol.Punct z ∷ ys) same, is.1)
+operator_at_front level (symbol.Number n ∷ ys) ending o e = cc
+operator_at_front level (symbol.Fault ∷ ys) ending o e = cc
+operator_at_front level (symbol.Other ∷ ys) ending o e = cc
+operator_at_front level [] None o e = cc
+operator_at_front level [] (Some d) o e = cc
+
+pub operator_is : (level : ℕ) (line : Line) (o : Binary) → operator_at level line ≡ Ok (Some o) → Begins line.symbols (symbol.Punct (binary_punct o)) × (level_of o ≡ level)
+operator_is level line o e = operator_at_front level line.symbols line.ending o e
+
+-- no operator binds as tightly as an operand
+loose : (o : Binary) → level_of o ≤ 9
+loose binary.Multiply = omega arith
+loose _ = omega arith
+
+binds_none : (m : Option Binary) → binds_from 10 m ≡ false
+binds_none (Some o) = let h = loose o in grind (arith, common_steps)
+binds_none None = refl
+
+over_operand : (symbols : List Symbol) → goes_on 10 symbols ≡ false
+over_operand [] = refl
+over_operand (symbol.Number n ∷ xs) = refl
+over_operand (symbol.Fault ∷ xs) = refl
+over_operand (symbol.Other ∷ xs) = refl
+over_operand (symbol.Punct q ∷ xs) = binds_none (binary_of q)
+
+pub operand_stops : (line : Line) → Stops 10 line
+operand_stops line = record { known = λ h. absurd (omega arith); over = over_operand line.symbols }
+
+pub fits_looser : (level : ℕ) (t : Tree) → Fits (level + 1) t → Fits level t
+fits_looser level (Number n) h = tt
+fits_looser level (Group t) h = h
+fits_looser level (Prefix o t) h = h
+fits_looser level (Infix o l r) h = (omega (arith, h.0), h.1, h.2)
+
+pub read_number : (old : Line) (n : ℕ) → next old ≡ Ok (Some (symbol.Number n)) → Reads 10 10 old (behind_next old) (literal n)
+read_number old n e = record {
+  tree = Number n;
+  spelled = next_is old.symbols old.ending (symbol.Number n) e;
+  fits = tt;
+  valued = refl;
+  stops = operand_stops (behind_next old);
+  ending = refl;
+}
+
+pub read_group : (old mid : Line) (v : ℤ) → next old ≡ Ok (Some (symbol.Punct mark.LeftParen)) → Reads 0 0 (behind_next old) mid v → next mid ≡ Ok (Some (symbol.Punct mark.RightParen)) → Reads 10 10 old (behind_next mid) v
+read_group old mid v opens r close =
+    let first = next_is old.symbols old.ending (symbol.Punct mark.LeftParen) opens in
+    let last = next_is mid.symbols mid.ending (symbol.Punct mark.RightParen) close in
+    record {
+      tree = Group r.tree;
+      spelled = first ∙ ap (λ (xs : List Symbol). symbol.Punct mark.LeftParen ∷ xs) (r.spelled ∙ ap (λ (xs : List Symbol). spelling r.tree ++ xs) last ∙ sym (append_assoc (spelling r.tree) (symbol.Punct mark.RightParen ∷ []) (drop 1 mid.symbols)));
+      fits = r.fits;
+      valued = r.valued;
+      stops = operand_stops (behind_next mid);
+      ending = r.ending;
+    }
+
+pub read_signed : (o : Unary) (old new : Line) (x v : ℤ) → sign_at old ≡ Ok (Some o) → Reads 10 10 (behind_next old) new x → unary_value o x ≡ Ok v → Reads 10 10 old new v
+read_signed o old new x v sign r e =
+    record {
+      tree = Prefix o r.tree;
+      spelled = sign_is old o sign ∙ ap (λ (xs : List Symbol). symbol.Punct (unary_punct o) ∷ xs) r.spelled;
+      fits = r.fits;
+      valued = rw (r.valued) e;
+      stops = r.stops;
+      ending = r.ending;
+    }
+
+pub read_looser : (level stop : ℕ) (old new : Line) (v : ℤ) → Reads (level + 1) stop old new v → Reads level stop old new v
+read_looser level stop old new v r = record {
+  tree = r.tree;
+  spelled = r.spelled;
+  fits = fits_looser level r.tree r.fits;
+  valued = r.valued;
+  stops = r.stops;
+  ending = r.ending;
+}
+
+-- the symbols of an operation, from those of its operands
+joined : (o : Binary) (l r : Tree) (old mid new : List Symbol) → old ≡ spelling l ++ mid → Begins mid (symbol.Punct (binary_punct o)) → drop 1 mid ≡ spelling r ++ new → old ≡ spelling (Infix o l r) ++ new
+joined o l r old mid new left first right =
+    left ∙ ap (λ (xs : List Symbol). spelling l ++ xs) (first ∙ ap (λ (xs : List Symbol). symbol.Punct (binary_punct o) ∷ xs) right) ∙ sym (append_assoc (spelling l) (symbol.Punct (binary_punct o) ∷ spelling r) new)
+
+pub operation_spelled : (level : ℕ) (o : Binary) (old mid new : Line) (x y : ℤ) → (left : Reads level (level + 1) old mid x) → operator_at level mid ≡ Ok (Some o) → (right : Reads (level + 1) (level + 1) (behind_next mid) new y) → old.symbols ≡ spelling (Infix o left.tree right.tree) ++ new.symbols
+operation_spelled level o old mid new x y left op right =
+    joined o left.tree right.tree old.symbols mid.symbols new.symbols left.spelled (operator_is level mid o op).0 right.spelled
+
+pub operation_fits : (level : ℕ) (o : Binary) (l r : Tree) → level_of o ≡ level → Fits level l → Fits (level + 1) r → Fits level (Infix o l r)
+operation_fits level o l r e fl fr = (omega (arith, e), rw e fl, rw e fr)
+
+pub operation_value : (o : Binary) (l r : Tree) (x y v : ℤ) → value l ≡ Ok x → value r ≡ Ok y → binary_value o x y ≡ Ok v → value (Infix o l r) ≡ Ok v
+operation_value o l r x y v el er e = rw el (rw er e)
+
+pub read_operation : (level : ℕ) (o : Binary) (old mid new : Line) (x y v : ℤ) → Reads level (level + 1) old mid x → operator_at level mid ≡ Ok (Some o) → Reads (level + 1) (level + 1) (behind_next mid) new y → binary_value o x y ≡ Ok v → Reads level (level + 1) old new v
+read_operation level o old mid new x y v left op right e =
+    record {
+      tree = Infix o left.tree right.tree;
+      spelled = operation_spelled level o old mid new x y left op right;
+      fits = operation_fits level o left.tree right.tree (operator_is level mid o op).1 left.fits right.fits;
+      valued = operation_value o left.tree right.tree x y v left.valued right.valued e;
+      stops = right.stops;
+      ending = right.ending ∙ left.ending;
+    }

@@ -1,0 +1,129 @@
+-- The first fault of an expression of `#if`, `#elif` or `#line` (GLSL ES 3.20 section 3.4), and what an evaluation gives. A line may have several faults. Each is found when so much of the line is read that it is certain: the first is the one found at the earliest symbol, and of those found at one symbol the one of the lowest order.
+--
+--   order 1   the symbol isn't read: the fault that ends the reading stands in its place
+--   order 2   an operator has no value. One in front of its operand, `*`, `/` and `%` are computed at the last symbol of their right operand, the others at the symbol behind it, or at the end of the line
+--   order 4   the symbol, or the end of the line, can't stand there
+--
+-- Order 3 is left to whoever asks something of the whole value, which is found at the symbol behind the expression.
+use Rattle.std.specs.Prelude.{◌≡◌, ℕ, ◌+◌, ◌≤◌, ◌<◌, false, nat_lt, length, if◌then◌else◌, List, [], ◌∷◌, ◌++◌, Option, Some, None, Result, Ok, Err, ℤ, MatchResult, ◌⊎◌}
+use Rattle.pp_lexer.specs.declared.token.Punct.TheVariants as mark
+use Rattle.pp_expression.specs.declared.operator.Unary.{Unary}
+use Rattle.pp_expression.specs.declared.operator.Binary.{Binary}
+use Rattle.pp_expression.specs.declared.symbol.Symbol.{Symbol}
+use Rattle.pp_expression.specs.declared.symbol.Symbol.TheVariants as symbol
+use Rattle.pp_expression.specs.declared.symbol.ExpressionFault.{ExpressionFault}
+use Rattle.pp_expression.specs.declared.symbol.ExpressionFault.TheVariants as fault
+use Rattle.pp_expression.specs.declared.symbol.Value.{Value}
+use Rattle.pp_expression.specs.declared.symbol.Found.{Found}
+use Rattle.pp_expression.specs.Operators.{unary_of, unary_punct, binary_punct, level_of}
+use Rattle.pp_expression.specs.Arithmetic.{unary_value, binary_value}
+use Rattle.pp_expression.specs.Trees.{Tree, Prefix, Infix, spelling, Fits, value}
+use Rattle.pp_expression.specs.Lines.{Line, next, goes_on, Stops, Reads}
+
+-- the operator that a symbol is in front of an operand
+abbrev pub sign_of : Option Symbol → Option Unary
+sign_of (Some (symbol.Punct punct)) = unary_of punct
+sign_of (Some (symbol.Number number)) = None
+sign_of (Some symbol.Fault) = None
+sign_of (Some symbol.Other) = None
+sign_of None = None
+
+-- the fault of a symbol, or of the end, that can't stand where it does
+abbrev pub unexpected : Option Symbol → ExpressionFault
+unexpected (Some ahead) = fault.Unexpected
+unexpected None = fault.UnexpectedEndOfInput
+
+-- What a symbol begins where an operand without an operator in front is wanted: a number, or None at an opening parenthesis. A `defined` whose own operand is at fault stands where an operand may stand.
+abbrev pub atom_of : Option Symbol → Result (Option ℕ) ExpressionFault
+atom_of (Some (symbol.Number number)) = Ok (Some number)
+atom_of (Some (symbol.Punct mark.LeftParen)) = Ok None
+atom_of (Some (symbol.Punct punct)) = Err fault.Unexpected
+atom_of (Some symbol.Fault) = Err fault.Operand
+atom_of (Some symbol.Other) = Err fault.Unexpected
+atom_of None = Err fault.UnexpectedEndOfInput
+
+-- whether a symbol is the closing parenthesis that is wanted
+abbrev pub closing : Option Symbol → Result (Unit {0}) ExpressionFault
+closing (Some (symbol.Punct mark.RightParen)) = Ok tt
+closing ahead = Err (unexpected ahead)
+
+-- An expression up to a place where an operand is wanted, from the outside inwards: Here is the place; it may lie in parentheses, behind an operator in front, or behind a left operand and its operator.
+pub data Front : Type 0 where
+  Here : Front
+  InGroup : Front → Front
+  InPrefix : Unary → Front → Front
+  InInfix : Binary → Tree → Front → Front
+
+-- the symbols that a front is written as
+abbrev pub front_spelling : Front → List Symbol
+front_spelling Here = []
+front_spelling (InGroup front) = symbol.Punct mark.LeftParen ∷ front_spelling front
+front_spelling (InPrefix operator front) = symbol.Punct (unary_punct operator) ∷ front_spelling front
+front_spelling (InInfix operator left front) = spelling left ++ (symbol.Punct (binary_punct operator) ∷ front_spelling front)
+
+-- The front may stand where operators bind at least as tightly as level, and each left operand in it is as Finished says.
+abbrev pub FitsFront : (Tree → Type 0) → ℕ → Front → Type 0
+FitsFront Finished level Here = Unit {0}
+FitsFront Finished level (InGroup front) = FitsFront Finished 0 front
+FitsFront Finished level (InPrefix operator front) = FitsFront Finished 10 front
+FitsFront Finished level (InInfix operator left front) = (level ≤ level_of operator) × Fits (level_of operator) left × Finished left × FitsFront Finished (level_of operator + 1) front
+
+-- the level of the operand that is wanted at the end of a front
+abbrev pub wanted : ℕ → Front → ℕ
+wanted level Here = level
+wanted level (InGroup front) = wanted 0 front
+wanted level (InPrefix operator front) = wanted 10 front
+wanted level (InInfix operator left front) = wanted ((level_of operator + 1)) front
+
+-- how many symbols there are from the one at which an operation is computed, where rest is behind its right operand
+abbrev pub unread_at : Binary → Line → ℕ
+unread_at operator rest = if nat_lt (level_of operator) 9 then length rest.symbols else length rest.symbols + 1
+
+-- The faults that may come where an operand of the level is wanted before the line, with the number of symbols from the one at which each is found on, and with its order. An operand that is finished before is as Finished says.
+pub data Fails (Finished : Tree → Type 0) (level : ℕ) (line : Line) (left order : ℕ) (kind : ExpressionFault) : Type 0 where
+  -- the symbol isn't read
+  unread : next line ≡ Err kind → left ≡ length line.symbols → order ≡ 1 → Fails Finished level line left order kind
+  -- no operand begins with the symbol, or at the end
+  wrong : (ahead : Option Symbol) → next line ≡ Ok ahead → sign_of ahead ≡ None → atom_of ahead ≡ Err kind → left ≡ length line.symbols → order ≡ 4 → Fails Finished level line left order kind
+  -- the symbol behind the operand isn't read
+  unread_behind : (tree : Tree) (rest : Line) → level ≤ 9 → line.symbols ≡ spelling tree ++ rest.symbols → rest.ending ≡ line.ending → Fits level tree → Finished tree → next rest ≡ Err kind → left ≡ length rest.symbols → order ≡ 1 → Fails Finished level line left order kind
+  -- the parenthesis that begins the operand isn't closed
+  unclosed : (tree : Tree) (rest : Line) (ahead : Option Symbol) → line.symbols ≡ symbol.Punct mark.LeftParen ∷ (spelling tree ++ rest.symbols) → rest.ending ≡ line.ending → Fits 0 tree → Finished tree → next rest ≡ Ok ahead → goes_on 0 rest.symbols ≡ false → closing ahead ≡ Err kind → left ≡ length rest.symbols → order ≡ 4 → Fails Finished level line left order kind
+  -- the operator in front that begins the operand has no value
+  signed : (operator : Unary) (operand : Tree) (rest : Line) (number : ℤ) → line.symbols ≡ spelling (Prefix operator operand) ++ rest.symbols → rest.ending ≡ line.ending → Fits 10 operand → value operand ≡ Ok number → unary_value operator number ≡ Err kind → left ≡ length rest.symbols + 1 → order ≡ 2 → Fails Finished level line left order kind
+  -- an operator between operands has no value
+  operated : (operator : Binary) (former latter : Tree) (rest : Line) (first second : ℤ) → line.symbols ≡ spelling (Infix operator former latter) ++ rest.symbols → rest.ending ≡ line.ending → Fits level (Infix operator former latter) → value former ≡ Ok first → value latter ≡ Ok second → binary_value operator first second ≡ Err kind → Stops (level_of operator + 1) rest → left ≡ unread_at operator rest → order ≡ 2 → Fails Finished level line left order kind
+
+-- A fault that the line may have: its operators stand by precedence up to there, and each operand that is finished before is as Finished says.
+pub record Possible (Finished : Tree → Type 0) (level : ℕ) (line : Line) (left order : ℕ) (kind : ExpressionFault) : Type 0 where
+  pub front : Front
+  pub here : Line
+  pub spelled : line.symbols ≡ front_spelling front ++ here.symbols
+  pub ending : here.ending ≡ line.ending
+  pub stands : FitsFront Finished level front
+  pub fails : Fails Finished (wanted level front) here left order kind
+
+-- any operand, also one that is itself at fault
+abbrev pub Any : Tree → Type 0
+Any tree = Unit {0}
+
+-- Found at an earlier symbol, where more of them are left, or at the same one and no later in order.
+abbrev pub Before : ℕ → ℕ → ℕ → ℕ → Type 0
+Before left order other_left other_order = (other_left < left) ⊎ ((other_left ≡ left) × (order ≤ other_order))
+
+-- The first fault of an expression of the level at the front of the line: the line may have it, and whatever fault the line may have, none comes before it.
+pub record IsFirst (level : ℕ) (line : Line) (found : Found) : Type 0 where
+  pub order : ℕ
+  pub possible : Possible Any level line found.left order found.kind
+  pub first : (other_left other_order : ℕ) (kind : ExpressionFault) → Possible Any level line other_left other_order kind → Before found.left order other_left other_order
+
+-- An expression of this value stands at the front of the line, with that many symbols behind it, and no fault is possible.
+pub record IsValue (line : Line) (found : Value) : Type 0 where
+  pub rest : Line
+  pub reads : Reads 0 0 line rest found.value
+  pub behind : found.left ≡ length rest.symbols
+  pub faultless : (left order : ℕ) (kind : ExpressionFault) → Possible Any 0 line left order kind → ⊥
+
+-- What an evaluation of a line gives: its value, or its first fault.
+abbrev pub Evaluates : Line → Result Value Found → Type 0
+Evaluates line result = MatchResult result (IsValue line) (IsFirst 0 line)

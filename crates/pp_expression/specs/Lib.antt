@@ -1,0 +1,7 @@
+pub mod Operators
+pub mod Arithmetic
+pub mod Trees
+pub mod Lines
+pub mod FirstFault
+pub mod Parsing
+pub mod ExpressionLaws

@@ -1,0 +1,54 @@
+-- The symbols of a directive's line, and an expression at their front (GLSL ES 3.20 section 3.4). The reading of the words behind the symbols may end in a fault, as in a macro call without its `)`; an expression that is over before is not touched by it, where it can be known that it is over.
+use Rattle.std.specs.Prelude.{◌≡◌, ℕ, ◌≤◌, Bool, false, nat_le, List, [], ◌∷◌, ◌++◌, Option, Some, None, Result, Ok, Err, IsOk, ℤ}
+use Rattle.pp_expression.specs.declared.operator.Binary.{Binary}
+use Rattle.pp_expression.specs.declared.symbol.Symbol.{Symbol}
+use Rattle.pp_expression.specs.declared.symbol.Symbol.TheVariants as symbol
+use Rattle.pp_expression.specs.declared.symbol.ExpressionFault.{ExpressionFault}
+use Rattle.pp_expression.specs.Operators.{binary_of, level_of}
+use Rattle.pp_expression.specs.Trees.{Tree, spelling, Fits, value}
+
+-- the symbols still to come, and the fault that ends their reading, if one does
+pub record Line : Type 0 where
+  pub symbols : List Symbol
+  pub ending : Option ExpressionFault
+
+-- the first symbol, or what stands at the end of the symbols
+abbrev pub next_of : List Symbol → Option ExpressionFault → Result (Option Symbol) ExpressionFault
+next_of (first ∷ others) ending = Ok (Some first)
+next_of [] None = Ok None
+next_of [] (Some kind) = Err kind
+
+-- the next symbol, none at the end, or the fault of reading it
+abbrev pub next : Line → Result (Option Symbol) ExpressionFault
+next line = next_of line.symbols line.ending
+
+-- there is an operator, and it binds at least as tightly as level
+abbrev pub binds_from : ℕ → Option Binary → Bool
+binds_from level (Some operator) = nat_le level (level_of operator)
+binds_from level None = false
+
+-- the symbol is an operator between operands that binds at least as tightly as level
+abbrev pub continues : ℕ → Symbol → Bool
+continues level (symbol.Punct punct) = binds_from level (binary_of punct)
+continues level (symbol.Number number) = false
+continues level symbol.Fault = false
+continues level symbol.Other = false
+
+-- the symbols begin with such an operator
+abbrev pub goes_on : ℕ → List Symbol → Bool
+goes_on level [] = false
+goes_on level (first ∷ others) = continues level first
+
+-- An expression of the level is over before the line: it is known what comes next, and that isn't an operator of the level. An operand alone, which has level 10, is over without a look at what comes next.
+pub record Stops (level : ℕ) (line : Line) : Type 0 where
+  pub known : level ≤ 9 → IsOk (next line)
+  pub over : goes_on level line.symbols ≡ false
+
+-- From old to new stands a tree of the level with this value, and it is over there: stop is the tree's level, or the next tighter for a left operand, which an operator of its level may follow.
+pub record Reads (level stop : ℕ) (old new : Line) (number : ℤ) : Type 0 where
+  pub tree : Tree
+  pub spelled : old.symbols ≡ spelling tree ++ new.symbols
+  pub fits : Fits level tree
+  pub valued : value tree ≡ Ok number
+  pub stops : Stops stop new
+  pub ending : new.ending ≡ old.ending

@@ -1,0 +1,75 @@
+//! The value of one operator on 64-bit integers (GLSL ES 3.20 section 3.4).
+
+ghost use Rattle.std.specs.Prelude.{◌≡◌};
+ghost use Rattle.pp_expression.specs.Arithmetic as spec;
+
+use crate::operator::{Binary, Unary};
+use crate::symbol::ExpressionFault;
+
+/// A literal's value: its 64 bits read as two's complement.
+pub fn literal(value: u64) -> i64
+    ensures { result ≡ spec.literal value }
+{
+    value.cast_signed()
+}
+
+/// The value of an operator in front of an operand: `IntegerOverflow` where it leaves 64 bits.
+pub fn unary(operator: Unary, operand: i64) -> Result<i64, ExpressionFault>
+    ensures { result ≡ spec.unary_value operator operand }
+{
+    match operator {
+        Unary::Plus => Ok(operand),
+        Unary::Minus => operand
+            .checked_neg()
+            .ok_or(ExpressionFault::IntegerOverflow),
+        Unary::Not => Ok(i64::from(operand == 0)),
+        Unary::Complement => Ok(!operand),
+    }
+}
+
+/// By how many bits a shift goes: `IntegerOverflow` where that isn't one of 0 to 63.
+fn shift_count(count: i64) -> Result<u32, ExpressionFault>
+    ensures { result ≡ spec.shift_count count }
+{
+    if count < 0 || count > 63 {
+        return Err(ExpressionFault::IntegerOverflow);
+    }
+    Ok(count as u32)
+}
+
+/// The value of an operator between its operands: `IntegerOverflow` where it leaves 64 bits or a
+/// shift's count is not one of 0 to 63, and `DivisionByZero` where there is no quotient.
+pub fn binary(operator: Binary, left: i64, right: i64) -> Result<i64, ExpressionFault>
+    ensures { result ≡ spec.binary_value operator left right }
+{
+    match operator {
+        Binary::Multiply => left
+            .checked_mul(right)
+            .ok_or(ExpressionFault::IntegerOverflow),
+        Binary::Divide => left
+            .checked_div(right)
+            .ok_or(ExpressionFault::DivisionByZero),
+        Binary::Remainder => left
+            .checked_rem(right)
+            .ok_or(ExpressionFault::DivisionByZero),
+        Binary::Add => left
+            .checked_add(right)
+            .ok_or(ExpressionFault::IntegerOverflow),
+        Binary::Subtract => left
+            .checked_sub(right)
+            .ok_or(ExpressionFault::IntegerOverflow),
+        Binary::ShiftLeft => Ok(left << shift_count(right)?),
+        Binary::ShiftRight => Ok(left >> shift_count(right)?),
+        Binary::Less => Ok(i64::from(left < right)),
+        Binary::Greater => Ok(i64::from(left > right)),
+        Binary::LessEqual => Ok(i64::from(left <= right)),
+        Binary::GreaterEqual => Ok(i64::from(left >= right)),
+        Binary::Equal => Ok(i64::from(left == right)),
+        Binary::NotEqual => Ok(i64::from(left != right)),
+        Binary::And => Ok(left & right),
+        Binary::Xor => Ok(left ^ right),
+        Binary::Or => Ok(left | right),
+        Binary::LogicalAnd => Ok(i64::from(left != 0 && right != 0)),
+        Binary::LogicalOr => Ok(i64::from(left != 0 || right != 0)),
+    }
+}

@@ -1,0 +1,12 @@
+pub mod ListLemmas
+pub mod TextLemmas
+pub mod TakingLemmas
+pub mod CallsLemmas
+pub mod EmittingLemmas
+pub mod LevelLemmas
+pub mod OperandLemmas
+pub mod LineWordsLemmas
+pub mod OpenNamesLemmas
+pub mod ApartMarksLemmas
+pub mod NoLineNameLemmas
+pub mod SourceTextLemmas

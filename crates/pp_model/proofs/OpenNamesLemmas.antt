@@ -1,0 +1,110 @@
+-- The open names of a list, of what is left of it, and of one into which a macro is spliced; and what opens.
+use Rattle.std.proofs.Common.{◌≡◌, ◌∙◌, ℕ, Bool, true, false, List, [], ◌∷◌, ◌++◌, refl, sym, ap, Option, Some, None}
+use Rattle.std.specs.Prelude.{unwrap_or, slice_get}
+use Rattle.std.proofs.lemmas.List.{append_assoc}
+use Rattle.pp_lexer.specs.declared.token.Token.{Token}
+use Rattle.pp_lexer.specs.declared.token.TokenValue.{TokenValue}
+use Rattle.pp_lexer.specs.declared.token.TokenValue.TheVariants.{Ident}
+use Rattle.pp_model.specs.Names.{Name, is_same_name, is_in}
+use Rattle.pp_model.specs.Definitions.{Definition}
+use Rattle.pp_model.specs.SpliceList.{behind_marks, open_names, followed_by, parameter_of, replacement, replaced, spliced}
+use Rattle.pp_model.specs.Reading.{Reading, Expander, masked, Opening, opening_by, opening_of, opening}
+use Rattle.pp_model.specs.ApartMarks.{HasApartMarks, IsRest}
+use Rattle.pp_model.specs.declared.outcome.Outcome.{Outcome}
+use Rattle.pp_model.specs.declared.outcome.Outcome.TheVariants as outcome
+use Rattle.pp_model.specs.declared.splice.Entry.{Entry}
+use Rattle.pp_model.specs.declared.splice.Entry.TheVariants.{Plain, End}
+
+-- what is left of a rest is left
+pub rest_of_rest : (a b c : List Entry) → IsRest a b → IsRest b c → IsRest a c
+rest_of_rest a b c (front, p) (more, q) = (front ++ more, p ∙ (rw q (sym (append_assoc front more c))))
+
+-- behind the marks at its front stands what is left of a list
+pub behind_marks_is_rest : (entries : List Entry) → IsRest entries (behind_marks entries)
+behind_marks_is_rest [] = ([], refl)
+behind_marks_is_rest (End mark ∷ entries) =
+    let rest = behind_marks_is_rest entries in
+    (End mark ∷ rest.0, ap (λ es. End mark ∷ es) rest.1)
+behind_marks_is_rest (Plain token ∷ entries) = ([], refl)
+
+not_in_tail : (name other : Name) (names : List Name) → is_in name (other ∷ names) ≡ false → is_in name names ≡ false
+not_in_tail name other names h = go (is_same_name name other) refl
+  where
+    go : (b : Bool) → is_same_name name other ≡ b → is_in name names ≡ false
+    go true e = let bad : true ≡ false = rw e at h in cc
+    go false e = rw e at h
+
+not_in_front : (name : Name) (names others : List Name) → is_in name (names ++ others) ≡ false → is_in name names ≡ false
+not_in_front name [] others h = refl
+not_in_front name (other ∷ names) others h = go (is_same_name name other) refl (λ t. not_in_front name names others t)
+  where
+    go : (b : Bool) → is_same_name name other ≡ b → (is_in name (names ++ others) ≡ false → is_in name names ≡ false) → is_in name (other ∷ names) ≡ false
+    go true e tail = let bad : true ≡ false = rw e at h in cc
+    go false e tail = rw e (tail (rw e at h))
+
+-- a name that has no mark in a list has none in what is left of it
+not_in_rest : (name : Name) (front rest : List Entry) → is_in name (open_names (front ++ rest)) ≡ false → is_in name (open_names rest) ≡ false
+not_in_rest name [] rest h = h
+not_in_rest name (Plain token ∷ front) rest h = not_in_rest name front rest h
+not_in_rest name (End mark ∷ front) rest h = not_in_rest name front rest (not_in_tail name mark.name (open_names (front ++ rest)) h)
+
+pub rest_opens_nothing : (name : Name) (old new : List Entry) → IsRest old new → is_in name (open_names old) ≡ false → is_in name (open_names new) ≡ false
+rest_opens_nothing name old new (front, p) h = not_in_rest name front new (rw p at h)
+
+-- marks that are apart are so in what is left
+apart_behind : (front rest : List Entry) → HasApartMarks (front ++ rest) → HasApartMarks rest
+apart_behind [] rest h = h
+apart_behind (Plain token ∷ front) rest h = apart_behind front rest h
+apart_behind (End mark ∷ front) rest h = apart_behind front rest h.1
+
+pub rest_is_apart : (old new : List Entry) → IsRest old new → HasApartMarks old → HasApartMarks new
+rest_is_apart old new (front, p) h = apart_behind front new (rw p at h)
+
+-- a macro's replacement holds no mark but its own
+open_followed_by : (tokens : List Token) (entries : List Entry) → open_names (followed_by tokens entries) ≡ open_names entries
+open_followed_by [] entries = refl
+open_followed_by (token ∷ tokens) entries = open_followed_by tokens entries
+
+open_replacement : (arguments : List (List Token)) (token : Token) (position : Option ℕ) (entries : List Entry) → open_names (replacement arguments token position entries) ≡ open_names entries
+open_replacement arguments token None entries = refl
+open_replacement arguments token (Some k) entries = open_followed_by (unwrap_or (slice_get arguments k) []) entries
+
+open_replaced : (parameters : List Name) (arguments : List (List Token)) (body : List Token) (entries : List Entry) → open_names (replaced parameters arguments body entries) ≡ open_names entries
+open_replaced parameters arguments [] entries = refl
+open_replaced parameters arguments (token ∷ body) entries = open_replacement arguments token (parameter_of parameters token.value) (replaced parameters arguments body entries) ∙ open_replaced parameters arguments body entries
+
+pub open_spliced : (name : Name) (definition : Definition) (line : ℕ) (arguments : List (List Token)) (entries : List Entry) → open_names (spliced name definition line arguments entries) ≡ name ∷ open_names entries
+open_spliced name definition line arguments entries = open_replaced definition.parameters arguments definition.body (End (record { name = name; line = line }) ∷ entries)
+
+-- what is known of a taken token that opens a macro
+pub record IsOpening {R : Type 0} (I : Reading R) (e : Expander R) (o : Outcome) (m : Opening) : Type 0 where
+  pub taken : o ≡ outcome.Token m.token
+  pub named : m.token.value ≡ Ident m.name
+  pub free : I.is_reserved m.name ≡ false
+  pub closed : is_in m.name (masked e) ≡ false
+  pub defined : I.visible e.reader m.name ≡ Some m.definition
+
+module _ {R : Type 0} (I : Reading R) (e : Expander R) where
+  opening_by_name : (token : Token) (name : Name) (m : Opening) → token.value ≡ Ident name → I.is_reserved name ≡ false → is_in name (masked e) ≡ false → (found : Option Definition) → I.visible e.reader name ≡ found → opening_by token name found ≡ Some m → IsOpening I e (outcome.Token token) m
+  opening_by_name token name m named free closed None defined h = cc
+  opening_by_name token name m named free closed (Some definition) defined h =
+      let same : record { token = token; name = name; definition = definition } ≡ m = cc in
+      rw (← same) (record { taken = refl; named = named; free = free; closed = closed; defined = defined })
+
+  opening_of_value : (token : Token) (m : Opening) (v : TokenValue) → token.value ≡ v → opening_of I e token v ≡ Some m → IsOpening I e (outcome.Token token) m
+  opening_of_value token m (Ident name) named h = go (I.is_reserved name) refl (is_in name (masked e)) refl
+    where
+      go : (b : Bool) → I.is_reserved name ≡ b → (c : Bool) → is_in name (masked e) ≡ c → IsOpening I e (outcome.Token token) m
+      go true p c q = let bad : None ≡ Some m = rw p at h in cc
+      go false p true q = let bad : None ≡ Some m = rw (p, q) at h in cc
+      go false p false q = opening_by_name token name m named p q (I.visible e.reader name) refl (rw (p, q) at h)
+  opening_of_value token m _ named h = cc
+
+  pub opening_known : (o : Outcome) (m : Opening) → opening I e o ≡ Some m → IsOpening I e o m
+  opening_known (outcome.Token token) m h = opening_of_value token m token.value refl h
+  opening_known (outcome.Fault fault) m h = cc
+  opening_known outcome.End m h = cc
+
+  -- it has no mark in the list
+  pub opening_not_open : (o : Outcome) (m : Opening) → opening I e o ≡ Some m → is_in m.name (open_names e.list) ≡ false
+  opening_not_open o m h = not_in_front m.name (open_names e.list) e.hidden (opening_known o m h).closed

@@ -1,0 +1,13 @@
+-- What the plain program gives of a step: what the definitions say, or nothing.
+use Rattle.std.specs.Prelude.{◌≡◌, Result, Ok, Err, ⊤}
+use Rattle.pp_model.specs.SourceReader.{SourceReader}
+use Rattle.pp_model.specs.Acts.{Acted, failed}
+use Rattle.pp_model.specs.declared.step.Step.{Step}
+use Rattle.pp_model.specs.declared.stop.Halt.{Halt}
+use Rattle.pp_model.specs.declared.stop.Halt.TheVariants as halt
+
+-- a step and the reader behind it are those wanted, or the fault is, which leaves the reader where it is
+abbrev pub ActsAs : Result Step Halt → Acted → SourceReader → Type 0
+ActsAs (Ok step) wanted after = wanted ≡ record { step = step; after = after }
+ActsAs (Err (halt.Fault fault)) wanted after = wanted ≡ failed fault after
+ActsAs (Err (halt.Stop stop)) wanted after = ⊤

@@ -1,0 +1,142 @@
+-- Blocks of conditional text, and which text is live (GLSL ES 3.20, section 3.4, and docs/RULES.md, Directives 7 to 11).
+use Rattle.std.specs.Prelude.{ℕ, ◌+◌, ◌-◌, ◌==◌, Bool, true, false, not, ◌&&◌, ◌||◌, if◌then◌else◌, List, [], ◌∷◌, length, take, slice_get, Option, Some, None, find, option_map}
+use Rattle.std.specs.List.{list_any, list_all, cons_option}
+use Rattle.pp_lexer.specs.Lexed.{Seen}
+use Rattle.pp_lexer.specs.declared.token.Location.{Location}
+use Rattle.pp_model.specs.Sights.{sight_of}
+use Rattle.pp_model.specs.declared.block.BlockLine.{BlockLine}
+use Rattle.pp_model.specs.declared.block.Part.{Part}
+use Rattle.pp_model.specs.declared.block.Part.TheVariants as part
+use Rattle.pp_model.specs.declared.directive.Directive.{Directive}
+use Rattle.pp_model.specs.declared.directive.Directive.TheVariants as d
+use Rattle.pp_model.specs.declared.sight.Sight.{Sight}
+use Rattle.pp_model.specs.declared.sight.Sight.TheVariants as sight
+use Rattle.pp_model.specs.declared.truth.Truth.{Truth}
+
+-- what a directive does to a block, if it does anything
+abbrev pub part_of : Directive → Option Part
+part_of d.If = Some part.Opens
+part_of d.Ifdef = Some part.Opens
+part_of d.Ifndef = Some part.Opens
+part_of d.Elif = Some part.Elif
+part_of d.Else = Some part.Else
+part_of d.Endif = Some part.Closes
+part_of _ = None
+
+abbrev pub line_with : ℕ → Location → Option Part → Option BlockLine
+line_with position word (Some p) = Some (record { position = position; word = word; part = p })
+line_with position word None = None
+
+-- the block line that stands at the position, if one does
+abbrev pub line_at : ℕ → Sight → Option BlockLine
+line_at position (sight.Directive directive word) = line_with position word (part_of directive)
+line_at position _ = None
+
+-- the lines that open, part or close blocks among these items, of which the first has this position
+abbrev pub block_lines : ℕ → List Seen → List BlockLine
+block_lines position [] = []
+block_lines position (s ∷ rest) = cons_option (line_at position (sight_of (s ∷ rest))) (block_lines (position + 1) rest)
+
+-- the line closes a block in which so many inner blocks are open
+abbrev pub closes_block : Part → ℕ → Bool
+closes_block part.Closes inner = inner == 0
+closes_block _ inner = false
+
+-- the inner blocks that are open behind the line
+abbrev pub inner_behind : Part → ℕ → ℕ
+inner_behind part.Opens inner = inner + 1
+inner_behind part.Closes inner = inner - 1
+inner_behind _ inner = inner
+
+-- the block is still open behind these lines
+abbrev pub stays_open : ℕ → List BlockLine → Bool
+stays_open inner [] = true
+stays_open inner (line ∷ later) = not (closes_block line.part inner) && stays_open (inner_behind line.part inner) later
+
+abbrev pub opens : Part → Bool
+opens part.Opens = true
+opens _ = false
+
+abbrev pub is_else : Part → Bool
+is_else part.Else = true
+is_else _ = false
+
+abbrev pub parts_block : Part → ℕ → Bool
+parts_block part.Elif inner = inner == 0
+parts_block part.Else inner = inner == 0
+parts_block _ inner = false
+
+-- the lines that part the block itself, and no inner one
+abbrev pub parting : ℕ → List BlockLine → List BlockLine
+parting inner [] = []
+parting inner (line ∷ later) =
+    if parts_block line.part inner then line ∷ parting (inner_behind line.part inner) later
+    else parting (inner_behind line.part inner) later
+
+-- A block that is open: its first line, and the lines that part it so far. All of these are its branch marks.
+pub record Block : Type 0 where
+  pub first : BlockLine
+  pub partings : List BlockLine
+
+-- the blocks that are open behind these lines, the outermost first
+abbrev pub open_blocks : List BlockLine → List Block
+open_blocks [] = []
+open_blocks (line ∷ later) =
+    if opens line.part && stays_open 0 later then record { first = line; partings = parting 0 later } ∷ open_blocks later
+    else open_blocks later
+
+-- the blocks that are open at a position of a source
+abbrev pub blocks_at : List Seen → ℕ → List Block
+blocks_at source position = open_blocks (block_lines 0 (take position source))
+
+-- the innermost block, which is the last one
+abbrev pub innermost : List Block → Option Block
+innermost blocks = slice_get blocks (length blocks - 1)
+
+-- the conditions that were read so far
+abbrev pub Truths : Type 0
+Truths = List Truth
+
+-- whether the condition at a position holds, where it was read
+abbrev pub truth_at : Truths → ℕ → Option Bool
+truth_at truths position = option_map (λ t. t.holds) (find (λ t. t.position == position) truths)
+
+abbrev pub is_known_true : Option Bool → Bool
+is_known_true (Some holds) = holds
+is_known_true None = false
+
+abbrev pub is_known_false : Option Bool → Bool
+is_known_false (Some holds) = not holds
+is_known_false None = false
+
+-- a mark's own condition holds; an `#else` has none
+abbrev pub holds_at : Truths → BlockLine → Bool
+holds_at truths mark = is_else mark.part || is_known_true (truth_at truths mark.position)
+
+-- a mark's own condition was read and is false; an `#else` has none
+abbrev pub fails_at : Truths → BlockLine → Bool
+fails_at truths mark = is_else mark.part || is_known_false (truth_at truths mark.position)
+
+-- The last of these marks is chosen: its condition holds, and each earlier one is false.
+abbrev pub is_last_chosen : Truths → BlockLine → List BlockLine → Bool
+is_last_chosen truths mark [] = holds_at truths mark
+is_last_chosen truths mark (later ∷ marks) = fails_at truths mark && is_last_chosen truths later marks
+
+abbrev pub is_branch_live : Truths → Block → Bool
+is_branch_live truths block = is_last_chosen truths block.first block.partings
+
+-- A position is live if in each block that is open there the latest mark is chosen. The blocks around a block are open at its
+-- first line too, with the same latest marks; so that line is live where its block's branches are.
+abbrev pub is_live : List Seen → Truths → ℕ → Bool
+is_live source truths position = list_all (is_branch_live truths) (blocks_at source position)
+
+-- the surroundings of a block
+abbrev pub are_surroundings_live : List Seen → Truths → Block → Bool
+are_surroundings_live source truths block = is_live source truths block.first.position
+
+-- a branch of the block was taken: a condition of it holds
+abbrev pub has_taken_branch : Truths → Block → Bool
+has_taken_branch truths block = list_any (λ mark. is_known_true (truth_at truths mark.position)) (block.first ∷ block.partings)
+
+abbrev pub has_else : Block → Bool
+has_else block = list_any (λ mark. is_else mark.part) block.partings

@@ -1,0 +1,32 @@
+-- Macros and the map of their names (GLSL ES 3.20, section 3.4, and docs/RULES.md, Directives 5 and 6).
+use Rattle.std.specs.Prelude.{◌≡◌, Bool, false, List, [], Option, None, if◌then◌else◌}
+use Rattle.pp_lexer.specs.declared.token.Token.{Token}
+use Rattle.pp_lexer.specs.Spelling.{values_of}
+use Rattle.pp_model.specs.Names.{Name, is_same_name}
+
+-- what a macro's name stands for: the parameters, each at its position, and the tokens of the body
+pub record Definition : Type 0 where
+  pub function_like : Bool
+  pub parameters : List Name
+  pub body : List Token
+
+-- which names are defined, and as what
+abbrev pub Definitions : Type 0
+Definitions = Name → Option Definition
+
+abbrev pub nothing_defined : Definitions
+nothing_defined = λ name. None
+
+-- the name stands for this, or for nothing, and all other names stay
+abbrev pub changed : Definitions → Name → Option Definition → Definitions
+changed definitions name change = λ other. if is_same_name other name then change else definitions other
+
+-- a macro without parameters
+abbrev pub object_like : List Token → Definition
+object_like body = record { function_like = false; parameters = []; body = body }
+
+-- the two may stand for the same name: the places of the body's tokens do not count
+pub record IsSameDefinition (old new : Definition) : Type 0 where
+  pub kind : old.function_like ≡ new.function_like
+  pub parameters : old.parameters ≡ new.parameters
+  pub body : values_of old.body ≡ values_of new.body

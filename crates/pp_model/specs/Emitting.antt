@@ -1,0 +1,88 @@
+-- The next item of an expander, and an argument's expansion alone (docs/RULES.md, Expansion 3 to 10).
+use Rattle.std.specs.Prelude.{◌≡◌, ℕ, zero, suc, true, false, List, [], ◌∷◌, Option, Some, None, Result, Ok, Err}
+use Rattle.pp_lexer.specs.declared.token.PreprocessorError.{PreprocessorError}
+use Rattle.pp_lexer.specs.declared.token.PreprocessorError.TheVariants.{RecursionLimitReached}
+use Rattle.pp_lexer.specs.declared.token.Token.{Token}
+use Rattle.pp_model.specs.Names.{Name}
+use Rattle.pp_model.specs.Definitions.{Definitions}
+use Rattle.pp_model.specs.SpliceList.{spliced}
+use Rattle.pp_model.specs.Reading.{Reading, Expander, Opening, opening, argument_reading, reading_of}
+use Rattle.pp_model.specs.Taking.{Takes}
+use Rattle.pp_model.specs.Calls.{Fault, Answers, Site, misfit, no_call, refused, fits, Calls}
+use Rattle.pp_model.specs.declared.outcome.Outcome.{Outcome}
+use Rattle.pp_model.specs.declared.outcome.Outcome.TheVariants as outcome
+
+-- the macro's replacement before the list
+abbrev pub opened : {R : Type 0} → Opening → ℕ → List (List Token) → Expander R → Expander R
+opened m line arguments expander = record expander { list = spliced m.name m.definition line arguments expander.list }
+
+abbrev pub holding : {R : Type 0} → Outcome → Expander R → Expander R
+holding o expander = record expander { held = Some o }
+
+-- The next item: a token that opens no macro, an error or the end. `A` says what calls come to.
+pub data Emits {R : Type 0} (I : Reading R) (A : Answers) : Expander R → Outcome → Expander R → Type 0 where
+  -- what opens no macro is the item
+  itself : (o : Outcome) (e f : Expander R) → Takes I e o f → opening I f o ≡ None → Emits I A e o f
+  -- an object-like macro is replaced
+  object : (x o : Outcome) (m : Opening) (e f h : Expander R) → Takes I e x f → opening I f x ≡ Some m → m.definition.function_like ≡ false → Emits I A (opened m m.token.location.line [] f) o h → Emits I A e o h
+  -- the name of a function-like macro without a call is the item; what was found behind it comes next
+  name_alone : (x y o : Outcome) (m : Opening) (e f g h : Expander R) → Takes I e x f → opening I f x ≡ Some m → m.definition.function_like ≡ true → Calls I A m.definition f (no_call y) g → o ≡ x → h ≡ holding y g → Emits I A e o h
+  -- the fault of a call is the item
+  call_refused : (x o : Outcome) (fault : Fault) (m : Opening) (e f g : Expander R) → Takes I e x f → opening I f x ≡ Some m → m.definition.function_like ≡ true → Calls I A m.definition f (refused fault) g → o ≡ outcome.Fault fault → Emits I A e o g
+  -- a call is replaced
+  call : (x o : Outcome) (arguments : List (List Token)) (line : ℕ) (m : Opening) (e f g h : Expander R) → Takes I e x f → opening I f x ≡ Some m → m.definition.function_like ≡ true → Calls I A m.definition f (fits arguments line) g → Emits I A (opened m line arguments g) o h → Emits I A e o h
+
+abbrev pub token_before : Token → Result (List Token) Fault → Result (List Token) Fault
+token_before token (Ok tokens) = Ok (token ∷ tokens)
+token_before token (Err fault) = Err fault
+
+-- the items up to the end, or the first error
+pub data Collects {R : Type 0} (I : Reading R) (A : Answers) : Expander R → Result (List Token) Fault → Type 0 where
+  done : (e f : Expander R) (out : Result (List Token) Fault) → Emits I A e outcome.End f → out ≡ Ok [] → Collects I A e out
+  failed : (fault : Fault) (e f : Expander R) (out : Result (List Token) Fault) → Emits I A e (outcome.Fault fault) f → out ≡ Err fault → Collects I A e out
+  item : (token : Token) (rest out : Result (List Token) Fault) (e f : Expander R) → Emits I A e (outcome.Token token) f → Collects I A f rest → out ≡ token_before token rest → Collects I A e out
+
+-- what a list of tokens comes to alone, where these definitions are visible and these names are open around
+abbrev pub Alones : Type 1
+Alones = List Token → Definitions → List Name → Result (List Token) Fault → Type 0
+
+abbrev pub list_before : List Token → Result (List (List Token)) Fault → Result (List (List Token)) Fault
+list_before tokens (Ok lists) = Ok (tokens ∷ lists)
+list_before tokens (Err fault) = Err fault
+
+-- the arguments from left to right, each alone, or the first fault
+pub data Each (deeper : Alones) (visible : Definitions) (hidden : List Name) : List (List Token) → Result (List (List Token)) Fault → Type 0 where
+  none : (out : Result (List (List Token)) Fault) → out ≡ Ok [] → Each deeper visible hidden [] out
+  first_failed : (argument : List Token) (arguments : List (List Token)) (fault : Fault) (out : Result (List (List Token)) Fault) → deeper argument visible hidden (Err fault) → out ≡ Err fault → Each deeper visible hidden (argument ∷ arguments) out
+  more : (argument expanded : List Token) (arguments : List (List Token)) (rest out : Result (List (List Token)) Fault) → deeper argument visible hidden (Ok expanded) → Each deeper visible hidden arguments rest → out ≡ list_before expanded rest → Each deeper visible hidden (argument ∷ arguments) out
+
+abbrev pub EachOrRefused : Alones → Option PreprocessorError → Site → Result (List (List Token)) Fault → Type 0
+EachOrRefused deeper (Some error) site out = out ≡ Err (error, site.paren)
+EachOrRefused deeper None site out = Each deeper site.visible site.open_around site.arguments out
+
+-- what a fitting call comes to at the limit
+abbrev pub refusal : Option PreprocessorError → PreprocessorError
+refusal (Some error) = error
+refusal None = RecursionLimitReached
+
+-- calls in an argument that is read at the limit
+abbrev pub answers_at_limit : Answers
+answers_at_limit definition site out = out ≡ Err (refusal (misfit definition.parameters site.arguments), site.paren)
+
+-- calls whose arguments are expanded so
+abbrev pub answers_below : Alones → Answers
+answers_below deeper definition site out = EachOrRefused deeper (misfit definition.parameters site.arguments) site out
+
+-- a list of tokens alone, where arguments may be read inside each other so many levels deeper
+abbrev pub Alone : ℕ → Alones
+Alone zero tokens visible hidden out = Collects argument_reading answers_at_limit (reading_of tokens visible hidden) out
+Alone (suc levels) tokens visible hidden out = Collects argument_reading (answers_below (Alone levels)) (reading_of tokens visible hidden) out
+
+-- what calls come to, where arguments may be read inside each other so many levels deeper
+abbrev pub answers_at : ℕ → Answers
+answers_at zero = answers_at_limit
+answers_at (suc levels) = answers_below (Alone levels)
+
+-- argument expansions inside each other
+abbrev pub expansion_limit : ℕ
+expansion_limit = 128

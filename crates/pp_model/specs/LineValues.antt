@@ -1,0 +1,116 @@
+-- What an `#if`, `#elif` or `#line` line comes to (GLSL ES 3.20, section 3.4, and docs/RULES.md, Expressions 3 to 7 and
+-- Directives 13). Trees, their values and the first fault of an expression are those of pp_expression.
+use Rattle.std.specs.Prelude.{◌≡◌, ◌≢◌, ℕ, ℤ, pos, negsuc, ◌-◌, ◌^◌, nat_lt, Bool, not, if◌then◌else◌, List, [], length, drop, slice_get, map, Option, Some, None, option_map, unwrap_or, Result, Ok, Err}
+use Rattle.pp_expression.specs.declared.symbol.Symbol.{Symbol}
+use Rattle.pp_expression.specs.declared.symbol.Symbol.TheVariants as symbol
+use Rattle.pp_expression.specs.declared.symbol.ExpressionFault.{ExpressionFault}
+use Rattle.pp_expression.specs.declared.symbol.ExpressionFault.TheVariants as kind
+use Rattle.pp_expression.specs.declared.symbol.Value.{Value}
+use Rattle.pp_expression.specs.declared.symbol.Found.{Found}
+use Rattle.pp_expression.specs.Arithmetic.{is_zero}
+use Rattle.pp_expression.specs.Lines.{Line}
+use Rattle.pp_expression.specs.FirstFault.{Evaluates}
+use Rattle.pp_lexer.specs.declared.token.Location.{Location}
+use Rattle.pp_lexer.specs.declared.token.PreprocessorError.TheVariants.{IntegerOverflow, DivisionByZero, UnexpectedEndOfInput, UnexpectedToken, LineOverflow}
+use Rattle.pp_lexer.specs.declared.token.Token.{Token}
+use Rattle.pp_lexer.specs.declared.token.TokenValue.{TokenValue}
+use Rattle.pp_lexer.specs.declared.token.TokenValue.TheVariants.{Ident, Integer, Punct}
+use Rattle.pp_model.specs.Names.{defined_name}
+use Rattle.pp_model.specs.Definitions.{Definitions}
+use Rattle.pp_model.specs.Reading.{reading_of}
+use Rattle.pp_model.specs.Calls.{Fault, Answers}
+use Rattle.pp_model.specs.LineWords.{Words, LineWords, unexpected}
+use Rattle.pp_model.specs.declared.word.LineKind.TheVariants.{Condition, LineNumber}
+use Rattle.pp_model.specs.declared.word.Word.{Word}
+use Rattle.pp_model.specs.declared.word.Word.TheVariants.{Plain, Defined}
+
+-- what a word is to the grammar of expressions
+abbrev pub symbol_of_value : TokenValue → Symbol
+symbol_of_value (Integer number) = symbol.Number number.value
+symbol_of_value (Punct punct) = symbol.Punct punct
+symbol_of_value _ = symbol.Other
+
+abbrev pub symbol_of_answer : Result Bool Fault → Symbol
+symbol_of_answer (Ok answer) = symbol.Number (if answer then 1 else 0)
+symbol_of_answer (Err fault) = symbol.Fault
+
+abbrev pub symbol_of : Word → Symbol
+symbol_of (Plain token) = symbol_of_value token.value
+symbol_of (Defined location answer) = symbol_of_answer answer
+
+abbrev pub line_of : Words → Line
+line_of words = record { symbols = map symbol_of words.words; ending = option_map (λ fault. kind.Unread) words.ending }
+
+-- the word with which so many words of the line end
+abbrev pub word_from_end : ℕ → Words → Option Word
+word_from_end left words = slice_get words.words (length words.words - left)
+
+-- the fault of a word that can't stand where it does; a `defined` is told as the identifier that it begins with
+abbrev pub unwanted_word : Word → Fault
+unwanted_word (Plain token) = unexpected token
+unwanted_word (Defined location answer) = (UnexpectedToken (Ident defined_name), location)
+
+abbrev pub fault_of_answer : Fault → Result Bool Fault → Fault
+fault_of_answer fallback (Ok answer) = fallback
+fault_of_answer fallback (Err fault) = fault
+
+-- the fault of a `defined` with its operand
+abbrev pub fault_of_operand : Fault → Word → Fault
+fault_of_operand fallback (Plain token) = fallback
+fault_of_operand fallback (Defined location answer) = fault_of_answer fallback answer
+
+-- the line ends too early, which is told at the directive's word
+abbrev pub ended_early : Location → Fault
+ended_early directive = (UnexpectedEndOfInput, directive)
+
+-- The first fault of an expression, with its place: faults of arithmetic and of the end stand at the directive's word.
+abbrev pub told : Location → Words → ExpressionFault → ℕ → Fault
+told directive words kind.IntegerOverflow left = (IntegerOverflow, directive)
+told directive words kind.DivisionByZero left = (DivisionByZero, directive)
+told directive words kind.UnexpectedEndOfInput left = ended_early directive
+told directive words kind.Unexpected left = unwrap_or (option_map unwanted_word (word_from_end left words)) (ended_early directive)
+told directive words kind.Unread left = unwrap_or words.ending (ended_early directive)
+told directive words kind.Operand left = unwrap_or (option_map (fault_of_operand (ended_early directive)) (word_from_end left words)) (ended_early directive)
+
+abbrev pub told_fault : Location → Words → Found → Fault
+told_fault directive words found = told directive words found.kind found.left
+
+-- nothing may stand behind the last expression of a line
+abbrev pub unless_followed : {A : Type 0} → A → Option Word → Result A Fault
+unless_followed result None = Ok result
+unless_followed result (Some word) = Err (unwanted_word word)
+
+-- an expression alone on its line, of whose value something is told
+abbrev pub alone_on_line : {A : Type 0} → Location → Words → (ℤ → A) → Result Value Found → Result A Fault
+alone_on_line directive words result (Ok v) = unless_followed (result v.value) (word_from_end v.left words)
+alone_on_line directive words result (Err found) = Err (told_fault directive words found)
+
+-- The condition of an `#if` or `#elif`: it holds where its value isn't 0.
+pub record IsCondition (A : Answers) (directive : Location) (tokens : List Token) (definitions : Definitions) (result : Result Bool Fault) : Type 0 where
+  pub words : Words
+  pub read : LineWords Condition directive A (reading_of tokens definitions []) words
+  pub evaluation : Result Value Found
+  pub evaluated : Evaluates (line_of words) evaluation
+  pub is : result ≡ alone_on_line directive words (λ value. not (is_zero value)) evaluation
+
+-- a line number has 32 bits
+abbrev pub as_line_number : ℤ → Option ℕ
+as_line_number (pos n) = if nat_lt n (2 ^ 32) then Some n else None
+as_line_number (negsuc n) = None
+
+-- the words behind an expression
+abbrev pub words_behind : ℕ → Words → Words
+words_behind left words = record words { words = drop (length words.words - left) words.words }
+
+-- what the line number comes to, and then a second expression, which is only read
+pub data Numbers (directive : Location) (words : Words) : Result ℕ Fault → Type 0 where
+  faulty : (found : Found) (result : Result ℕ Fault) → Evaluates (line_of words) (Err found) → result ≡ Err (told_fault directive words found) → Numbers directive words result
+  out_of_range : (v : Value) (result : Result ℕ Fault) → Evaluates (line_of words) (Ok v) → as_line_number v.value ≡ None → result ≡ Err (LineOverflow, directive) → Numbers directive words result
+  alone : (v : Value) (n : ℕ) (result : Result ℕ Fault) → Evaluates (line_of words) (Ok v) → as_line_number v.value ≡ Some n → v.left ≡ 0 → result ≡ Ok n → Numbers directive words result
+  with_source : (v : Value) (n : ℕ) (second : Result Value Found) (result : Result ℕ Fault) → Evaluates (line_of words) (Ok v) → as_line_number v.value ≡ Some n → v.left ≢ 0 → Evaluates (line_of (words_behind v.left words)) second → result ≡ alone_on_line directive (words_behind v.left words) (λ value. n) second → Numbers directive words result
+
+-- the line number that a `#line` gives
+pub record IsLineNumber (A : Answers) (directive : Location) (tokens : List Token) (definitions : Definitions) (result : Result ℕ Fault) : Type 0 where
+  pub words : Words
+  pub read : LineWords LineNumber directive A (reading_of tokens definitions []) words
+  pub numbers : Numbers directive words result

@@ -1,0 +1,105 @@
+-- The words of an `#if`, `#elif` or `#line` line (GLSL ES 3.20, section 3.4, and docs/RULES.md, Expressions 1 to 3).
+use Rattle.std.specs.Prelude.{◌≡◌, pos, Bool, true, false, if◌then◌else◌, List, [], ◌∷◌, Option, Some, None, Result, Ok, Err, is_some}
+use Rattle.pp_lexer.specs.declared.token.Location.{Location}
+use Rattle.pp_lexer.specs.declared.token.PreprocessorError.TheVariants.{UnexpectedToken, UnexpectedEndOfInput}
+use Rattle.pp_lexer.specs.declared.token.Token.{Token}
+use Rattle.pp_lexer.specs.declared.token.TokenValue.{TokenValue}
+use Rattle.pp_lexer.specs.declared.token.TokenValue.TheVariants.{Ident, Integer}
+use Rattle.pp_model.specs.Names.{Name, is_same_name, defined_name}
+use Rattle.pp_model.specs.Reading.{Expander, Listed, line_reading}
+use Rattle.pp_model.specs.Taking.{Takes}
+use Rattle.pp_model.specs.Calls.{Fault, Answers, is_left_paren, is_right_paren}
+use Rattle.pp_model.specs.Emitting.{Emits}
+use Rattle.pp_model.specs.declared.outcome.Outcome.{Outcome}
+use Rattle.pp_model.specs.declared.outcome.Outcome.TheVariants as outcome
+use Rattle.pp_model.specs.declared.word.LineKind.{LineKind}
+use Rattle.pp_model.specs.declared.word.LineKind.TheVariants.{Condition, LineNumber}
+use Rattle.pp_model.specs.declared.word.Word.{Word}
+use Rattle.pp_model.specs.declared.word.Word.TheVariants.{Plain, Defined}
+
+-- a token of the expanded line: the operator `defined`, a word, or the fault of an unknown name
+pub data Reading : Type 0 where
+  operator : Reading
+  word : Token → Reading
+  fault : Fault → Reading
+
+abbrev pub unexpected : Token → Fault
+unexpected token = (UnexpectedToken token.value, token.location)
+
+-- an unknown identifier is 0, signed and 64 bits wide; in a `#line` it is refused
+abbrev pub unknown_name : LineKind → Token → Reading
+unknown_name Condition token = word (record { value = Integer (record { value = 0; signed = true; width = pos 64 }); location = token.location })
+unknown_name LineNumber token = fault (unexpected token)
+
+abbrev pub reading_of_value : LineKind → Token → TokenValue → Reading
+reading_of_value kind token (Ident name) = if is_same_name name defined_name then operator else unknown_name kind token
+reading_of_value kind token _ = word token
+
+abbrev pub reading : LineKind → Token → Reading
+reading kind token = reading_of_value kind token token.value
+
+-- the fault of what stands where a part of `defined` is wanted; the end's is at the directive's word
+abbrev pub unwanted : Location → Outcome → Fault
+unwanted directive (outcome.Token token) = unexpected token
+unwanted directive (outcome.Fault f) = f
+unwanted directive outcome.End = (UnexpectedEndOfInput, directive)
+
+-- the same of a token that was read as a word
+abbrev pub unwanted_reading : Token → Reading → Fault
+unwanted_reading token operator = unexpected token
+unwanted_reading token (word w) = unexpected w
+unwanted_reading token (fault f) = f
+
+abbrev pub unwanted_word : LineKind → Location → Outcome → Fault
+unwanted_word kind directive (outcome.Token token) = unwanted_reading token (reading kind token)
+unwanted_word kind directive (outcome.Fault f) = f
+unwanted_word kind directive outcome.End = (UnexpectedEndOfInput, directive)
+
+abbrev pub name_in_value : TokenValue → Option Name
+name_in_value (Ident name) = Some name
+name_in_value _ = None
+
+-- the name that was taken
+abbrev pub name_in : Outcome → Option Name
+name_in (outcome.Token token) = name_in_value token.value
+name_in (outcome.Fault f) = None
+name_in outcome.End = None
+
+abbrev pub is_open_paren : Outcome → Bool
+is_open_paren (outcome.Token token) = is_left_paren token.value
+is_open_paren (outcome.Fault f) = false
+is_open_paren outcome.End = false
+
+abbrev pub is_close_paren : Outcome → Bool
+is_close_paren (outcome.Token token) = is_right_paren token.value
+is_close_paren (outcome.Fault f) = false
+is_close_paren outcome.End = false
+
+abbrev pub is_defined : Expander Listed → Name → Bool
+is_defined e name = is_some (e.reader.visible name)
+
+-- what the operand of a `defined` comes to: a name, alone or in parentheses. The `(` and the name are taken and not looked
+-- up, the `)` is read expanded.
+pub data Operand (kind : LineKind) (directive : Location) (A : Answers) : Expander Listed → Result Bool Fault → Expander Listed → Type 0 where
+  name : (o : Outcome) (n : Name) (e f : Expander Listed) (r : Result Bool Fault) → Takes line_reading e o f → name_in o ≡ Some n → r ≡ Ok (is_defined f n) → Operand kind directive A e r f
+  neither : (o : Outcome) (e f : Expander Listed) (r : Result Bool Fault) → Takes line_reading e o f → name_in o ≡ None → is_open_paren o ≡ false → r ≡ Err (unwanted directive o) → Operand kind directive A e r f
+  no_name : (o x : Outcome) (e f g : Expander Listed) (r : Result Bool Fault) → Takes line_reading e o f → is_open_paren o ≡ true → Takes line_reading f x g → name_in x ≡ None → r ≡ Err (unwanted directive x) → Operand kind directive A e r g
+  unclosed : (o x y : Outcome) (n : Name) (e f g h : Expander Listed) (r : Result Bool Fault) → Takes line_reading e o f → is_open_paren o ≡ true → Takes line_reading f x g → name_in x ≡ Some n → Emits line_reading A g y h → is_close_paren y ≡ false → r ≡ Err (unwanted_word kind directive y) → Operand kind directive A e r h
+  in_parentheses : (o x y : Outcome) (n : Name) (e f g h : Expander Listed) (r : Result Bool Fault) → Takes line_reading e o f → is_open_paren o ≡ true → Takes line_reading f x g → name_in x ≡ Some n → Emits line_reading A g y h → is_close_paren y ≡ true → r ≡ Ok (is_defined h n) → Operand kind directive A e r h
+
+-- the words of a line, and the fault of reading that ends them, if one does
+pub record Words : Type 0 where
+  pub words : List Word
+  pub ending : Option Fault
+
+abbrev pub word_before : Word → Words → Words
+word_before w rest = record rest { words = w ∷ rest.words }
+
+-- The words that the rest of a line comes to. Behind a `defined` at fault nothing is read.
+pub data LineWords (kind : LineKind) (directive : Location) (A : Answers) : Expander Listed → Words → Type 0 where
+  ended : (e f : Expander Listed) (ws : Words) → Emits line_reading A e outcome.End f → ws ≡ record { words = []; ending = None } → LineWords kind directive A e ws
+  failed : (f : Fault) (e g : Expander Listed) (ws : Words) → Emits line_reading A e (outcome.Fault f) g → ws ≡ record { words = []; ending = Some f } → LineWords kind directive A e ws
+  refused : (token : Token) (f : Fault) (e g : Expander Listed) (ws : Words) → Emits line_reading A e (outcome.Token token) g → reading kind token ≡ fault f → ws ≡ record { words = []; ending = Some f } → LineWords kind directive A e ws
+  plain : (token w : Token) (e g : Expander Listed) (rest ws : Words) → Emits line_reading A e (outcome.Token token) g → reading kind token ≡ word w → LineWords kind directive A g rest → ws ≡ word_before (Plain w) rest → LineWords kind directive A e ws
+  answered : (token : Token) (answer : Bool) (e g h : Expander Listed) (rest ws : Words) → Emits line_reading A e (outcome.Token token) g → reading kind token ≡ operator → Operand kind directive A g (Ok answer) h → LineWords kind directive A h rest → ws ≡ word_before (Defined token.location (Ok answer)) rest → LineWords kind directive A e ws
+  faulty : (token : Token) (f : Fault) (e g h : Expander Listed) (ws : Words) → Emits line_reading A e (outcome.Token token) g → reading kind token ≡ operator → Operand kind directive A g (Err f) h → ws ≡ record { words = Defined token.location (Err f) ∷ []; ending = None } → LineWords kind directive A e ws

@@ -1,0 +1,80 @@
+-- The rest of a directive's line: the items behind its word, up to the line's NewLine (docs/RULES.md, Directives 3 to 6 and 14).
+-- The items of a text always have that NewLine; a list that ends without it is refused at the word.
+use Rattle.std.specs.Prelude.{ℕ, ◌+◌, Bool, false, if◌then◌else◌, List, [], ◌∷◌, Option, Some, None, Result, Ok, Err}
+use Rattle.pp_lexer.specs.Lexed.{Seen}
+use Rattle.pp_lexer.specs.Items.{Lexeme}
+use Rattle.pp_lexer.specs.declared.lexer.item.Token.{Token as LexerToken}
+use Rattle.pp_lexer.specs.declared.token.Location.{Location}
+use Rattle.pp_lexer.specs.declared.token.PreprocessorError.TheVariants.{UnexpectedEndOfInput}
+use Rattle.pp_lexer.specs.declared.token.Token.{Token}
+use Rattle.pp_model.specs.Names.{Name}
+use Rattle.pp_model.specs.Calls.{Fault}
+use Rattle.pp_model.specs.Emitting.{token_before}
+use Rattle.pp_model.specs.declared.definition.Placed.{Placed}
+use Rattle.pp_model.specs.Conversions.{is_newline, conversion, refused_token, identifier_of}
+
+infixl 10 ◌>>=◌
+-- what follows of a value, where there is no fault before
+abbrev pub ◌>>=◌ : {A B : Type 0} → Result A Fault → (A → Result B Fault) → Result B Fault
+(Ok value) >>= next = next value
+(Err fault) >>= next = Err fault
+
+abbrev pub ends_line : Lexeme → Bool
+ends_line (Ok token) = is_newline token.value
+ends_line (Err fault) = false
+
+-- how many items the rest of the line has, with its NewLine
+abbrev pub line_length : List Seen → ℕ
+line_length [] = 0
+line_length (s ∷ rest) = if ends_line s.item then 1 else 1 + line_length rest
+
+abbrev pub fault_before : Lexeme → Option Fault → Option Fault
+fault_before (Err fault) later = Some fault
+fault_before (Ok token) later = if is_newline token.value then None else later
+
+-- the first error of the lexer on the line
+abbrev pub line_fault : List Seen → Option Fault
+line_fault [] = None
+line_fault (s ∷ rest) = fault_before s.item (line_fault rest)
+
+abbrev pub tokens_from : Lexeme → Result (List Token) Fault → Result (List Token) Fault
+tokens_from (Err fault) later = Err fault
+tokens_from (Ok token) later = if is_newline token.value then Ok [] else (conversion token >>= λ first. token_before first later)
+
+-- the line's tokens, or the first error or number sign among them
+abbrev pub line_tokens : List Seen → Result (List Token) Fault
+line_tokens [] = Ok []
+line_tokens (s ∷ rest) = tokens_from s.item (line_tokens rest)
+
+-- whether a comment stands anywhere before the line's end
+abbrev pub comments_before_end : List Seen → Bool
+comments_before_end [] = false
+comments_before_end (s ∷ rest) = if ends_line s.item then s.had_comments else comments_before_end rest
+
+-- the token that comes first, or what is wrong where one is wanted
+abbrev pub first_token : Location → List Seen → Result LexerToken Fault
+first_token word [] = Err (UnexpectedEndOfInput, word)
+first_token word (s ∷ rest) = s.item
+
+abbrev pub behind_first_token : List Seen → List Seen
+behind_first_token [] = []
+behind_first_token (s ∷ rest) = rest
+
+abbrev pub name_or_refused : LexerToken → Option Name → Result Placed Fault
+name_or_refused token (Some name) = Ok (record { name = name; location = token.location })
+name_or_refused token None = Err (refused_token token)
+
+-- the name that comes first
+abbrev pub first_name : Location → List Seen → Result Placed Fault
+first_name word rest = first_token word rest >>= λ token. name_or_refused token (identifier_of token.value)
+
+abbrev pub newline_or_refused : LexerToken → Result (Unit {0}) Fault
+newline_or_refused token = if is_newline token.value then Ok tt else Err (refused_token token)
+
+-- nothing stands before the end of the line
+abbrev pub ended_line : Location → List Seen → Result (Unit {0}) Fault
+ended_line word rest = first_token word rest >>= newline_or_refused
+
+-- a name alone on the line
+abbrev pub only_name : Location → List Seen → Result Name Fault
+only_name word rest = first_name word rest >>= λ first. ended_line word (behind_first_token rest) >>= λ end. Ok first.name

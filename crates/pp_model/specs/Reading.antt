@@ -1,0 +1,92 @@
+-- Expanders, and what they ask of the reader behind their list (docs/RULES.md, Expansion 1).
+use Rattle.std.specs.Prelude.{◌≡◌, ℕ, Bool, false, List, [], ◌∷◌, ◌++◌, ◌||◌, if◌then◌else◌, Option, Some, None}
+use Rattle.pp_lexer.specs.declared.token.Token.{Token}
+use Rattle.pp_lexer.specs.declared.token.TokenValue.{TokenValue}
+use Rattle.pp_lexer.specs.declared.token.TokenValue.TheVariants.{Ident}
+use Rattle.pp_model.specs.Names.{Name, is_same_name, is_in, defined_name}
+use Rattle.pp_model.specs.Definitions.{Definition, Definitions}
+use Rattle.pp_model.specs.SpliceList.{open_names}
+use Rattle.pp_model.specs.declared.outcome.Outcome.{Outcome}
+use Rattle.pp_model.specs.declared.outcome.Outcome.TheVariants as outcome
+use Rattle.pp_model.specs.declared.splice.Entry.{Entry}
+
+-- A kind of reader: what it gives next, which definitions it sees, what `__LINE__` shows for a line, unless the number is
+-- out of range, and which names never open where it is read.
+pub record Reading (R : Type 0) : Type 1 where
+  pub Reads : R → Outcome → R → Type 0
+  pub visible : R → Definitions
+  pub shown_line : R → ℕ → Option ℕ
+  pub is_reserved : Name → Bool
+
+-- An expander: an outcome that was found too early and is held, the list, the reader behind it, and the names that are open
+-- in the expanders around it.
+pub record Expander (R : Type 0) : Type 0 where
+  pub held : Option Outcome
+  pub list : List Entry
+  pub reader : R
+  pub hidden : List Name
+
+-- the names that are open here or in an expander around
+abbrev pub masked : {R : Type 0} → Expander R → List Name
+masked expander = open_names expander.list ++ expander.hidden
+
+-- a token that opens a macro: its name, and what that stands for
+pub record Opening : Type 0 where
+  pub token : Token
+  pub name : Name
+  pub definition : Definition
+
+abbrev pub opening_by : Token → Name → Option Definition → Option Opening
+opening_by token name None = None
+opening_by token name (Some definition) = Some (record { token = token; name = name; definition = definition })
+
+abbrev pub opening_of : {R : Type 0} → Reading R → Expander R → Token → TokenValue → Option Opening
+opening_of I expander token (Ident name) =
+    if I.is_reserved name || is_in name (masked expander) then None
+    else opening_by token name (I.visible expander.reader name)
+opening_of I expander token _ = None
+
+-- When a taken identifier opens a macro: it is defined now, and open neither here nor around.
+abbrev pub opening : {R : Type 0} → Reading R → Expander R → Outcome → Option Opening
+opening I expander (outcome.Token token) = opening_of I expander token token.value
+opening I expander (outcome.Fault fault) = None
+opening I expander outcome.End = None
+
+-- a list of tokens as a reader
+pub record Listed : Type 0 where
+  pub tokens : List Token
+  pub visible : Definitions
+
+abbrev pub first_listed : List Token → Outcome
+first_listed [] = outcome.End
+first_listed (token ∷ tokens) = outcome.Token token
+
+abbrev pub behind_listed : List Token → List Token
+behind_listed [] = []
+behind_listed (token ∷ tokens) = tokens
+
+-- its tokens in order, and then the end
+abbrev pub ReadsListed : Listed → Outcome → Listed → Type 0
+ReadsListed old given new = (given ≡ first_listed old.tokens) × (new ≡ record old { tokens = behind_listed old.tokens })
+
+-- an argument of a call, read alone
+abbrev pub argument_reading : Reading Listed
+argument_reading = record {
+  Reads = ReadsListed;
+  visible = λ reader. reader.visible;
+  shown_line = λ reader line. Some line;
+  is_reserved = λ name. false;
+}
+
+-- the line of an `#if`, `#elif` or `#line`, where `defined` is an operator
+abbrev pub line_reading : Reading Listed
+line_reading = record {
+  Reads = ReadsListed;
+  visible = λ reader. reader.visible;
+  shown_line = λ reader line. Some line;
+  is_reserved = λ name. is_same_name name defined_name;
+}
+
+-- the start of reading these tokens, where these names are open around
+abbrev pub reading_of : List Token → Definitions → List Name → Expander Listed
+reading_of tokens visible hidden = record { held = None; list = []; reader = record { tokens = tokens; visible = visible }; hidden = hidden }

@@ -1,0 +1,65 @@
+-- Runs: lists of calls of `add_define` and `next`, with what they answer (docs/RULES.md, "Runs").
+use Rattle.std.specs.Prelude.{◌≡◌, ℕ, Bool, true, false, if◌then◌else◌, List, [], ◌∷◌, Some, None, Result, Ok, Err}
+use Rattle.std.specs.Str.{chars}
+use Rattle.pp_lexer.specs.Items.{Lexeme}
+use Rattle.pp_lexer.specs.Lexed.{Seen}
+use Rattle.pp_lexer.specs.Lexed as lexed
+use Rattle.pp_lexer.specs.Spots.{spots_of}
+use Rattle.pp_lexer.specs.declared.token.Token.{Token}
+use Rattle.pp_model.specs.Names.{Name}
+use Rattle.pp_model.specs.Definitions.{object_like, changed}
+use Rattle.pp_model.specs.Reading.{Expander}
+use Rattle.pp_model.specs.Calls.{Fault, Answers}
+use Rattle.pp_model.specs.Emitting.{Emits, token_before, answers_at, expansion_limit}
+use Rattle.pp_model.specs.Conversions.{is_newline, conversion}
+use Rattle.pp_model.specs.Lines.{◌>>=◌}
+use Rattle.pp_model.specs.SourceReader.{SourceReader, start_of}
+use Rattle.pp_model.specs.Reads.{source_reading}
+use Rattle.pp_model.specs.declared.call.Reply.{Reply}
+use Rattle.pp_model.specs.declared.call.Reply.TheVariants as reply
+use Rattle.pp_model.specs.declared.outcome.Outcome.{Outcome}
+use Rattle.pp_model.specs.declared.outcome.Outcome.TheVariants as outcome
+
+-- a call: `add_define` of a name with a content, both as UTF-8, or `next`
+pub data Call : Type 0 where
+  add_define : List ℕ → List ℕ → Call
+  next : Call
+
+-- the items of a text
+abbrev pub items_of : List ℕ → List Seen
+items_of text = (lexed.start_of (spots_of text)).rest
+
+abbrev pub content_from : Lexeme → Result (List Token) Fault → Result (List Token) Fault
+content_from (Err fault) later = Err fault
+content_from (Ok token) later = if is_newline token.value then later else (conversion token >>= λ first. token_before first later)
+
+-- the tokens of an added content, without its newlines, or the first error or number sign in it
+abbrev pub content_tokens : List Seen → Result (List Token) Fault
+content_tokens [] = Ok []
+content_tokens (s ∷ rest) = content_from s.item (content_tokens rest)
+
+-- an expander over the start of a source
+abbrev pub start : List Seen → Expander SourceReader
+start source = record { held = None; list = []; reader = start_of source; hidden = [] }
+
+abbrev pub with_added : Name → List Token → Expander SourceReader → Expander SourceReader
+with_added name tokens e =
+    let r = e.reader in
+    record e { reader = record r { definitions = changed r.definitions name (Some (object_like tokens)) } }
+
+abbrev pub is_fault : Outcome → Bool
+is_fault (outcome.Fault fault) = true
+is_fault (outcome.Token token) = false
+is_fault outcome.End = false
+
+-- What the calls answer, up to and with the first error item: behind that nothing is said.
+pub data Runs (A : Answers) : Expander SourceReader → List Call → List Reply → Type 0 where
+  done : (e : Expander SourceReader) (replies : List Reply) → replies ≡ [] → Runs A e [] replies
+  added : (name content : List ℕ) (tokens : List Token) (e : Expander SourceReader) (calls : List Call) (rest replies : List Reply) → content_tokens (items_of content) ≡ Ok tokens → Runs A (with_added (chars name) tokens e) calls rest → replies ≡ reply.Added ∷ rest → Runs A e (add_define name content ∷ calls) replies
+  refused : (name content : List ℕ) (fault : Fault) (e : Expander SourceReader) (calls : List Call) (rest replies : List Reply) → content_tokens (items_of content) ≡ Err fault → Runs A e calls rest → replies ≡ reply.Refused fault ∷ rest → Runs A e (add_define name content ∷ calls) replies
+  given : (o : Outcome) (e f : Expander SourceReader) (calls : List Call) (rest replies : List Reply) → Emits (source_reading A) A e o f → is_fault o ≡ false → Runs A f calls rest → replies ≡ reply.Given o ∷ rest → Runs A e (next ∷ calls) replies
+  failed : (fault : Fault) (e f : Expander SourceReader) (calls : List Call) (replies : List Reply) → Emits (source_reading A) A e (outcome.Fault fault) f → replies ≡ reply.Given (outcome.Fault fault) ∷ [] → Runs A e (next ∷ calls) replies
+
+-- the run of a source: arguments may be read inside each other up to the limit
+abbrev pub IsRun : List ℕ → List Call → List Reply → Type 0
+IsRun text calls replies = Runs (answers_at expansion_limit) (start (items_of text)) calls replies

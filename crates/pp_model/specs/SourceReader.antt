@@ -1,0 +1,61 @@
+-- A reader of a source, and what was read before a position.
+use Rattle.std.specs.Prelude.{ℕ, zero, suc, ℤ, pos, Bool, false, not, ◌&&◌, ◌||◌, List, [], ◌∷◌, take, drop, length, slice_get, Option, Some, None}
+use Rattle.pp_lexer.specs.Lexed.{Seen}
+use Rattle.pp_model.specs.Definitions.{Definitions, nothing_defined}
+use Rattle.pp_model.specs.Lines.{ends_line}
+use Rattle.pp_model.specs.Sights.{sight_of, is_directive, is_text, is_directive_hash}
+use Rattle.pp_model.specs.Blocks.{Truths, blocks_at, is_live}
+
+-- The source's items and the position among them, what is defined, what `#line` adds to a line, the conditions that were read, and how
+-- many blocks that stay open at the end are still to be told.
+pub record SourceReader : Type 0 where
+  pub items : List Seen
+  pub position : ℕ
+  pub definitions : Definitions
+  pub line_offset : ℤ
+  pub truths : Truths
+  pub unfinished : ℕ
+
+abbrev pub start_of : List Seen → SourceReader
+start_of source = record {
+  items = source;
+  position = 0;
+  definitions = nothing_defined;
+  line_offset = pos 0;
+  truths = [];
+  unfinished = length (blocks_at source (length source));
+}
+
+-- a directive stands among these items
+abbrev pub has_directive : List Seen → Bool
+has_directive [] = false
+has_directive (s ∷ rest) = is_directive (sight_of (s ∷ rest)) || has_directive rest
+
+abbrev pub is_directive_hash_at : Option Seen → Bool
+is_directive_hash_at (Some s) = is_directive_hash s.item
+is_directive_hash_at None = false
+
+abbrev pub ends_line_at : Option Seen → Bool
+ends_line_at (Some s) = ends_line s.item
+ends_line_at None = false
+
+-- The position is on the line of a directive: the item before it is the directive's number sign, or it ends no line and is on
+-- the directive's line too.
+abbrev pub is_on_directive_line : List Seen → ℕ → Bool
+is_on_directive_line source zero = false
+is_on_directive_line source (suc position) =
+    is_directive_hash_at (slice_get source position) || (not (ends_line_at (slice_get source position)) && is_on_directive_line source position)
+
+-- a live token of the text stands at the position
+abbrev pub is_live_text : List Seen → Truths → ℕ → Bool
+is_live_text source truths position =
+    is_text (sight_of (drop position source)) && not (is_on_directive_line source position) && is_live source truths position
+
+-- a live token of the text stands before the position
+abbrev pub has_live_text_before : List Seen → Truths → ℕ → Bool
+has_live_text_before source truths zero = false
+has_live_text_before source truths (suc position) = is_live_text source truths position || has_live_text_before source truths position
+
+-- no directive stands before the position, and no live token of the text
+abbrev pub is_first_directive : List Seen → Truths → ℕ → Bool
+is_first_directive source truths position = not (has_directive (take position source) || has_live_text_before source truths position)

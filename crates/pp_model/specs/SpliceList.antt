@@ -1,0 +1,53 @@
+-- The list of tokens to read, into which macros are spliced (docs/RULES.md, Expansion 1, 4 and 9).
+use Rattle.std.specs.Prelude.{ℕ, List, [], ◌∷◌, Option, Some, None, unwrap_or, slice_get, position}
+use Rattle.pp_lexer.specs.declared.token.Token.{Token}
+use Rattle.pp_lexer.specs.declared.token.TokenValue.{TokenValue}
+use Rattle.pp_lexer.specs.declared.token.TokenValue.TheVariants.{Ident}
+use Rattle.pp_model.specs.Names.{Name, is_same_name}
+use Rattle.pp_model.specs.Definitions.{Definition}
+use Rattle.pp_model.specs.declared.splice.Entry.{Entry}
+use Rattle.pp_model.specs.declared.splice.Entry.TheVariants.{Plain, End}
+
+-- the list without the end marks at its front
+abbrev pub behind_marks : List Entry → List Entry
+behind_marks [] = []
+behind_marks (End mark ∷ entries) = behind_marks entries
+behind_marks (Plain token ∷ entries) = Plain token ∷ entries
+
+-- the names whose end marks lie in the list: these macros are open
+abbrev pub open_names : List Entry → List Name
+open_names [] = []
+open_names (End mark ∷ entries) = mark.name ∷ open_names entries
+open_names (Plain token ∷ entries) = open_names entries
+
+-- the line of the last mark, which is that of the outermost open macro
+abbrev pub outermost_line : List Entry → Option ℕ
+outermost_line [] = None
+outermost_line (End mark ∷ entries) = Some (unwrap_or (outermost_line entries) mark.line)
+outermost_line (Plain token ∷ entries) = outermost_line entries
+
+-- the tokens, and then the entries
+abbrev pub followed_by : List Token → List Entry → List Entry
+followed_by [] entries = entries
+followed_by (token ∷ tokens) entries = Plain token ∷ followed_by tokens entries
+
+-- the position of the parameter that the value names
+abbrev pub parameter_of : List Name → TokenValue → Option ℕ
+parameter_of parameters (Ident name) = position (is_same_name name) parameters
+parameter_of parameters _ = None
+
+-- a token of a body, or the argument of the parameter that it names
+abbrev pub replacement : List (List Token) → Token → Option ℕ → List Entry → List Entry
+replacement arguments token None entries = Plain token ∷ entries
+replacement arguments token (Some k) entries = followed_by (unwrap_or (slice_get arguments k) []) entries
+
+-- the body with each parameter replaced by its argument, and then the entries
+abbrev pub replaced : List Name → List (List Token) → List Token → List Entry → List Entry
+replaced parameters arguments [] entries = entries
+replaced parameters arguments (token ∷ body) entries =
+    replacement arguments token (parameter_of parameters token.value) (replaced parameters arguments body entries)
+
+-- the macro's replacement with its end mark before the entries
+abbrev pub spliced : Name → Definition → ℕ → List (List Token) → List Entry → List Entry
+spliced name definition line arguments entries =
+    replaced definition.parameters arguments definition.body (End (record { name = name; line = line }) ∷ entries)

@@ -1,0 +1,39 @@
+//! Copies of tokens and names.
+
+ghost use Rattle.std.specs.Prelude.{◌≡◌, IfOk};
+
+use crate::stop::Stop;
+use pp_lexer::token::{Text, Token};
+use std::alloc::Global;
+
+/// A copy of a token.
+pub fn copy_token(alloc: Global, token: &Token) -> Result<Token, Stop>
+    ensures { IfOk result (λ copy. copy ≡ token.now) }
+{
+    match token.clone(alloc) {
+        Ok(copy) => Ok(copy),
+        Err(_) => Err(Stop::OutOfMemory),
+    }
+}
+
+/// Copies of the tokens, in order.
+pub fn copy_tokens(alloc: Global, tokens: &[Token]) -> Result<Vec<Token>, Stop>
+    ensures { IfOk result (λ copies. copies.items ≡ tokens.now) }
+{
+    let mut copies = Vec::new(alloc);
+    for token in tokens {
+        copies.push(copy_token(alloc, token)?)?;
+    }
+    Ok(copies)
+}
+
+/// Copies of the names, in order.
+pub fn copy_names(alloc: Global, names: &[Text]) -> Result<Vec<Text>, Stop>
+    ensures { IfOk result (λ copies. copies.items ≡ names.now) }
+{
+    let mut copies = Vec::new(alloc);
+    for name in names {
+        copies.push(name.try_clone(alloc)?)?;
+    }
+    Ok(copies)
+}

@@ -1,0 +1,26 @@
+//! What preprocessing is: the definitions, in `specs/`, and a plain, slow program that computes them.
+#![tactic(auto)]
+
+pub mod block;
+pub mod call;
+pub mod conversion;
+pub mod copies;
+pub mod define_line;
+pub mod definition;
+pub mod definitions;
+pub mod directive;
+pub mod item;
+pub mod laws;
+pub mod line;
+pub mod list;
+pub mod names;
+pub mod outcome;
+pub mod reader;
+pub mod sight;
+pub mod source_reader;
+pub mod source_text;
+pub mod splice;
+pub mod step;
+pub mod stop;
+pub mod truth;
+pub mod word;

@@ -1,0 +1,38 @@
+//! Tests of names.
+
+ghost use Rattle.std.specs.Prelude.{◌≡◌};
+ghost use Rattle.std.specs.Str.{chars};
+ghost use Rattle.pp_model.specs.Names.{is_same_name, is_in, is_identifier, line_name, defined_name};
+
+use pp_lexer::token::{Text, TokenValue};
+
+/// Whether the text has these characters.
+pub fn is_spelled(text: &Text, spelling: &str) -> bool
+    ensures { result ≡ is_same_name text.now (chars spelling.now) }
+{
+    text.as_str() == spelling
+}
+
+/// Whether the token is `__LINE__`.
+pub fn is_line_name(value: &TokenValue) -> bool
+    ensures { result ≡ is_identifier line_name value.now }
+{
+    match value {
+        TokenValue::Ident(text) => is_spelled(text, "__LINE__"),
+        _ => false,
+    }
+}
+
+/// Whether the name is `defined`.
+pub fn is_defined_name(name: &Text) -> bool
+    ensures { result ≡ is_same_name name.now defined_name }
+{
+    is_spelled(name, "defined")
+}
+
+/// Whether the name is among the names.
+pub fn is_among(name: &Text, names: &[Text]) -> bool
+    ensures { result ≡ is_in name.now names.now }
+{
+    names.iter().any(|other| *name == *other)
+}

@@ -1,0 +1,21 @@
+//! The list of tokens to read, into which macros are spliced.
+
+use pp_lexer::token::{Text, Token};
+
+/// Where a macro's replacement ends. The macro is open as long as its mark lies in the list.
+#[derive(PartialEq, Eq, Debug, Drop)]
+pub struct EndMark {
+    /// The macro's name.
+    pub name: Text,
+    /// The line that `__LINE__` gives within the outermost macro: that of an object-like macro's name, or of the `)` of a call.
+    pub line: u32,
+}
+
+/// An entry of the list.
+#[derive(PartialEq, Eq, Debug, Drop)]
+pub enum Entry {
+    /// A token to read.
+    Plain(Token),
+    /// The end of a macro's replacement.
+    End(EndMark),
+}

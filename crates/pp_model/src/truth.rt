@@ -1,0 +1,10 @@
+//! Which conditions hold.
+
+/// A condition that was read: where the `#` of its line stands among the items of the source, and whether it holds.
+#[derive(Clone, Copy, PartialEq, Eq, Debug)]
+pub struct Truth {
+    /// The position of the `#`.
+    pub position: usize,
+    /// Whether the condition holds.
+    pub holds: bool,
+}

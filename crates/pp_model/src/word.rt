@@ -1,0 +1,22 @@
+//! The words of an `#if`, `#elif` or `#line` line.
+
+use crate::outcome::Fault;
+use pp_lexer::token::{Location, Token};
+
+/// A word of a line whose value is wanted (GLSL ES 3.20 section 3.4).
+#[derive(PartialEq, Eq, Debug, Drop)]
+pub enum Word {
+    /// A token that is no identifier, or the number 0 in place of an unknown identifier.
+    Plain(Token),
+    /// A `defined` at this place with its operand: whether the name is defined, or what is wrong with the operand.
+    Defined(Location, Result<bool, Fault>),
+}
+
+/// Which lines have a value.
+#[derive(Clone, Copy, PartialEq, Eq, Debug)]
+pub enum LineKind {
+    /// An `#if` or `#elif` line, where an unknown identifier is 0.
+    Condition,
+    /// A `#line` line, where an unknown identifier is refused.
+    LineNumber,
+}
