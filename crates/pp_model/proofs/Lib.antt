@@ -10,3 +10,16 @@ pub mod OpenNamesLemmas
 pub mod ApartMarksLemmas
 pub mod NoLineNameLemmas
 pub mod SourceTextLemmas
+pub mod LineNumberLemmas
+pub mod LineValueLemmas
+pub mod ReadsLemmas
+pub mod RunLemmas
+pub mod RunStatesLemmas
+pub mod ActsLemmas
+pub mod SourceEndLemmas
+pub mod EndLemmas
+pub mod RunEndLemmas
+pub mod BlockLemmas
+pub mod KeptItemsLemmas
+pub mod DeadTextLemmas
+pub mod RedefinitionLemmas

@@ -14,3 +14,9 @@ abbrev pub Meets : {A : Type 0} → Result A Halt → Result A Fault → Type 0
 Meets (Ok value) wanted = wanted ≡ Ok value
 Meets (Err (halt.Fault fault)) wanted = wanted ≡ Err fault
 Meets (Err (halt.Stop stop)) wanted = ⊤
+
+-- a value or a fault is as it must be
+abbrev pub Satisfies : {A : Type 0} → Result A Halt → (Result A Fault → Type 0) → Type 0
+Satisfies (Ok value) P = P (Ok value)
+Satisfies (Err (halt.Fault fault)) P = P (Err fault)
+Satisfies (Err (halt.Stop stop)) P = ⊤

@@ -23,3 +23,6 @@ pub mod Run
 pub mod ExpansionLaws
 pub mod ApartMarks
 pub mod NoLineName
+pub mod RunLaws
+pub mod RunStates
+pub mod BlockLaws

@@ -102,12 +102,18 @@ as_line_number (negsuc n) = None
 abbrev pub words_behind : ℕ → Words → Words
 words_behind left words = record words { words = drop (length words.words - left) words.words }
 
--- what the line number comes to, and then a second expression, which is only read
+-- a second expression behind the line number, which is only read
+pub record IsFollowed (directive : Location) (words : Words) (n : ℕ) (result : Result ℕ Fault) : Type 0 where
+  pub second : Result Value Found
+  pub evaluated : Evaluates (line_of words) second
+  pub is : result ≡ alone_on_line directive words (λ value. n) second
+
+-- what the words of a `#line` come to
 pub data Numbers (directive : Location) (words : Words) : Result ℕ Fault → Type 0 where
   faulty : (found : Found) (result : Result ℕ Fault) → Evaluates (line_of words) (Err found) → result ≡ Err (told_fault directive words found) → Numbers directive words result
   out_of_range : (v : Value) (result : Result ℕ Fault) → Evaluates (line_of words) (Ok v) → as_line_number v.value ≡ None → result ≡ Err (LineOverflow, directive) → Numbers directive words result
   alone : (v : Value) (n : ℕ) (result : Result ℕ Fault) → Evaluates (line_of words) (Ok v) → as_line_number v.value ≡ Some n → v.left ≡ 0 → result ≡ Ok n → Numbers directive words result
-  with_source : (v : Value) (n : ℕ) (second : Result Value Found) (result : Result ℕ Fault) → Evaluates (line_of words) (Ok v) → as_line_number v.value ≡ Some n → v.left ≢ 0 → Evaluates (line_of (words_behind v.left words)) second → result ≡ alone_on_line directive (words_behind v.left words) (λ value. n) second → Numbers directive words result
+  with_source : (v : Value) (n : ℕ) (result : Result ℕ Fault) → Evaluates (line_of words) (Ok v) → as_line_number v.value ≡ Some n → v.left ≢ 0 → IsFollowed directive (words_behind v.left words) n result → Numbers directive words result
 
 -- the line number that a `#line` gives
 pub record IsLineNumber (A : Answers) (directive : Location) (tokens : List Token) (definitions : Definitions) (result : Result ℕ Fault) : Type 0 where

@@ -1,11 +1,15 @@
-//! Laws of expansion, over its definitions alone: each function's contract states one, for every list of tokens and at every
-//! level. The bodies do nothing.
+//! Laws of expansion, of reading a source, of its blocks and of runs, over the definitions alone: each function's contract
+//! states one, for every list of tokens or source and at every level. The bodies do nothing.
 
 ghost use Rattle.pp_model.specs.ApartMarks.{OnlyTakesEntries, OpensNew, KeepsMarksApart, StartsApart};
+ghost use Rattle.pp_model.specs.BlockLaws.{OneBranch, NoneBehindTaken, DeadTextGivesNothing};
 ghost use Rattle.pp_model.specs.Emitting.{Alone, answers_at};
 ghost use Rattle.pp_model.specs.ExpansionLaws.{OneReads, OneTaking, OneGathering, OneCall, OneItem, OneArgument, OneOperand, OneLine};
 ghost use Rattle.pp_model.specs.NoLineName.{ShowsNoLineName, AloneShowsNoLineName};
 ghost use Rattle.pp_model.specs.Reading.{argument_reading, line_reading};
+ghost use Rattle.pp_model.specs.Reads.{source_reading};
+ghost use Rattle.pp_model.specs.RunLaws.{OneEvaluation, OneCondition, OneLineNumber, OneStep, OneReplies, OneRun, RedefinitionIsChecked};
+ghost use Rattle.pp_model.specs.RunStates.{RunKeepsMarksApart, RunShowsNoLineName, EndStays, RunEndsForGood};
 ghost use Rattle.std.specs.Prelude.{ℕ};
 
 /// A list of tokens gives one outcome next.
@@ -74,4 +78,56 @@ pub fn no_line_name()
     ensures argument { (level : ℕ) → ShowsNoLineName argument_reading (answers_at level) }
     ensures line { (level : ℕ) → ShowsNoLineName line_reading (answers_at level) }
     ensures alone { AloneShowsNoLineName }
+{}
+
+/// An expression has one value, or one first fault, and so has the line of an `#if`, `#elif` or `#line`.
+pub fn one_line_value()
+    ensures evaluation { OneEvaluation }
+    ensures condition { (level : ℕ) → OneCondition (answers_at level) }
+    ensures line_number { (level : ℕ) → OneLineNumber (answers_at level) }
+{}
+
+/// One token or line of a source comes to one outcome, or to nothing, and reading the source gives one outcome next.
+pub fn one_source_reading()
+    ensures step { (level : ℕ) → OneStep (answers_at level) }
+    ensures reading { (level : ℕ) → OneReads (source_reading (answers_at level)) }
+{}
+
+/// Equal sources and calls have equal replies, up to and with the first error item.
+pub fn one_run()
+    ensures replies { (level : ℕ) → OneReplies (answers_at level) }
+    ensures run { OneRun }
+{}
+
+/// No macro is open twice: in no state of a run does the list hold two end marks of one name.
+pub fn run_marks_apart()
+    ensures { (level : ℕ) → RunKeepsMarksApart (answers_at level) }
+{}
+
+/// No reply of a run is the identifier `__LINE__`.
+pub fn run_no_line_name()
+    ensures { (level : ℕ) → RunShowsNoLineName (answers_at level) }
+{}
+
+/// The end of a source is for good: behind it no item is given, whatever definitions are added.
+pub fn run_end()
+    ensures item { (level : ℕ) → EndStays (answers_at level) }
+    ensures replies { (level : ℕ) → RunEndsForGood (answers_at level) }
+{}
+
+/// Of a block's branches at most one is live, and behind one that was taken none is.
+pub fn live_branch()
+    ensures one { OneBranch }
+    ensures none_behind { NoneBehindTaken }
+{}
+
+/// What stands in dead text comes to no token, no definition and no line number, and leaves the definitions as they are.
+pub fn dead_text()
+    ensures { DeadTextGivesNothing }
+{}
+
+/// A `#define` of a name that is defined gives nothing where it says the same, and an error where it says something else.
+/// The old definition stays.
+pub fn redefinition()
+    ensures { (level : ℕ) → RedefinitionIsChecked (answers_at level) }
 {}

@@ -3,6 +3,7 @@
 
 pub mod block;
 pub mod call;
+pub mod condition;
 pub mod conversion;
 pub mod copies;
 pub mod define_line;
@@ -12,10 +13,12 @@ pub mod directive;
 pub mod item;
 pub mod laws;
 pub mod line;
+pub mod line_words;
 pub mod list;
 pub mod names;
 pub mod outcome;
 pub mod reader;
+pub mod redefinition;
 pub mod sight;
 pub mod source_reader;
 pub mod source_text;

@@ -2,10 +2,12 @@
 
 ghost use Rattle.std.specs.Prelude.{◌≡◌, ◌≤◌, ◌+◌, Some, None, length, drop, take, IfOk, OnOk};
 ghost use Rattle.std.specs.Option.{option_copied};
-ghost use Rattle.pp_model.specs.Acting.{ActsAs};
+ghost use Rattle.pp_model.specs.Acting.{ActsAs, HasLine, HasLineIfOk};
 ghost use Rattle.pp_model.specs.Acts as spec;
 ghost use Rattle.pp_model.specs.Blocks.{are_surroundings_live};
 ghost use Rattle.pp_model.specs.ReaderState.{reader_of};
+ghost use Rattle.pp_model.specs.Reads.{renumbered, shown_line};
+ghost use Rattle.pp_model.specs.Sights.{least_items};
 ghost use Rattle.pp_model.specs.declared.stop.Halt.TheVariants as halt;
 
 use crate::block::{Block, blocks_at, has_else, has_taken_branch, is_live};
@@ -17,6 +19,7 @@ use crate::line::{
     comments_before_end, ended_line, line_fault, line_length, line_tokens, only_name,
 };
 use crate::outcome::Outcome;
+use crate::sight::{Sight, sight_of};
 use crate::source_text::{has_live_text_before, is_first_directive};
 use crate::step::Step;
 use crate::stop::{Halt, Stop};
@@ -82,7 +85,8 @@ impl<'a> SourceReader<'a> {
     // Skips the directive's line, but for the lexer's errors.
     fn skip_line(&mut self, alloc: Global) -> Result<Step, Halt>
         requires { self.old.position + 2 ≤ length self.old.items }
-        ensures { ActsAs result (spec.skipped (reader_of self.old)) (reader_of self.new) }
+        ensures acts { ActsAs result (spec.skipped (reader_of self.old)) (reader_of self.new) }
+        ensures line { HasLineIfOk result self.new }
     {
         match line_fault(alloc, self.behind_word())? {
             Some(fault) => Err(Halt::Fault(fault)),
@@ -104,10 +108,27 @@ impl<'a> SourceReader<'a> {
         Ok(())
     }
 
+    /// Goes behind a `#line` of this number, whose word stands here.
+    pub fn renumber(&mut self, word: Location, number: u32)
+        requires { self.old.position + 2 ≤ length self.old.items }
+        ensures { reader_of self.new ≡ renumbered (reader_of self.old) word number }
+    {
+        self.line_offset = i64::from(number) - i64::from(word.line);
+        self.pass_line();
+    }
+
+    /// What `__LINE__` shows for a line.
+    pub fn shown_line(&self, line: u32) -> Option<u32>
+        ensures { result ≡ shown_line (reader_of self.now) line }
+    {
+        u32::try_from(i128::from(line) + i128::from(self.line_offset)).ok()
+    }
+
     // Gathers a line whose condition is wanted.
     fn condition(&mut self, alloc: Global, word: Location) -> Result<Step, Halt>
         requires { self.old.position + 2 ≤ length self.old.items }
-        ensures { ActsAs result (spec.condition word (reader_of self.old)) (reader_of self.new) }
+        ensures acts { ActsAs result (spec.condition word (reader_of self.old)) (reader_of self.new) }
+        ensures line { HasLineIfOk result self.new }
     {
         let tokens = line_tokens(alloc, self.behind_word())?;
         Ok(Step::Condition(word, tokens))
@@ -116,7 +137,8 @@ impl<'a> SourceReader<'a> {
     // Gathers a `#line`.
     fn line_number(&mut self, alloc: Global, word: Location) -> Result<Step, Halt>
         requires { self.old.position + 2 ≤ length self.old.items }
-        ensures { ActsAs result (spec.line_number word (reader_of self.old)) (reader_of self.new) }
+        ensures acts { ActsAs result (spec.line_number word (reader_of self.old)) (reader_of self.new) }
+        ensures line { HasLineIfOk result self.new }
     {
         let tokens = line_tokens(alloc, self.behind_word())?;
         Ok(Step::LineNumber(word, tokens))
@@ -125,7 +147,8 @@ impl<'a> SourceReader<'a> {
     // Reads a `#define`.
     fn define(&mut self, alloc: Global, word: Location) -> Result<Step, Halt>
         requires { self.old.position + 2 ≤ length self.old.items }
-        ensures { ActsAs result (spec.define word (reader_of self.old)) (reader_of self.new) }
+        ensures acts { ActsAs result (spec.define word (reader_of self.old)) (reader_of self.new) }
+        ensures line { HasLineIfOk result self.new }
     {
         let named = defined_on(alloc, word, self.behind_word())?;
         self.pass_line();
@@ -135,7 +158,8 @@ impl<'a> SourceReader<'a> {
     // Does what an `#undef` says.
     fn undef(&mut self, alloc: Global, word: Location) -> Result<Step, Halt>
         requires { self.old.position + 2 ≤ length self.old.items }
-        ensures { ActsAs result (spec.undef word (reader_of self.old)) (reader_of self.new) }
+        ensures acts { ActsAs result (spec.undef word (reader_of self.old)) (reader_of self.new) }
+        ensures line { HasLineIfOk result self.new }
     {
         let name = only_name(alloc, word, self.behind_word())?;
         self.definitions.change(name, None)?;
@@ -146,7 +170,8 @@ impl<'a> SourceReader<'a> {
     // Does what an `#ifdef` says, or an `#ifndef`, whose block is live where the name is not defined.
     fn ifdef(&mut self, alloc: Global, word: Location) -> Result<Step, Halt>
         requires { self.old.position + 2 ≤ length self.old.items }
-        ensures { ActsAs result (spec.ifdef word (reader_of self.old)) (reader_of self.new) }
+        ensures acts { ActsAs result (spec.ifdef word (reader_of self.old)) (reader_of self.new) }
+        ensures line { HasLineIfOk result self.new }
     {
         let name = only_name(alloc, word, self.behind_word())?;
         let holds = self.definitions.find(&name).is_some();
@@ -156,7 +181,8 @@ impl<'a> SourceReader<'a> {
 
     fn ifndef(&mut self, alloc: Global, word: Location) -> Result<Step, Halt>
         requires { self.old.position + 2 ≤ length self.old.items }
-        ensures { ActsAs result (spec.ifndef word (reader_of self.old)) (reader_of self.new) }
+        ensures acts { ActsAs result (spec.ifndef word (reader_of self.old)) (reader_of self.new) }
+        ensures line { HasLineIfOk result self.new }
     {
         let name = only_name(alloc, word, self.behind_word())?;
         let holds = self.definitions.find(&name).is_none();
@@ -179,7 +205,8 @@ impl<'a> SourceReader<'a> {
         word: Location,
     ) -> Result<Step, Halt>
         requires { self.old.position + 2 ≤ length self.old.items }
-        ensures { ActsAs result (spec.elif_in (option_copied block.entry) word (reader_of self.old)) (reader_of self.new) }
+        ensures acts { ActsAs result (spec.elif_in (option_copied block.entry) word (reader_of self.old)) (reader_of self.new) }
+        ensures line { HasLineIfOk result self.new }
     {
         let Some(block) = block else {
             return Err(refuse(PreprocessorError::ElifOutsideOfBlock, word));
@@ -201,7 +228,8 @@ impl<'a> SourceReader<'a> {
         word: Location,
     ) -> Result<Step, Halt>
         requires { self.old.position + 2 ≤ length self.old.items }
-        ensures { ActsAs result (spec.only_word word (reader_of self.old) (spec.else_in (option_copied block.entry) word (reader_of self.old))) (reader_of self.new) }
+        ensures acts { ActsAs result (spec.only_word word (reader_of self.old) (spec.else_in (option_copied block.entry) word (reader_of self.old))) (reader_of self.new) }
+        ensures line { HasLineIfOk result self.new }
     {
         ended_line(alloc, word, self.behind_word())?;
         let Some(block) = block else {
@@ -222,7 +250,8 @@ impl<'a> SourceReader<'a> {
         word: Location,
     ) -> Result<Step, Halt>
         requires { self.old.position + 2 ≤ length self.old.items }
-        ensures { ActsAs result (spec.endif_in (option_copied block.entry) word (reader_of self.old)) (reader_of self.new) }
+        ensures acts { ActsAs result (spec.endif_in (option_copied block.entry) word (reader_of self.old)) (reader_of self.new) }
+        ensures line { HasLineIfOk result self.new }
     {
         let Some(block) = block else {
             return Err(refuse(PreprocessorError::EndifOutsideOfBlock, word));
@@ -238,7 +267,8 @@ impl<'a> SourceReader<'a> {
     // Reads a line that parts or closes the innermost block.
     fn elif_line(&mut self, alloc: Global, word: Location) -> Result<Step, Halt>
         requires { self.old.position + 2 ≤ length self.old.items }
-        ensures { ActsAs result (spec.elif_line word (reader_of self.old)) (reader_of self.new) }
+        ensures acts { ActsAs result (spec.elif_line word (reader_of self.old)) (reader_of self.new) }
+        ensures line { HasLineIfOk result self.new }
     {
         let blocks = blocks_at(alloc, self.items, self.position)?;
         self.elif_in(alloc, blocks.last(), word)
@@ -246,7 +276,8 @@ impl<'a> SourceReader<'a> {
 
     fn else_line(&mut self, alloc: Global, word: Location) -> Result<Step, Halt>
         requires { self.old.position + 2 ≤ length self.old.items }
-        ensures { ActsAs result (spec.else_line word (reader_of self.old)) (reader_of self.new) }
+        ensures acts { ActsAs result (spec.else_line word (reader_of self.old)) (reader_of self.new) }
+        ensures line { HasLineIfOk result self.new }
     {
         let blocks = blocks_at(alloc, self.items, self.position)?;
         self.else_in(alloc, blocks.last(), word)
@@ -254,7 +285,8 @@ impl<'a> SourceReader<'a> {
 
     fn endif_line(&mut self, alloc: Global, word: Location) -> Result<Step, Halt>
         requires { self.old.position + 2 ≤ length self.old.items }
-        ensures { ActsAs result (spec.endif_line word (reader_of self.old)) (reader_of self.new) }
+        ensures acts { ActsAs result (spec.endif_line word (reader_of self.old)) (reader_of self.new) }
+        ensures line { HasLineIfOk result self.new }
     {
         let blocks = blocks_at(alloc, self.items, self.position)?;
         self.endif_in(alloc, blocks.last(), word)
@@ -263,7 +295,8 @@ impl<'a> SourceReader<'a> {
     // Gives the item of a `#version`.
     fn version(&mut self, alloc: Global, word: Location) -> Result<Step, Halt>
         requires { self.old.position + 2 ≤ length self.old.items }
-        ensures { ActsAs result (spec.version word (reader_of self.old)) (reader_of self.new) }
+        ensures acts { ActsAs result (spec.version word (reader_of self.old)) (reader_of self.new) }
+        ensures line { HasLineIfOk result self.new }
     {
         let tokens = line_tokens(alloc, self.behind_word())?;
         let first = is_first_directive(alloc, self.items, &self.truths, self.position)?;
@@ -278,7 +311,8 @@ impl<'a> SourceReader<'a> {
     // Gives the item of an `#extension`.
     fn extension(&mut self, alloc: Global, word: Location) -> Result<Step, Halt>
         requires { self.old.position + 2 ≤ length self.old.items }
-        ensures { ActsAs result (spec.extension word (reader_of self.old)) (reader_of self.new) }
+        ensures acts { ActsAs result (spec.extension word (reader_of self.old)) (reader_of self.new) }
+        ensures line { HasLineIfOk result self.new }
     {
         let tokens = line_tokens(alloc, self.behind_word())?;
         let before = has_live_text_before(alloc, self.items, &self.truths, self.position)?;
@@ -292,7 +326,8 @@ impl<'a> SourceReader<'a> {
     // Gives the item of a `#pragma`.
     fn pragma(&mut self, alloc: Global, word: Location) -> Result<Step, Halt>
         requires { self.old.position + 2 ≤ length self.old.items }
-        ensures { ActsAs result (spec.pragma word (reader_of self.old)) (reader_of self.new) }
+        ensures acts { ActsAs result (spec.pragma word (reader_of self.old)) (reader_of self.new) }
+        ensures line { HasLineIfOk result self.new }
     {
         let tokens = line_tokens(alloc, self.behind_word())?;
         let value = TokenValue::Pragma(Pragma {
@@ -311,5 +346,141 @@ impl<'a> SourceReader<'a> {
             value,
             location: word,
         }))
+    }
+
+    // Does what a directive in live text says.
+    fn act_live_directive(
+        &mut self,
+        alloc: Global,
+        directive: Directive,
+        word: Location,
+    ) -> Result<Step, Halt>
+        requires { self.old.position + 2 ≤ length self.old.items }
+        ensures acts { ActsAs result (spec.live_directive directive word (reader_of self.old)) (reader_of self.new) }
+        ensures line { HasLineIfOk result self.new }
+    {
+        match directive {
+            Directive::Define => self.define(alloc, word),
+            Directive::Undef => self.undef(alloc, word),
+            Directive::If => self.condition(alloc, word),
+            Directive::Ifdef => self.ifdef(alloc, word),
+            Directive::Ifndef => self.ifndef(alloc, word),
+            Directive::Elif => self.elif_line(alloc, word),
+            Directive::Else => self.else_line(alloc, word),
+            Directive::Endif => self.endif_line(alloc, word),
+            Directive::Error => Err(refuse(PreprocessorError::ErrorDirective, word)),
+            Directive::Line => self.line_number(alloc, word),
+            Directive::Version => self.version(alloc, word),
+            Directive::Extension => self.extension(alloc, word),
+            Directive::Pragma => self.pragma(alloc, word),
+            Directive::Unknown => Err(refuse(PreprocessorError::UnknownDirective, word)),
+        }
+    }
+
+    // Does what a directive in dead text says: only those of blocks act.
+    fn act_dead_directive(
+        &mut self,
+        alloc: Global,
+        directive: Directive,
+        word: Location,
+    ) -> Result<Step, Halt>
+        requires { self.old.position + 2 ≤ length self.old.items }
+        ensures acts { ActsAs result (spec.dead_directive directive word (reader_of self.old)) (reader_of self.new) }
+        ensures line { HasLineIfOk result self.new }
+    {
+        match directive {
+            Directive::Elif => self.elif_line(alloc, word),
+            Directive::Else => self.else_line(alloc, word),
+            Directive::Endif => self.endif_line(alloc, word),
+            Directive::Unknown => {
+                self.position += 2;
+                Ok(Step::Passed)
+            }
+            _ => self.skip_line(alloc),
+        }
+    }
+
+    // Tells the next of the blocks that stay open at the end, or the end.
+    fn tell_end(&mut self, alloc: Global) -> Result<Step, Halt>
+        ensures acts { ActsAs result (spec.ended (reader_of self.old)) (reader_of self.new) }
+        ensures line { HasLineIfOk result self.new }
+    {
+        let mut blocks = blocks_at(alloc, self.items, self.items.len())?;
+        blocks.truncate(self.unfinished);
+        let Some(block) = blocks.last() else {
+            return Ok(Step::Given(Outcome::End));
+        };
+        let word = block.first.word;
+        self.unfinished = self.unfinished.saturating_sub(1);
+        Ok(Step::Given(Outcome::Fault((PreprocessorError::UnfinishedBlock, word))))
+    }
+
+    // Goes on by so many items, which give nothing.
+    fn pass(&mut self, count: usize) -> Step
+        requires { self.old.position + count ≤ length self.old.items }
+        ensures acts { spec.passed (spec.moved count (reader_of self.old)) ≡ record { step = result; after = reader_of self.new } }
+        ensures line { HasLine result self.new }
+    {
+        self.position += count;
+        Step::Passed
+    }
+
+    // Acts on what stands at the position in live text.
+    fn act_live(&mut self, alloc: Global, sight: Sight) -> Result<Step, Halt>
+        requires { self.old.position + least_items sight ≤ length self.old.items }
+        ensures acts { ActsAs result (spec.live_act sight (reader_of self.old)) (reader_of self.new) }
+        ensures line { HasLineIfOk result self.new }
+    {
+        match sight {
+            Sight::End => self.tell_end(alloc),
+            Sight::NewLine => Ok(self.pass(1)),
+            Sight::Fault(fault) | Sight::NoWord(fault) => Err(Halt::Fault(fault)),
+            Sight::Token(token) => {
+                self.position += 1;
+                Ok(Step::Given(Outcome::Token(token)))
+            }
+            Sight::Hash(location) => Err(refuse(PreprocessorError::UnexpectedHash, location)),
+            Sight::Directive(directive, word) => self.act_live_directive(alloc, directive, word),
+        }
+    }
+
+    // Acts on what stands at the position in dead text.
+    fn act_dead(&mut self, alloc: Global, sight: Sight) -> Result<Step, Halt>
+        requires { self.old.position + least_items sight ≤ length self.old.items }
+        ensures acts { ActsAs result (spec.dead_act sight (reader_of self.old)) (reader_of self.new) }
+        ensures line { HasLineIfOk result self.new }
+    {
+        match sight {
+            Sight::End => self.tell_end(alloc),
+            Sight::Fault(fault) => Err(Halt::Fault(fault)),
+            Sight::NewLine | Sight::Token(_) | Sight::Hash(_) => Ok(self.pass(1)),
+            Sight::NoWord(_) => Ok(self.pass(2)),
+            Sight::Directive(directive, word) => self.act_dead_directive(alloc, directive, word),
+        }
+    }
+
+    // Acts on what stands at the position.
+    fn act_here(&mut self, alloc: Global) -> Result<Step, Halt>
+        ensures acts { ActsAs result (spec.act (reader_of self.old)) (reader_of self.new) }
+        ensures line { HasLineIfOk result self.new }
+    {
+        let sight = sight_of(alloc, &self.items[self.position..])?;
+        if is_live(alloc, self.items, &self.truths, self.position)? {
+            self.act_live(alloc, sight)
+        } else {
+            self.act_dead(alloc, sight)
+        }
+    }
+
+    /// What stands at the position comes to this. A fault leaves the reader where it is.
+    pub fn act(&mut self, alloc: Global) -> Result<Step, Stop>
+        ensures acts { IfOk result (λ step. spec.act (reader_of self.old) ≡ record { step = step; after = reader_of self.new }) }
+        ensures line { IfOk result (λ step. HasLine step self.new) }
+    {
+        match self.act_here(alloc) {
+            Ok(step) => Ok(step),
+            Err(Halt::Fault(fault)) => Ok(Step::Given(Outcome::Fault(fault))),
+            Err(Halt::Stop(stop)) => Err(stop),
+        }
     }
 }

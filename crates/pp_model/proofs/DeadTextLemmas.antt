@@ -1,0 +1,49 @@
+-- What stands in dead text gives no token, defines nothing and numbers no line.
+use Rattle.std.proofs.Common.{◌≡◌, ◌∙◌, Bool, true, false, if◌then◌else◌, drop, refl, sym, ap, Option, Some, None}
+use Rattle.pp_model.specs.Sights.{sight_of}
+use Rattle.pp_model.specs.Blocks.{Block, is_live}
+use Rattle.pp_model.specs.SourceReader.{SourceReader}
+use Rattle.pp_model.specs.Acts.{Acted, ended_by, live_act, dead_act}
+use Rattle.pp_model.specs.BlockLaws.{GivesNothing, DeadTextGivesNothing}
+use Rattle.pp_model.specs.declared.outcome.Outcome.TheVariants as outcome
+use Rattle.pp_model.specs.declared.sight.Sight.{Sight}
+use Rattle.pp_model.specs.declared.step.Step.{Step}
+use Rattle.pp_model.specs.declared.step.Step.TheVariants as step
+use Rattle.pp_model.proofs.ActsLemmas.{HoldsOfDead, dead_text_holds}
+
+abbrev gives_something : Step → Bool
+gives_something (step.Given (outcome.Token token)) = true
+gives_something (step.Defines named) = true
+gives_something (step.LineNumber word tokens) = true
+gives_something _ = false
+
+differs : (s t : Step) → gives_something s ≡ false → gives_something t ≡ true → s ≡ t → ⊥
+differs s t h k same = let bad : false ≡ true = sym h ∙ ap gives_something same ∙ k in cc
+
+gives_nothing : (r : SourceReader) (a : Acted) → gives_something a.step ≡ false → a.after.definitions ≡ r.definitions → a.after.line_offset ≡ r.line_offset → GivesNothing r a
+gives_nothing r a h definitions lines = record {
+  no_token = λ token. differs a.step _ h refl;
+  no_define = λ named. differs a.step _ h refl;
+  no_line_number = λ word tokens. differs a.step _ h refl;
+  same_definitions = definitions;
+  same_lines = lines;
+}
+
+directives_give_nothing : (r : SourceReader) → HoldsOfDead (GivesNothing r) r
+directives_give_nothing r = record {
+  fault = λ found. gives_nothing r _ refl refl refl;
+  nothing = λ count. gives_nothing r _ refl refl refl;
+  wanted = λ word tokens. gives_nothing r _ refl refl refl;
+}
+
+-- at the end only faults are given, and the end
+end_gives_nothing : (r : SourceReader) (block : Option Block) → GivesNothing r (ended_by block r)
+end_gives_nothing r (Some block) = gives_nothing r _ refl refl refl
+end_gives_nothing r None = gives_nothing r _ refl refl refl
+
+either_gives_nothing : (live : Bool) (s : Sight) (r : SourceReader) → live ≡ false → GivesNothing r (if live then live_act s r else dead_act s r)
+either_gives_nothing true s r dead = absurd cc
+either_gives_nothing false s r dead = dead_text_holds (GivesNothing r) r (directives_give_nothing r) (end_gives_nothing r) s
+
+pub dead_text_gives_nothing : DeadTextGivesNothing
+dead_text_gives_nothing r = either_gives_nothing (is_live r.items r.truths r.position) (sight_of (drop r.position r.items)) r

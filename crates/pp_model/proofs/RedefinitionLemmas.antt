@@ -1,0 +1,56 @@
+-- A `#define` of a name that is defined leaves the definitions, and is a fault where it says something else.
+use Rattle.std.proofs.Common.{◌≡◌, ◌∙◌, refl, ap, Option, Some, None, inl, inr}
+use Rattle.pp_model.specs.Definitions.{Definition, Definitions}
+use Rattle.pp_model.specs.Calls.{Answers}
+use Rattle.pp_model.specs.Blocks.{Block}
+use Rattle.pp_model.specs.SourceReader.{SourceReader}
+use Rattle.pp_model.specs.Acts.{Acted, ended_by, act}
+use Rattle.pp_model.specs.RunLaws.{Redefined, RedefinitionIsChecked}
+use Rattle.pp_model.specs.declared.definition.Named.{Named}
+use Rattle.pp_model.specs.declared.outcome.Outcome.{Outcome}
+use Rattle.pp_model.specs.declared.step.Step.TheVariants as step
+use Rattle.pp_model.proofs.ActsLemmas.{HoldsOfDead, HoldsOfLive, act_holds}
+use Rattle.pp_model.proofs.ReadsLemmas.{DefineComesTo, defines_that}
+
+-- where the act defines a name, it leaves the definitions to the step
+abbrev LeavesDefinitions : SourceReader → Acted → Type 0
+LeavesDefinitions r a = (named : Named) → a.step ≡ step.Defines named → a.after.definitions ≡ r.definitions
+
+dead_leaves : (r : SourceReader) → HoldsOfDead (LeavesDefinitions r) r
+dead_leaves r = record { fault = λ found named h. refl; nothing = λ count named h. refl; wanted = λ word tokens named h. refl }
+
+live_leaves : (r : SourceReader) → HoldsOfLive (LeavesDefinitions r) r
+live_leaves r = record {
+  dead = dead_leaves r;
+  numbered = λ word tokens named h. refl;
+  defined = λ defined named h. refl;
+  changed = λ definitions named h. cc;
+  decision = λ holds named h. refl;
+  token = λ shown count named h. refl;
+}
+
+end_leaves : (r : SourceReader) (block : Option Block) → LeavesDefinitions r (ended_by block r)
+end_leaves r (Some block) named h = refl
+end_leaves r None named h = refl
+
+define_leaves : (r : SourceReader) → LeavesDefinitions r (act r)
+define_leaves r = act_holds (LeavesDefinitions r) r (live_leaves r) (end_leaves r)
+
+abbrev definitions : SourceReader → Definitions
+definitions r = r.definitions
+
+checked : (named : Named) (old : Definition) (after r t : SourceReader) (o : Option Outcome) → after.definitions ≡ r.definitions → DefineComesTo named (Some old) after r o t → Redefined named old r o t
+checked named old after r t o left (inl same) = record {
+  repeated = λ h. same.1;
+  refused = λ other. absurd (other same.0);
+  same_definitions = ap definitions same.2 ∙ left;
+}
+checked named old after r t o left (inr other) = record {
+  repeated = λ same. absurd (other.0 same);
+  refused = λ h. other.1;
+  same_definitions = ap definitions other.2;
+}
+
+pub redefinition_is_checked : (A : Answers) → RedefinitionIsChecked A
+redefinition_is_checked A named old r t o h k s =
+    checked named old (act r).after r t o (define_leaves r named h) (defines_that A named (Some old) r o t h k s)

@@ -1,0 +1,92 @@
+-- Behind the end a run gives no item, whatever is added.
+use Rattle.std.proofs.Common.{◌≡◌, ◌∙◌, false, List, [], ◌∷◌, ◌++◌, refl, sym}
+use Rattle.std.specs.Prelude.{All}
+use Rattle.std.proofs.lemmas.List.Elements.{All-nil, All-cons}
+use Rattle.pp_model.specs.Calls.{Answers}
+use Rattle.pp_model.specs.Reading.{Expander}
+use Rattle.pp_model.specs.SourceReader.{SourceReader}
+use Rattle.pp_model.specs.Run.{Call, start, with_added, Runs, done, added, refused, given, failed}
+use Rattle.pp_model.specs.RunStates.{LeadsTo, nowhere, adding, giving, EndStays, gives_item, RunEndsForGood}
+use Rattle.pp_model.specs.declared.call.Reply.{Reply}
+use Rattle.pp_model.specs.declared.call.Reply.TheVariants as reply
+use Rattle.pp_model.specs.declared.outcome.Outcome.{Outcome}
+use Rattle.pp_model.specs.declared.outcome.Outcome.TheVariants as outcome
+use Rattle.pp_model.proofs.EndLemmas.{IsOver, HoldsLastEnd, holds_nothing, item_ends, item_when_over}
+
+abbrev IsNoItem : Reply → Type 0
+IsNoItem answer = gives_item answer ≡ false
+
+end_is_no_item : (o : Outcome) → o ≡ outcome.End → IsNoItem (reply.Given o)
+end_is_no_item o is = rw is refl
+
+-- no list that ends here goes on
+goes_not_on : (former later : List Reply) (answer : Reply) → [] ≡ former ++ (answer ∷ later) → ⊥
+goes_not_on [] later answer h = cc
+goes_not_on (first ∷ former) later answer h = cc
+
+-- a definition that is added leaves the end
+over_with_added : (name : _) (tokens : _) (e : Expander SourceReader) → IsOver e → IsOver (with_added name tokens e)
+over_with_added name tokens e over =
+    record { none_held = over.none_held; none_listed = over.none_listed; at_end = record { nothing_left = over.at_end.nothing_left; all_told = over.at_end.all_told } }
+
+module _ (A : Answers) where
+  last_end_with_added : (name : _) (tokens : _) (e : Expander SourceReader) → HoldsLastEnd e → HoldsLastEnd (with_added name tokens e)
+  last_end_with_added name tokens e last h =
+      let there = last h in
+      (there.0, record { nothing_left = there.1.nothing_left; all_told = there.1.all_told })
+
+  -- in each state of a run an end that is held is the last,
+  leads_to_last_end : (e f : Expander SourceReader) → LeadsTo A e f → HoldsLastEnd e → HoldsLastEnd f
+  leads_to_last_end e f (nowhere e1 f1 p) last = rw p last
+  leads_to_last_end e f (adding name tokens e1 f1 more) last = leads_to_last_end (with_added name tokens e) f more (last_end_with_added name tokens e last)
+  leads_to_last_end e f (giving o e1 g f1 item more) last = leads_to_last_end g f more (item_ends A o e g item last).0
+
+  -- and from a state where nothing is left only such states are reached
+  stays_over : (e f : Expander SourceReader) → LeadsTo A e f → IsOver e → IsOver f
+  stays_over e f (nowhere e1 f1 p) over = rw p over
+  stays_over e f (adding name tokens e1 f1 more) over = stays_over (with_added name tokens e) f more (over_with_added name tokens e over)
+  stays_over e f (giving o e1 g f1 item more) over = stays_over g f more (item_when_over A o e g item over).1
+
+  pub end_stays : EndStays A
+  end_stays source o e f g h reached end more item =
+      let last = leads_to_last_end (start source) e reached (holds_nothing (start source) refl) in
+      let over = (item_ends A outcome.End e f end last).1 refl in
+      (item_when_over A o g h item (stays_over f g more over)).0
+
+  -- where nothing is left no reply is an item
+  no_item_when_over : (e : Expander SourceReader) (calls : List Call) (replies : List Reply) → Runs A e calls replies → IsOver e → All IsNoItem replies
+  no_item_when_over e calls replies (done e1 r1 p) over = rw p (All-nil IsNoItem)
+  no_item_when_over e calls replies (added name content tokens e1 later rest r1 h more p) over =
+      rw p (All-cons IsNoItem reply.Added rest refl (no_item_when_over (with_added _ tokens e) later rest more (over_with_added _ tokens e over)))
+  no_item_when_over e calls replies (refused name content fault e1 later rest r1 h more p) over =
+      rw p (All-cons IsNoItem (reply.Refused fault) rest refl (no_item_when_over e later rest more over))
+  no_item_when_over e calls replies (given o e1 f later rest r1 item h more p) over =
+      let there = item_when_over A o e f item over in
+      rw p (All-cons IsNoItem (reply.Given o) rest (end_is_no_item o there.0) (no_item_when_over f later rest more there.1))
+  no_item_when_over e calls replies (failed fault e1 f later r1 item p) over =
+      let bad = (item_when_over A (outcome.Fault fault) e f item over).0 in
+      cc
+
+  -- so behind the end none is
+  no_item_behind : (e : Expander SourceReader) (calls : List Call) (replies former later : List Reply) → Runs A e calls replies → HoldsLastEnd e → replies ≡ former ++ (reply.Given outcome.End ∷ later) → All IsNoItem later
+  no_item_behind e calls replies former later (done e1 r1 p) last is = absurd (goes_not_on former later (reply.Given outcome.End) (sym p ∙ is))
+  no_item_behind e calls replies [] later (added name content tokens e1 cs rest r1 h more p) last is = cc
+  no_item_behind e calls replies (first ∷ former) later (added name content tokens e1 cs rest r1 h more p) last is =
+      no_item_behind (with_added _ tokens e) cs rest former later more (last_end_with_added _ tokens e last) cc
+  no_item_behind e calls replies [] later (refused name content fault e1 cs rest r1 h more p) last is = cc
+  no_item_behind e calls replies (first ∷ former) later (refused name content fault e1 cs rest r1 h more p) last is =
+      no_item_behind e cs rest former later more last cc
+  no_item_behind e calls replies [] later (given o e1 f cs rest r1 item h more p) last is =
+      let end : o ≡ outcome.End = cc in
+      let same : rest ≡ later = cc in
+      let over = (item_ends A o e f item last).1 end in
+      rw same at (no_item_when_over f cs rest more over)
+  no_item_behind e calls replies (first ∷ former) later (given o e1 f cs rest r1 item h more p) last is =
+      no_item_behind f cs rest former later more (item_ends A o e f item last).0 cc
+  no_item_behind e calls replies [] later (failed fault e1 f cs r1 item p) last is = cc
+  no_item_behind e calls replies (first ∷ former) later (failed fault e1 f cs r1 item p) last is =
+      absurd (goes_not_on former later (reply.Given outcome.End) cc)
+
+  pub run_ends_for_good : RunEndsForGood A
+  run_ends_for_good source calls former later run =
+      no_item_behind (start source) calls _ former later run (holds_nothing (start source) refl) refl

@@ -1,0 +1,129 @@
+-- Where reading a source gave the end, it gives nothing else.
+use Rattle.std.proofs.Common.{◌≡◌, ◌∙◌, Bool, true, false, if◌then◌else◌, take, drop, length, refl, sym, ap, subst, Option, Some, None}
+use Rattle.pp_model.specs.Calls.{Answers}
+use Rattle.pp_model.specs.Sights.{sight_of}
+use Rattle.pp_model.specs.Blocks.{Block, blocks_at, innermost, is_live}
+use Rattle.pp_model.specs.SourceReader.{SourceReader}
+use Rattle.pp_model.specs.Acts.{Acted, live_directive, dead_directive, ended_by, live_act, dead_act, act}
+use Rattle.pp_model.specs.Reads.{Steps, passes, gives, defines, repeats, redefines, decides, undecided, renumbers, unnumbered, Reads, here, later}
+use Rattle.pp_model.specs.declared.outcome.Outcome.{Outcome}
+use Rattle.pp_model.specs.declared.outcome.Outcome.TheVariants as outcome
+use Rattle.pp_model.specs.declared.sight.Sight.{Sight}
+use Rattle.pp_model.specs.declared.sight.Sight.TheVariants as sight
+use Rattle.pp_model.specs.declared.step.Step.{Step}
+use Rattle.pp_model.specs.declared.step.Step.TheVariants as step
+use Rattle.pp_model.proofs.ReadsLemmas.{gives_that}
+use Rattle.pp_model.proofs.ActsLemmas.{HoldsOfDead, HoldsOfLive, dead_directive_holds, live_directive_holds}
+
+-- the block whose fault is told next at the source's end
+abbrev pub told_next : SourceReader → Option Block
+told_next r = innermost (take r.unfinished (blocks_at r.items (length r.items)))
+
+-- nothing of the source is left, and each block that stays open was told
+pub record IsAtEnd (r : SourceReader) : Type 0 where
+  pub nothing_left : sight_of (drop r.position r.items) ≡ sight.End
+  pub all_told : told_next r ≡ None
+
+-- what stands there, live or dead
+abbrev acts : Bool → Sight → SourceReader → Acted
+acts live s r = if live then live_act s r else dead_act s r
+
+abbrev at_end : SourceReader → Acted
+at_end r = record { step = step.Given outcome.End; after = r }
+
+-- the step is the end
+abbrev is_end : Step → Bool
+is_end (step.Given outcome.End) = true
+is_end _ = false
+
+abbrev GoesOn : Acted → Type 0
+GoesOn a = is_end a.step ≡ false
+
+-- no directive comes to the end
+dead_goes_on : (r : SourceReader) → HoldsOfDead GoesOn r
+dead_goes_on r = record { fault = λ found. refl; nothing = λ count. refl; wanted = λ word tokens. refl }
+
+live_goes_on : (r : SourceReader) → HoldsOfLive GoesOn r
+live_goes_on r = record {
+  dead = dead_goes_on r;
+  numbered = λ word tokens. refl;
+  defined = λ named. refl;
+  changed = λ definitions. refl;
+  decision = λ holds. refl;
+  token = λ shown count. refl;
+}
+
+no_end : (a : Acted) → GoesOn a → a.step ≡ step.Given outcome.End → ⊥
+no_end a h k = let bad : true ≡ false = sym (ap is_end k) ∙ h in cc
+
+told_none : (block : Option Block) (r : SourceReader) → (ended_by block r).step ≡ step.Given outcome.End → block ≡ None
+told_none (Some block) r h = cc
+told_none None r h = refl
+
+ends_there : (live : Bool) (s : Sight) (r : SourceReader) → (acts live s r).step ≡ step.Given outcome.End → (s ≡ sight.End) × (told_next r ≡ None)
+ends_there true sight.End r h = (refl, told_none (told_next r) r h)
+ends_there true sight.NewLine r h = cc
+ends_there true (sight.Fault fault) r h = cc
+ends_there true (sight.Token token) r h = cc
+ends_there true (sight.Hash location) r h = cc
+ends_there true (sight.NoWord fault) r h = cc
+ends_there true (sight.Directive directive word) r h = absurd (no_end (live_directive directive word r) (live_directive_holds GoesOn r (live_goes_on r) directive word) h)
+ends_there false sight.End r h = (refl, told_none (told_next r) r h)
+ends_there false sight.NewLine r h = cc
+ends_there false (sight.Fault fault) r h = cc
+ends_there false (sight.Token token) r h = cc
+ends_there false (sight.Hash location) r h = cc
+ends_there false (sight.NoWord fault) r h = cc
+ends_there false (sight.Directive directive word) r h = absurd (no_end (dead_directive directive word r) (dead_directive_holds GoesOn r (dead_goes_on r) directive word) h)
+
+-- the end is only given at the end,
+only_at_end : (r : SourceReader) → (act r).step ≡ step.Given outcome.End → IsAtEnd r
+only_at_end r h =
+    let there = ends_there (is_live r.items r.truths r.position) (sight_of (drop r.position r.items)) r h in
+    record { nothing_left = there.0; all_told = there.1 }
+
+told_end : (block : Option Block) (r : SourceReader) → block ≡ None → ended_by block r ≡ at_end r
+told_end (Some block) r h = cc
+told_end None r h = refl
+
+acts_at_end : (live : Bool) (s : Sight) (r : SourceReader) → s ≡ sight.End → told_next r ≡ None → acts live s r ≡ at_end r
+acts_at_end true s r h k = subst (λ z. acts true z r ≡ at_end r) (sym h) (told_end (told_next r) r k)
+acts_at_end false s r h k = subst (λ z. acts false z r ≡ at_end r) (sym h) (told_end (told_next r) r k)
+
+-- and there nothing else is
+end_acts : (r : SourceReader) → IsAtEnd r → act r ≡ at_end r
+end_acts r end = acts_at_end (is_live r.items r.truths r.position) (sight_of (drop r.position r.items)) r end.nothing_left end.all_told
+
+module _ (A : Answers) where
+  -- a step that gives the end stands there
+  step_ends : (r t : SourceReader) → Steps A r (Some outcome.End) t → IsAtEnd r × (t ≡ r)
+  step_ends r t (passes o r1 t1 h p q) = cc
+  step_ends r t (gives x o r1 t1 h p q) =
+      let is : x ≡ outcome.End = cc in
+      let end = only_at_end r (rw is at h) in
+      (end, q ∙ ap (λ a. a.after) (end_acts r end))
+  step_ends r t (defines named o r1 t1 h k p q) = cc
+  step_ends r t (repeats named old o r1 t1 h k same p q) = cc
+  step_ends r t (redefines named old o r1 t1 h k other p q) = cc
+  step_ends r t (decides word tokens holds o r1 t1 h is p q) = cc
+  step_ends r t (undecided word tokens fault o r1 t1 h is p q) = cc
+  step_ends r t (renumbers word tokens n o r1 t1 h is p q) = cc
+  step_ends r t (unnumbered word tokens fault o r1 t1 h is p q) = cc
+
+  -- behind the end that is read the reader stands there,
+  pub reading_ends : (o : Outcome) (r t : SourceReader) → Reads A r o t → o ≡ outcome.End → IsAtEnd t
+  reading_ends o r t (here o1 r1 t1 s) same =
+      let s1 : Steps A r (Some outcome.End) t = rw same at s in
+      let there = step_ends r t s1 in
+      rw there.1 there.0
+  reading_ends o r t (later o1 r1 s t1 h more) same = reading_ends o s t more same
+
+  -- and there reading gives it again
+  pub reading_at_end : (o : Outcome) (r t : SourceReader) → IsAtEnd r → Reads A r o t → (o ≡ outcome.End) × (t ≡ r)
+  reading_at_end o r t end (here o1 r1 t1 s) =
+      let acts = end_acts r end in
+      let same = gives_that A outcome.End r (Some o) t (ap (λ a. a.step) acts) s in
+      (cc, same.1 ∙ ap (λ a. a.after) acts)
+  reading_at_end o r t end (later o1 r1 s t1 h more) =
+      let same = (gives_that A outcome.End r None s (ap (λ a. a.step) (end_acts r end)) h).0 in
+      cc

@@ -1,0 +1,38 @@
+-- Laws of blocks: of a block's branches at most one is live, and dead text comes to no token and no definition.
+use Rattle.std.specs.Prelude.{◌≡◌, ℕ, ◌≤◌, ⊤, true, false, List, [], ◌∷◌, ◌++◌, length, take}
+use Rattle.pp_lexer.specs.declared.token.Location.{Location}
+use Rattle.pp_lexer.specs.declared.token.Token.{Token}
+use Rattle.pp_model.specs.Blocks.{Truths, Block, is_else, is_last_chosen, has_taken_branch, is_live}
+use Rattle.pp_model.specs.SourceReader.{SourceReader}
+use Rattle.pp_model.specs.Acts.{Acted, act}
+use Rattle.pp_model.specs.declared.block.BlockLine.{BlockLine}
+use Rattle.pp_model.specs.declared.definition.Named.{Named}
+use Rattle.pp_model.specs.declared.outcome.Outcome.TheVariants as outcome
+use Rattle.pp_model.specs.declared.step.Step.TheVariants as step
+
+-- no mark stands behind an `#else`; one that does is a fault where it stands
+abbrev pub ElseIsLast : List BlockLine → Type 0
+ElseIsLast [] = ⊤
+ElseIsLast (mark ∷ []) = ⊤
+ElseIsLast (mark ∷ next ∷ later) = (is_else mark.part ≡ false) × ElseIsLast (next ∷ later)
+
+-- Of a block's marks at most one is chosen: the first, behind which none of its partings stands, or that behind which so many
+-- of them stand.
+abbrev pub OneBranch : Type 0
+OneBranch = (truths : Truths) (block : Block) (k n : ℕ) → ElseIsLast (block.first ∷ block.partings) → k ≤ length block.partings → n ≤ length block.partings → is_last_chosen truths block.first (take k block.partings) ≡ true → is_last_chosen truths block.first (take n block.partings) ≡ true → k ≡ n
+
+-- Behind a branch that was taken none is: the next mark is not chosen.
+abbrev pub NoneBehindTaken : Type 0
+NoneBehindTaken = (truths : Truths) (block : Block) (mark : BlockLine) → ElseIsLast (block.first ∷ (block.partings ++ (mark ∷ []))) → has_taken_branch truths block ≡ true → is_last_chosen truths block.first (block.partings ++ (mark ∷ [])) ≡ false
+
+-- The act gives no token, defines nothing and numbers no line, and leaves the definitions and what is added to a line.
+pub record GivesNothing (r : SourceReader) (a : Acted) : Type 0 where
+  pub no_token : (token : Token) → a.step ≡ step.Given (outcome.Token token) → ⊥
+  pub no_define : (named : Named) → a.step ≡ step.Defines named → ⊥
+  pub no_line_number : (word : Location) (tokens : List Token) → a.step ≡ step.LineNumber word tokens → ⊥
+  pub same_definitions : a.after.definitions ≡ r.definitions
+  pub same_lines : a.after.line_offset ≡ r.line_offset
+
+-- What stands in dead text gives nothing, but for errors and the end.
+abbrev pub DeadTextGivesNothing : Type 0
+DeadTextGivesNothing = (r : SourceReader) → is_live r.items r.truths r.position ≡ false → GivesNothing r (act r)

@@ -1,0 +1,59 @@
+-- The states of a run, and what holds in each of them: no macro is open twice, no `__LINE__` is given, and an end that was
+-- given stays.
+use Rattle.std.specs.Prelude.{◌≡◌, Bool, true, false, List, ◌∷◌, ◌++◌, All}
+use Rattle.pp_lexer.specs.Lexed.{Seen}
+use Rattle.pp_lexer.specs.declared.token.Token.{Token}
+use Rattle.pp_model.specs.Names.{Name}
+use Rattle.pp_model.specs.Reading.{Expander}
+use Rattle.pp_model.specs.Calls.{Answers}
+use Rattle.pp_model.specs.Emitting.{Emits}
+use Rattle.pp_model.specs.SourceReader.{SourceReader}
+use Rattle.pp_model.specs.Reads.{source_reading}
+use Rattle.pp_model.specs.Run.{Call, start, with_added, Runs}
+use Rattle.pp_model.specs.ApartMarks.{HasApartMarks}
+use Rattle.pp_model.specs.NoLineName.{is_line_name}
+use Rattle.pp_model.specs.declared.call.Reply.{Reply}
+use Rattle.pp_model.specs.declared.call.Reply.TheVariants as reply
+use Rattle.pp_model.specs.declared.outcome.Outcome.{Outcome}
+use Rattle.pp_model.specs.declared.outcome.Outcome.TheVariants as outcome
+
+-- Definitions that are added, and items that are given, lead from one state to another; error items too, behind which a run
+-- says nothing more.
+pub data LeadsTo (A : Answers) : Expander SourceReader → Expander SourceReader → Type 0 where
+  nowhere : (e f : Expander SourceReader) → f ≡ e → LeadsTo A e f
+  adding : (name : Name) (tokens : List Token) (e f : Expander SourceReader) → LeadsTo A (with_added name tokens e) f → LeadsTo A e f
+  giving : (o : Outcome) (e f g : Expander SourceReader) → Emits (source_reading A) A e o f → LeadsTo A f g → LeadsTo A e g
+
+-- a state of a run of the source
+abbrev pub IsReached : Answers → List Seen → Expander SourceReader → Type 0
+IsReached A source e = LeadsTo A (start source) e
+
+-- No macro is open twice: in no state of a run does the list hold two end marks of one name.
+abbrev pub RunKeepsMarksApart : Answers → Type 0
+RunKeepsMarksApart A = (source : List Seen) (e : Expander SourceReader) → IsReached A source e → HasApartMarks e.list
+
+-- whether the reply is the identifier `__LINE__`
+abbrev pub gives_line_name : Reply → Bool
+gives_line_name (reply.Given o) = is_line_name o
+gives_line_name (reply.Refused fault) = false
+gives_line_name reply.Added = false
+
+-- No reply of a run is the identifier `__LINE__`.
+abbrev pub RunShowsNoLineName : Answers → Type 0
+RunShowsNoLineName A = (source : List Seen) (calls : List Call) (replies : List Reply) → Runs A (start source) calls replies → All (λ given. gives_line_name given ≡ false) replies
+
+-- Behind an end that was given nothing is left, whatever is added.
+abbrev pub EndStays : Answers → Type 0
+EndStays A = (source : List Seen) (o : Outcome) (e f g h : Expander SourceReader) → IsReached A source e → Emits (source_reading A) A e outcome.End f → LeadsTo A f g → Emits (source_reading A) A g o h → o ≡ outcome.End
+
+-- whether the reply is an item, which the end is not
+abbrev pub gives_item : Reply → Bool
+gives_item (reply.Given (outcome.Token token)) = true
+gives_item (reply.Given (outcome.Fault fault)) = true
+gives_item (reply.Given outcome.End) = false
+gives_item (reply.Refused fault) = false
+gives_item reply.Added = false
+
+-- Behind the end, wherever it stands among the replies of a run, no reply is an item.
+abbrev pub RunEndsForGood : Answers → Type 0
+RunEndsForGood A = (source : List Seen) (calls : List Call) (former later : List Reply) → Runs A (start source) calls (former ++ (reply.Given outcome.End ∷ later)) → All (λ given. gives_item given ≡ false) later
