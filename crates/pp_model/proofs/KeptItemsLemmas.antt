@@ -52,7 +52,7 @@ module _ (A : Answers) where
   step_keeps_items o r t (gives x o1 r1 t1 h p q) = ap items q ∙ act_keeps_items r
   step_keeps_items o r t (defines named o1 r1 t1 h k p q) = ap items q ∙ act_keeps_items r
   step_keeps_items o r t (repeats named old o1 r1 t1 h k same p q) = ap items q ∙ act_keeps_items r
-  step_keeps_items o r t (redefines named old o1 r1 t1 h k other p q) = ap items q
+  step_keeps_items o r t (redefines named old o1 r1 t1 h k other p q) = ap items q ∙ act_keeps_items r
   step_keeps_items o r t (decides word tokens holds o1 r1 t1 h is p q) = ap items q
   step_keeps_items o r t (undecided word tokens fault o1 r1 t1 h is p q) = ap items q
   step_keeps_items o r t (renumbers word tokens n o1 r1 t1 h is p q) = ap items q

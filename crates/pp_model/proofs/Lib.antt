@@ -1,5 +1,10 @@
 pub mod ListLemmas
 pub mod TextLemmas
+pub mod GatherLemmas
+pub mod TakeLemmas
+pub mod TurnLemmas
+pub mod CollectLemmas
+pub mod WordLemmas
 pub mod TakingLemmas
 pub mod CallsLemmas
 pub mod EmittingLemmas
@@ -23,3 +28,5 @@ pub mod BlockLemmas
 pub mod KeptItemsLemmas
 pub mod DeadTextLemmas
 pub mod RedefinitionLemmas
+pub mod SourceStepLemmas
+pub mod RunProgramLemmas

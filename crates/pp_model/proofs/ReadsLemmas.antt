@@ -22,7 +22,7 @@ use Rattle.pp_model.proofs.LineValueLemmas.{one_condition, one_line_number}
 abbrev pub DefineComesTo : Named → Option Definition → (after r : SourceReader) → Option Outcome → SourceReader → Type 0
 DefineComesTo named None after r o t = (o ≡ None) × (t ≡ defining named after)
 DefineComesTo named (Some old) after r o t =
-    (IsSameDefinition old named.definition × (o ≡ None) × (t ≡ after)) ⊎ ((IsSameDefinition old named.definition → ⊥) × (o ≡ Some (outcome.Fault (DefineRedefined, named.location))) × (t ≡ r))
+    (IsSameDefinition old named.definition × (o ≡ None) × (t ≡ after)) ⊎ ((IsSameDefinition old named.definition → ⊥) × (o ≡ Some (outcome.Fault (DefineRedefined, named.location))) × (t ≡ after))
 
 -- a condition with this result comes to this;
 abbrev ConditionComesTo : Result Bool Fault → SourceReader → Option Outcome → SourceReader → Type 0

@@ -13,7 +13,7 @@ use Rattle.pp_model.proofs.ActsLemmas.{HoldsOfDead, HoldsOfLive, act_holds}
 use Rattle.pp_model.proofs.ReadsLemmas.{DefineComesTo, defines_that}
 
 -- where the act defines a name, it leaves the definitions to the step
-abbrev LeavesDefinitions : SourceReader → Acted → Type 0
+abbrev pub LeavesDefinitions : SourceReader → Acted → Type 0
 LeavesDefinitions r a = (named : Named) → a.step ≡ step.Defines named → a.after.definitions ≡ r.definitions
 
 dead_leaves : (r : SourceReader) → HoldsOfDead (LeavesDefinitions r) r
@@ -33,7 +33,7 @@ end_leaves : (r : SourceReader) (block : Option Block) → LeavesDefinitions r (
 end_leaves r (Some block) named h = refl
 end_leaves r None named h = refl
 
-define_leaves : (r : SourceReader) → LeavesDefinitions r (act r)
+pub define_leaves : (r : SourceReader) → LeavesDefinitions r (act r)
 define_leaves r = act_holds (LeavesDefinitions r) r (live_leaves r) (end_leaves r)
 
 abbrev definitions : SourceReader → Definitions
@@ -48,7 +48,7 @@ checked named old after r t o left (inl same) = record {
 checked named old after r t o left (inr other) = record {
   repeated = λ same. absurd (other.0 same);
   refused = λ h. other.1;
-  same_definitions = ap definitions other.2;
+  same_definitions = ap definitions other.2 ∙ left;
 }
 
 pub redefinition_is_checked : (A : Answers) → RedefinitionIsChecked A

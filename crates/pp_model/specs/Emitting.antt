@@ -84,5 +84,5 @@ answers_at zero = answers_at_limit
 answers_at (suc levels) = answers_below (Alone levels)
 
 -- argument expansions inside each other
-abbrev pub expansion_limit : ℕ
+unfoldable pub expansion_limit : ℕ
 expansion_limit = 128

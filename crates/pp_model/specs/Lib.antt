@@ -6,6 +6,10 @@ pub mod Reading
 pub mod Taking
 pub mod Calls
 pub mod Emitting
+pub mod Nested
+pub mod Seen
+pub mod SeenList
+pub mod WordsRead
 pub mod LineWords
 pub mod Halting
 pub mod Conversions
@@ -16,10 +20,11 @@ pub mod Blocks
 pub mod SourceReader
 pub mod ReaderState
 pub mod Acts
-pub mod Acting
 pub mod LineValues
 pub mod Reads
+pub mod Acting
 pub mod Run
+pub mod SeenSource
 pub mod ExpansionLaws
 pub mod ApartMarks
 pub mod NoLineName

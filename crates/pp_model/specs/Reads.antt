@@ -37,7 +37,7 @@ pub data Steps (A : Answers) : SourceReader → Option Outcome → SourceReader 
   -- a `#define` that says what was said before: the old definition stays
   repeats : (named : Named) (old : Definition) (o : Option Outcome) (r t : SourceReader) → (act r).step ≡ step.Defines named → r.definitions named.name ≡ Some old → IsSameDefinition old named.definition → o ≡ None → t ≡ (act r).after → Steps A r o t
   -- a `#define` that says something else
-  redefines : (named : Named) (old : Definition) (o : Option Outcome) (r t : SourceReader) → (act r).step ≡ step.Defines named → r.definitions named.name ≡ Some old → (IsSameDefinition old named.definition → ⊥) → o ≡ Some (outcome.Fault (DefineRedefined, named.location)) → t ≡ r → Steps A r o t
+  redefines : (named : Named) (old : Definition) (o : Option Outcome) (r t : SourceReader) → (act r).step ≡ step.Defines named → r.definitions named.name ≡ Some old → (IsSameDefinition old named.definition → ⊥) → o ≡ Some (outcome.Fault (DefineRedefined, named.location)) → t ≡ (act r).after → Steps A r o t
   -- an `#if` or `#elif` whose condition holds or not
   decides : (word : Location) (tokens : List Token) (holds : Bool) (o : Option Outcome) (r t : SourceReader) → (act r).step ≡ step.Condition word tokens → IsCondition A word tokens r.definitions (Ok holds) → o ≡ None → t ≡ decided r holds → Steps A r o t
   -- an `#if` or `#elif` whose condition is at fault

@@ -42,10 +42,12 @@ content_tokens (s ∷ rest) = content_from s.item (content_tokens rest)
 abbrev pub start : List Seen → Expander SourceReader
 start source = record { held = None; list = []; reader = start_of source; hidden = [] }
 
+-- the name stands for these tokens from now on
+abbrev pub adding : Name → List Token → SourceReader → SourceReader
+adding name tokens reader = record reader { definitions = changed reader.definitions name (Some (object_like tokens)) }
+
 abbrev pub with_added : Name → List Token → Expander SourceReader → Expander SourceReader
-with_added name tokens e =
-    let r = e.reader in
-    record e { reader = record r { definitions = changed r.definitions name (Some (object_like tokens)) } }
+with_added name tokens e = record e { reader = adding name tokens e.reader }
 
 abbrev pub is_fault : Outcome → Bool
 is_fault (outcome.Fault fault) = true

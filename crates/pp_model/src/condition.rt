@@ -1,6 +1,6 @@
 //! What an `#if`, `#elif` or `#line` line comes to.
 
-ghost use Rattle.std.specs.Prelude.{◌≡◌, not, map, IfOk};
+ghost use Rattle.std.specs.Prelude.{◌≡◌, ◌≤◌, not, map, IfOk};
 ghost use Rattle.pp_expression.specs.Arithmetic.{is_zero};
 ghost use Rattle.std.specs.Option.{option_copied};
 ghost use Rattle.pp_expression.specs.FirstFault.{Evaluates};
@@ -10,11 +10,13 @@ ghost use Rattle.pp_model.specs.Halting.{Meets, Satisfies};
 ghost use Rattle.pp_model.specs.LineValues as spec;
 
 use crate::copies::copy_token;
+use crate::definition::TokenList;
+use crate::definitions::Definitions;
 use crate::line::copy_of;
-use crate::line_words::Words;
+use crate::line_words::{Words, line_words};
 use crate::outcome::Fault;
-use crate::stop::{Halt, Stop};
-use crate::word::Word;
+use crate::stop::{Budget, Halt, Stop};
+use crate::word::{LineKind, Word};
 use pp_expression::evaluator::evaluate;
 use pp_expression::symbol::{ExpressionFault, Found, Symbol, Value};
 use pp_lexer::token::{Location, PreprocessorError, Text, TokenValue};
@@ -171,6 +173,32 @@ fn followed(alloc: Global, directive: Location, words: &Words, number: u32) -> R
     number_alone(alloc, directive, words, second, number)
 }
 
+/// Whether the condition of an `#if` or `#elif` line holds, or its first fault.
+pub fn condition(
+    alloc: Global,
+    directive: Location,
+    tokens: TokenList,
+    definitions: &Definitions,
+    levels: u32,
+    budget: &mut Budget,
+) -> Result<bool, Halt>
+    ensures reads { Satisfies result (spec.IsCondition (answers_at levels) directive tokens (meaning_of definitions.now)) }
+    ensures budget { budget.new.steps ≤ budget.old.steps }
+{
+    let kind = LineKind::Condition;
+    let words = line_words(
+        alloc,
+        kind,
+        directive,
+        tokens.items,
+        definitions,
+        levels,
+        budget,
+    )?;
+    let evaluation = evaluation(alloc, &words)?;
+    holds_alone(alloc, directive, &words, evaluation)
+}
+
 // The value as the number of a line.
 fn as_line_number(value: Value) -> Option<u32>
     ensures { result ≡ spec.as_line_number value.value }
@@ -205,4 +233,29 @@ fn numbers(alloc: Global, directive: Location, words: Words) -> Result<u32, Halt
     }
     let behind = words_behind(words, value.left);
     followed(alloc, directive, &behind, number)
+}
+
+/// The line number of a `#line`, or its first fault.
+pub fn line_number(
+    alloc: Global,
+    directive: Location,
+    tokens: TokenList,
+    definitions: &Definitions,
+    levels: u32,
+    budget: &mut Budget,
+) -> Result<u32, Halt>
+    ensures reads { Satisfies result (spec.IsLineNumber (answers_at levels) directive tokens (meaning_of definitions.now)) }
+    ensures budget { budget.new.steps ≤ budget.old.steps }
+{
+    let kind = LineKind::LineNumber;
+    let words = line_words(
+        alloc,
+        kind,
+        directive,
+        tokens.items,
+        definitions,
+        levels,
+        budget,
+    )?;
+    numbers(alloc, directive, words)
 }

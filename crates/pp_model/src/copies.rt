@@ -2,22 +2,21 @@
 
 ghost use Rattle.std.specs.Prelude.{◌≡◌, IfOk};
 
-use crate::stop::Stop;
 use pp_lexer::token::{Text, Token};
-use std::alloc::Global;
+use std::alloc::{AllocError, Global};
 
 /// A copy of a token.
-pub fn copy_token(alloc: Global, token: &Token) -> Result<Token, Stop>
+pub fn copy_token(alloc: Global, token: &Token) -> Result<Token, AllocError>
     ensures { IfOk result (λ copy. copy ≡ token.now) }
 {
     match token.clone(alloc) {
         Ok(copy) => Ok(copy),
-        Err(_) => Err(Stop::OutOfMemory),
+        Err(_) => Err(AllocError),
     }
 }
 
 /// Copies of the tokens, in order.
-pub fn copy_tokens(alloc: Global, tokens: &[Token]) -> Result<Vec<Token>, Stop>
+pub fn copy_tokens(alloc: Global, tokens: &[Token]) -> Result<Vec<Token>, AllocError>
     ensures { IfOk result (λ copies. copies.items ≡ tokens.now) }
 {
     let mut copies = Vec::new(alloc);
@@ -28,7 +27,7 @@ pub fn copy_tokens(alloc: Global, tokens: &[Token]) -> Result<Vec<Token>, Stop>
 }
 
 /// Copies of the names, in order.
-pub fn copy_names(alloc: Global, names: &[Text]) -> Result<Vec<Text>, Stop>
+pub fn copy_names(alloc: Global, names: &[Text]) -> Result<Vec<Text>, AllocError>
     ensures { IfOk result (λ copies. copies.items ≡ names.now) }
 {
     let mut copies = Vec::new(alloc);

@@ -3,9 +3,8 @@
 ghost use Rattle.std.specs.Prelude.{◌≡◌, IfOk};
 
 use crate::copies::{copy_names, copy_tokens};
-use crate::stop::Stop;
 use pp_lexer::token::{Location, Text, Token};
-use std::alloc::Global;
+use std::alloc::{AllocError, Global};
 use std::marker::Model;
 
 /// A list of tokens.
@@ -85,7 +84,7 @@ impl Model for Definition {
 
 impl Definition {
     /// A copy.
-    pub fn clone(&self, alloc: Global) -> Result<Self, Stop>
+    pub fn clone(&self, alloc: Global) -> Result<Self, AllocError>
         ensures { IfOk result (λ copy. copy ≡ self.now) }
     {
         Ok(Definition {

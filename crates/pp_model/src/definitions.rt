@@ -6,9 +6,8 @@ ghost use Rattle.pp_model.specs.Definitions.{changed, nothing_defined};
 ghost use Rattle.pp_model.specs.Changes.{meaning_of};
 
 use crate::definition::Definition;
-use crate::stop::Stop;
 use pp_lexer::token::Text;
-use std::alloc::Global;
+use std::alloc::{AllocError, Global};
 use std::marker::Model;
 
 /// A `#define` or an `#undef` of a name.
@@ -58,7 +57,7 @@ impl Definitions {
     }
 
     /// Lets the name stand for this from now on, or for nothing.
-    pub fn change(&mut self, name: Text, definition: Option<Definition>) -> Result<(), Stop>
+    pub fn change(&mut self, name: Text, definition: Option<Definition>) -> Result<(), AllocError>
         ensures ok { OnOk result (meaning_of self.new ≡ changed (meaning_of self.old) name definition) }
         ensures err { OnErr result (self.new ≡ self.old) }
     {

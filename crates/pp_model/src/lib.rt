@@ -3,6 +3,7 @@
 
 pub mod block;
 pub mod call;
+pub mod calls;
 pub mod condition;
 pub mod conversion;
 pub mod copies;
@@ -10,6 +11,8 @@ pub mod define_line;
 pub mod definition;
 pub mod definitions;
 pub mod directive;
+pub mod expand;
+pub mod expander;
 pub mod item;
 pub mod laws;
 pub mod line;
@@ -19,11 +22,15 @@ pub mod names;
 pub mod outcome;
 pub mod reader;
 pub mod redefinition;
+pub mod run;
 pub mod sight;
+pub mod source;
 pub mod source_reader;
 pub mod source_text;
 pub mod splice;
 pub mod step;
 pub mod stop;
+#[cfg(test)]
+mod tests;
 pub mod truth;
 pub mod word;

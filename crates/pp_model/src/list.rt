@@ -8,9 +8,8 @@ ghost use Rattle.pp_model.specs.declared.splice.Entry.{Entry as Item};
 use crate::copies::copy_token;
 use crate::definition::{Definition, TokenList, TokenLists};
 use crate::splice::{EndMark, Entry};
-use crate::stop::Stop;
 use pp_lexer::token::{Text, Token, TokenValue};
-use std::alloc::Global;
+use std::alloc::{AllocError, Global};
 
 /// Takes the first item.
 pub fn take_first<T>(items: &mut Vec<T>) -> Option<T>
@@ -49,7 +48,7 @@ pub fn outermost_line(list: &[Entry]) -> Option<u32>
 }
 
 /// The names of the marks.
-pub fn open_names(alloc: Global, list: &[Entry]) -> Result<Vec<Text>, Stop>
+pub fn open_names(alloc: Global, list: &[Entry]) -> Result<Vec<Text>, AllocError>
     ensures { IfOk result (λ names. names.items ≡ open_names list.now) }
 {
     let mut names = Vec::new(alloc);
@@ -62,7 +61,7 @@ pub fn open_names(alloc: Global, list: &[Entry]) -> Result<Vec<Text>, Stop>
 }
 
 /// Puts copies of the tokens at the end.
-fn push_tokens(alloc: Global, list: &mut Vec<Entry>, tokens: &[Token]) -> Result<(), Stop>
+fn push_tokens(alloc: Global, list: &mut Vec<Entry>, tokens: &[Token]) -> Result<(), AllocError>
     ensures { OnOk result ((rest : List Item) → list.new.items ++ rest ≡ list.old.items ++ followed_by tokens.now rest) }
 {
     for token in tokens {
@@ -95,7 +94,7 @@ fn push_replacement(
     token: &Token,
     parameter: Option<usize>,
     arguments: &[TokenList],
-) -> Result<(), Stop>
+) -> Result<(), AllocError>
     ensures { OnOk result ((rest : List Item) → list.new.items ++ rest ≡ list.old.items ++ replacement arguments.now token.now parameter rest) }
 {
     let Some(position) = parameter else {
@@ -115,7 +114,7 @@ fn push_replaced(
     parameters: &[Text],
     arguments: &[TokenList],
     body: &[Token],
-) -> Result<(), Stop>
+) -> Result<(), AllocError>
     ensures { OnOk result ((rest : List Item) → list.new.items ++ rest ≡ list.old.items ++ replaced parameters.now arguments.now body.now rest) }
 {
     for token in body {
@@ -133,7 +132,7 @@ pub fn splice(
     definition: &Definition,
     line: u32,
     arguments: &TokenLists,
-) -> Result<(), Stop>
+) -> Result<(), AllocError>
     ensures { OnOk result (list.new.items ≡ spliced name definition.now line arguments.now list.old.items) }
 {
     let mut front = Vec::new(alloc);

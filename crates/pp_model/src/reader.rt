@@ -1,6 +1,6 @@
 //! Readers: what an expander asks of what stands behind its list.
 
-ghost use Rattle.std.specs.Prelude.{◌≡◌, ◌≤◌, ℕ, Option, IfOk};
+ghost use Rattle.std.specs.Prelude.{◌≡◌, ◌≤◌, ℕ, IfOk};
 ghost use Rattle.pp_model.specs.Changes.{meaning_of};
 ghost use Rattle.pp_model.specs.Reading.{first_listed, behind_listed};
 

@@ -7,11 +7,13 @@ ghost use Rattle.pp_model.specs.Acts as spec;
 ghost use Rattle.pp_model.specs.Blocks.{are_surroundings_live};
 ghost use Rattle.pp_model.specs.ReaderState.{reader_of};
 ghost use Rattle.pp_model.specs.Reads.{renumbered, shown_line};
+ghost use Rattle.pp_model.specs.Run.{adding};
 ghost use Rattle.pp_model.specs.Sights.{least_items};
 ghost use Rattle.pp_model.specs.declared.stop.Halt.TheVariants as halt;
 
 use crate::block::{Block, blocks_at, has_else, has_taken_branch, is_live};
 use crate::define_line::defined_on;
+use crate::definition::{Definition, TokenList};
 use crate::definitions::Definitions;
 use crate::directive::Directive;
 use crate::item::SourceItem;
@@ -25,7 +27,7 @@ use crate::step::Step;
 use crate::stop::{Halt, Stop};
 use crate::truth::Truth;
 use pp_lexer::token::{
-    Extension, Location, Pragma, PreprocessorError, Token, TokenValue, Tokens, Version,
+    Extension, Location, Pragma, PreprocessorError, Text, Token, TokenValue, Tokens, Version,
 };
 use std::alloc::Global;
 use std::marker::Model;
@@ -122,6 +124,19 @@ impl<'a> SourceReader<'a> {
         ensures { result ≡ shown_line (reader_of self.now) line }
     {
         u32::try_from(i128::from(line) + i128::from(self.line_offset)).ok()
+    }
+
+    /// Lets the name stand for these tokens from now on.
+    pub fn add(&mut self, alloc: Global, name: Text, body: TokenList) -> Result<(), Stop>
+        ensures { OnOk result (reader_of self.new ≡ adding name body (reader_of self.old)) }
+    {
+        let definition = Definition {
+            function_like: false,
+            parameters: Vec::new(alloc),
+            body: body.items,
+        };
+        self.definitions.change(name, Some(definition))?;
+        Ok(())
     }
 
     // Gathers a line whose condition is wanted.

@@ -10,6 +10,8 @@ mod phases;
 #[cfg(test)]
 mod preprocessed;
 #[cfg(test)]
+mod preprocessing;
+#[cfg(test)]
 mod program;
 #[cfg(test)]
 mod shown;

@@ -1,7 +1,9 @@
 //! Characters, items and tokens as the tables show them.
 
+use pp_model::call::Reply;
+use pp_model::outcome::Outcome;
 use pp_rs::lexer;
-use pp_rs::token::{Integer, Location, PreprocessorError, TokenValue};
+use pp_rs::token::{Integer, Location, PreprocessorError, TokenValue, Tokens};
 use std::alloc::{AllocError, Global};
 
 /// The parts with a comma and a space between each two.
@@ -68,5 +70,64 @@ pub fn error(alloc: Global, error: &PreprocessorError) -> Result<String, AllocEr
             format!(in alloc; "{name}({})", shown.as_str())
         }
         _ => format!(in alloc; "{name}"),
+    }
+}
+
+// The tokens that a directive item holds, with their places.
+fn held(alloc: Global, tokens: &Tokens) -> Result<String, AllocError> {
+    let mut parts = Vec::new(alloc);
+    for token in tokens.as_slice() {
+        let shown = value(alloc, &token.value)?;
+        let at = place(alloc, token.location)?;
+        parts.push(format!(in alloc; "{} {}", shown.as_str(), at.as_str())?)?;
+    }
+    joined(alloc, &parts)
+}
+
+/// A value, of which a directive item shows all its fields.
+fn item_value(alloc: Global, token: &TokenValue) -> Result<String, AllocError> {
+    match token {
+        TokenValue::Version(version) => {
+            let tokens = held(alloc, &version.tokens)?;
+            let first = version.is_first_directive;
+            let comments = version.has_comments_before;
+            format!(in alloc;
+                "Version first={first} comments={comments} [{}]",
+                tokens.as_str()
+            )
+        }
+        TokenValue::Extension(extension) => {
+            let tokens = held(alloc, &extension.tokens)?;
+            let before = extension.has_non_directive_before;
+            format!(in alloc; "Extension before={before} [{}]", tokens.as_str())
+        }
+        TokenValue::Pragma(pragma) => {
+            let tokens = held(alloc, &pragma.tokens)?;
+            format!(in alloc; "Pragma [{}]", tokens.as_str())
+        }
+        _ => value(alloc, token),
+    }
+}
+
+/// What a call answered, with its place.
+pub fn reply(alloc: Global, reply: &Reply) -> Result<String, AllocError> {
+    match reply {
+        Reply::Added => format!(in alloc; "Added"),
+        Reply::Refused((fault, location)) => {
+            let shown = error(alloc, fault)?;
+            let at = place(alloc, *location)?;
+            format!(in alloc; "Refused {} {}", shown.as_str(), at.as_str())
+        }
+        Reply::Given(Outcome::Token(token)) => {
+            let shown = item_value(alloc, &token.value)?;
+            let at = place(alloc, token.location)?;
+            format!(in alloc; "{} {}", shown.as_str(), at.as_str())
+        }
+        Reply::Given(Outcome::Fault((fault, location))) => {
+            let shown = error(alloc, fault)?;
+            let at = place(alloc, *location)?;
+            format!(in alloc; "Error {} {}", shown.as_str(), at.as_str())
+        }
+        Reply::Given(Outcome::End) => format!(in alloc; "None"),
     }
 }
