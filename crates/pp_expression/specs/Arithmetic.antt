@@ -1,4 +1,4 @@
--- The value of one operator of an expression (GLSL ES 3.20 section 3.4). The operators mean what they mean to the C++ preprocessor, on integers of 64 bits, from -2^63 to 2^63 - 1: true is 1, false is 0, and every number but 0 counts as true. A result outside of that range is a fault, and so is a division by 0. Both operands of `&&` and `||` are computed, whatever the first one is.
+-- The value of one operator of an expression (GLSL ES 3.20 section 3.4). The operators work on integers of 64 bits, from -2^63 to 2^63 - 1, whatever suffix a literal has: `/` rounds toward zero, `%` has the sign of its left operand, `<<` drops high bits and `>>` keeps the sign. True is 1, false is 0, and every number but 0 counts as true. A result outside of that range is a fault, and so is a division by 0. Both operands of `&&` and `||` are computed, whatever the first one is.
 use Rattle.std.specs.Prelude.{ℕ, ◌^◌, Bool, not, ◌&&◌, ◌||◌, if◌then◌else◌, nat_lt, Result, Ok, Err, ℤ, pos, negsuc, ◌+ℤ◌, ◌-ℤ◌, ◌*ℤ◌, neg_ℤ, int_div, int_rem, int_lt, int_le, bit_and, bit_or, bit_xor}
 use Rattle.std.specs.Int.{w64, int_shl, int_shr, cast_signed, cast_unsigned}
 use Rattle.std.specs.Ordering.{int_eq}

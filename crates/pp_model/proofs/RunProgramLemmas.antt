@@ -7,9 +7,9 @@ use Rattle.pp_model.specs.Calls.{Answers}
 use Rattle.pp_model.specs.Halting.{Meets}
 use Rattle.pp_model.specs.SourceReader.{SourceReader}
 use Rattle.pp_model.specs.Run as run
-use Rattle.pp_model.specs.Run.{Call, add_define, next, items_of, content_tokens, Runs}
+use Rattle.pp_model.specs.Run.{Call, add_define, next, items_of, content_tokens, Runs, call_of, HasRoom}
 use Rattle.pp_model.specs.SeenSource as by
-use Rattle.pp_model.specs.SeenSource.{Replying, RefusedBy, HasRoom, ends_run, call_of}
+use Rattle.pp_model.specs.SeenSource.{Replying, RefusedBy, ends_run}
 use Rattle.pp_model.specs.declared.call.Call.{Call as Called}
 use Rattle.pp_model.specs.declared.call.Reply.{Reply}
 use Rattle.pp_model.specs.declared.call.Reply.TheVariants as reply

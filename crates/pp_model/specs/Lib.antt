@@ -31,3 +31,4 @@ pub mod NoLineName
 pub mod RunLaws
 pub mod RunStates
 pub mod BlockLaws
+pub use Rattle.pp_lexer.specs.Spelling

@@ -1,5 +1,5 @@
--- The rest of a directive's line: the items behind its word, up to the line's NewLine (docs/RULES.md, Directives 3 to 6 and 14).
--- The items of a text always have that NewLine; a list that ends without it is refused at the word.
+-- The rest of a directive's line: the items behind its word, up to the line's NewLine (docs/RULES.md, Directives 3 to 7, 9, 10, 13 and 14).
+-- The items of a text always have that NewLine. Where a list ends without it, the line ends there too; a token that is wanted there is refused at the word.
 use Rattle.std.specs.Prelude.{ℕ, ◌+◌, Bool, false, if◌then◌else◌, List, [], ◌∷◌, Option, Some, None, Result, Ok, Err}
 use Rattle.pp_lexer.specs.Lexed.{Seen}
 use Rattle.pp_lexer.specs.Items.{Lexeme}

@@ -24,6 +24,6 @@ is_identifier name _ = false
 abbrev pub line_name : Name
 line_name = codes "__LINE__"
 
--- the operator of `#if` lines that asks whether a name is defined
+-- the operator of `#if`, `#elif` and `#line` lines that asks whether a name is defined
 abbrev pub defined_name : Name
 defined_name = codes "defined"

@@ -1,4 +1,4 @@
--- Expanders, and what they ask of the reader behind their list (docs/RULES.md, Expansion 1).
+-- Expanders, and what they ask of the reader behind their list (docs/RULES.md, Expansion 1, 3 and 8).
 use Rattle.std.specs.Prelude.{◌≡◌, ℕ, Bool, false, List, [], ◌∷◌, ◌++◌, ◌||◌, if◌then◌else◌, Option, Some, None}
 use Rattle.pp_lexer.specs.declared.token.Token.{Token}
 use Rattle.pp_lexer.specs.declared.token.TokenValue.{TokenValue}

@@ -1,5 +1,5 @@
 -- Runs: lists of calls of `add_define` and `next`, with what they answer (docs/RULES.md, "Runs").
-use Rattle.std.specs.Prelude.{◌≡◌, ℕ, Bool, true, false, if◌then◌else◌, List, [], ◌∷◌, Some, None, Result, Ok, Err}
+use Rattle.std.specs.Prelude.{◌≡◌, ℕ, Bool, true, false, if◌then◌else◌, List, [], ◌∷◌, Some, None, Result, Ok, Err, ◌<◌, ◌^◌, ◌-◌, length, ⊤}
 use Rattle.std.specs.Str.{chars}
 use Rattle.pp_lexer.specs.Items.{Lexeme}
 use Rattle.pp_lexer.specs.Lexed.{Seen}
@@ -15,6 +15,8 @@ use Rattle.pp_model.specs.Conversions.{is_newline, conversion}
 use Rattle.pp_model.specs.Lines.{◌>>=◌}
 use Rattle.pp_model.specs.SourceReader.{SourceReader, start_of}
 use Rattle.pp_model.specs.Reads.{source_reading}
+use Rattle.pp_model.specs.declared.call.Call.{Call as Called}
+use Rattle.pp_model.specs.declared.call.Call.TheVariants as called
 use Rattle.pp_model.specs.declared.call.Reply.{Reply}
 use Rattle.pp_model.specs.declared.call.Reply.TheVariants as reply
 use Rattle.pp_model.specs.declared.outcome.Outcome.{Outcome}
@@ -24,6 +26,16 @@ use Rattle.pp_model.specs.declared.outcome.Outcome.TheVariants as outcome
 pub data Call : Type 0 where
   add_define : List ℕ → List ℕ → Call
   next : Call
+
+-- the call of the definitions that a call of the program is
+abbrev pub call_of : Called → Call
+call_of (called.AddDefine name content) = add_define name.now content.now
+call_of called.Next = next
+
+-- the content of an added definition is short enough for the lexer
+abbrev pub HasRoom : Called → Type 0
+HasRoom (called.AddDefine name content) = length content.now < 2 ^ 32 - 1
+HasRoom called.Next = ⊤
 
 -- the items of a text
 abbrev pub items_of : List ℕ → List Seen

@@ -1,5 +1,5 @@
 -- What the plain program's reader of a source stands for, and what one call of it comes to.
-use Rattle.std.specs.Prelude.{◌≡◌, ◌<◌, ◌^◌, ◌-◌, ℕ, Bool, true, false, List, length, Ok, Err, ⊤}
+use Rattle.std.specs.Prelude.{◌≡◌, ℕ, Bool, true, false, List, Ok, Err}
 use Rattle.std.specs.Str.{chars}
 use Rattle.pp_lexer.specs.Items.{Lexeme}
 use Rattle.pp_lexer.specs.declared.token.PreprocessorError.{PreprocessorError}
@@ -12,8 +12,6 @@ use Rattle.pp_model.specs.SourceReader.{SourceReader}
 use Rattle.pp_model.specs.ReaderState.{reader_of}
 use Rattle.pp_model.specs.Reads.{source_reading}
 use Rattle.pp_model.specs.Run.{Call, add_define, next, items_of, content_tokens, with_added}
-use Rattle.pp_model.specs.declared.call.Call.{Call as Called}
-use Rattle.pp_model.specs.declared.call.Call.TheVariants as called
 use Rattle.pp_model.specs.declared.call.Reply.{Reply}
 use Rattle.pp_model.specs.declared.call.Reply.TheVariants as reply
 use Rattle.pp_model.specs.declared.outcome.Outcome.{Outcome}
@@ -24,16 +22,6 @@ use Rattle.pp_model.specs.declared.stop.Halt.TheVariants as halt
 
 abbrev pub source_state : Source → SourceReader
 source_state source = reader_of source.reader
-
--- the call of the definitions that a call of the program is
-abbrev pub call_of : Called → Call
-call_of (called.AddDefine name content) = add_define name.now content.now
-call_of called.Next = next
-
--- the content of an added definition is short enough for the lexer
-abbrev pub HasRoom : Called → Type 0
-HasRoom (called.AddDefine name content) = length content.now < 2 ^ 32 - 1
-HasRoom called.Next = ⊤
 
 -- memory for an item was refused
 abbrev pub is_out_of_memory : PreprocessorError → Bool

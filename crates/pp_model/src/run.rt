@@ -4,8 +4,9 @@ ghost use Rattle.std.specs.Prelude.{◌≡◌, ◌≤◌, ◌<◌, ◌^◌, ◌-
 ghost use Rattle.pp_model.specs.Emitting.{answers_at, expansion_limit};
 ghost use Rattle.pp_model.specs.Halting.{Meets};
 ghost use Rattle.pp_model.specs.Run as spec;
+ghost use Rattle.pp_model.specs.Run.{call_of, HasRoom};
 ghost use Rattle.pp_model.specs.Seen.{seen};
-ghost use Rattle.pp_model.specs.SeenSource.{source_state, call_of, HasRoom, RefusedBy, Replying, is_refused, ends_run};
+ghost use Rattle.pp_model.specs.SeenSource.{source_state, RefusedBy, Replying, is_refused, ends_run};
 ghost use Rattle.std.specs.Str.{chars};
 
 use crate::block::blocks_at;
