@@ -30,7 +30,5 @@ pub mod source_text;
 pub mod splice;
 pub mod step;
 pub mod stop;
-#[cfg(test)]
-mod tests;
 pub mod truth;
 pub mod word;
