@@ -1,5 +1,8 @@
 //! Whole sources: what each comes to, item by item up to the first error, by the plain program of the definitions.
 
+ghost use Rattle.std.specs.Prelude.{IsTrue, All};
+ghost use Rattle.pp_model.specs.Run.{HasRoom};
+
 use crate::shown::{joined, reply};
 use pp_model::call::{Call, Reply};
 use pp_model::outcome::Outcome;
@@ -20,10 +23,26 @@ struct Row {
 // More steps than any source here wants.
 const STEPS: u64 = 100_000;
 
+fn has_room(call: &Call<'_>) -> bool
+    ensures { IsTrue result → HasRoom call.now }
+{
+    match call {
+        Call::AddDefine(_, content) => content.len() < 1000,
+        Call::Next => true,
+    }
+}
+
+// Whether each content is short, as all are here.
+fn have_room(calls: &[Call<'_>]) -> bool
+    ensures { IsTrue result → All HasRoom calls.now }
+{
+    calls.iter().all(|call| has_room(call))
+}
+
 // What the calls of a source answer.
 fn replies(alloc: Global, source: &str, calls: &[Call<'_>]) -> Result<String, AllocError> {
     let mut parts = Vec::new(alloc);
-    if source.len() < 1000 {
+    if source.len() < 1000 && have_room(calls) {
         if let Some(replies) = run(alloc, source, calls, STEPS)? {
             for given in &replies {
                 parts.push(reply(alloc, given)?)?;
