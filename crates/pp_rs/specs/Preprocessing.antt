@@ -1,56 +1,82 @@
--- What a preprocessor stands for, and one call of `next`.
-use Rattle.std.specs.Prelude.{◌≡◌, ◌≢◌, ◌⊎◌, Bool, true, false, if◌then◌else◌, ℕ, List, [], ◌∷◌, length, Option, Some, None, Ok, Err, MatchBool}
+-- What a preprocessor keeps, and one call of `next` (docs/RULES.md, "Runs").
+use Rattle.std.specs.Prelude.{◌≡◌, ◌≢◌, ◌<◌, ◌⊎◌, Bool, true, false, if◌then◌else◌, ℕ, List, [], Option, Some, None, Ok, Err, MatchBool, ⊤}
 use Rattle.pp_lexer.specs.PreprocessorError.{out_of_memory}
-use Rattle.pp_lexer.specs.declared.token.PreprocessorError.{PreprocessorError}
-use Rattle.pp_lexer.specs.declared.token.PreprocessorError.TheVariants.{OutOfMemory}
-use Rattle.pp_lexer.specs.Lexed.{start_of as lexer_start}
-use Rattle.pp_lexer.specs.Spots.{spots_of}
+use Rattle.pp_model.specs.Emitting.{Emits, answers_at, expansion_limit}
+use Rattle.pp_model.specs.Reading.{Expander}
+use Rattle.pp_model.specs.Run.{items_of}
+use Rattle.pp_model.specs.SourceReader.{SourceReader}
+use Rattle.pp_model.specs.declared.outcome.Outcome.{Outcome}
+use Rattle.pp_model.specs.declared.outcome.Outcome.TheVariants as outcome
 use Rattle.pp_rs.specs.Held.{AnswerHoldsOrdinary}
-use Rattle.pp_rs.specs.Item.{Item}
-use Rattle.pp_rs.specs.SourceItems.{source_items}
+use Rattle.pp_rs.specs.Item.{Item, is_out_of_memory}
+use Rattle.pp_rs.specs.SoFar.{reading_so_far}
+use Rattle.pp_rs.specs.Source.{Source}
+use Rattle.pp_rs.specs.Frames.{Layer}
+use Rattle.pp_rs.specs.Stands.{StandsFor}
+use Rattle.pp_rs.specs.Work.{work_left}
 
--- the items still to come, and whether memory was refused
+-- the macros that are open, the source behind them, and whether memory was refused
 pub record Preprocessing : Type 0 where
-  pub items : List Item
+  pub frames : List Layer
+  pub source : Source
   pub spent : Bool
 
 -- a preprocessor at the start of a source
 abbrev pub start_of : List ℕ → Preprocessing
-start_of source = record { items = source_items (lexer_start (spots_of source)).rest; spent = false }
+start_of text = record { frames = []; source = record { rest = items_of text; definitions = []; blocks = []; spent = false }; spent = false }
 
-abbrev pub is_out_of_memory : PreprocessorError → Bool
-is_out_of_memory OutOfMemory = true
-is_out_of_memory _ = false
+-- a state of a run that it stands for
+abbrev pub Stands : Preprocessing → Expander SourceReader → Type 0
+Stands p state = StandsFor p.frames p.source state
 
-abbrev pub is_refusal : Item → Bool
-is_refusal (Ok token) = false
-is_refusal (Err fault) = is_out_of_memory fault.0
+-- no more items come than this
+abbrev pub most_items : Preprocessing → ℕ
+most_items p = if p.spent then 0 else work_left p.frames p.source
 
-abbrev pub first_of : List Item → Option Item
-first_of [] = None
-first_of (item ∷ items) = Some item
+-- the answer is that memory was refused
+abbrev pub is_refusal : Option Item → Bool
+is_refusal (Some (Err fault)) = is_out_of_memory fault.0
+is_refusal _ = false
 
--- the preprocessor once the first item is given, or its end is met
-abbrev pub behind_first : List Item → Preprocessing
-behind_first [] = record { items = []; spent = false }
-behind_first (item ∷ items) = record { items = items; spent = is_refusal item }
+-- the outcome that an answer says
+abbrev pub outcome_of : Option Item → Outcome
+outcome_of (Some (Ok token)) = outcome.Token token
+outcome_of (Some (Err fault)) = outcome.Fault fault
+outcome_of None = outcome.End
+
+-- nothing is said of the state behind an error
+abbrev pub GoesOn : Option Item → Preprocessing → Expander SourceReader → Type 0
+GoesOn (Some (Err fault)) new state = ⊤
+GoesOn _ new state = Stands new state
+
+-- the answer is what comes next in this state, and the preprocessor stands for the state behind it
+pub record Emitted (answer : Option Item) (state : Expander SourceReader) (new : Preprocessing) : Type 0 where
+  pub after : Expander SourceReader
+  pub emits : Emits reading_so_far (answers_at expansion_limit) state (outcome_of answer) after
+  pub goes_on : GoesOn answer new after
+
+-- behind an item fewer come, and behind the end none
+abbrev pub IsLessLeft : Option Item → Preprocessing → Preprocessing → Type 0
+IsLessLeft (Some item) old new = most_items new < most_items old
+IsLessLeft None old new = most_items new ≡ 0
+
+-- a macro is open, or an item is left to read, or an open block to be told
+abbrev pub SomethingLeft : List Layer → Source → Type 0
+SomethingLeft frames source = (frames ≢ []) ⊎ (source.rest ≢ []) ⊎ (source.blocks ≢ [])
 
 -- memory for an item to come was refused
 pub record IsRefusedItem (old : Preprocessing) (answer : Option Item) (new : Preprocessing) : Type 0 where
-  pub some_left : old.items ≢ []
+  pub some_left : SomethingLeft old.frames old.source
   pub item : answer ≡ Some (Err out_of_memory)
   pub spent : new.spent ≡ true
 
--- the first item to come is given, or the end
+-- what comes next is given, or the end, in each state that the preprocessor stands for
 pub record IsGivenItem (old : Preprocessing) (answer : Option Item) (new : Preprocessing) : Type 0 where
-  pub item : answer ≡ first_of old.items
+  pub item : (state : Expander SourceReader) → Stands old state → Emitted answer state new
   pub holds : AnswerHoldsOrdinary answer
-  pub state : new ≡ behind_first old.items
+  pub less_left : IsLessLeft answer old new
+  pub spent : new.spent ≡ is_refusal answer
 
 -- one call of `next`: once memory was refused, it gives nothing for good and changes nothing
 abbrev pub IsNextItem : Preprocessing → Option Item → Preprocessing → Type 0
 IsNextItem old answer new = MatchBool old.spent ((answer ≡ None) × (new ≡ old)) (IsRefusedItem old answer new ⊎ IsGivenItem old answer new)
-
--- no more items come than this
-abbrev pub item_count : Preprocessing → ℕ
-item_count p = if p.spent then 0 else length p.items

@@ -1,8 +1,12 @@
 //! Laws of preprocessing, over the definitions alone: each function's contract states one, for every source. The bodies
 //! do nothing.
 
+ghost use Rattle.std.specs.Prelude.{ℕ};
 ghost use Rattle.pp_lexer.specs.ItemLaws.{TokensLieWithin, ItemsAreFinite};
 ghost use Rattle.pp_lexer.specs.PhaseLaws.{PairsCountOnce, LinesCountNewlines, SourcesNeverFall};
+ghost use Rattle.pp_model.specs.Emitting.{answers_at};
+ghost use Rattle.pp_model.specs.RunLaws.{RedefinitionIsChecked};
+ghost use Rattle.pp_model.specs.RunStates.{RunKeepsMarksApart, RunShowsNoLineName, EndStays, RunEndsForGood};
 
 use crate::lexer;
 
@@ -23,4 +27,34 @@ pub fn line_ends()
     ensures in_order { SourcesNeverFall }
 {
     lexer::laws::line_ends()
+}
+
+/// No macro is open twice: in no state of a run does the list to read hold two end marks of one name.
+pub fn open_names()
+    ensures { (level : ℕ) → RunKeepsMarksApart (answers_at level) }
+{
+    pp_model::laws::run_marks_apart()
+}
+
+/// A `#define` of a name that is defined gives nothing where it says the same, and an error where it says something else.
+/// The old definition stays.
+pub fn redefinition()
+    ensures { (level : ℕ) → RedefinitionIsChecked (answers_at level) }
+{
+    pp_model::laws::redefinition()
+}
+
+/// No reply of a run is the identifier `__LINE__`.
+pub fn no_line_name()
+    ensures { (level : ℕ) → RunShowsNoLineName (answers_at level) }
+{
+    pp_model::laws::run_no_line_name()
+}
+
+/// The end of a source is for good: behind it no item is given, whatever definitions are added.
+pub fn end_stays()
+    ensures item { (level : ℕ) → EndStays (answers_at level) }
+    ensures replies { (level : ℕ) → RunEndsForGood (answers_at level) }
+{
+    pp_model::laws::run_end()
 }

@@ -1,10 +1,21 @@
 //! Directives and tokens: from the lexer's tokens to those of the preprocessed source.
 
+mod blocks;
 mod convert;
+mod define;
+mod definitions;
 mod directives;
+mod expander;
+mod frames;
+mod halt;
+mod lines;
 mod preprocessor;
+mod preprocessor_step;
+mod reader;
+mod source_lexer;
 mod spelling;
 mod step;
+mod words;
 
 pub use convert::{convert_lexer_token, convert_lexer_token_to_step};
 pub use preprocessor::{Preprocessor, PreprocessorItem};

@@ -1,8 +1,10 @@
 //! Tokens of the lexer as tokens of the preprocessor.
 
-ghost use Rattle.std.specs.Prelude.{◌≡◌, ◌≢◌};
+ghost use Rattle.std.specs.Prelude.{◌≡◌, ◌≢◌, IsTrue, IfOk};
+ghost use Rattle.pp_lexer.specs.TokenValue.{is_ordinary};
 ghost use Rattle.pp_lexer.specs.declared.lexer.item.TokenValue.TheVariants.{NewLine};
-ghost use Rattle.pp_rs.specs.Conversion.{conversion, as_step};
+ghost use Rattle.pp_model.specs.Conversions.{conversion};
+ghost use Rattle.pp_rs.specs.Item.{as_step};
 
 use crate::lexer;
 use crate::pp::step::{Step, StepExit};
@@ -14,7 +16,8 @@ use crate::token::{Location, PreprocessorError, Token, TokenValue};
 /// newline has no answer, since each caller handles it as a separator. Takes no memory.
 pub fn convert_lexer_token(token: lexer::Token) -> Result<Token, (PreprocessorError, Location)>
     requires { token.value ≢ NewLine }
-    ensures { result ≡ conversion token }
+    ensures is { result ≡ conversion token }
+    ensures ordinary { IfOk result (λ token. IsTrue (is_ordinary token.value)) }
 {
     let location = token.location;
     let value = match token.value {
@@ -31,7 +34,8 @@ pub fn convert_lexer_token(token: lexer::Token) -> Result<Token, (PreprocessorEr
 /// The same as a step: a refused number sign is an `Error`.
 pub fn convert_lexer_token_to_step(token: lexer::Token) -> Step<Token>
     requires { token.value ≢ NewLine }
-    ensures { result ≡ as_step (conversion token) }
+    ensures is { result ≡ as_step (conversion token) }
+    ensures ordinary { IfOk result (λ token. IsTrue (is_ordinary token.value)) }
 {
     convert_lexer_token(token).map_err(StepExit::Error)
 }

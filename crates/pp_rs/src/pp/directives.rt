@@ -1,124 +1,281 @@
 //! The source's reader: directives act, and the tokens between them are given.
 
-ghost use Rattle.std.specs.Prelude.{◌≡◌, ◌-◌, ◌^◌, ◌<◌, ◌⊎◌, length, false, IfOk};
+ghost use Rattle.std.specs.Prelude.{◌≡◌, ◌-◌, ◌^◌, ◌<◌, [], length, drop, false, true, Err, IsTrue, IfOk, option_map};
+ghost use Rattle.std.specs.Str.{chars};
 ghost use Rattle.pp_lexer.specs.Lexed.{start_of};
 ghost use Rattle.pp_lexer.specs.Spots.{spots_of};
-ghost use Rattle.pp_rs.specs.Held.{HoldsOrdinary};
-ghost use Rattle.pp_rs.specs.Reads.{Takes, ReadsWord, Reads};
-ghost use Rattle.pp_rs.specs.SourceItems.{word_error};
-ghost use Rattle.pp_rs.specs.Unexpected.{unexpected_error, unexpected_kind};
+ghost use Rattle.pp_lexer.specs.TokenValue.{is_ordinary};
+ghost use Rattle.pp_model.specs.Lines.{only_name, line_length, first_name, first_token};
+ghost use Rattle.pp_model.specs.declared.directive.Directive.TheVariants as d;
+ghost use Rattle.pp_rs.specs.Defined.{meaning_of};
+ghost use Rattle.pp_rs.specs.LineReading.{named};
+ghost use Rattle.pp_rs.specs.OpenBlocks.{last_block, is_live_in};
+ghost use Rattle.pp_rs.specs.Source.{StepsSource};
+ghost use Rattle.pp_rs.specs.SourceActs.{Acts, live_word_move, dead_word_move, word_move, defining};
+ghost use Rattle.pp_rs.specs.SourceMoves as moves;
+ghost use Rattle.pp_rs.specs.Words.{directive_named};
 
 use crate::lexer;
+use crate::pp::blocks::{Blocks, OpenBlock};
 use crate::pp::convert::convert_lexer_token_to_step;
+use crate::pp::define::Define;
+use crate::pp::definitions::Definitions;
+use crate::pp::halt::Halt;
+use crate::pp::lines::{
+    DefineLine, define_line, ended_line, endif_end, first_name, first_token, only_name, skip_line,
+};
+use crate::pp::source_lexer::SourceLexer;
 use crate::pp::step::{Step, StepExit};
-use crate::token::{Location, PreprocessorError, Token, TokenValue};
+use crate::pp::words::{Directive, directive_of};
+use crate::token::{Location, PreprocessorError, Token};
 use std::alloc::Global;
 use std::marker::Model;
+use std::rc::Rc;
 
 /// The source behind the lexer, with its directives.
 #[derive(Drop)]
 pub struct DirectiveProcessor<'a> {
-    lexer: lexer::Lexer<'a>,
+    alloc: Global,
+    lexer: SourceLexer<'a>,
+    definitions: Definitions,
+    blocks: Blocks,
 }
 
 impl<'a> Model for DirectiveProcessor<'a> {
-    ghost use Rattle.pp_lexer.specs.Lexed.{Lexed};
+    ghost use Rattle.pp_rs.specs.Source.{Source};
 
-    ghost Value = { Lexed };
+    ghost Value = { Source };
 
-    ghost view = { λ p. p.lexer };
-}
-
-// The error for a token that is not wanted where it stands.
-fn make_unexpected_error(token: lexer::Token) -> (PreprocessorError, Location)
-    ensures { result ≡ unexpected_error token }
-{
-    let location = token.location;
-    (unexpected_kind(token.value), location)
-}
-
-// The kind of that error.
-fn unexpected_kind(value: lexer::TokenValue) -> PreprocessorError
-    ensures { result ≡ unexpected_kind value }
-{
-    match value {
-        lexer::TokenValue::Ident(name) => {
-            PreprocessorError::UnexpectedToken(TokenValue::Ident(name))
-        }
-        lexer::TokenValue::Integer(integer) => {
-            PreprocessorError::UnexpectedToken(TokenValue::Integer(integer))
-        }
-        lexer::TokenValue::Float(float) => {
-            PreprocessorError::UnexpectedToken(TokenValue::Float(float))
-        }
-        lexer::TokenValue::Punct(punct) => {
-            PreprocessorError::UnexpectedToken(TokenValue::Punct(punct))
-        }
-        lexer::TokenValue::NewLine => PreprocessorError::UnexpectedNewLine,
-        lexer::TokenValue::Hash => PreprocessorError::UnexpectedHash,
-    }
-}
-
-// The error for the token where a directive's word is wanted.
-fn make_word_error(token: lexer::Token) -> (PreprocessorError, Location)
-    ensures { result ≡ word_error token }
-{
-    match token.value {
-        lexer::TokenValue::Ident(_) => (PreprocessorError::UnknownDirective, token.location),
-        _ => make_unexpected_error(token),
-    }
+    ghost view = { λ p. record { rest = p.lexer.rest; definitions = p.definitions; blocks = p.blocks; spent = p.lexer.spent } };
 }
 
 impl<'a> DirectiveProcessor<'a> {
+    /// A reader at the start of a source of fewer than 2^32 - 1 bytes.
+    ///
+    /// Takes no memory and reads nothing yet.
     pub fn new(alloc: Global, input: &'a str) -> DirectiveProcessor<'a>
         requires { length input.now < 2 ^ 32 - 1 }
-        ensures { result ≡ start_of (spots_of input.now) }
+        ensures { result ≡ record { rest = (start_of (spots_of input.now)).rest; definitions = []; blocks = []; spent = false } }
     {
         DirectiveProcessor {
-            lexer: lexer::Lexer::new(alloc, input),
+            alloc,
+            lexer: SourceLexer::new(alloc, input),
+            definitions: Definitions::new(alloc),
+            blocks: Blocks::new(alloc),
         }
     }
 
-    // What the lexer gives next, as a step.
-    fn get_lexer_token(&mut self) -> Step<lexer::Token>
-        ensures { Takes self.old result self.new }
+    /// What the name stands for.
+    pub fn find(&self, name: &str) -> Option<&Rc<Define>>
+        ensures { option_map (λ d. d.now.value) result ≡ meaning_of self.now.definitions (chars name.now) }
     {
-        match self.lexer.next() {
-            None => Err(StepExit::Finished),
-            Some(Ok(token)) => Ok(token),
-            Some(Err(error)) => Err(StepExit::Error(error)),
-        }
+        self.definitions.find(name)
     }
 
-    // The line behind a number sign that begins a directive. No word is known yet.
-    fn parse_directive(&mut self, hash_location: Location) -> Step<Token>
+    // Whether the text is live.
+    fn is_live(&self) -> bool
+        ensures { result ≡ is_live_in (last_block self.now.blocks) }
+    {
+        self.blocks.are_live()
+    }
+
+    // Lets a name stand for what its line says. A name that stands for that already keeps its old definition.
+    fn add(&mut self, line: DefineLine) -> Result<(), Halt>
         requires { self.old.spent ≡ false }
-        ensures { ReadsWord hash_location self.old result self.new }
+        ensures { Acts (defining (named line)) self.old result self.new }
     {
-        match self.get_lexer_token() {
-            Ok(token) => Err(StepExit::Error(make_word_error(token))),
-            Err(StepExit::Error(error)) => Err(StepExit::Error(error)),
-            Err(_) => Err(StepExit::Error((
-                PreprocessorError::UnexpectedEndOfInput,
-                hash_location,
-            ))),
+        if let Some(before) = self.definitions.find(line.name.as_str()) {
+            if before.is_same(&line.define) {
+                return Ok(());
+            }
+            let fault = (PreprocessorError::DefineRedefined, line.location);
+            return Err(Halt::Fault(fault));
+        }
+        let define = Rc::new(self.alloc, line.define)?;
+        self.definitions.set(line.name, define)?;
+        Ok(())
+    }
+
+    // Does what a `#define` line says, behind its word.
+    fn define(&mut self, word: Location) -> Result<(), Halt>
+        requires { self.old.spent ≡ false }
+        ensures { Acts (moves.directive_move true (last_block self.old.blocks) d.Define word self.old.rest) self.old result self.new }
+    {
+        let line = define_line(self.alloc, word, &mut self.lexer)?;
+        self.add(line)
+    }
+
+    // Does what an `#undef` line says, behind its word.
+    fn undef(&mut self, word: Location) -> Result<(), Halt>
+        requires { self.old.spent ≡ false }
+        ensures { Acts (moves.line_move (only_name word self.old.rest) moves.undefines (line_length self.old.rest)) self.old result self.new }
+    {
+        let name = only_name(word, &mut self.lexer)?;
+        self.definitions.remove(name.as_str());
+        Ok(())
+    }
+
+    // Opens a block where the name on the line is defined, or where it isn't.
+    fn open_where(&mut self, wanted: bool, word: Location) -> Result<(), Halt>
+        requires { self.old.spent ≡ false }
+        ensures { Acts (moves.line_move (only_name word self.old.rest) (moves.opens_where wanted word) (line_length self.old.rest)) self.old result self.new }
+    {
+        let name = only_name(word, &mut self.lexer)?;
+        let is_defined = self.definitions.find(name.as_str()).is_some();
+        drop(name);
+        self.blocks
+            .push(OpenBlock::opened(word, is_defined == wanted))?;
+        Ok(())
+    }
+
+    // Opens a block in dead text.
+    fn open_unread(&mut self, word: Location) -> Result<(), Halt>
+        requires { self.old.spent ≡ false }
+        ensures { Acts (moves.skip_move (moves.opens_unread word) self.old.rest) self.old result self.new }
+    {
+        skip_line(&mut self.lexer)?;
+        self.blocks.push(OpenBlock::unread(word))?;
+        Ok(())
+    }
+
+    // Does what an `#else` line says, behind its word.
+    fn else_line(&mut self, word: Location) -> Result<(), Halt>
+        requires { self.old.spent ≡ false }
+        ensures { Acts (moves.else_move (last_block self.old.blocks) word self.old.rest) self.old result self.new }
+    {
+        ended_line(word, &mut self.lexer)?;
+        let Some(block) = self.blocks.last() else {
+            return Err(Halt::Fault((PreprocessorError::ElseOutsideOfBlock, word)));
+        };
+        if block.with_else {
+            return Err(Halt::Fault((PreprocessorError::MoreThanOneElse, word)));
+        }
+        self.blocks.replace_last(block.parted());
+        Ok(())
+    }
+
+    // Does what an `#endif` line says, behind its word.
+    fn endif_line(&mut self, word: Location) -> Result<(), Halt>
+        requires { self.old.spent ≡ false }
+        ensures { Acts (moves.endif_move (last_block self.old.blocks) word self.old.rest) self.old result self.new }
+    {
+        let Some(block) = self.blocks.last() else {
+            return Err(Halt::Fault((PreprocessorError::EndifOutsideOfBlock, word)));
+        };
+        endif_end(block.live_around, word, &mut self.lexer)?;
+        self.blocks.pop();
+        Ok(())
+    }
+
+    // Skips the line.
+    fn skip(&mut self) -> Result<(), Halt>
+        requires { self.old.spent ≡ false }
+        ensures { Acts (moves.skip_move moves.passes self.old.rest) self.old result self.new }
+    {
+        skip_line(&mut self.lexer)
+    }
+
+    // Does what a directive says in live text, behind its word.
+    fn act_live(&mut self, directive: Directive, word: Location) -> Result<(), Halt>
+        requires { self.old.spent ≡ false }
+        ensures { Acts (moves.directive_move true (last_block self.old.blocks) (directive_named directive) word self.old.rest) self.old result self.new }
+    {
+        match directive {
+            Directive::Define => self.define(word),
+            Directive::Undef => self.undef(word),
+            Directive::Ifdef => self.open_where(true, word),
+            Directive::Ifndef => self.open_where(false, word),
+            Directive::Else => self.else_line(word),
+            Directive::Endif => self.endif_line(word),
+            _ => Err(Halt::Fault((PreprocessorError::UnknownDirective, word))),
         }
     }
 
-    /// Reads on by one token or directive.
-    ///
-    /// A newline is a pause. A number sign that begins a directive takes the directive's word
-    /// with it, and any other is `UnexpectedHash` at its place. The lexer's errors are given as
-    /// they are.
-    pub fn step(&mut self) -> Step<Token>
-        ensures reads { Reads self.old result self.new }
-        ensures holds { IfOk result (λ token. HoldsOrdinary token.value) }
+    // Does what a directive says in dead text, behind its word.
+    fn act_dead(&mut self, directive: Directive, word: Location) -> Result<(), Halt>
+        requires { self.old.spent ≡ false }
+        ensures { Acts (moves.directive_move false (last_block self.old.blocks) (directive_named directive) word self.old.rest) self.old result self.new }
     {
-        let token = self.get_lexer_token()?;
+        match directive {
+            Directive::If | Directive::Ifdef | Directive::Ifndef => self.open_unread(word),
+            Directive::Elif => Err(Halt::Fault((PreprocessorError::UnknownDirective, word))),
+            Directive::Else => self.else_line(word),
+            Directive::Endif => self.endif_line(word),
+            Directive::Unknown => Ok(()),
+            _ => self.skip(),
+        }
+    }
+
+    // Does what a directive says in live text, behind its number sign.
+    fn read_live(&mut self, hash: Location) -> Result<(), Halt>
+        requires { self.old.spent ≡ false }
+        ensures { Acts (live_word_move (last_block self.old.blocks) (first_name hash self.old.rest) (drop 1 self.old.rest)) self.old result self.new }
+    {
+        let word = first_name(hash, &mut self.lexer)?;
+        self.act_live(directive_of(&word.name), word.location)
+    }
+
+    // Does what a directive says in dead text, behind its number sign. Where no word stands there, nothing is said.
+    fn read_dead(&mut self, hash: Location) -> Result<(), Halt>
+        requires { self.old.spent ≡ false }
+        ensures { Acts (dead_word_move (last_block self.old.blocks) (first_token hash self.old.rest) (drop 1 self.old.rest)) self.old result self.new }
+    {
+        let token = first_token(hash, &mut self.lexer)?;
+        let word = token.location;
+        match token.value {
+            lexer::TokenValue::Ident(name) => self.act_dead(directive_of(&name), word),
+            _ => Ok(()),
+        }
+    }
+
+    // Does what a directive says, behind its number sign.
+    fn read_directive(&mut self, hash: Location) -> Result<(), Halt>
+        requires { self.old.spent ≡ false }
+        ensures { Acts (word_move (is_live_in (last_block self.old.blocks)) (last_block self.old.blocks) hash self.old.rest) self.old result self.new }
+    {
+        if self.is_live() {
+            self.read_live(hash)
+        } else {
+            self.read_dead(hash)
+        }
+    }
+
+    // Tells the innermost of the blocks that are open at the end of the source, or the end.
+    fn end(&mut self) -> StepExit
+        requires { self.old.spent ≡ false → self.old.rest ≡ [] }
+        ensures { StepsSource self.old (Err result) self.new }
+    {
+        if self.lexer.is_spent() {
+            return StepExit::Finished;
+        }
+        match self.blocks.pop() {
+            Some(block) => StepExit::Error((PreprocessorError::UnfinishedBlock, block.word)),
+            None => StepExit::Finished,
+        }
+    }
+
+    /// Reads on by one token or one line of a directive.
+    ///
+    /// A newline and a directive that acts are pauses, and so are the tokens of dead text. These
+    /// directives act: `#define` of a macro without parameters, `#undef`, `#ifdef`, `#ifndef`,
+    /// `#else` and `#endif`. A number sign that begins no line is `UnexpectedHash` at its place in
+    /// live text. The lexer's errors are given as they are. At the end `UnfinishedBlock` is told
+    /// of each block that is open, the innermost first.
+    pub fn step(&mut self) -> Step<Token>
+        ensures reads { StepsSource self.old result self.new }
+        ensures ordinary { IfOk result (λ token. IsTrue (is_ordinary token.value)) }
+    {
+        let Some(token) = self.lexer.next_token()? else {
+            return Err(self.end());
+        };
         match token.value {
             lexer::TokenValue::NewLine => Err(StepExit::Continue),
-            lexer::TokenValue::Hash if token.start_of_line => self.parse_directive(token.location),
-            _ => convert_lexer_token_to_step(token),
+            lexer::TokenValue::Hash if token.start_of_line => {
+                self.read_directive(token.location)?;
+                Err(StepExit::Continue)
+            }
+            _ if self.is_live() => convert_lexer_token_to_step(token),
+            _ => Err(StepExit::Continue),
         }
     }
 }

@@ -1,12 +1,17 @@
 //! The items of a preprocessed source.
 
-ghost use Rattle.std.specs.Prelude.{◌≡◌, ◌-◌, ◌^◌, ◌<◌, length};
+ghost use Rattle.std.specs.Prelude.{◌≡◌, ◌-◌, ◌^◌, ◌<◌, length, if◌then◌else◌};
 ghost use Rattle.std.specs.Iterator.{at_most};
-ghost use Rattle.pp_rs.specs.Preprocessing.{IsNextItem, item_count, is_out_of_memory, start_of};
+ghost use Rattle.pp_lexer.specs.PreprocessorError.{out_of_memory};
+ghost use Rattle.pp_model.specs.Run.{items_of, start};
+ghost use Rattle.pp_rs.specs.Item.{is_out_of_memory};
+ghost use Rattle.pp_rs.specs.Preprocessing.{IsNextItem, Stands, most_items, start_of};
 
 use crate::pp::directives::DirectiveProcessor;
-use crate::pp::step::StepExit;
-use crate::token::{Location, PreprocessorError, Token};
+use crate::pp::expander::MacroProcessor;
+use crate::pp::preprocessor_step::step_source;
+use crate::pp::step::{StepExit, is_out_of_memory};
+use crate::token::{Location, PreprocessorError, Token, out_of_memory};
 use std::alloc::Global;
 use std::marker::Model;
 
@@ -18,26 +23,32 @@ pub type PreprocessorItem = Result<Token, (PreprocessorError, Location)>;
 /// It goes on behind each error but `OutOfMemory`, after which it gives `None` for good.
 #[derive(Drop)]
 pub struct Preprocessor<'a> {
-    directive_processor: DirectiveProcessor<'a>,
+    processor: MacroProcessor,
+    source: DirectiveProcessor<'a>,
     spent: bool,
 }
 
 impl<'a> Model for Preprocessor<'a> {
     ghost use Rattle.std.specs.Prelude.{◌≡◌, false};
-    ghost use Rattle.pp_rs.specs.SourceItems.{source_items};
     ghost use Rattle.pp_rs.specs.Preprocessing.{Preprocessing};
+    ghost use Rattle.pp_rs.specs.Work.{AreSound};
 
     ghost Value = { Preprocessing };
 
-    ghost view = { λ p. record { items = source_items p.directive_processor.rest; spent = p.spent } };
+    ghost view = { λ p. record { frames = p.processor; source = p.source; spent = p.spent } };
 
-    ghost invariant = { λ p. p.spent ≡ false → p.directive_processor.spent ≡ false };
+    ghost invariant = { λ p. p.spent ≡ false → (p.source.spent ≡ false) × AreSound p.processor p.source };
 }
 
-fn is_out_of_memory(error: &PreprocessorError) -> bool
-    ensures { result ≡ is_out_of_memory error.now }
+// The error, where want of memory has the one place that it is told with.
+fn place_refusal(error: (PreprocessorError, Location)) -> (PreprocessorError, Location)
+    ensures { result ≡ if is_out_of_memory error.0 then out_of_memory else error }
 {
-    matches!(error, PreprocessorError::OutOfMemory)
+    if is_out_of_memory(&error.0) {
+        drop(error);
+        return out_of_memory();
+    }
+    error
 }
 
 impl<'a> Preprocessor<'a> {
@@ -46,10 +57,12 @@ impl<'a> Preprocessor<'a> {
     /// Takes no memory and reads nothing yet.
     pub fn new(alloc: Global, input: &'a str) -> Preprocessor<'a>
         requires { length input.now < 2 ^ 32 - 1 }
-        ensures { result ≡ start_of input.now }
+        ensures is { result ≡ start_of input.now }
+        ensures stands { Stands result (start (items_of input.now)) }
     {
         Preprocessor {
-            directive_processor: DirectiveProcessor::new(alloc, input),
+            processor: MacroProcessor::new(alloc),
+            source: DirectiveProcessor::new(alloc, input),
             spent: false,
         }
     }
@@ -60,18 +73,18 @@ impl<'a> Iterator for Preprocessor<'a> {
 
     ghost next_gives = { IsNextItem };
 
-    ghost remaining = { λ p. at_most (item_count p) };
+    ghost remaining = { λ p. at_most (most_items p) };
 
     fn next(&mut self) -> Option<PreprocessorItem> {
         if self.spent {
             return None;
         }
         loop {
-            match self.directive_processor.step() {
+            match step_source(&mut self.processor, &mut self.source) {
                 Ok(token) => return Some(Ok(token)),
                 Err(StepExit::Error(error)) => {
                     self.spent = is_out_of_memory(&error.0);
-                    return Some(Err(error));
+                    return Some(Err(place_refusal(error)));
                 }
                 Err(StepExit::Finished) => return None,
                 Err(StepExit::Continue) => {}

@@ -2,6 +2,7 @@
 
 ghost use Rattle.std.specs.Prelude.{◌≡◌, MatchResult};
 ghost use Rattle.pp_lexer.specs.PreprocessorError.{out_of_memory};
+ghost use Rattle.pp_rs.specs.Item.{is_out_of_memory};
 
 use crate::token::{Location, PreprocessorError};
 use std::alloc::Global;
@@ -18,6 +19,13 @@ pub enum StepExit {
     Continue,
     /// The end: nothing is left to give.
     Finished,
+}
+
+/// Whether the error is that memory was refused.
+pub fn is_out_of_memory(error: &PreprocessorError) -> bool
+    ensures { result ≡ is_out_of_memory error.now }
+{
+    matches!(error, PreprocessorError::OutOfMemory)
 }
 
 impl StepExit {

@@ -4,7 +4,10 @@ ghost use Rattle.std.specs.Prelude.{◌≡◌, IsTrue, IfOk};
 ghost use Rattle.pp_lexer.specs.TokenValue.{is_ordinary};
 
 use crate::lexer;
-use crate::pp::{StepExit, convert_lexer_token, convert_lexer_token_to_step, spell_tokens};
+use crate::pp::{
+    Preprocessor, PreprocessorItem, StepExit, convert_lexer_token, convert_lexer_token_to_step,
+    spell_tokens,
+};
 use crate::token::{Float, Integer, Location, PreprocessorError, Punct, Text, Token, TokenValue};
 use std::alloc::{AllocError, Global};
 use std::test::Fail;
@@ -171,6 +174,78 @@ fn clones_exits(rt: HostRuntime) -> Result<(), Fail> {
     ];
     for exit in exits {
         assert_eq!(rt; exit.clone(rt.alloc())?, exit);
+    }
+    Ok(())
+}
+
+// A place, as `3..4 L1`.
+fn place_of(alloc: Global, location: Location) -> Result<String, AllocError> {
+    let start = location.start;
+    let end = location.end;
+    let line = location.line;
+    format!(in alloc; "{start}..{end} L{line}")
+}
+
+// A token as it is spelled, or an error's name with its place.
+fn item_text(alloc: Global, item: PreprocessorItem) -> Result<String, Fail> {
+    match item {
+        Ok(token) => {
+            if !token.is_ordinary() {
+                return Err(Fail::from("no ordinary token"));
+            }
+            Ok(spell_tokens(alloc, &[token])?)
+        }
+        Err((error, location)) => {
+            let place = place_of(alloc, location)?;
+            Ok(format!(in alloc; "{} {}", error.name(), place.as_str())?)
+        }
+    }
+}
+
+// All items of a source, with a space behind each.
+fn items_text(alloc: Global, source: &str) -> Result<String, Fail> {
+    let mut text = String::new(alloc);
+    if source.len() < 1000 {
+        for item in Preprocessor::new(alloc, source) {
+            let shown = item_text(alloc, item)?;
+            text.push_str(shown.as_str())?;
+            text.push(' ')?;
+        }
+    }
+    Ok(text)
+}
+
+#[test]
+fn expands_object_like_macros(rt: HostRuntime) -> Result<(), Fail> {
+    for (source, expected) in [
+        ("#define A 1\n#define B A + A\nB", "1 + 1 "),
+        ("#define A A b\nA A", "A b A b "),
+        ("#define A 1\n#undef A\nA", "A "),
+        ("#undef A\n#define A 1\n#define A 1\nA", "1 "),
+        ("#define L __LINE__\n__LINE__ L", "2u 2u "),
+    ] {
+        let found = items_text(rt.alloc(), source)?;
+        assert_eq!(rt; found.as_str(), expected, "of {source:?}");
+    }
+    Ok(())
+}
+
+#[test]
+fn refuses_directives(rt: HostRuntime) -> Result<(), Fail> {
+    for (source, expected) in [
+        (
+            "#define A 1\n#define A 2\nA",
+            "DefineRedefined 20..21 L2 1 ",
+        ),
+        ("#define A(x) x", "UnexpectedToken 9..10 L1 x ) x "),
+        ("#define A #", "UnexpectedHash 10..11 L1 "),
+        ("#define", "UnexpectedNewLine 7..7 L1 "),
+        ("#undef A B", "UnexpectedToken 9..10 L1 "),
+        ("#if 1", "UnknownDirective 1..3 L1 1 "),
+        ("a #define", "a UnexpectedHash 2..3 L1 define "),
+    ] {
+        let found = items_text(rt.alloc(), source)?;
+        assert_eq!(rt; found.as_str(), expected, "of {source:?}");
     }
     Ok(())
 }

@@ -1,14 +1,14 @@
-use Rattle.std.proofs.Common.{◌≡◌, length, false}
-use Rattle.pp_rs.specs.SourceItems.{source_items}
+use Rattle.std.proofs.Common.{◌≡◌, false}
+use Rattle.pp_rs.specs.Work.{work_left}
+use Rattle.pp_rs.proofs.NextLemmas.{Reached}
 use Rattle.pp_rs.proofs.pp.preprocessor.PreprocessorIterator.next.Given as goal
 
--- a pause leaves the items to come as they are
+-- a pause keeps what comes next, and lowers what is left to do
 abbrev pub invariant-loop-token : goal.invariant-loop-token
 invariant-loop-token l = record {
-  items : source_items l.self-inside.directive_processor.rest ≡ l.fn.self.items;
   unspent : l.self-inside.spent ≡ false;
-  reader_unspent : l.self-inside.directive_processor.spent ≡ false;
+  reached : Reached l.fn.self.frames l.fn.self.source l.self-inside.processor l.self-inside.source;
 }
 
 abbrev pub decreases-loop-token : goal.decreases-loop-token
-decreases-loop-token l = length l.self-inside.directive_processor.rest
+decreases-loop-token l = work_left l.self-inside.processor l.self-inside.source

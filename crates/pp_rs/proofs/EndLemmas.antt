@@ -1,0 +1,188 @@
+-- Behind the end nothing is left.
+use Rattle.std.proofs.Common.{◌≡◌, ◌≢◌, ◌∙◌, ◌⊎◌, inl, inr, ℕ, Bool, true, false, if◌then◌else◌, List, [], ◌∷◌, length, drop, refl, ap, sym, subst, Option, Some, None, arith}
+use Rattle.std.specs.Prelude.{Result, Ok, Err, MatchBool, ◌*◌, ◌-◌, ◌^◌}
+use native.Mathlib.Nat.{zero-mul}
+use Rattle.pp_lexer.specs.Lexed.{Seen}
+use Rattle.pp_lexer.specs.PreprocessorError.{out_of_memory}
+use Rattle.pp_lexer.specs.declared.token.Location.{Location}
+use Rattle.pp_lexer.specs.declared.token.PreprocessorError.TheVariants.{MoreThanOneElse}
+use Rattle.pp_lexer.specs.declared.token.Token.{Token}
+use Rattle.pp_model.specs.Calls.{Fault}
+use Rattle.pp_model.specs.Definitions.{Definition}
+use Rattle.pp_model.specs.DefineLines.{defined_on}
+use Rattle.pp_model.specs.Lines.{line_length, line_fault, ended_line, only_name}
+use Rattle.pp_model.specs.Sights.{sight_of}
+use Rattle.pp_model.specs.declared.definition.Named.{Named}
+use Rattle.pp_model.specs.declared.directive.Directive.{Directive}
+use Rattle.pp_model.specs.declared.directive.Directive.TheVariants as d
+use Rattle.pp_model.specs.declared.outcome.Outcome.{Outcome}
+use Rattle.pp_model.specs.declared.outcome.Outcome.TheVariants as outcome
+use Rattle.pp_model.specs.declared.sight.Sight.{Sight}
+use Rattle.pp_model.specs.declared.sight.Sight.TheVariants as sight
+use Rattle.pp_rs.specs.Item.{Step}
+use Rattle.pp_rs.specs.Defined.{meaning_of}
+use Rattle.pp_rs.specs.Frames.{Layer, Advance, advance}
+use Rattle.pp_rs.specs.Reader.{Reader, of_source}
+use Rattle.pp_rs.specs.SoFar.{directive_fault}
+use Rattle.pp_rs.specs.OpenBlocks.{OpenBlock, last_block, is_live_in, block_parted}
+use Rattle.pp_rs.specs.SourceMoves.{Effect, gives, fails, ends, passes, defines, undefines, opens_where, opens_unread, parts, closes, unfinished, Move, line_move, skip_by, skip_move, else_effect, endif_move, live_move, dead_move, acting_move, unless_refused, move_at, move_of}
+use Rattle.pp_rs.specs.Source.{Source, DefinesOver, HasEffect, IsRefusedStep, Makes, StepsSource}
+use Rattle.pp_rs.specs.Turns.{as_pause, frame_move, Moves, taken_in, opens, OpensOrGives, FollowsTaken, Follows, Turns}
+use Rattle.pp_rs.specs.Work.{digit_base, most_reads, most_names, work_left}
+use Rattle.pp_rs.specs.declared.pp.step.StepExit.TheVariants.{Error, Continue, Finished}
+use Rattle.pp_rs.proofs.SourceSimulates.{item_there}
+use Rattle.pp_rs.proofs.StandsBehindLemmas.{no_blocks_kept}
+
+abbrev is_end_effect : Effect → Bool
+is_end_effect ends = true
+is_end_effect _ = false
+
+line_goes_on : {A : Type 0} (r : Result A Fault) (effect : A → Effect) (taken : ℕ) → ((value : A) → is_end_effect (effect value) ≡ false) → is_end_effect (line_move r effect taken).effect ≡ false
+line_goes_on (Ok value) effect taken h = h value
+line_goes_on (Err fault) effect taken h = refl
+
+skip_goes_on : (found : Option Fault) (effect : Effect) (taken : ℕ) → is_end_effect effect ≡ false → is_end_effect (skip_by found effect taken).effect ≡ false
+skip_goes_on (Some fault) effect taken h = refl
+skip_goes_on None effect taken h = h
+
+either_goes_on : (b : Bool) (x y : Effect) → is_end_effect x ≡ false → is_end_effect y ≡ false → is_end_effect (if b then x else y) ≡ false
+either_goes_on true x y h k = h
+either_goes_on false x y h k = k
+
+either_move_on : (b : Bool) (x y : Move) → is_end_effect x.effect ≡ false → is_end_effect y.effect ≡ false → is_end_effect (if b then x else y).effect ≡ false
+either_move_on true x y h k = h
+either_move_on false x y h k = k
+
+else_goes_on : (block : Option OpenBlock) (word : Location) → is_end_effect (else_effect block word) ≡ false
+else_goes_on None word = refl
+else_goes_on (Some block) word = either_goes_on block.with_else (fails (MoreThanOneElse, word)) (parts (block_parted block)) refl refl
+
+endif_goes_on : (block : Option OpenBlock) (word : Location) (behind : List Seen) → is_end_effect (endif_move block word behind).effect ≡ false
+endif_goes_on None word behind = refl
+endif_goes_on (Some block) word behind =
+    either_move_on block.live_around (line_move (ended_line word behind) (λ end. closes) (line_length behind)) (skip_move closes behind)
+    (line_goes_on (ended_line word behind) (λ end. closes) (line_length behind) (λ end. refl)) (skip_goes_on (line_fault behind) closes (line_length behind) refl)
+
+live_goes_on : (block : Option OpenBlock) (directive : Directive) (word : Location) (behind : List Seen) → is_end_effect (live_move block directive word behind).effect ≡ false
+live_goes_on block d.Define word behind = line_goes_on (defined_on word behind) defines (line_length behind) (λ named. refl)
+live_goes_on block d.Undef word behind = line_goes_on (only_name word behind) undefines (line_length behind) (λ name. refl)
+live_goes_on block d.Ifdef word behind = line_goes_on (only_name word behind) (opens_where true word) (line_length behind) (λ name. refl)
+live_goes_on block d.Ifndef word behind = line_goes_on (only_name word behind) (opens_where false word) (line_length behind) (λ name. refl)
+live_goes_on block d.Else word behind = line_goes_on (ended_line word behind) (λ end. else_effect block word) (line_length behind) (λ end. else_goes_on block word)
+live_goes_on block d.Endif word behind = endif_goes_on block word behind
+live_goes_on block _ word behind = refl
+
+dead_goes_on : (block : Option OpenBlock) (directive : Directive) (word : Location) (behind : List Seen) → is_end_effect (dead_move block directive word behind).effect ≡ false
+dead_goes_on block d.If word behind = skip_goes_on (line_fault behind) (opens_unread word) (line_length behind) refl
+dead_goes_on block d.Ifdef word behind = skip_goes_on (line_fault behind) (opens_unread word) (line_length behind) refl
+dead_goes_on block d.Ifndef word behind = skip_goes_on (line_fault behind) (opens_unread word) (line_length behind) refl
+dead_goes_on block d.Elif word behind = refl
+dead_goes_on block d.Else word behind = line_goes_on (ended_line word behind) (λ end. else_effect block word) (line_length behind) (λ end. else_goes_on block word)
+dead_goes_on block d.Endif word behind = endif_goes_on block word behind
+dead_goes_on block d.Unknown word behind = refl
+dead_goes_on block _ word behind = skip_goes_on (line_fault behind) passes (line_length behind) refl
+
+acting_goes_on : (live : Bool) (block : Option OpenBlock) (directive : Directive) (word : Location) (behind : List Seen) → is_end_effect (acting_move live block directive word behind).effect ≡ false
+acting_goes_on true block directive word behind = live_goes_on block directive word behind
+acting_goes_on false block directive word behind = dead_goes_on block directive word behind
+
+refused_goes_on : (found : Option Fault) (move : Move) → is_end_effect move.effect ≡ false → is_end_effect (unless_refused found move).effect ≡ false
+refused_goes_on (Some fault) move h = refl
+refused_goes_on None move h = h
+
+-- what stands there is the end only behind all items
+sight_goes_on : (live : Bool) (block : Option OpenBlock) (shown : Sight) (rest : List Seen) → (shown ≡ sight.End → ⊥) → is_end_effect (move_at live block shown rest).effect ≡ false
+sight_goes_on live block sight.End rest h = absurd (h refl)
+sight_goes_on true block sight.NewLine rest h = refl
+sight_goes_on true block (sight.Fault fault) rest h = refl
+sight_goes_on true block (sight.Token token) rest h = refl
+sight_goes_on true block (sight.Hash location) rest h = refl
+sight_goes_on true block (sight.NoWord fault) rest h = refl
+sight_goes_on true block (sight.Directive directive word) rest h = refused_goes_on (directive_fault true directive word (drop 2 rest)) (acting_move true block directive word (drop 2 rest)) (acting_goes_on true block directive word (drop 2 rest))
+sight_goes_on false block sight.NewLine rest h = refl
+sight_goes_on false block (sight.Fault fault) rest h = refl
+sight_goes_on false block (sight.Token token) rest h = refl
+sight_goes_on false block (sight.Hash location) rest h = refl
+sight_goes_on false block (sight.NoWord fault) rest h = refl
+sight_goes_on false block (sight.Directive directive word) rest h = refused_goes_on (directive_fault false directive word (drop 2 rest)) (acting_move false block directive word (drop 2 rest)) (acting_goes_on false block directive word (drop 2 rest))
+
+defines_on : (named : Named) (before : Option Definition) (taken : ℕ) (old new : Source) → DefinesOver named before taken old (Err Finished) new → ⊥
+defines_on named None taken old new h = let e = h.0 in cc
+defines_on named (Some before) taken old new (inl h) = let e = h.1 in cc
+defines_on named (Some before) taken old new (inr h) = let e = h.1 in cc
+
+finished_ends : (effect : Effect) (taken : ℕ) (old new : Source) → HasEffect effect taken old (Err Finished) new → is_end_effect effect ≡ true
+finished_ends (gives token) taken old new h = let e = h.0 in cc
+finished_ends (fails fault) taken old new h = let e = h.0 in cc
+finished_ends ends taken old new h = refl
+finished_ends passes taken old new h = let e = h.0 in cc
+finished_ends (defines named) taken old new h = absurd (defines_on named (meaning_of old.definitions named.name) taken old new h)
+finished_ends (undefines name) taken old new h = let e = h.0 in cc
+finished_ends (opens_where wanted word name) taken old new h = let e = h.0 in cc
+finished_ends (opens_unread word) taken old new h = let e = h.0 in cc
+finished_ends (parts block) taken old new h = let e = h.0 in cc
+finished_ends closes taken old new h = let e = h.0 in cc
+finished_ends (unfinished word) taken old new h = let e = h.0 in cc
+
+-- behind the end of a source no item is left, and no open block
+abbrev HasNothing : Source → Type 0
+HasNothing source = (source.rest ≡ []) × (source.blocks ≡ [])
+
+end_nothing : (live : Bool) (last : Option OpenBlock) (rest : List Seen) (old new : Source) → last_block old.blocks ≡ last → old.rest ≡ [] → HasEffect (move_at live last sight.End rest).effect (move_at live last sight.End rest).taken old (Err Finished) new → HasNothing new
+end_nothing true None rest old new none e h = (ap (λ (s : Source). s.rest) h.1 ∙ e, ap (λ (s : Source). s.blocks) h.1 ∙ no_blocks_kept old.blocks none)
+end_nothing false None rest old new none e h = (ap (λ (s : Source). s.rest) h.1 ∙ e, ap (λ (s : Source). s.blocks) h.1 ∙ no_blocks_kept old.blocks none)
+end_nothing true (Some kept) rest old new some e h = let bad = h.0 in cc
+end_nothing false (Some kept) rest old new some e h = let bad = h.0 in cc
+
+makes_end : (rest : List Seen) (old new : Source) → old.rest ≡ rest → Makes (move_of old.blocks rest) old (Err Finished) new → HasNothing new
+makes_end [] old new e h = end_nothing (is_live_in (last_block old.blocks)) (last_block old.blocks) [] old new refl e h
+makes_end (s ∷ rest) old new e h =
+    let on : is_end_effect (move_of old.blocks (s ∷ rest)).effect ≡ false = sight_goes_on (is_live_in (last_block old.blocks)) (last_block old.blocks) (sight_of (s ∷ rest)) (s ∷ rest) (λ is. item_there s.item rest is) in
+    let off : is_end_effect (move_of old.blocks (s ∷ rest)).effect ≡ true = finished_ends (move_of old.blocks (s ∷ rest)).effect (move_of old.blocks (s ∷ rest)).taken old new h in
+    absurd (let bad : false ≡ true = sym on ∙ off in cc)
+
+source_end : (old new : Source) (spent : Bool) → old.spent ≡ spent → spent ≡ false → MatchBool spent ((◌≡◌ {A = Step Token} (Err Finished) (Err Finished)) × (new ≡ old)) (IsRefusedStep old (Err Finished) ⊎ Makes (move_of old.blocks old.rest) old (Err Finished) new) → HasNothing new
+source_end old new true e f h = cc
+source_end old new false e f (inl h) = let bad = h.fault in cc
+source_end old new false e f (inr h) = makes_end old.rest old new refl h
+
+frames_pause : (fs : List Layer) (o : Option Advance) → (frame_move fs o).gives ≡ Err Finished → ⊥
+frames_pause fs (Some a) e = given a.gives e
+  where
+    given : (t : Option Token) → as_pause t ≡ Err Finished → ⊥
+    given (Some token) e = cc
+    given None e = cc
+frames_pause fs None e = cc
+
+moves_end : (frames between : List Layer) (old new : Source) → old.spent ≡ false → Moves frames (of_source old) (Err Finished) between (of_source new) → (between ≡ []) × HasNothing new
+moves_end [] between old new unspent h = (h.0, source_end old new old.spent refl unspent h.1)
+moves_end (f ∷ fs) between old new unspent (stays, inl h) = absurd (frames_pause fs (advance f) (sym h.0))
+moves_end (f ∷ fs) between old new unspent (stays, inr h) = cc
+
+opens_on : (macro : Option (List ℕ × Definition)) (token : Token) (frames after : List Layer) → OpensOrGives macro token frames (Err Finished) after → ⊥
+opens_on None token frames after h = let e = h.0 in cc
+opens_on (Some (name, definition)) token frames after h = let e = h.0 in cc
+
+taken_on : (taken : Outcome) (frames : List Layer) (reader : Reader) (after : List Layer) → FollowsTaken taken frames reader (Err Finished) after → ⊥
+taken_on (outcome.Token token) frames reader after h = opens_on (opens frames reader token) token frames after h
+taken_on (outcome.Fault fault) frames reader after h = let e = h.0 in cc
+taken_on outcome.End frames reader after h = h
+
+follows_end : (moved : Step Token) (frames after : List Layer) (reader : Reader) → Follows moved frames reader (Err Finished) after → (moved ≡ Err Finished) × (after ≡ frames)
+follows_end (Ok token) frames after reader (inl h) = absurd (taken_on (taken_in frames reader token) frames reader after h)
+follows_end (Ok token) frames after reader (inr h) = cc
+follows_end (Err exit) frames after reader h = (sym h.0, h.1)
+
+-- where the expander is at its end, no macro is open and no item is left
+pub turns_end : (frames after : List Layer) (old new : Source) → old.spent ≡ false → Turns frames (of_source old) (Err Finished) after (of_source new) → (after ≡ []) × (new.rest ≡ []) × (new.blocks ≡ [])
+turns_end frames after old new unspent turn =
+    let f = follows_end turn.moved turn.frames_then after (of_source new) turn.follows in
+    let m = moves_end frames turn.frames_then old new unspent (subst (λ (x : Step Token). Moves frames (of_source old) x turn.frames_then (of_source new)) f.0 turn.moves) in
+    (f.1 ∙ m.0, m.1.0, m.1.1)
+
+-- so nothing is left to do
+pub end_is_no_work : (source : Source) → source.rest ≡ [] → source.blocks ≡ [] → work_left [] source ≡ 0
+unfolding work_left
+end_is_no_work source e f =
+    let none : most_reads source ≡ 0 = omega (arith, ap length e, ap length f) in
+    ap (λ n. n * digit_base [] source ^ (most_names source - 0)) none ∙ zero-mul (digit_base [] source ^ (most_names source - 0))

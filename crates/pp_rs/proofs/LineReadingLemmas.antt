@@ -1,0 +1,138 @@
+-- The tokens of a line, read one after another.
+use Rattle.std.proofs.Common.{◌≡◌, ℕ, ◌+◌, ◌≤◌, Bool, true, false, if◌then◌else◌, not, List, [], ◌∷◌, ◌++◌, length, drop, Option, Some, None, Result, Ok, Err, refl, sym, ◌∙◌, ap, append_assoc, length-drop, suc, arith}
+use Rattle.pp_lexer.specs.Items.{Lexeme}
+use Rattle.pp_lexer.specs.Lexed.{Seen, Lexed}
+use Rattle.pp_lexer.specs.declared.lexer.item.Token.{Token as LexerToken}
+use Rattle.pp_lexer.specs.declared.token.Token.{Token}
+use Rattle.pp_model.specs.Calls.{Fault}
+use Rattle.pp_model.specs.Conversions.{is_newline, conversion}
+use Rattle.pp_model.specs.Emitting.{token_before}
+use Rattle.pp_model.specs.Lines.{◌>>=◌, line_tokens, line_length, line_fault}
+use Rattle.pp_rs.specs.LineReading.{HasTaken, TakesItems, line_token, some_token, next_line_token, tokens_behind, length_behind, next_body_token, body_tokens, unless_fault, skipped_line, goes_on_behind, line_goes_on}
+use Rattle.pp_rs.specs.SoFar.{paren_fault}
+use Rattle.pp_rs.specs.declared.pp.halt.Halt.{Halt}
+use Rattle.pp_rs.specs.declared.pp.halt.Halt.TheVariants as halt
+
+-- tokens that were read, and then those of the rest
+abbrev pub behind : List Token → Result (List Token) Fault → Result (List Token) Fault
+behind tokens (Ok rest) = Ok (tokens ++ rest)
+behind tokens (Err fault) = Err fault
+
+behind-push : (tokens : List Token) (token : Token) (rest : Result (List Token) Fault) → behind (tokens ++ token ∷ []) rest ≡ behind tokens (token_before token rest)
+behind-push tokens token (Ok rest) = rw append_assoc refl
+behind-push tokens token (Err fault) = refl
+
+drop_past : (n : ℕ) (s : Seen) (rest : List Seen) → drop (1 + n) (s ∷ rest) ≡ drop n rest
+drop_past n s rest = let e : 1 + n ≡ suc n = omega arith in ap (λ k. drop k (s ∷ rest)) e
+
+pub drop_fewer : (rest after : List Seen) (n : ℕ) → after ≡ drop n rest → length after ≤ length rest
+drop_fewer rest after n e = omega (arith, ap length e, length-drop n rest)
+
+-- a line behind one of its tokens
+module _ (s : Seen) (rest : List Seen) where
+  tokens_by : (ends : Bool) (first : Result Token Fault)
+      → (if ends then Ok [] else (first >>= λ token. token_before token (line_tokens rest))) ≡ ((if ends then Ok None else (first >>= some_token)) >>= λ next. tokens_behind next rest)
+  tokens_by true first = refl
+  tokens_by false (Ok token) = refl
+  tokens_by false (Err fault) = refl
+
+  place_by : (ends : Bool) (first : Result Token Fault) (next : Option Token) → (if ends then Ok None else (first >>= some_token)) ≡ Ok next
+      → drop (if ends then 1 else 1 + line_length rest) (s ∷ rest) ≡ drop (length_behind next rest) rest
+  place_by true first next e = let is : next ≡ None = cc in rw is refl
+  place_by false (Ok token) next e = let is : next ≡ Some token = cc in rw is (drop_past (line_length rest) s rest)
+  place_by false (Err fault) next e = cc
+
+tokens_behind_item : (item : Lexeme) (had : Bool) (rest : List Seen) → line_tokens (record { item = item; had_comments = had } ∷ rest) ≡ (next_line_token (record { item = item; had_comments = had } ∷ rest) >>= λ next. tokens_behind next rest)
+tokens_behind_item (Err fault) had rest = refl
+tokens_behind_item (Ok token) had rest = tokens_by (record { item = Ok token; had_comments = had }) rest (is_newline token.value) (conversion token)
+
+place_behind_item : (item : Lexeme) (had : Bool) (rest : List Seen) (next : Option Token) → next_line_token (record { item = item; had_comments = had } ∷ rest) ≡ Ok next
+    → drop (line_length (record { item = item; had_comments = had } ∷ rest)) (record { item = item; had_comments = had } ∷ rest) ≡ drop (length_behind next rest) rest
+place_behind_item (Err fault) had rest next e = cc
+place_behind_item (Ok token) had rest next e = place_by (record { item = Ok token; had_comments = had }) rest (is_newline token.value) (conversion token) next e
+
+-- a line's tokens are the next one, and those behind it
+pub line_tokens-next : (rest : List Seen) → line_tokens rest ≡ (next_line_token rest >>= λ next. tokens_behind next (drop 1 rest))
+line_tokens-next [] = refl
+line_tokens-next (s ∷ rest) = tokens_behind_item s.item s.had_comments rest
+
+pub line_place-next : (rest : List Seen) (next : Option Token) → next_line_token rest ≡ Ok next → drop (line_length rest) rest ≡ drop (length_behind next (drop 1 rest)) (drop 1 rest)
+line_place-next [] next e = let is : next ≡ None = cc in rw is refl
+line_place-next (s ∷ rest) next e = place_behind_item s.item s.had_comments rest next e
+
+-- a token that is waiting counts as an item
+abbrev pub wanted_items : Option Token → ℕ
+wanted_items None = 0
+wanted_items (Some token) = 1
+
+-- one token more of a line is read
+module _ (rest after : List Seen) (next : Option Token) (e : next_line_token rest ≡ Ok next) (d : after ≡ drop 1 rest) where
+  pub whole_more : (tokens new : List Token) (token : Token) (whole : Result (List Token) Fault) → behind tokens (tokens_behind (Some token) rest) ≡ whole → new ≡ tokens ++ token ∷ [] → behind new (tokens_behind next after) ≡ whole
+  whole_more tokens new token whole h n =
+      let goes_on : line_tokens rest ≡ tokens_behind next (drop 1 rest) = line_tokens-next rest ∙ ap (λ r. r >>= λ more. tokens_behind more (drop 1 rest)) e in
+      rw (n, d) (behind-push tokens token (tokens_behind next (drop 1 rest)) ∙ ap (λ more. behind tokens (token_before token more)) (sym goes_on) ∙ h)
+
+  pub place_more : (end : List Seen) → drop (line_length rest) rest ≡ end → drop (length_behind next after) after ≡ end
+  place_more end h = rw d (sym (line_place-next rest next e) ∙ h)
+
+-- a line that is skipped is that behind its first token, where it goes on
+skips_by : (ends : Bool) (later : Option Fault) → ◌≡◌ {A = Result Bool Fault} (Ok (not ends)) (Ok true)
+    → ◌≡◌ {A = Result (Unit {0}) Fault} (unless_fault (if ends then None else later) (Ok tt)) (unless_fault later (Ok tt))
+skips_by true later e = cc
+skips_by false later e = refl
+
+skip_place_by : (s : Seen) (rest : List Seen) (ends : Bool) → ◌≡◌ {A = Result Bool Fault} (Ok (not ends)) (Ok true) → drop (if ends then 1 else 1 + line_length rest) (s ∷ rest) ≡ drop (line_length rest) rest
+skip_place_by s rest true e = cc
+skip_place_by s rest false e = drop_past (line_length rest) s rest
+
+skips_item : (item : Lexeme) (had : Bool) (rest : List Seen) → goes_on_behind item ≡ Ok true → skipped_line (record { item = item; had_comments = had } ∷ rest) ≡ skipped_line rest
+skips_item (Err fault) had rest e = cc
+skips_item (Ok token) had rest e = skips_by (is_newline token.value) (line_fault rest) e
+
+skip_place_item : (item : Lexeme) (had : Bool) (rest : List Seen) → goes_on_behind item ≡ Ok true
+    → drop (line_length (record { item = item; had_comments = had } ∷ rest)) (record { item = item; had_comments = had } ∷ rest) ≡ drop (line_length rest) rest
+skip_place_item (Err fault) had rest e = cc
+skip_place_item (Ok token) had rest e = skip_place_by (record { item = Ok token; had_comments = had }) rest (is_newline token.value) e
+
+pub skipped_more : (rest after : List Seen) → line_goes_on rest ≡ Ok true → after ≡ drop 1 rest → skipped_line after ≡ skipped_line rest
+skipped_more [] after e d = cc
+skipped_more (s ∷ rest) after e d = rw d (sym (skips_item s.item s.had_comments rest e))
+
+pub skipped_place : (rest after : List Seen) → line_goes_on rest ≡ Ok true → after ≡ drop 1 rest → drop (line_length after) after ≡ drop (line_length rest) rest
+skipped_place [] after e d = cc
+skipped_place (s ∷ rest) after e d = rw d (sym (skip_place_item s.item s.had_comments rest e))
+
+-- a body behind its name
+body_by : (token : LexerToken) (had : Bool) (rest : List Seen) (fault : Option Fault)
+    → unless_fault fault (line_tokens (record { item = Ok token; had_comments = had } ∷ rest)) ≡ (unless_fault fault (line_token (Some token)) >>= λ first. tokens_behind first rest)
+body_by token had rest (Some fault) = refl
+body_by token had rest None = tokens_behind_item (Ok token) had rest
+
+body_behind_item : (item : Lexeme) (had : Bool) (rest : List Seen)
+    → body_tokens (record { item = item; had_comments = had } ∷ rest) ≡ (next_body_token (record { item = item; had_comments = had } ∷ rest) >>= λ first. tokens_behind first rest)
+body_behind_item (Err fault) had rest = refl
+body_behind_item (Ok token) had rest = body_by token had rest (paren_fault (Ok token))
+
+-- a body's tokens are the next one, and those behind it
+pub body_tokens-next : (rest : List Seen) → body_tokens rest ≡ (next_body_token rest >>= λ first. tokens_behind first (drop 1 rest))
+body_tokens-next [] = refl
+body_tokens-next (s ∷ rest) = body_behind_item s.item s.had_comments rest
+
+no_fault : (token : LexerToken) (fault : Option Fault) (first : Option Token) → unless_fault fault (line_token (Some token)) ≡ Ok first → line_token (Some token) ≡ Ok first
+no_fault token (Some fault) first e = cc
+no_fault token None first e = e
+
+body_place_item : (item : Lexeme) (had : Bool) (rest : List Seen) (first : Option Token) → next_body_token (record { item = item; had_comments = had } ∷ rest) ≡ Ok first
+    → drop (line_length (record { item = item; had_comments = had } ∷ rest)) (record { item = item; had_comments = had } ∷ rest) ≡ drop (length_behind first rest) rest
+body_place_item (Err fault) had rest first e = cc
+body_place_item (Ok token) had rest first e = place_behind_item (Ok token) had rest first (no_fault token (paren_fault (Ok token)) first e)
+
+pub body_place-next : (rest : List Seen) (first : Option Token) → next_body_token rest ≡ Ok first → drop (line_length rest) rest ≡ drop (length_behind first (drop 1 rest)) (drop 1 rest)
+body_place-next [] first e = let is : first ≡ None = cc in rw is refl
+body_place-next (s ∷ rest) first e = body_place_item s.item s.had_comments rest first e
+
+-- a part of a line is taken behind another
+pub takes_behind : {A : Type 0} (result : Result A Halt) (first more total : ℕ) (old mid new : Lexed) → HasTaken first old mid → TakesItems more mid result new → drop total old.rest ≡ drop more mid.rest → TakesItems total old result new
+takes_behind (Ok value) first more total old mid new m t e = record { rest = t.rest ∙ sym e; spent = t.spent }
+takes_behind (Err (halt.Fault fault)) first more total old mid new m t e = record { rest = omega (arith, t.rest, drop_fewer old.rest mid.rest first m.rest); spent = t.spent }
+takes_behind (Err halt.OutOfMemory) first more total old mid new m t e = t

@@ -1,0 +1,113 @@
+-- A directive takes at least as much as it adds, but for its number sign and its word.
+use Rattle.std.proofs.Common.{◌≡◌, ℕ, ◌+◌, ◌-◌, ◌≤◌, Bool, true, false, if◌then◌else◌, List, length, refl, subst, arith, Option, Some, None, Result, Ok, Err, IfOk}
+use Rattle.pp_lexer.specs.Lexed.{Seen}
+use Rattle.pp_lexer.specs.declared.token.Location.{Location}
+use Rattle.pp_lexer.specs.declared.token.PreprocessorError.TheVariants.{MoreThanOneElse}
+use Rattle.pp_model.specs.Calls.{Fault}
+use Rattle.pp_model.specs.DefineLines.{defined_on}
+use Rattle.pp_model.specs.Lines.{line_length, line_fault, ended_line, only_name}
+use Rattle.pp_model.specs.declared.definition.Named.{Named}
+use Rattle.pp_model.specs.declared.directive.Directive.{Directive}
+use Rattle.pp_model.specs.declared.directive.Directive.TheVariants as d
+use Rattle.pp_rs.specs.OpenBlocks.{OpenBlock, block_parted}
+use Rattle.pp_rs.specs.SoFar.{directive_fault}
+use Rattle.pp_rs.specs.SourceMoves.{Effect, fails, defines, undefines, opens_where, opens_unread, parts, closes, passes, unfinished, Move, failing, line_move, skip_by, skip_move, else_effect, else_move, endif_move, live_move, dead_move, acting_move, directive_move, unless_refused}
+use Rattle.pp_rs.proofs.BodyLemmas.{line_length_least, defined_least}
+
+-- how many tokens an effect defines, or blocks it adds; a block that is parted counts as one that is added
+abbrev pub effect_adds : Effect → ℕ
+effect_adds (defines named) = length named.definition.body
+effect_adds (opens_where wanted word name) = 1
+effect_adds (opens_unread word) = 1
+effect_adds (parts block) = 1
+effect_adds _ = 0
+
+-- an open block is told at the end
+abbrev pub tells_block : Effect → Bool
+tells_block (unfinished word) = true
+tells_block _ = false
+
+-- an effect of a directive, which takes its number sign and its word and so many items more
+pub record IsSmall (effect : Effect) (taken : ℕ) : Type 0 where
+  pub untold : tells_block effect ≡ false
+  pub adds : effect_adds effect ≤ 1 + taken
+
+pub record IsWithin (move : Move) (count : ℕ) : Type 0 where
+  pub small : IsSmall move.effect move.taken
+  pub taken : move.taken ≤ count
+
+failing_within : (fault : Fault) (count : ℕ) → IsWithin (failing fault) count
+failing_within fault count = record { small = record { untold = refl; adds = omega arith }; taken = omega arith }
+
+module _ (word : Location) (behind : List Seen) where
+  line_within : {A : Type 0} (r : Result A Fault) (effect : A → Effect) → ((value : A) → r ≡ Ok value → IsSmall (effect value) (line_length behind)) → IsWithin (line_move r effect (line_length behind)) (length behind)
+  line_within (Ok value) effect small = record { small = small value refl; taken = line_length_least behind }
+  line_within (Err fault) effect small = failing_within fault (length behind)
+
+  skip_within : (effect : Effect) → IsSmall effect (line_length behind) → IsWithin (skip_move effect behind) (length behind)
+  skip_within effect small = go (line_fault behind)
+    where
+      go : (o : Option Fault) → IsWithin (skip_by o effect (line_length behind)) (length behind)
+      go (Some fault) = failing_within fault (length behind)
+      go None = record { small = small; taken = line_length_least behind }
+
+  define_small : directive_fault true d.Define word behind ≡ None → (named : Named) → defined_on word behind ≡ Ok named → IsSmall (defines named) (line_length behind)
+  define_small plain named e =
+      let low : length named.definition.body ≤ line_length behind = subst (λ (r : Result Named Fault). IfOk r (λ n. length n.definition.body ≤ line_length behind)) e (defined_least word behind plain) in
+      record { untold = refl; adds = omega (arith, low) }
+
+  else_small : (block : Option OpenBlock) → IsSmall (else_effect block word) (line_length behind)
+  else_small None = record { untold = refl; adds = omega arith }
+  else_small (Some block) = go block.with_else
+    where
+      go : (b : Bool) → IsSmall (if b then fails (MoreThanOneElse, word) else parts (block_parted block)) (line_length behind)
+      go true = record { untold = refl; adds = omega arith }
+      go false = record { untold = refl; adds = omega arith }
+
+  else_within : (block : Option OpenBlock) → IsWithin (else_move block word behind) (length behind)
+  else_within block = line_within (ended_line word behind) (λ end. else_effect block word) (λ value e. else_small block)
+
+  endif_within : (block : Option OpenBlock) → IsWithin (endif_move block word behind) (length behind)
+  endif_within None = failing_within _ (length behind)
+  endif_within (Some block) = go block.live_around
+    where
+      small : IsSmall closes (line_length behind)
+      small = record { untold = refl; adds = omega arith }
+
+      go : (b : Bool) → IsWithin (if b then line_move (ended_line word behind) (λ end. closes) (line_length behind) else skip_move closes behind) (length behind)
+      go true = line_within (ended_line word behind) (λ end. closes) (λ value e. small)
+      go false = skip_within closes small
+
+  module _ (block : Option OpenBlock) where
+    live_within : (directive : Directive) → directive_fault true directive word behind ≡ None → IsWithin (live_move block directive word behind) (length behind)
+    live_within d.Define e = line_within (defined_on word behind) defines (define_small e)
+    live_within d.Undef e = line_within (only_name word behind) undefines (λ value is. record { untold = refl; adds = omega arith })
+    live_within d.Ifdef e = line_within (only_name word behind) (opens_where true word) (λ value is. record { untold = refl; adds = omega arith })
+    live_within d.Ifndef e = line_within (only_name word behind) (opens_where false word) (λ value is. record { untold = refl; adds = omega arith })
+    live_within d.Else e = else_within block
+    live_within d.Endif e = endif_within block
+    live_within _ e = failing_within _ (length behind)
+
+    unread_within : IsWithin (skip_move (opens_unread word) behind) (length behind)
+    unread_within = skip_within (opens_unread word) (record { untold = refl; adds = omega arith })
+
+    dead_within : (directive : Directive) → IsWithin (dead_move block directive word behind) (length behind)
+    dead_within d.If = unread_within
+    dead_within d.Ifdef = unread_within
+    dead_within d.Ifndef = unread_within
+    dead_within d.Elif = failing_within _ (length behind)
+    dead_within d.Else = else_within block
+    dead_within d.Endif = endif_within block
+    dead_within d.Unknown = record { small = record { untold = refl; adds = omega arith }; taken = omega arith }
+    dead_within _ = skip_within passes (record { untold = refl; adds = omega arith })
+
+    acting_within : (live : Bool) (directive : Directive) → directive_fault live directive word behind ≡ None → IsWithin (acting_move live block directive word behind) (length behind)
+    acting_within true directive e = live_within directive e
+    acting_within false directive e = dead_within directive
+
+    pub directive_within : (live : Bool) (directive : Directive) → IsWithin (directive_move live block directive word behind) (length behind)
+    directive_within live directive = go (directive_fault live directive word behind) (acting_within live directive)
+      where
+        go : (o : Option Fault) → (o ≡ None → IsWithin (acting_move live block directive word behind) (length behind)) → IsWithin (unless_refused o (acting_move live block directive word behind)) (length behind)
+        go (Some fault) h = failing_within fault (length behind)
+        go None h = h refl

@@ -1,0 +1,72 @@
+-- Open macros, which the expander keeps with the innermost last.
+use Rattle.std.proofs.Common.{◌≡◌, ◌∙◌, ℕ, ◌-◌, ◌+◌, ◌<◌, ◌⊎◌, Bool, true, false, ◌||◌, List, [], ◌∷◌, ◌++◌, length, get_or, take, reverse, set, refl, ap, sym, arith, Option, Some, None, slice_get, Err, inl, inr, get_or-set_same}
+use Rattle.std.specs.List.{list_any}
+use Rattle.std.proofs.Math.Seq.{take-length}
+use Rattle.std.proofs.lemmas.List.{reverse-append, take_more, length-set, take-set}
+use Rattle.std.proofs.lemmas.List.Folds.{list_any-append}
+use Rattle.pp_lexer.specs.PreprocessorError.{out_of_memory}
+use Rattle.pp_lexer.specs.declared.token.Token.{Token}
+use Rattle.pp_model.specs.Names.{Name, is_in, is_same_name}
+use Rattle.pp_rs.specs.Frames.{Layer, Advance, advance, names_of, outermost_frame_line}
+use Rattle.pp_rs.specs.Item.{Step}
+use Rattle.pp_rs.specs.Reader.{Reader}
+use Rattle.pp_rs.specs.Turns.{Moves, frame_move}
+use Rattle.pp_rs.specs.declared.pp.step.StepExit.TheVariants.{Error, Continue}
+use Rattle.pp_rs.proofs.FrameLemmas.{Advances}
+
+or_left_comm : (a b c : Bool) → (a || (b || c)) ≡ (b || (a || c))
+or_left_comm true true c = refl
+or_left_comm true false c = refl
+or_left_comm false b c = refl
+
+-- a name is open where a frame has it
+names_at_end : (name : Name) (fs : List Layer) (f : Layer) → is_in name (names_of (fs ++ f ∷ [])) ≡ (is_same_name name f.name || is_in name (names_of fs))
+names_at_end name [] f = refl
+names_at_end name (g ∷ gs) f =
+    rw (names_at_end name gs f) (or_left_comm (is_same_name name g.name) (is_same_name name f.name) (is_in name (names_of gs)))
+
+pub is_in-names : (name : Name) (fs : List Layer) → is_in name (names_of (reverse fs)) ≡ list_any (λ f. is_same_name name f.name) fs
+is_in-names name [] = refl
+is_in-names name (f ∷ fs) =
+    rw (reverse-append (f ∷ []) fs, names_at_end name (reverse fs) f) (ap (λ rest. is_same_name name f.name || rest) (is_in-names name fs))
+
+-- the outermost frame is the first that was opened
+outermost_at_end : (fs : List Layer) (f : Layer) → outermost_frame_line (fs ++ f ∷ []) ≡ Some f.line
+outermost_at_end [] f = refl
+outermost_at_end (g ∷ gs) f = rw (outermost_at_end gs f) refl
+
+pub outermost_first : (fs : List Layer) (f : Layer) → slice_get fs 0 ≡ Some f → outermost_frame_line (reverse fs) ≡ Some f.line
+outermost_first [] f e = cc
+outermost_first (g ∷ gs) f e =
+    let same : g ≡ f = cc in
+    rw (reverse-append (g ∷ []) gs) (outermost_at_end (reverse gs) g ∙ ap (λ h. Some h.line) same)
+
+-- a list that is not empty is what is before its last item, and that
+with_last : {X : Type 0} (xs : List X) (d : X) → 0 < length xs → xs ≡ take (length xs - 1) xs ++ get_or xs (length xs - 1) d ∷ []
+with_last xs d some =
+    let within : length xs - 1 < length xs = omega arith in
+    let whole : length xs - 1 + 1 ≡ length xs = omega arith in
+    sym (take-length xs) ∙ (rw whole at (take_more xs (length xs - 1) d within))
+
+reverse_last : {X : Type 0} (xs : List X) (d : X) → 0 < length xs → reverse xs ≡ get_or xs (length xs - 1) d ∷ reverse (take (length xs - 1) xs)
+reverse_last xs d some = ap reverse (with_last xs d some) ∙ reverse-append (take (length xs - 1) xs) (get_or xs (length xs - 1) d ∷ [])
+
+reverse_set_last : {X : Type 0} (xs : List X) (v : X) → 0 < length xs → reverse (set xs (length xs - 1) v) ≡ v ∷ reverse (take (length xs - 1) xs)
+reverse_set_last xs v some =
+    let e : length (set xs (length xs - 1) v) ≡ length xs = length-set xs (length xs - 1) v in
+    let within : length xs - 1 < length xs = omega arith in
+    let more : 0 < length (set xs (length xs - 1) v) = omega arith in
+    let h = reverse_last (set xs (length xs - 1) v) v more in
+    rw (e, get_or-set_same, take-set) at h
+
+-- a step of the innermost frame, which stays open
+frame_moves : (advanced : Option Advance) (fs : List Layer) (v : Layer) (step : Step Token) → Advances advanced (Some step) v → ((step ≡ (frame_move fs advanced).gives) × (v ∷ fs ≡ (frame_move fs advanced).after)) ⊎ (step ≡ Err (Error out_of_memory))
+frame_moves advanced fs v step (inl refused) = inr cc
+frame_moves (Some a) fs v step (inr (given, after)) = inl (cc, ap (λ w. w ∷ fs) after)
+frame_moves None fs v step (inr none) = inr cc
+
+pub last_moves : (fs : List Layer) (f v : Layer) (step : Step Token) (reader : Reader) (n : ℕ) → n ≡ length fs → 0 < n → f ≡ get_or fs (n - 1) f → Advances (advance f) (Some step) v → Moves (reverse fs) reader step (reverse (set fs (n - 1) v)) reader
+last_moves fs f v step reader n e some last advances =
+    let more = rw e at some in
+    let is = rw e at last in
+    rw (e, reverse_last fs f more, ← is, reverse_set_last fs v more) (refl, frame_moves (advance f) (reverse (take (length fs - 1) fs)) v step advances)

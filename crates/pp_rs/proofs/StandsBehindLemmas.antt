@@ -1,0 +1,98 @@
+-- The reader that a source stands for: whether its text is live, the innermost block there, and where it stands some items further on.
+use Rattle.std.proofs.Common.{◌≡◌, ◌≢◌, ◌∙◌, ℕ, zero, suc, pos, ◌+◌, ◌-◌, ◌≤◌, ◌<◌, Bool, true, false, ◌&&◌, if◌then◌else◌, List, [], ◌∷◌, ◌++◌, length, take, drop, refl, ap, sym, subst, Option, Some, None, arith, append-nil, length-drop}
+use Rattle.std.proofs.lemmas.List.{drop-drop, take_all}
+use Rattle.std.specs.List.{slice_get}
+use Rattle.pp_lexer.specs.Lexed.{Seen}
+use Rattle.pp_model.specs.Definitions.{Definitions}
+use Rattle.pp_model.specs.Sights.{sight_of}
+use Rattle.pp_model.specs.Blocks.{Block, Truths, open_blocks, block_lines, blocks_at, innermost, is_live, are_surroundings_live, has_else}
+use Rattle.pp_model.specs.SourceReader.{SourceReader}
+use Rattle.pp_model.specs.Acts.{Acted, behind_word, live_act, dead_act, act}
+use Rattle.pp_model.specs.declared.block.BlockLine.{BlockLine}
+use Rattle.pp_model.specs.declared.sight.Sight.{Sight}
+use Rattle.pp_rs.specs.Defined.{meaning_of}
+use Rattle.pp_rs.specs.Lined.{AreLined}
+use Rattle.pp_rs.specs.OpenBlocks.{OpenBlock, last_block, outer_blocks, is_live_in, StandsForBlock, StandForBlocks, AreBefore}
+use Rattle.pp_rs.specs.Source.{Source}
+use Rattle.pp_rs.specs.Stands.{AreObjectLike, StandsForReader}
+use Rattle.pp_rs.proofs.BlockStackLemmas.{innermost_last, Innermost, stands_innermost, none_stand, live_outside, live_inside}
+use Rattle.pp_rs.proofs.LinedLemmas.{lined_behind}
+use Rattle.pp_rs.proofs.LinesBeforeLemmas.{AreLinesBefore, AddsLines, lines_here, lines_further}
+
+last_of_more : (first : OpenBlock) (blocks : List OpenBlock) → (kept : OpenBlock) → slice_get (first ∷ blocks) (length blocks) ≡ Some kept → first ∷ blocks ≡ take (length blocks) (first ∷ blocks) ++ kept ∷ []
+last_of_more first [] kept e =
+    let same : first ≡ kept = cc in
+    ap (λ b. b ∷ []) same
+last_of_more first (next ∷ blocks) kept e = ap (λ later. first ∷ later) (last_of_more next blocks kept e)
+
+some_last : (first : OpenBlock) (blocks : List OpenBlock) → slice_get (first ∷ blocks) (length blocks) ≡ None → ⊥
+some_last first [] e = cc
+some_last first (next ∷ blocks) e = some_last next blocks e
+
+one_less : (first : OpenBlock) (blocks : List OpenBlock) → length (first ∷ blocks) - 1 ≡ length blocks
+one_less first blocks = omega arith
+
+-- the blocks are the outer ones and the last
+pub blocks_split : (blocks : List OpenBlock) (kept : OpenBlock) → last_block blocks ≡ Some kept → blocks ≡ outer_blocks blocks ++ kept ∷ []
+blocks_split [] kept e = cc
+blocks_split (first ∷ blocks) kept e =
+    last_of_more first blocks kept (ap (slice_get (first ∷ blocks)) (sym (one_less first blocks)) ∙ e)
+    ∙ ap (λ n. take n (first ∷ blocks) ++ kept ∷ []) (sym (one_less first blocks))
+
+-- there are none without a last
+pub no_blocks_kept : (blocks : List OpenBlock) → last_block blocks ≡ None → blocks ≡ []
+no_blocks_kept [] e = refl
+no_blocks_kept (first ∷ blocks) e = absurd (some_last first blocks (ap (slice_get (first ∷ blocks)) (sym (one_less first blocks)) ∙ e))
+
+module _ (old : Source) (r : SourceReader) (s : StandsForReader old r) where
+  -- the innermost block of the source, where one is kept
+  pub block_here : (kept : OpenBlock) → last_block old.blocks ≡ Some kept → Innermost r.items r.truths (outer_blocks old.blocks) kept (blocks_at r.items r.position)
+  block_here kept e = stands_innermost r.items r.truths (outer_blocks old.blocks) kept (blocks_at r.items r.position)
+      (subst (λ (bs : List OpenBlock). StandForBlocks r.items r.truths bs (blocks_at r.items r.position)) (blocks_split old.blocks kept e) s.blocks)
+
+  pub none_here : last_block old.blocks ≡ None → blocks_at r.items r.position ≡ []
+  none_here e = none_stand r.items r.truths (blocks_at r.items r.position)
+      (subst (λ (bs : List OpenBlock). StandForBlocks r.items r.truths bs (blocks_at r.items r.position)) (no_blocks_kept old.blocks e) s.blocks)
+
+  live_with : (last : Option OpenBlock) → last_block old.blocks ≡ last → is_live r.items r.truths r.position ≡ is_live_in last
+  live_with None e = live_outside r.items r.truths r.position
+      (subst (λ (bs : List OpenBlock). StandForBlocks r.items r.truths bs (blocks_at r.items r.position)) (no_blocks_kept old.blocks e) s.blocks)
+  live_with (Some kept) e = live_inside r.items r.truths r.position (outer_blocks old.blocks) kept
+      (subst (λ (bs : List OpenBlock). StandForBlocks r.items r.truths bs (blocks_at r.items r.position)) (blocks_split old.blocks kept e) s.blocks)
+
+  -- the text there is live where the innermost block says so
+  pub live_now : is_live r.items r.truths r.position ≡ is_live_in (last_block old.blocks)
+  live_now = live_with (last_block old.blocks) refl
+
+  pub lined_here : AreLined old.rest
+  lined_here = subst AreLined (sym s.rest) (lined_behind r.position r.items s.lined)
+
+  pub behind_here : behind_word r ≡ drop 2 old.rest
+  behind_here = sym (drop-drop 2 r.position r.items) ∙ ap (λ items. drop 2 items) (sym s.rest)
+
+  -- some items further on
+  pub stands_further : (n : ℕ) (definitions : Definitions) (truths : Truths) (more : List BlockLine) (new : Source) → n ≤ length old.rest → new.rest ≡ drop n old.rest → new.spent ≡ false → AreObjectLike new.definitions
+      → definitions ≡ meaning_of new.definitions → AddsLines r.position n old.rest more → StandForBlocks r.items truths new.blocks (blocks_at r.items (r.position + n)) → AreBefore (r.position + n) truths
+      → StandsForReader new (record r { position = r.position + n; definitions = definitions; truths = truths })
+  stands_further n definitions truths more new within behind unspent plain means adds blocks before =
+      let further : AreLinesBefore r.items (r.position + n) (block_lines 0 (take r.position r.items) ++ more) =
+      lines_further r.items r.position n (block_lines 0 (take r.position r.items)) more s.lines (subst (λ (items : List Seen). AddsLines r.position n items more) s.rest adds) in
+      record {
+        rest = behind ∙ ap (λ items. drop n items) s.rest ∙ drop-drop n r.position r.items;
+        within = omega (arith, s.within, within, ap length s.rest, length-drop r.position r.items);
+        definitions = means;
+        object_like = plain;
+        line_offset = s.line_offset;
+        lined = s.lined;
+        lines = subst (λ (lines : List BlockLine). AreLinesBefore r.items (r.position + n) lines) (sym (lines_here r.items (r.position + n) (block_lines 0 (take r.position r.items) ++ more) further)) further;
+        blocks = blocks;
+        truths = before;
+        unfinished = s.unfinished;
+        unspent = unspent;
+      }
+
+  -- where no line of a block is added, the same blocks are open
+  pub blocks_stay : (n : ℕ) → AddsLines r.position n old.rest [] → blocks_at r.items (r.position + n) ≡ blocks_at r.items r.position
+  blocks_stay n adds =
+      let further = lines_further r.items r.position n (block_lines 0 (take r.position r.items)) [] s.lines (subst (λ (items : List Seen). AddsLines r.position n items []) s.rest adds) in
+      ap open_blocks (lines_here r.items (r.position + n) (block_lines 0 (take r.position r.items) ++ []) further ∙ append-nil (block_lines 0 (take r.position r.items)))

@@ -1,0 +1,25 @@
+-- A preprocessor at the start of a source stands for the start of its run.
+use Rattle.std.proofs.Common.{ℕ, List, refl, arith}
+use Rattle.pp_model.specs.Run.{items_of, start}
+use Rattle.pp_rs.specs.Preprocessing.{start_of, Stands}
+use Rattle.pp_rs.proofs.LinedLemmas.{items_lined}
+
+pub start_stands : (text : List ℕ) → Stands (start_of text) (start (items_of text))
+start_stands text = record {
+  held = refl;
+  list = refl;
+  reader = record {
+    rest = refl;
+    within = omega arith;
+    definitions = refl;
+    object_like = λ name definition defined. cc;
+    line_offset = refl;
+    lined = items_lined text;
+    lines = λ behind. refl;
+    blocks = tt;
+    truths = tt;
+    unfinished = refl;
+    unspent = refl;
+  };
+  hidden = refl;
+}

@@ -1,0 +1,84 @@
+-- The directives that act so far. The others are refused where they are read, whatever they would do.
+use Rattle.std.specs.Prelude.{◌≡◌, ℕ, Bool, true, false, if◌then◌else◌, List, [], ◌∷◌, drop, Option, Some, None, Result, Ok, Err}
+use Rattle.pp_lexer.specs.Lexed.{Seen}
+use Rattle.pp_lexer.specs.Items.{Lexeme}
+use Rattle.pp_lexer.specs.declared.token.Location.{Location}
+use Rattle.pp_lexer.specs.declared.token.PreprocessorError.TheVariants.{UnknownDirective}
+use Rattle.pp_model.specs.Calls.{Fault}
+use Rattle.pp_model.specs.Conversions.{refused_token}
+use Rattle.pp_model.specs.Lines.{first_name, behind_first_token}
+use Rattle.pp_model.specs.DefineLines.{is_attached_paren}
+use Rattle.pp_model.specs.Emitting.{answers_at, expansion_limit}
+use Rattle.pp_model.specs.Reading.{Reading}
+use Rattle.pp_model.specs.Reads.{Steps, shown_line}
+use Rattle.pp_model.specs.Blocks.{is_live}
+use Rattle.pp_model.specs.Sights.{sight_of}
+use Rattle.pp_model.specs.SourceReader.{SourceReader}
+use Rattle.pp_model.specs.declared.definition.Placed.{Placed}
+use Rattle.pp_model.specs.declared.directive.Directive.{Directive}
+use Rattle.pp_model.specs.declared.directive.Directive.TheVariants as d
+use Rattle.pp_model.specs.declared.outcome.Outcome.{Outcome}
+use Rattle.pp_model.specs.declared.outcome.Outcome.TheVariants as outcome
+use Rattle.pp_model.specs.declared.sight.Sight.{Sight}
+use Rattle.pp_model.specs.declared.sight.Sight.TheVariants as sight
+
+-- the fault of a `(` that stands directly behind a macro's name
+abbrev pub paren_fault : Lexeme → Option Fault
+paren_fault (Ok token) = if is_attached_paren (Ok token) then Some (refused_token token) else None
+paren_fault (Err fault) = None
+
+abbrev pub parameters_fault : List Seen → Option Fault
+parameters_fault [] = None
+parameters_fault (s ∷ rest) = paren_fault s.item
+
+-- the same behind a name
+abbrev pub parameters_fault_behind : Result Placed Fault → List Seen → Option Fault
+parameters_fault_behind (Ok name) rest = parameters_fault rest
+parameters_fault_behind (Err fault) rest = None
+
+-- In live text these act so far: `#define` of a macro without parameters, `#undef`, `#ifdef`, `#ifndef`, `#else` and `#endif`.
+abbrev pub live_fault : Directive → Location → List Seen → Option Fault
+live_fault d.Define word behind = parameters_fault_behind (first_name word behind) (behind_first_token behind)
+live_fault d.If word behind = Some (UnknownDirective, word)
+live_fault d.Elif word behind = Some (UnknownDirective, word)
+live_fault d.Error word behind = Some (UnknownDirective, word)
+live_fault d.Line word behind = Some (UnknownDirective, word)
+live_fault d.Version word behind = Some (UnknownDirective, word)
+live_fault d.Extension word behind = Some (UnknownDirective, word)
+live_fault d.Pragma word behind = Some (UnknownDirective, word)
+live_fault _ word behind = None
+
+-- in dead text all but `#elif` are read as they will be
+abbrev pub dead_fault : Directive → Location → Option Fault
+dead_fault d.Elif word = Some (UnknownDirective, word)
+dead_fault _ word = None
+
+abbrev pub directive_fault : Bool → Directive → Location → List Seen → Option Fault
+directive_fault live directive word behind = if live then live_fault directive word behind else dead_fault directive word
+
+abbrev pub fault_at : Bool → Sight → List Seen → Option Fault
+fault_at live (sight.Directive directive word) rest = directive_fault live directive word (drop 2 rest)
+fault_at live _ rest = None
+
+-- what is refused so far of the items at the reader's position
+abbrev pub fault_so_far : SourceReader → Option Fault
+fault_so_far r = fault_at (is_live r.items r.truths r.position) (sight_of (drop r.position r.items)) (drop r.position r.items)
+
+-- one token or line of the source, as far as the directives act
+pub data StepsSoFar : SourceReader → Option Outcome → SourceReader → Type 0 where
+  acts : (o : Option Outcome) (r t : SourceReader) → fault_so_far r ≡ None → Steps (answers_at expansion_limit) r o t → StepsSoFar r o t
+  refused : (fault : Fault) (o : Option Outcome) (r t : SourceReader) → fault_so_far r ≡ Some fault → o ≡ Some (outcome.Fault fault) → t ≡ r → StepsSoFar r o t
+
+-- what reading gives next: the first step that gives something
+pub data ReadsSoFar : SourceReader → Outcome → SourceReader → Type 0 where
+  here : (o : Outcome) (r t : SourceReader) → StepsSoFar r (Some o) t → ReadsSoFar r o t
+  later : (o : Outcome) (r s t : SourceReader) → StepsSoFar r None s → ReadsSoFar s o t → ReadsSoFar r o t
+
+-- the source as a reader
+abbrev pub reading_so_far : Reading SourceReader
+reading_so_far = record {
+  Reads = ReadsSoFar;
+  visible = λ reader. reader.definitions;
+  shown_line = shown_line;
+  is_reserved = λ name. false;
+}

@@ -1,0 +1,83 @@
+-- What the reader of a source keeps, and one step of it.
+use Rattle.std.specs.Prelude.{◌≡◌, ◌≢◌, ℕ, ◌+◌, ◌<◌, ◌⊎◌, Bool, true, false, if◌then◌else◌, not, is_some, List, [], ◌∷◌, ◌++◌, length, drop, Option, Some, None, Result, Ok, Err, MatchBool, ⊤}
+use Rattle.pp_lexer.specs.Lexed.{Seen}
+use Rattle.pp_lexer.specs.PreprocessorError.{out_of_memory}
+use Rattle.pp_lexer.specs.declared.token.PreprocessorError.TheVariants.{DefineRedefined, UnfinishedBlock}
+use Rattle.pp_lexer.specs.declared.token.Token.{Token}
+use Rattle.pp_model.specs.Definitions.{Definition, IsSameDefinition}
+use Rattle.pp_model.specs.Calls.{Fault}
+use Rattle.pp_model.specs.declared.definition.Named.{Named}
+use Rattle.pp_rs.specs.Item.{Step}
+use Rattle.pp_rs.specs.Defined.{Defined, meaning_of, IsChanged}
+use Rattle.pp_rs.specs.OpenBlocks.{OpenBlock, outer_blocks, block_opened, block_unread}
+use Rattle.pp_rs.specs.SourceMoves.{Effect, gives, fails, ends, passes, defines, undefines, opens_where, opens_unread, parts, closes, unfinished, Move, move_of}
+use Rattle.pp_rs.specs.declared.pp.step.StepExit.TheVariants.{Error, Continue, Finished}
+
+-- the items that are left, what is defined, the blocks that are open, the outermost first, and whether memory was refused
+pub record Source : Type 0 where
+  pub rest : List Seen
+  pub definitions : List Defined
+  pub blocks : List OpenBlock
+  pub spent : Bool
+
+-- behind so many items, where these blocks are open
+pub record IsBehind (taken : ℕ) (still_open : List OpenBlock) (old new : Source) : Type 0 where
+  pub rest : new.rest ≡ drop taken old.rest
+  pub blocks : new.blocks ≡ still_open
+  pub spent : new.spent ≡ false
+
+-- behind a fault: nothing is said of how far the reader went, but that it went on
+pub record IsBehindFault (old new : Source) : Type 0 where
+  pub shorter : length new.rest < length old.rest
+  pub definitions : new.definitions ≡ old.definitions
+  pub blocks : new.blocks ≡ old.blocks
+  pub spent : new.spent ≡ false
+
+-- the innermost block was told at the end
+pub record IsBehindBlock (old new : Source) : Type 0 where
+  pub rest : new.rest ≡ old.rest
+  pub definitions : new.definitions ≡ old.definitions
+  pub blocks : new.blocks ≡ outer_blocks old.blocks
+  pub spent : new.spent ≡ false
+
+-- a `#define` of a name that stood for this
+abbrev pub DefinesOver : Named → Option Definition → ℕ → Source → Step Token → Source → Type 0
+DefinesOver named None taken old step new =
+    (step ≡ Err Continue) × IsBehind taken old.blocks old new × IsChanged named.name (Some named.definition) old.definitions new.definitions
+DefinesOver named (Some before) taken old step new =
+    (IsSameDefinition before named.definition × (step ≡ Err Continue) × IsBehind taken old.blocks old new × (new.definitions ≡ old.definitions))
+    ⊎ ((IsSameDefinition before named.definition → ⊥) × (step ≡ Err (Error (DefineRedefined, named.location))) × IsBehindFault old new)
+
+-- a block opens, where the name is defined or where it isn't
+abbrev pub holds_where : Bool → Option Definition → Bool
+holds_where wanted found = if wanted then is_some found else not (is_some found)
+
+-- a pause behind so many items, where these blocks are open
+abbrev pub Pauses : ℕ → List OpenBlock → Source → Step Token → Source → Type 0
+Pauses taken blocks old step new = (step ≡ Err Continue) × IsBehind taken blocks old new × (new.definitions ≡ old.definitions)
+
+-- what an effect means for the step, and for the source behind it
+abbrev pub HasEffect : Effect → ℕ → Source → Step Token → Source → Type 0
+HasEffect (gives token) taken old step new = (step ≡ Ok token) × IsBehind taken old.blocks old new × (new.definitions ≡ old.definitions)
+HasEffect (fails fault) taken old step new = (step ≡ Err (Error fault)) × IsBehindFault old new
+HasEffect ends taken old step new = (step ≡ Err Finished) × (new ≡ old)
+HasEffect passes taken old step new = Pauses taken old.blocks old step new
+HasEffect (defines named) taken old step new = DefinesOver named (meaning_of old.definitions named.name) taken old step new
+HasEffect (undefines name) taken old step new = (step ≡ Err Continue) × IsBehind taken old.blocks old new × IsChanged name None old.definitions new.definitions
+HasEffect (opens_where wanted word name) taken old step new = Pauses taken (old.blocks ++ block_opened word (holds_where wanted (meaning_of old.definitions name)) ∷ []) old step new
+HasEffect (opens_unread word) taken old step new = Pauses taken (old.blocks ++ block_unread word ∷ []) old step new
+HasEffect (parts block) taken old step new = Pauses taken (outer_blocks old.blocks ++ block ∷ []) old step new
+HasEffect closes taken old step new = Pauses taken (outer_blocks old.blocks) old step new
+HasEffect (unfinished word) taken old step new = (step ≡ Err (Error (UnfinishedBlock, word))) × IsBehindBlock old new
+
+abbrev pub Makes : Move → Source → Step Token → Source → Type 0
+Makes move old step new = HasEffect move.effect move.taken old step new
+
+-- memory was refused, where something is left to read
+pub record IsRefusedStep (old : Source) (step : Step Token) : Type 0 where
+  pub some_left : old.rest ≢ []
+  pub fault : step ≡ Err (Error out_of_memory)
+
+-- One step of a source. Of the source behind a refusal of memory nothing is said, but that each further step is the end.
+abbrev pub StepsSource : Source → Step Token → Source → Type 0
+StepsSource old step new = MatchBool old.spent ((step ≡ Err Finished) × (new ≡ old)) (IsRefusedStep old step ⊎ Makes (move_of old.blocks old.rest) old step new)

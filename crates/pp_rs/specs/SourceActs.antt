@@ -1,0 +1,66 @@
+-- What a directive does, where the source stands behind its word.
+use Rattle.std.specs.Prelude.{◌≡◌, ◌≤◌, Bool, true, false, if◌then◌else◌, List, length, drop, Option, Some, None, Result, Ok, Err, ⊤}
+use Rattle.pp_lexer.specs.Lexed.{Seen}
+use Rattle.pp_lexer.specs.declared.lexer.item.Token.{Token as LexerToken}
+use Rattle.pp_lexer.specs.declared.token.Location.{Location}
+use Rattle.pp_lexer.specs.declared.token.PreprocessorError.TheVariants.{DefineRedefined}
+use Rattle.pp_model.specs.Calls.{Fault}
+use Rattle.pp_model.specs.Conversions.{identifier_of}
+use Rattle.pp_model.specs.Definitions.{Definition, IsSameDefinition}
+use Rattle.pp_model.specs.Lines.{first_name, first_token}
+use Rattle.pp_model.specs.Names.{Name}
+use Rattle.pp_model.specs.Sights.{directive_of}
+use Rattle.pp_model.specs.declared.definition.Named.{Named}
+use Rattle.pp_model.specs.declared.definition.Placed.{Placed}
+use Rattle.pp_rs.specs.Defined.{Defined, meaning_of}
+use Rattle.pp_rs.specs.OpenBlocks.{OpenBlock}
+use Rattle.pp_rs.specs.Source.{Source, Makes}
+use Rattle.pp_rs.specs.SourceMoves.{Effect, fails, passes, defines, Move, failing, directive_move, taking_more}
+use Rattle.pp_rs.specs.declared.pp.halt.Halt.{Halt}
+use Rattle.pp_rs.specs.declared.pp.halt.Halt.TheVariants as halt
+use Rattle.pp_rs.specs.declared.pp.step.StepExit.TheVariants.{Continue}
+
+-- behind a fault: nothing is said of how far the reader went
+pub record HasKept (old new : Source) : Type 0 where
+  pub rest : length new.rest ≤ length old.rest
+  pub definitions : new.definitions ≡ old.definitions
+  pub blocks : new.blocks ≡ old.blocks
+  pub spent : new.spent ≡ false
+
+abbrev pub RedefinesWith : Named → Option Definition → Fault → Type 0
+RedefinesWith named None fault = ⊥
+RedefinesWith named (Some before) fault = (IsSameDefinition before named.definition → ⊥) × (fault ≡ (DefineRedefined, named.location))
+
+-- the fault that an effect comes to, where these names are defined
+abbrev pub FailsWith : Effect → List Defined → Fault → Type 0
+FailsWith (fails wanted) definitions fault = fault ≡ wanted
+FailsWith (defines named) definitions fault = RedefinesWith named (meaning_of definitions named.name) fault
+FailsWith _ definitions fault = ⊥
+
+-- a directive does what the move says, unless memory is refused
+abbrev pub Acts : Move → Source → Result (Unit {0}) Halt → Source → Type 0
+Acts move old (Ok done) new = Makes move old (Err Continue) new
+Acts move old (Err (halt.Fault fault)) new = FailsWith move.effect old.definitions fault × HasKept old new
+Acts move old (Err halt.OutOfMemory) new = ⊤
+
+-- what a directive comes to behind its number sign, where this is its word and these items stand behind that
+abbrev pub live_word_move : Option OpenBlock → Result Placed Fault → List Seen → Move
+live_word_move block (Ok word) behind = taking_more 1 (directive_move true block (directive_of word.name) word.location behind)
+live_word_move block (Err fault) behind = failing fault
+
+-- the same in dead text, where this is the token behind the number sign
+abbrev pub dead_name_move : Option OpenBlock → Location → Option Name → List Seen → Move
+dead_name_move block location (Some name) behind = taking_more 1 (directive_move false block (directive_of name) location behind)
+dead_name_move block location None behind = record { effect = passes; taken = 1 }
+
+abbrev pub dead_word_move : Option OpenBlock → Result LexerToken Fault → List Seen → Move
+dead_word_move block (Ok token) behind = dead_name_move block token.location (identifier_of token.value) behind
+dead_word_move block (Err fault) behind = failing fault
+
+-- the same in live or dead text
+abbrev pub word_move : Bool → Option OpenBlock → Location → List Seen → Move
+word_move live block hash rest = if live then live_word_move block (first_name hash rest) (drop 1 rest) else dead_word_move block (first_token hash rest) (drop 1 rest)
+
+-- a `#define`, once its line is read
+abbrev pub defining : Named → Move
+defining named = record { effect = defines named; taken = 0 }

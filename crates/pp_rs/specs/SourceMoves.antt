@@ -1,0 +1,134 @@
+-- What a token or a line at the front of the items that are left comes to (docs/RULES.md, Directives 1 to 11).
+use Rattle.std.specs.Prelude.{ℕ, ◌+◌, Bool, true, false, if◌then◌else◌, List, [], ◌∷◌, drop, Option, Some, None, Result, Ok, Err}
+use Rattle.pp_lexer.specs.Lexed.{Seen}
+use Rattle.pp_lexer.specs.declared.token.Location.{Location}
+use Rattle.pp_lexer.specs.declared.token.PreprocessorError.TheVariants.{UnexpectedHash, UnknownDirective, ElseOutsideOfBlock, EndifOutsideOfBlock, MoreThanOneElse}
+use Rattle.pp_lexer.specs.declared.token.Token.{Token}
+use Rattle.pp_model.specs.Names.{Name}
+use Rattle.pp_model.specs.Calls.{Fault}
+use Rattle.pp_model.specs.Lines.{line_length, line_fault, ended_line, only_name}
+use Rattle.pp_model.specs.DefineLines.{defined_on}
+use Rattle.pp_model.specs.Sights.{sight_of}
+use Rattle.pp_model.specs.declared.definition.Named.{Named}
+use Rattle.pp_model.specs.declared.directive.Directive.{Directive}
+use Rattle.pp_model.specs.declared.directive.Directive.TheVariants as d
+use Rattle.pp_model.specs.declared.sight.Sight.{Sight}
+use Rattle.pp_model.specs.declared.sight.Sight.TheVariants as sight
+use Rattle.pp_rs.specs.OpenBlocks.{OpenBlock, last_block, is_live_in, block_parted}
+use Rattle.pp_rs.specs.SoFar.{directive_fault}
+
+-- What comes of it: a token or a fault is given, nothing, or the end; a name stands for something from now on, or for nothing; a block
+-- opens where a name is defined, or where it isn't, or unread; the innermost block is parted, or closes, or is told at the end.
+pub data Effect : Type 0 where
+  gives : Token → Effect
+  fails : Fault → Effect
+  ends : Effect
+  passes : Effect
+  defines : Named → Effect
+  undefines : Name → Effect
+  opens_where : Bool → Location → Name → Effect
+  opens_unread : Location → Effect
+  parts : OpenBlock → Effect
+  closes : Effect
+  unfinished : Location → Effect
+
+-- what it comes to, and how many items it takes
+pub record Move : Type 0 where
+  pub effect : Effect
+  pub taken : ℕ
+
+abbrev pub failing : Fault → Move
+failing fault = record { effect = fails fault; taken = 0 }
+
+-- a line with this value or fault, where so many items belong to it
+abbrev pub line_move : {A : Type 0} → Result A Fault → (A → Effect) → ℕ → Move
+line_move (Ok value) effect taken = record { effect = effect value; taken = taken }
+line_move (Err fault) effect taken = failing fault
+
+-- a line that is skipped, but for the lexer's errors
+abbrev pub skip_by : Option Fault → Effect → ℕ → Move
+skip_by (Some fault) effect taken = failing fault
+skip_by None effect taken = record { effect = effect; taken = taken }
+
+abbrev pub skip_move : Effect → List Seen → Move
+skip_move effect behind = skip_by (line_fault behind) effect (line_length behind)
+
+-- an `#else` of the innermost block, once its line has ended
+abbrev pub else_effect : Option OpenBlock → Location → Effect
+else_effect None word = fails (ElseOutsideOfBlock, word)
+else_effect (Some block) word = if block.with_else then fails (MoreThanOneElse, word) else parts (block_parted block)
+
+abbrev pub else_move : Option OpenBlock → Location → List Seen → Move
+else_move block word behind = line_move (ended_line word behind) (λ end. else_effect block word) (line_length behind)
+
+-- the `#endif` of the innermost block
+abbrev pub endif_move : Option OpenBlock → Location → List Seen → Move
+endif_move None word behind = failing (EndifOutsideOfBlock, word)
+endif_move (Some block) word behind =
+    if block.live_around then line_move (ended_line word behind) (λ end. closes) (line_length behind) else skip_move closes behind
+
+-- a directive in live text, where these items stand behind its word
+abbrev pub live_move : Option OpenBlock → Directive → Location → List Seen → Move
+live_move block d.Define word behind = line_move (defined_on word behind) defines (line_length behind)
+live_move block d.Undef word behind = line_move (only_name word behind) undefines (line_length behind)
+live_move block d.Ifdef word behind = line_move (only_name word behind) (opens_where true word) (line_length behind)
+live_move block d.Ifndef word behind = line_move (only_name word behind) (opens_where false word) (line_length behind)
+live_move block d.Else word behind = else_move block word behind
+live_move block d.Endif word behind = endif_move block word behind
+live_move block _ word behind = failing (UnknownDirective, word)
+
+-- a directive in dead text
+abbrev pub dead_move : Option OpenBlock → Directive → Location → List Seen → Move
+dead_move block d.If word behind = skip_move (opens_unread word) behind
+dead_move block d.Ifdef word behind = skip_move (opens_unread word) behind
+dead_move block d.Ifndef word behind = skip_move (opens_unread word) behind
+dead_move block d.Elif word behind = failing (UnknownDirective, word)
+dead_move block d.Else word behind = else_move block word behind
+dead_move block d.Endif word behind = endif_move block word behind
+dead_move block d.Unknown word behind = record { effect = passes; taken = 0 }
+dead_move block _ word behind = skip_move passes behind
+
+abbrev pub acting_move : Bool → Option OpenBlock → Directive → Location → List Seen → Move
+acting_move live block directive word behind = if live then live_move block directive word behind else dead_move block directive word behind
+
+abbrev pub unless_refused : Option Fault → Move → Move
+unless_refused (Some fault) move = failing fault
+unless_refused None move = move
+
+abbrev pub directive_move : Bool → Option OpenBlock → Directive → Location → List Seen → Move
+directive_move live block directive word behind = unless_refused (directive_fault live directive word behind) (acting_move live block directive word behind)
+
+-- so many items more
+abbrev pub taking_more : ℕ → Move → Move
+taking_more count move = record move { taken = count + move.taken }
+
+-- the end, where each block that is open is told first, the innermost before the others
+abbrev pub end_effect : Option OpenBlock → Effect
+end_effect None = ends
+end_effect (Some block) = unfinished block.word
+
+-- what stands in live text, and in dead text
+abbrev pub live_move_at : Option OpenBlock → Sight → List Seen → Move
+live_move_at block sight.End rest = record { effect = end_effect block; taken = 0 }
+live_move_at block sight.NewLine rest = record { effect = passes; taken = 1 }
+live_move_at block (sight.Fault fault) rest = failing fault
+live_move_at block (sight.Token token) rest = record { effect = gives token; taken = 1 }
+live_move_at block (sight.Hash location) rest = failing (UnexpectedHash, location)
+live_move_at block (sight.NoWord fault) rest = failing fault
+live_move_at block (sight.Directive directive word) rest = taking_more 2 (directive_move true block directive word (drop 2 rest))
+
+abbrev pub dead_move_at : Option OpenBlock → Sight → List Seen → Move
+dead_move_at block sight.End rest = record { effect = end_effect block; taken = 0 }
+dead_move_at block sight.NewLine rest = record { effect = passes; taken = 1 }
+dead_move_at block (sight.Fault fault) rest = failing fault
+dead_move_at block (sight.Token token) rest = record { effect = passes; taken = 1 }
+dead_move_at block (sight.Hash location) rest = record { effect = passes; taken = 1 }
+dead_move_at block (sight.NoWord fault) rest = record { effect = passes; taken = 2 }
+dead_move_at block (sight.Directive directive word) rest = taking_more 2 (directive_move false block directive word (drop 2 rest))
+
+abbrev pub move_at : Bool → Option OpenBlock → Sight → List Seen → Move
+move_at live block shown rest = if live then live_move_at block shown rest else dead_move_at block shown rest
+
+-- what stands at the front of these items comes to this, where these blocks are open
+abbrev pub move_of : List OpenBlock → List Seen → Move
+move_of blocks rest = move_at (is_live_in (last_block blocks)) (last_block blocks) (sight_of rest) rest

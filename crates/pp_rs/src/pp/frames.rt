@@ -1,0 +1,184 @@
+//! Frames: macros that are open, each with how far its body and its arguments are read.
+
+ghost use Rattle.std.specs.Prelude.{◌≡◌, ◌⊎◌, ◌<◌, ◌^◌, IfOk, IfSome, IsTrue, All, MatchOption, Some, None, Ok, Err, option_map, slice_get, position};
+ghost use Rattle.pp_lexer.specs.PreprocessorError.{out_of_memory};
+ghost use Rattle.pp_lexer.specs.TokenValue.{is_ordinary};
+ghost use Rattle.pp_model.specs.Names.{is_same_name};
+ghost use Rattle.pp_model.specs.SpliceList.{parameter_of};
+ghost use Rattle.pp_rs.specs.Frames.{layer, argument_at, advance};
+ghost use Rattle.pp_rs.specs.Turns.{as_pause};
+ghost use Rattle.pp_rs.specs.declared.pp.step.StepExit.TheVariants.{Error};
+
+use crate::pp::define::Define;
+use crate::pp::step::{Step, StepExit};
+use crate::token::{Text, Token, TokenValue};
+use std::alloc::Global;
+use std::marker::Model;
+use std::rc::Rc;
+
+/// Ordinary tokens, as an argument of a call.
+#[derive(Drop)]
+pub struct TokenList {
+    items: Vec<Token>,
+}
+
+impl Model for TokenList {
+    ghost use Rattle.std.specs.Prelude.{All, IsTrue, List};
+    ghost use Rattle.pp_lexer.specs.TokenValue.{is_ordinary};
+    ghost use Rattle.pp_lexer.specs.declared.token.Token.{Token};
+
+    ghost Value = { List Token };
+
+    ghost view = { λ list. list.items.items };
+
+    ghost invariant = { λ list. All (λ token. IsTrue (is_ordinary token.value)) list.items.items };
+}
+
+impl TokenList {
+    /// The list of these tokens.
+    pub fn new(items: Vec<Token>) -> TokenList
+        requires { All (λ token. IsTrue (is_ordinary token.value)) items.items }
+        ensures { result ≡ items.items }
+    {
+        TokenList { items }
+    }
+
+    /// The tokens.
+    pub fn as_slice(&self) -> &[Token]
+        ensures is { result.now ≡ self.now }
+        ensures ordinary { All (λ token. IsTrue (is_ordinary token.value)) result.now }
+    {
+        &self.items
+    }
+}
+
+/// A macro that is open.
+#[derive(Drop)]
+pub struct Frame {
+    name: Text,
+    line: u32,
+    define: Rc<Define>,
+    position: usize,
+    arguments: Vec<TokenList>,
+    expanding: Option<usize>,
+    argument_position: usize,
+}
+
+impl Model for Frame {
+    ghost use Rattle.std.specs.Prelude.{drop, option_map};
+    ghost use Rattle.pp_rs.specs.Frames.{Layer, argument_at};
+
+    ghost Value = { Layer };
+
+    ghost view = { λ f. record {
+      name = f.name;
+      line = f.line;
+      parameters = f.define.value.parameters;
+      body = drop f.position f.define.value.body;
+      arguments = f.arguments.items;
+      reading = option_map (λ k. drop f.argument_position (argument_at f.arguments.items k)) f.expanding;
+    } };
+}
+
+// The position of the name among the names.
+fn position_of(names: &[Text], name: &Text) -> Option<usize>
+    ensures { result ≡ position (is_same_name name.now) names.now }
+{
+    names.iter().position(|other| *name == *other)
+}
+
+// The position of the parameter that the value names.
+fn parameter_of(parameters: &[Text], value: &TokenValue) -> Option<usize>
+    ensures { result ≡ parameter_of parameters.now value.now }
+{
+    match value {
+        TokenValue::Ident(name) => position_of(parameters, name),
+        _ => None,
+    }
+}
+
+// The token at the position.
+fn token_at(tokens: &[Token], position: usize) -> Option<&Token>
+    requires { All (λ token. IsTrue (is_ordinary token.value)) tokens.now }
+    ensures token { option_map (λ token. token.now) result ≡ slice_get tokens.now position }
+    ensures small { IfSome result (λ _. position < 2 ^ 63) }
+    ensures ordinary { IfSome result (λ token. IsTrue (is_ordinary token.now.value)) }
+{
+    tokens.get(position)
+}
+
+// The token of the argument with this index at the position.
+fn argument_token(arguments: &[TokenList], index: usize, position: usize) -> Option<&Token>
+    ensures token { option_map (λ token. token.now) result ≡ slice_get (argument_at arguments.now index) position }
+    ensures small { IfSome result (λ _. position < 2 ^ 63) }
+    ensures ordinary { IfSome result (λ token. IsTrue (is_ordinary token.now.value)) }
+{
+    match arguments.get(index) {
+        Some(argument) => token_at(argument.as_slice(), position),
+        None => None,
+    }
+}
+
+// A copy of a token as what a step gives.
+fn give(alloc: Global, token: &Token) -> Step<Token>
+    ensures { (result ≡ Err (Error out_of_memory)) ⊎ (result ≡ Ok token.now) }
+{
+    token.clone(alloc).map_err(StepExit::Error)
+}
+
+impl Frame {
+    /// The frame of a macro as it opens.
+    pub fn new(name: Text, line: u32, define: Rc<Define>, arguments: Vec<TokenList>) -> Frame
+        ensures { result ≡ layer name line define.value arguments.items }
+    {
+        Frame {
+            name,
+            line,
+            define,
+            position: 0,
+            arguments,
+            expanding: None,
+            argument_position: 0,
+        }
+    }
+
+    /// The macro's name.
+    pub fn name(&self) -> &Text
+        ensures { result.now ≡ self.now.name }
+    {
+        &self.name
+    }
+
+    /// The line that `__LINE__` shows in it.
+    pub fn line(&self) -> u32
+        ensures { result ≡ self.now.line }
+    {
+        self.line
+    }
+
+    /// The next step of the frame, or `None` where its body has ended. A parameter and the end
+    /// of an argument are pauses.
+    pub fn advance(&mut self, alloc: Global) -> Option<Step<Token>>
+        ensures step { (result ≡ Some (Err (Error out_of_memory))) ⊎ MatchOption (advance self.old) (result ≡ None) (λ step. (result ≡ Some (as_pause step.gives)) × (self.new ≡ step.after)) }
+        ensures ordinary { IfSome result (λ step. IfOk step (λ token. IsTrue (is_ordinary token.value))) }
+    {
+        if let Some(index) = self.expanding {
+            let Some(token) = argument_token(&self.arguments, index, self.argument_position) else {
+                self.expanding = None;
+                return Some(Err(StepExit::Continue));
+            };
+            self.argument_position += 1;
+            return Some(give(alloc, token));
+        }
+        let Some(token) = token_at(self.define.body(), self.position) else {
+            return None;
+        };
+        self.position += 1;
+        if let Some(index) = parameter_of(self.define.parameters(), &token.value) {
+            self.expanding = Some(index);
+            self.argument_position = 0;
+            return Some(Err(StepExit::Continue));
+        }
+        Some(give(alloc, token))
+    }
+}

@@ -1,0 +1,242 @@
+//! The lines of directives, read token by token.
+
+ghost use Rattle.std.specs.Prelude.{◌≡◌, false, Ok, IsTrue, All, IfOk, IfSome};
+ghost use Rattle.pp_lexer.specs.TokenValue.{is_ordinary};
+ghost use Rattle.pp_model.specs.Conversions as conversions;
+ghost use Rattle.pp_model.specs.DefineLines.{is_attached_paren};
+ghost use Rattle.pp_model.specs.Lines.{first_token, first_name, ended_line, only_name, line_length};
+ghost use Rattle.pp_rs.specs.LineReading as spec;
+
+use crate::lexer;
+use crate::pp::convert::convert_lexer_token;
+use crate::pp::define::Define;
+use crate::pp::halt::Halt;
+use crate::pp::source_lexer::SourceLexer;
+use crate::token::{Location, PreprocessorError, Punct, Text, Token, TokenValue};
+use std::alloc::Global;
+
+/// The next token; the end is refused at the directive's word.
+pub fn first_token(word: Location, lexer: &mut SourceLexer<'_>) -> Result<lexer::Token, Halt>
+    requires { lexer.old.spent ≡ false }
+    ensures is { spec.Meets (λ t. t) result (first_token word lexer.old.rest) }
+    ensures takes { spec.TakesItems 1 lexer.old result lexer.new }
+{
+    match lexer.next_token()? {
+        Some(token) => Ok(token),
+        None => Err(Halt::Fault((PreprocessorError::UnexpectedEndOfInput, word))),
+    }
+}
+
+// The fault of a token that stands where it is not wanted.
+fn refused_token(token: lexer::Token) -> (PreprocessorError, Location)
+    ensures { result ≡ conversions.refused_token token }
+{
+    let location = token.location;
+    let error = match token.value {
+        lexer::TokenValue::Hash => PreprocessorError::UnexpectedHash,
+        lexer::TokenValue::NewLine => PreprocessorError::UnexpectedNewLine,
+        lexer::TokenValue::Ident(name) => {
+            PreprocessorError::UnexpectedToken(TokenValue::Ident(name))
+        }
+        lexer::TokenValue::Integer(integer) => {
+            PreprocessorError::UnexpectedToken(TokenValue::Integer(integer))
+        }
+        lexer::TokenValue::Float(float) => {
+            PreprocessorError::UnexpectedToken(TokenValue::Float(float))
+        }
+        lexer::TokenValue::Punct(punct) => {
+            PreprocessorError::UnexpectedToken(TokenValue::Punct(punct))
+        }
+    };
+    (error, location)
+}
+
+/// A name, and where it stands.
+#[derive(Drop)]
+pub struct PlacedName {
+    pub name: Text,
+    pub location: Location,
+}
+
+/// The name that comes next.
+pub fn first_name(word: Location, lexer: &mut SourceLexer<'_>) -> Result<PlacedName, Halt>
+    requires { lexer.old.spent ≡ false }
+    ensures is { spec.Meets spec.placed result (first_name word lexer.old.rest) }
+    ensures takes { spec.TakesItems 1 lexer.old result lexer.new }
+{
+    let token = first_token(word, lexer)?;
+    let location = token.location;
+    match token.value {
+        lexer::TokenValue::Ident(name) => Ok(PlacedName { name, location }),
+        _ => Err(Halt::Fault(refused_token(token))),
+    }
+}
+
+/// Whether nothing stands before the end of the line; else what stands there is refused.
+pub fn ended_line(word: Location, lexer: &mut SourceLexer<'_>) -> Result<(), Halt>
+    requires { lexer.old.spent ≡ false }
+    ensures is { spec.Meets (λ t. t) result (ended_line word lexer.old.rest) }
+    ensures takes { spec.TakesItems 1 lexer.old result lexer.new }
+{
+    let token = first_token(word, lexer)?;
+    match token.value {
+        lexer::TokenValue::NewLine => Ok(()),
+        _ => Err(Halt::Fault(refused_token(token))),
+    }
+}
+
+/// A name alone on the line.
+pub fn only_name(word: Location, lexer: &mut SourceLexer<'_>) -> Result<Text, Halt>
+    requires { lexer.old.spent ≡ false }
+    ensures is { spec.Meets (λ t. t) result (only_name word lexer.old.rest) }
+    ensures takes { spec.TakesItems (line_length lexer.old.rest) lexer.old result lexer.new }
+{
+    let first = first_name(word, lexer)?;
+    ended_line(word, lexer)?;
+    Ok(first.name)
+}
+
+// Passes a token. Whether the line goes on behind it.
+fn pass_token(lexer: &mut SourceLexer<'_>) -> Result<bool, Halt>
+    requires { lexer.old.spent ≡ false }
+    ensures is { spec.Meets (λ t. t) result (spec.line_goes_on lexer.old.rest) }
+    ensures takes { spec.TakesItems 1 lexer.old result lexer.new }
+{
+    match lexer.next_token()? {
+        Some(token) => Ok(!matches!(token.value, lexer::TokenValue::NewLine)),
+        None => Ok(false),
+    }
+}
+
+/// Passes the rest of the line. A lexer's error on it is given.
+pub fn skip_line(lexer: &mut SourceLexer<'_>) -> Result<(), Halt>
+    requires { lexer.old.spent ≡ false }
+    ensures is { spec.Meets (λ t. t) result (spec.skipped_line lexer.old.rest) }
+    ensures takes { spec.TakesItems (line_length lexer.old.rest) lexer.old result lexer.new }
+{
+    'line: while pass_token(lexer)? {}
+    Ok(())
+}
+
+/// The end of an `#endif` line, which is skipped where the block's surroundings are dead.
+pub fn endif_end(live_around: bool, word: Location, lexer: &mut SourceLexer<'_>) -> Result<(), Halt>
+    requires { lexer.old.spent ≡ false }
+    ensures is { spec.Meets (λ t. t) result (spec.endif_end live_around word lexer.old.rest) }
+    ensures takes { spec.TakesItems (line_length lexer.old.rest) lexer.old result lexer.new }
+{
+    if live_around {
+        ended_line(word, lexer)
+    } else {
+        skip_line(lexer)
+    }
+}
+
+// A token of the line, or nothing where the line ends.
+fn line_token(token: Option<lexer::Token>) -> Result<Option<Token>, Halt>
+    ensures is { spec.Meets (λ t. t) result (spec.line_token token) }
+    ensures ordinary { spec.IsOrdinaryIfOk result }
+{
+    match token {
+        Some(token) if !matches!(token.value, lexer::TokenValue::NewLine) => {
+            Ok(Some(convert_lexer_token(token)?))
+        }
+        _ => Ok(None),
+    }
+}
+
+/// The next token of the line, or nothing where the line ends.
+pub fn next_line_token(lexer: &mut SourceLexer<'_>) -> Result<Option<Token>, Halt>
+    requires { lexer.old.spent ≡ false }
+    ensures is { spec.Meets (λ t. t) result (spec.next_line_token lexer.old.rest) }
+    ensures takes { spec.TakesItems 1 lexer.old result lexer.new }
+    ensures ordinary { spec.IsOrdinaryIfOk result }
+{
+    line_token(lexer.next_token()?)
+}
+
+// Whether it is a `(` without a blank before it.
+fn is_attached_paren(token: &lexer::Token) -> bool
+    ensures { result ≡ is_attached_paren (Ok token.now) }
+{
+    matches!(token.value, lexer::TokenValue::Punct(Punct::LeftParen)) && !token.leading_whitespace
+}
+
+// The token behind a macro's name, or nothing where the line ends. Parameters are refused.
+fn token_behind_name(token: Option<lexer::Token>) -> Result<Option<Token>, Halt>
+    ensures is { spec.Meets (λ t. t) result (spec.token_behind_name token) }
+    ensures ordinary { spec.IsOrdinaryIfOk result }
+{
+    match token {
+        Some(token) if is_attached_paren(&token) => Err(Halt::Fault(refused_token(token))),
+        other => line_token(other),
+    }
+}
+
+// The next token, where a macro's body begins.
+fn next_body_token(lexer: &mut SourceLexer<'_>) -> Result<Option<Token>, Halt>
+    requires { lexer.old.spent ≡ false }
+    ensures is { spec.Meets (λ t. t) result (spec.next_body_token lexer.old.rest) }
+    ensures takes { spec.TakesItems 1 lexer.old result lexer.new }
+    ensures ordinary { spec.IsOrdinaryIfOk result }
+{
+    token_behind_name(lexer.next_token()?)
+}
+
+/// The tokens of a line whose first one was read, if it has one.
+pub fn line_tokens_from(
+    alloc: Global,
+    first: Option<Token>,
+    lexer: &mut SourceLexer<'_>,
+) -> Result<Vec<Token>, Halt>
+    requires unspent { lexer.old.spent ≡ false }
+    requires ordinary { IfSome first (λ t. IsTrue (is_ordinary t.value)) }
+    ensures is { spec.Meets (λ tokens. tokens.items) result (spec.tokens_behind first lexer.old.rest) }
+    ensures takes { spec.TakesItems (spec.length_behind first lexer.old.rest) lexer.old result lexer.new }
+    ensures ordinary { IfOk result (λ tokens. All (λ t. IsTrue (is_ordinary t.value)) tokens.items) }
+{
+    let mut tokens = Vec::new(alloc);
+    let mut next = first;
+    while let Some(token) = next {
+        tokens.push(token)?;
+        next = next_line_token(lexer)?;
+    }
+    Ok(tokens)
+}
+
+/// The body of a macro without parameters, behind its name. Parameters are refused.
+pub fn body_tokens(alloc: Global, lexer: &mut SourceLexer<'_>) -> Result<Vec<Token>, Halt>
+    requires { lexer.old.spent ≡ false }
+    ensures is { spec.Meets (λ tokens. tokens.items) result (spec.body_tokens lexer.old.rest) }
+    ensures takes { spec.TakesItems (line_length lexer.old.rest) lexer.old result lexer.new }
+    ensures ordinary { IfOk result (λ tokens. All (λ t. IsTrue (is_ordinary t.value)) tokens.items) }
+{
+    let first = next_body_token(lexer)?;
+    line_tokens_from(alloc, first, lexer)
+}
+
+/// What a `#define` line says.
+#[derive(Drop)]
+pub struct DefineLine {
+    pub name: Text,
+    pub location: Location,
+    pub define: Define,
+}
+
+/// What a `#define` line says, behind its word. Parameters are refused.
+pub fn define_line(
+    alloc: Global,
+    word: Location,
+    lexer: &mut SourceLexer<'_>,
+) -> Result<DefineLine, Halt>
+    requires { lexer.old.spent ≡ false }
+    ensures is { spec.Meets spec.named result (spec.defined_so_far word lexer.old.rest) }
+    ensures takes { spec.TakesItems (line_length lexer.old.rest) lexer.old result lexer.new }
+{
+    let PlacedName { name, location } = first_name(word, lexer)?;
+    let body = body_tokens(alloc, lexer)?;
+    Ok(DefineLine {
+        name,
+        location,
+        define: Define::object_like(alloc, body),
+    })
+}

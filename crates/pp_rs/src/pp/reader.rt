@@ -1,0 +1,48 @@
+//! What stands behind the frames: the reader of a source.
+
+ghost use Rattle.std.specs.Prelude.{◌≡◌, IfOk, IsTrue, option_map, ok_or};
+ghost use Rattle.std.specs.Str.{chars};
+ghost use Rattle.pp_lexer.specs.TokenValue.{is_ordinary};
+ghost use Rattle.pp_lexer.specs.declared.token.PreprocessorError.TheVariants.{LineOverflow};
+ghost use Rattle.pp_rs.specs.Item.{as_step};
+ghost use Rattle.pp_rs.specs.Reader.{Reader, of_source, Reads, visible, shown_line};
+
+use crate::pp::define::Define;
+use crate::pp::directives::DirectiveProcessor;
+use crate::pp::step::Step;
+use crate::token::{Location, Token};
+use std::rc::Rc;
+
+/// A reader of tokens, with what names stand for where it stands.
+pub trait MeLexer {
+    ghost reader: { Self → Reader };
+
+    /// Reads on by one token or line.
+    fn step(&mut self) -> Step<Token>
+        ensures reads { Reads (reader self.old) result (reader self.new) }
+        ensures ordinary { IfOk result (λ token. IsTrue (is_ordinary token.value)) };
+
+    /// What the name stands for there.
+    fn get_define(&self, name: &str) -> Option<&Rc<Define>>
+        ensures { option_map (λ define. define.now.value) result ≡ visible (reader self.now) (chars name.now) };
+
+    /// The number that `__LINE__` shows for a line, or `LineOverflow` at the place.
+    fn apply_line_offset(&self, line: u32, location: Location) -> Step<u32>
+        ensures { result ≡ as_step (ok_or (shown_line (reader self.now) line) (LineOverflow, location)) };
+}
+
+impl<'a> MeLexer for DirectiveProcessor<'a> {
+    ghost reader = { λ source. of_source source };
+
+    fn step(&mut self) -> Step<Token> {
+        DirectiveProcessor::step(self)
+    }
+
+    fn get_define(&self, name: &str) -> Option<&Rc<Define>> {
+        self.find(name)
+    }
+
+    fn apply_line_offset(&self, line: u32, _location: Location) -> Step<u32> {
+        Ok(line)
+    }
+}

@@ -1,0 +1,76 @@
+//! The lexer of a source, which can say whether it is spent.
+
+ghost use Rattle.std.specs.Prelude.{◌≡◌, ◌-◌, ◌^◌, ◌<◌, length, false, true, None, Ok};
+ghost use Rattle.pp_lexer.specs.Lexed.{start_of};
+ghost use Rattle.pp_lexer.specs.Spots.{spots_of};
+ghost use Rattle.pp_rs.specs.LineReading as spec;
+
+use crate::lexer::{self, Lexer};
+use crate::pp::halt::Halt;
+use crate::pp::step::is_out_of_memory;
+use std::alloc::Global;
+use std::marker::Model;
+
+/// The lexer of a source. Once memory was refused it is spent.
+#[derive(Drop)]
+pub struct SourceLexer<'a> {
+    lexer: Lexer<'a>,
+    spent: bool,
+}
+
+impl<'a> Model for SourceLexer<'a> {
+    ghost use Rattle.std.specs.Prelude.{◌≡◌, false};
+    ghost use Rattle.pp_lexer.specs.Lexed.{Lexed};
+
+    ghost Value = { Lexed };
+
+    ghost view = { λ s. record s.lexer { spent = s.spent } };
+
+    ghost invariant = { λ s. s.spent ≡ false → s.lexer.spent ≡ false };
+}
+
+impl<'a> SourceLexer<'a> {
+    /// A lexer at the start of a source of fewer than 2^32 - 1 bytes.
+    ///
+    /// Takes no memory and reads nothing yet.
+    pub fn new(alloc: Global, input: &'a str) -> SourceLexer<'a>
+        requires { length input.now < 2 ^ 32 - 1 }
+        ensures { result ≡ start_of (spots_of input.now) }
+    {
+        SourceLexer {
+            lexer: Lexer::new(alloc, input),
+            spent: false,
+        }
+    }
+
+    /// Whether memory was refused.
+    pub fn is_spent(&self) -> bool
+        ensures { result ≡ self.now.spent }
+    {
+        self.spent
+    }
+
+    /// The next token, or nothing at the end. A spent lexer is at its end, and stays as it is.
+    pub fn next_token(&mut self) -> Result<Option<lexer::Token>, Halt>
+        ensures is { self.old.spent ≡ false → spec.Meets (λ t. t) result (spec.next_token self.old.rest) }
+        ensures takes { self.old.spent ≡ false → spec.TakesItems 1 self.old result self.new }
+        ensures fault { self.old.spent ≡ false → spec.FaultTakesSome result self.old self.new }
+        ensures refused { spec.RefusedWithin result self.old.rest }
+        ensures spent { self.old.spent ≡ true → (result ≡ Ok None) × (self.new ≡ self.old) }
+    {
+        if self.spent {
+            return Ok(None);
+        }
+        match self.lexer.next() {
+            None => Ok(None),
+            Some(Ok(token)) => Ok(Some(token)),
+            Some(Err(error)) => {
+                self.spent = is_out_of_memory(&error.0);
+                if self.spent {
+                    return Err(Halt::OutOfMemory);
+                }
+                Err(Halt::Fault(error))
+            }
+        }
+    }
+}

@@ -1,0 +1,92 @@
+//! Words, and what they say.
+
+ghost use Rattle.std.specs.Prelude.{◌≡◌};
+ghost use Rattle.std.specs.Str.{chars};
+ghost use Rattle.pp_model.specs.Names.{is_same_name};
+ghost use Rattle.pp_model.specs.Sights as sights;
+ghost use Rattle.pp_rs.specs.Words.{directive_named};
+
+use crate::token::Text;
+
+/// What a directive's word says.
+#[derive(Clone, Copy, PartialEq, Eq, Debug)]
+pub enum Directive {
+    /// `define`
+    Define,
+    /// `undef`
+    Undef,
+    /// `if`
+    If,
+    /// `ifdef`
+    Ifdef,
+    /// `ifndef`
+    Ifndef,
+    /// `elif`
+    Elif,
+    /// `else`
+    Else,
+    /// `endif`
+    Endif,
+    /// `error`
+    Error,
+    /// `line`
+    Line,
+    /// `version`
+    Version,
+    /// `extension`
+    Extension,
+    /// `pragma`
+    Pragma,
+    /// Any other identifier.
+    Unknown,
+}
+
+/// Whether the text has these characters.
+pub fn is_spelled(text: &Text, spelling: &str) -> bool
+    ensures { result ≡ is_same_name text.now (chars spelling.now) }
+{
+    text.as_str() == spelling
+}
+
+// Whether a directive's word is spelled so.
+#[tactic(auto, unfolding(pp_model::specs::Sights::is_word))]
+fn is_word(name: &Text, word: &str) -> bool
+    ensures { result ≡ sights.is_word name.now word.now }
+{
+    is_spelled(name, word)
+}
+
+/// What a directive's word says.
+pub fn directive_of(name: &Text) -> Directive
+    ensures { directive_named result ≡ sights.directive_of name.now }
+{
+    if is_word(name, "define") {
+        Directive::Define
+    } else if is_word(name, "undef") {
+        Directive::Undef
+    } else if is_word(name, "if") {
+        Directive::If
+    } else if is_word(name, "ifdef") {
+        Directive::Ifdef
+    } else if is_word(name, "ifndef") {
+        Directive::Ifndef
+    } else if is_word(name, "elif") {
+        Directive::Elif
+    } else if is_word(name, "else") {
+        Directive::Else
+    } else if is_word(name, "endif") {
+        Directive::Endif
+    } else if is_word(name, "error") {
+        Directive::Error
+    } else if is_word(name, "line") {
+        Directive::Line
+    } else if is_word(name, "version") {
+        Directive::Version
+    } else if is_word(name, "extension") {
+        Directive::Extension
+    } else if is_word(name, "pragma") {
+        Directive::Pragma
+    } else {
+        Directive::Unknown
+    }
+}
