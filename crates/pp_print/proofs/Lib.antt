@@ -3,3 +3,9 @@ pub mod TextLemmas
 pub mod ReadLemmas
 pub mod WriteLemmas
 pub mod OrdinaryLemmas
+pub mod OutputLemmas
+pub mod DirectiveLemmas
+pub mod GivesLemmas
+pub mod NextLemmas
+pub mod RunLemmas
+pub mod CutLemmas

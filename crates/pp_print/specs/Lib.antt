@@ -2,4 +2,8 @@ pub mod Words
 pub mod Ends
 pub mod Input
 pub mod Output
+pub mod Printing
+pub mod SourceRuns
 pub mod Runs
+pub mod OutputLaws
+pub mod RunLaws

@@ -1,6 +1,11 @@
 -- What the end of a run says of its source and of its output
-use Rattle.std.specs.Prelude.{ℕ, ◌-◌, ◌^◌, ◌<◌, ◌≤◌, List, length, Result, Ok, Err, IsUtf8, ⊤}
+use Rattle.std.specs.Prelude.{◌≡◌, ◌≢◌, ℕ, ◌-◌, ◌^◌, ◌<◌, ◌≤◌, List, ◌++◌, length, Option, Result, Ok, Err, IsUtf8, ⊤}
+use Rattle.std.specs.Io.KnownBytes.{Appends}
+use Rattle.pp_rs.specs.declared.token.PreprocessorError.TheVariants.{OutOfMemory as WantOfMemory}
+use Rattle.pp_rs.specs.declared.token.Token.{Token}
+use Rattle.pp_print.specs.Output.{output_lines, written_lines, output}
 use Rattle.pp_print.specs.declared.ends.RunEnd.{RunEnd}
+use Rattle.pp_print.specs.declared.ends.RunEnd.TheVariants.{Done, Stopped}
 use Rattle.pp_print.specs.declared.ends.RunFault.{RunFault}
 use Rattle.pp_print.specs.declared.ends.RunFault.TheVariants.{ReadFailed, TooLong, NotUtf8, BadWord, WriteFailed, OutOfMemory}
 
@@ -27,3 +32,26 @@ IsBeforeOutput NotUtf8 = ⊤
 IsBeforeOutput BadWord = ⊤
 IsBeforeOutput WriteFailed = ⊥
 IsBeforeOutput OutOfMemory = ⊥
+
+-- a run is stopped by an error of the source, and never by want of memory
+abbrev pub IsStoppedBySource : RunEnd → Type 0
+IsStoppedBySource Done = ⊤
+IsStoppedBySource (Stopped error location) = error ≢ WantOfMemory
+
+-- of a run that came to this end, the output of its tokens was written
+pub record IsPrinted (IsRun : List Token → RunEnd → Type 0) (end : RunEnd) (old new : Option (List ℕ)) : Type 0 where
+  pub tokens : List Token
+  pub run : IsRun tokens end
+  pub written : Appends old new (output tokens)
+
+-- whatever tokens come behind these, the output begins with these lines
+abbrev pub BeginOutput : List Token → List (List ℕ) → Type 0
+BeginOutput tokens lines = (more : List Token) → (left : List (List ℕ)) × (output_lines (tokens ++ more) ≡ lines ++ left)
+
+-- of a run whose first tokens are known, lines that begin its output were written, and nothing else
+pub record IsBegun (AreFirst : List Token → Type 0) (old new : Option (List ℕ)) : Type 0 where
+  pub tokens : List Token
+  pub first : AreFirst tokens
+  pub lines : List (List ℕ)
+  pub begin : BeginOutput tokens lines
+  pub written : Appends old new (written_lines lines)

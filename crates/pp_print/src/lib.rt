@@ -1,9 +1,9 @@
 //! The program `pp_print` but for its `main`: preprocesses a source and prints what comes of it.
 #![tactic(auto)]
 
-ghost use Rattle.std.specs.Prelude.{◌≡◌, ◌<◌, ◌↔◌, true, false, length, OnOk, IfOk, IfErr, IfSome, IsErrOf};
-ghost use Rattle.pp_print.specs.Output.{IsStoppedBySource};
-ghost use Rattle.pp_print.specs.Runs.{FitsSource, IsBeforeOutput};
+ghost use Rattle.std.specs.Prelude.{◌≡◌, ◌<◌, ◌↔◌, ◌⊎◌, true, false, length, OnOk, IfOk, IfErr, IfSome, IsErrOf};
+ghost use Rattle.pp_print.specs.Runs.{FitsSource, IsBeforeOutput, IsStoppedBySource, IsPrinted, IsBegun};
+ghost use Rattle.pp_print.specs.SourceRuns.{AreFirstOf, IsRunOf};
 
 use pp_rs::pp::Preprocessor;
 use std::alloc::Global;
@@ -11,6 +11,7 @@ use std::alloc::Global;
 mod devices;
 mod ends;
 mod input;
+pub mod laws;
 mod output;
 #[cfg(test)]
 mod tests;
@@ -29,7 +30,8 @@ pub use words::split_word;
 /// Ends with [`RunEnd::Done`] where there is no error item, and with [`RunEnd::Stopped`] at the first.
 /// Faults come in this order: [`RunFault::ReadFailed`], [`RunFault::TooLong`], [`RunFault::NotUtf8`],
 /// [`RunFault::BadWord`], all before anything is written, then [`RunFault::WriteFailed`].
-/// [`RunFault::OutOfMemory`] comes wherever memory is refused. Every definition is refused for now.
+/// [`RunFault::OutOfMemory`] comes wherever memory is refused, and whole lines have been written then.
+/// Every definition is refused for now.
 pub fn run<R: Source, W: Sink>(
     alloc: Global,
     defs: &[(&str, &str)],
@@ -47,6 +49,13 @@ pub fn run<R: Source, W: Sink>(
     ensures read_failed { IsErrOf result RunFault.ReadFailed ↔ (R.failed reader.new ≡ true) }
     ensures write_failed { IsErrOf result RunFault.WriteFailed ↔ (W.failed writer.new ≡ true) }
     ensures unwritten { IfErr result (λ fault. IsBeforeOutput fault → writer.new ≡ writer.old) }
+
+    // What was written is the output of the source's run or, where memory was refused, nothing or the
+    // first lines of that output.
+    ensures printed { IfOk result (λ end. IfSome (R.remaining reader.old) (λ source.
+        IsPrinted (IsRunOf source) end (W.contents writer.old) (W.contents writer.new))) }
+    ensures begun { IsErrOf result RunFault.OutOfMemory → IfSome (R.remaining reader.old) (λ source.
+        (writer.new ≡ writer.old) ⊎ IsBegun (AreFirstOf source) (W.contents writer.old) (W.contents writer.new)) }
 {
     let source = input::read_source(alloc, reader)?;
     let text = source.as_str();

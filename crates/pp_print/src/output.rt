@@ -1,44 +1,53 @@
 //! Printing items as lines.
 
-ghost use Rattle.std.specs.Prelude.{◌≡◌, ◌≢◌, ◌++◌, ◌∷◌, [], true, false, All, IsTrue, OnOk, IfOk, IfErr, string_bytes};
+ghost use Rattle.std.specs.Prelude.{◌≡◌, true, false, All, IsTrue, OnOk, IfOk, IfErr, IsErrOf, string_bytes};
+ghost use Rattle.std.specs.Option.{option_map};
+ghost use Rattle.std.specs.Str.{chars, encode_utf8_all};
 ghost use Rattle.std.specs.Io.KnownBytes.{Appends};
 ghost use Rattle.pp_rs.specs.TokenValue.{is_ordinary};
 ghost use Rattle.pp_rs.specs.Held.{HoldsOrdinary, is_ordinary_leaf};
+ghost use Rattle.pp_rs.specs.Spelling.{spelled_text, values_of};
 ghost use Rattle.pp_print.specs.Input.{IsDeviceFault};
-ghost use Rattle.pp_print.specs.Output.{IsStoppedBySource, AllOrdinary};
+ghost use Rattle.pp_print.specs.Output.{AllOrdinary, with_tokens, directive_text, written_lines};
+ghost use Rattle.pp_print.specs.Printing.{extended, begun_line, line_behind, ended_lines, ArePrinted, AreBegun};
+ghost use Rattle.pp_print.specs.Runs.{IsStoppedBySource};
 
 use super::devices::Sink;
 use super::ends::{RunEnd, RunFault};
 use pp_rs::pp::{Preprocessor, spell_tokens};
 use pp_rs::token::{PreprocessorError, Token, TokenValue, Tokens};
-use std::alloc::Global;
+use std::alloc::{AllocError, Global};
 
 /// Prints the items up to the first error item, which it gives with its place: each longest run of
-/// ordinary tokens as a line, and each directive item as a line. Each line is spelled whole before any
-/// of it is written, so where memory is refused whole lines have been written.
+/// ordinary tokens as a line, and each directive item as a line. A line is written whole or, where
+/// memory is refused, not at all.
 pub fn print_items<W: Sink>(
     alloc: Global,
     items: Preprocessor<'_>,
     writer: &mut W,
 ) -> Result<RunEnd, RunFault>
-    requires { W.failed writer.old ≡ false }
-    ensures ok { OnOk result (W.failed writer.new ≡ false) }
+    requires ready { W.failed writer.old ≡ false }
+    requires unspent { items.spent ≡ false }
+    ensures printed { IfOk result (λ end. ArePrinted items.entry end (W.contents writer.old) (W.contents writer.new)) }
+    ensures begun { IsErrOf result RunFault.OutOfMemory → AreBegun items.entry (W.contents writer.old) (W.contents writer.new) }
     ensures stopped { IfOk result IsStoppedBySource }
+    ensures ok { OnOk result (W.failed writer.new ≡ false) }
     ensures err { IfErr result (λ fault. IsDeviceFault RunFault.WriteFailed fault (W.failed writer.new)) }
 {
-    let mut line = Vec::new(alloc);
+    // A run of tokens that may go on. It is kept as text, which is smaller than its tokens.
+    let mut line = None;
     for item in items {
         match item {
             Ok(token) => print_token(alloc, token, &mut line, writer)?,
             // Its run of tokens may have gone on, so it isn't printed.
             Err((PreprocessorError::OutOfMemory, _)) => return Err(RunFault::OutOfMemory),
             Err((error, location)) => {
-                print_run(alloc, &mut line, writer)?;
+                print_line(alloc, line, writer)?;
                 return Ok(RunEnd::Stopped { error, location });
             }
         }
     }
-    print_run(alloc, &mut line, writer)?;
+    print_line(alloc, line, writer)?;
     Ok(RunEnd::Done)
 }
 
@@ -46,99 +55,107 @@ pub fn print_items<W: Sink>(
 fn print_token<W: Sink>(
     alloc: Global,
     token: Token,
-    line: &mut Vec<Token>,
+    line: &mut Option<String>,
     writer: &mut W,
 ) -> Result<(), RunFault>
     requires item { HoldsOrdinary token.value }
-    requires line { AllOrdinary line.old.items }
     requires ready { W.failed writer.old ≡ false }
-    ensures line { OnOk result (AllOrdinary line.new.items) }
+    ensures line { OnOk result (option_map string_bytes line.new ≡ line_behind (option_map string_bytes line.old) token.value) }
+    ensures written { OnOk result (Appends (W.contents writer.old) (W.contents writer.new)
+        (written_lines (ended_lines (option_map string_bytes line.old) token.value))) }
+    ensures refused { IsErrOf result RunFault.OutOfMemory → writer.new ≡ writer.old }
     ensures ok { OnOk result (W.failed writer.new ≡ false) }
     ensures err { IfErr result (λ fault. IsDeviceFault RunFault.WriteFailed fault (W.failed writer.new)) }
 {
     if token.is_ordinary() {
-        line.push(token)?;
+        let word = spell(alloc, &[token])?;
+        *line = Some(extend_line(line.take(), word)?);
         return Ok(());
     }
-    print_run(alloc, line, writer)?;
-    print_directive(alloc, &token.value, writer)
+    let directive = spell_directive(alloc, &token.value)?;
+    let mut lines = end_line(alloc, line.take())?;
+    lines.push_str(directive.as_str())?;
+    lines.push('\n')?;
+    write_all(lines.as_bytes(), writer)
 }
 
-// Prints the line of ordinary tokens, if there are any, and empties it.
-fn print_run<W: Sink>(alloc: Global, line: &mut Vec<Token>, writer: &mut W) -> Result<(), RunFault>
-    requires line { AllOrdinary line.old.items }
-    requires ready { W.failed writer.old ≡ false }
-    ensures line { OnOk result (line.new.items ≡ []) }
+// Prints the line that was begun, if there is one.
+fn print_line<W: Sink>(alloc: Global, line: Option<String>, writer: &mut W) -> Result<(), RunFault>
+    requires { W.failed writer.old ≡ false }
+    ensures written { OnOk result (Appends (W.contents writer.old) (W.contents writer.new)
+        (written_lines (begun_line (option_map string_bytes line)))) }
+    ensures refused { IsErrOf result RunFault.OutOfMemory → writer.new ≡ writer.old }
     ensures ok { OnOk result (W.failed writer.new ≡ false) }
     ensures err { IfErr result (λ fault. IsDeviceFault RunFault.WriteFailed fault (W.failed writer.new)) }
 {
-    if line.is_empty() {
-        return Ok(());
-    }
-    let text = spell(alloc, line.as_slice())?;
-    line.clear();
-    print_line(text, writer)
+    let text = end_line(alloc, line)?;
+    write_all(text.as_bytes(), writer)
 }
 
-// Prints a directive item: its word, and behind it its tokens if there are any. Prints nothing for
-// an ordinary token.
-fn print_directive<W: Sink>(
-    alloc: Global,
-    value: &TokenValue,
-    writer: &mut W,
-) -> Result<(), RunFault>
-    requires item { HoldsOrdinary value.now }
-    requires ready { W.failed writer.old ≡ false }
-    ensures ok { OnOk result (W.failed writer.new ≡ false) }
-    ensures err { IfErr result (λ fault. IsDeviceFault RunFault.WriteFailed fault (W.failed writer.new)) }
+// The line with one more word: the first one, or one behind a space.
+fn extend_line(line: Option<String>, word: String) -> Result<String, AllocError>
+    ensures { IfOk result (λ text. string_bytes text ≡ extended (option_map string_bytes line) (string_bytes word)) }
 {
-    let text = match value {
-        TokenValue::Version(version) => directive_line(alloc, "#version", &version.tokens)?,
-        TokenValue::Extension(extension) => directive_line(alloc, "#extension", &extension.tokens)?,
-        TokenValue::Pragma(pragma) => directive_line(alloc, "#pragma", &pragma.tokens)?,
-        _ => return Ok(()),
+    let Some(mut text) = line else {
+        return Ok(word);
     };
-    print_line(text, writer)
+    text.push(' ')?;
+    text.push_str(word.as_str())?;
+    Ok(text)
+}
+
+// The line with its newline, or no text where no line was begun.
+fn end_line(alloc: Global, line: Option<String>) -> Result<String, AllocError>
+    ensures { IfOk result (λ text. string_bytes text ≡ written_lines (begun_line (option_map string_bytes line))) }
+{
+    let Some(mut text) = line else {
+        return Ok(String::new(alloc));
+    };
+    text.push('\n')?;
+    Ok(text)
+}
+
+// A directive item as text.
+fn spell_directive(alloc: Global, value: &TokenValue) -> Result<String, RunFault>
+    requires directive { is_ordinary value.now ≡ false }
+    requires item { HoldsOrdinary value.now }
+    ensures ok { IfOk result (λ text. string_bytes text ≡ encode_utf8_all (directive_text value.now)) }
+    ensures err { IfErr result (λ fault. fault ≡ RunFault.OutOfMemory) }
+{
+    match value {
+        TokenValue::Version(version) => with_tokens(alloc, "#version", &version.tokens),
+        TokenValue::Extension(extension) => with_tokens(alloc, "#extension", &extension.tokens),
+        TokenValue::Pragma(pragma) => with_tokens(alloc, "#pragma", &pragma.tokens),
+        _ => unreachable!(),
+    }
 }
 
 // The word, and behind it a space and the spelled tokens if there are any.
-fn directive_line(alloc: Global, word: &str, tokens: &Tokens) -> Result<String, RunFault>
+fn with_tokens(alloc: Global, word: &str, tokens: &Tokens) -> Result<String, RunFault>
     requires { All (λ entry. IsTrue (is_ordinary_leaf entry.leaf)) tokens.now }
-    ensures { IfErr result (λ fault. fault ≡ RunFault.OutOfMemory) }
+    ensures ok { IfOk result (λ text. string_bytes text ≡ encode_utf8_all (with_tokens (chars word.now) tokens.now)) }
+    ensures err { IfErr result (λ fault. fault ≡ RunFault.OutOfMemory) }
 {
     let tokens = tokens.as_slice();
     let mut text = String::new(alloc);
     text.push_str(word)?;
-    if !tokens.is_empty() {
-        text.push(' ')?;
-        text.push_str(spell(alloc, tokens)?.as_str())?;
+    if tokens.is_empty() {
+        return Ok(text);
     }
-    Ok(text)
+    let spelled = spell(alloc, tokens)?;
+    Ok(extend_line(Some(text), spelled)?)
 }
 
 // The tokens as text, with one space between two.
 fn spell(alloc: Global, tokens: &[Token]) -> Result<String, RunFault>
     requires { AllOrdinary tokens.now }
-    ensures { IfErr result (λ fault. fault ≡ RunFault.OutOfMemory) }
+    ensures ok { IfOk result (λ text. string_bytes text ≡ encode_utf8_all (spelled_text (values_of tokens.now))) }
+    ensures err { IfErr result (λ fault. fault ≡ RunFault.OutOfMemory) }
 {
     match spell_tokens(alloc, tokens) {
         Ok(text) => Ok(text),
         Err(_) => Err(RunFault::OutOfMemory),
     }
-}
-
-// Writes the text and a newline.
-fn print_line<W: Sink>(text: String, writer: &mut W) -> Result<(), RunFault>
-    requires { W.failed writer.old ≡ false }
-    ensures written { OnOk result (Appends (W.contents writer.old) (W.contents writer.new)
-        (string_bytes text ++ 10 ∷ [])) }
-    ensures refused { result ≡ Err RunFault.OutOfMemory → writer.new ≡ writer.old }
-    ensures ok { OnOk result (W.failed writer.new ≡ false) }
-    ensures err { IfErr result (λ fault. IsDeviceFault RunFault.WriteFailed fault (W.failed writer.new)) }
-{
-    let mut line = text;
-    line.push('\n')?;
-    write_all(line.as_bytes(), writer)
 }
 
 // Writes all the bytes.

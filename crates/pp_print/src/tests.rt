@@ -1,6 +1,6 @@
 //! The words, the table of a run's ends, and runs over devices that fail.
 
-ghost use Rattle.std.specs.Prelude.{◌≡◌, ℕ, List, Option, None, false};
+ghost use Rattle.std.specs.Prelude.{◌≡◌, ℕ, List, Option, Some, None, false};
 
 use super::*;
 use pp_rs::token::{Location, PreprocessorError};
@@ -44,6 +44,46 @@ impl<'a> Source for FakeSource<'a> {
         let count = self.step.min(buf.len()).min(self.left.len());
         buf[..count].copy_from_slice(&self.left[..count]);
         self.left = &self.left[count..];
+        Ok(count)
+    }
+
+    fn has_failed(&self) -> bool {
+        self.failed
+    }
+}
+
+// Takes one byte a write. After `writes` writes each further one fails.
+#[derive(Drop)]
+struct FakeSink {
+    taken: Vec<u8>,
+    writes: usize,
+    failed: bool,
+}
+
+impl FakeSink {
+    fn new(alloc: Global, writes: usize) -> FakeSink
+        ensures { result.failed ≡ false }
+    {
+        FakeSink {
+            taken: Vec::new(alloc),
+            writes,
+            failed: false,
+        }
+    }
+}
+
+impl Sink for FakeSink {
+    ghost contents = { λ s. Some s.taken.items };
+
+    ghost failed = { λ s. s.failed };
+
+    fn write(&mut self, bytes: &[u8]) -> Result<usize, DeviceFailed> {
+        let count = bytes.len().min(1);
+        if self.writes == 0 || self.taken.extend_from_slice(&bytes[..count]).is_err() {
+            self.failed = true;
+            return Err(DeviceFailed);
+        }
+        self.writes -= 1;
         Ok(count)
     }
 
@@ -188,4 +228,84 @@ fn runs_to_the_end(rt: HostRuntime) {
         assert!(rt; !reader.has_failed());
         assert!(rt; !writer.has_failed());
     }
+}
+
+// Tokens of all kinds on three lines, and what is printed of them.
+const KINDS: &[u8] = b"int x=0x1Fu+2; // note\n/* */y<<=1.5f\n\\\n;";
+
+const PRINTED: &[u8] = b"int x = 31u + 2 ; y <<= 1.5 ;\n";
+
+#[test]
+fn prints_tokens_of_all_kinds(rt: HostRuntime) {
+    for step in [1, 3, 20000] {
+        let mut reader = FakeSource::new(KINDS, step, 100);
+        let mut writer = FakeSink::new(rt.alloc(), PRINTED.len());
+        let end = run(rt.alloc(), &[], &mut reader, &mut writer);
+        assert_eq!(rt; end, Ok(RunEnd::Done), "by {step}");
+        assert_eq!(rt; writer.taken.as_slice(), PRINTED, "by {step}");
+    }
+}
+
+#[test]
+fn fails_at_each_write(rt: HostRuntime) {
+    for writes in 0..PRINTED.len() {
+        let mut reader = FakeSource::new(KINDS, 20000, 100);
+        let mut writer = FakeSink::new(rt.alloc(), writes);
+        let end = run(rt.alloc(), &[], &mut reader, &mut writer);
+        assert_eq!(rt; end, Err(RunFault::WriteFailed), "after {writes}");
+        assert!(rt; writer.has_failed());
+    }
+}
+
+#[test]
+fn stops_at_an_error(rt: HostRuntime) {
+    let mut reader = FakeSource::new(b"a b\nc @ d", 1, 100);
+    let mut writer = FakeSink::new(rt.alloc(), 100);
+    let stopped = RunEnd::Stopped {
+        error: PreprocessorError::UnexpectedCharacter,
+        location: Location {
+            start: 0,
+            end: 0,
+            line: 1,
+        },
+    };
+    assert_eq!(rt; run(rt.alloc(), &[], &mut reader, &mut writer), Ok(stopped));
+    assert_eq!(rt; writer.taken.as_slice(), b"a b c\n".as_slice());
+}
+
+// A whole run over the source, and what it prints.
+fn expect_printed(rt: &(impl Abort + AllocGlobal), source: &[u8], printed: &[u8]) {
+    let mut reader = FakeSource::new(source, 20000, 100);
+    let mut writer = FakeSink::new(rt.alloc(), printed.len());
+    assert_eq!(rt;
+        run(rt.alloc(), &[], &mut reader, &mut writer),
+        Ok(RunEnd::Done)
+    );
+    assert_eq!(rt; writer.taken.as_slice(), printed);
+}
+
+#[test]
+fn prints_what_macros_stand_for(rt: HostRuntime) {
+    expect_printed(&rt, b"#define A 1\nA", b"1\n");
+    expect_printed(
+        &rt,
+        b"#define A B + A\n#define B 2\nA;\n#undef B\nA;",
+        b"2 + A ; B + A ;\n",
+    );
+}
+
+#[test]
+fn stops_at_a_directive_that_does_not_act(rt: HostRuntime) {
+    let mut reader = FakeSource::new(b"a\n#if 1\nb\n#endif", 1, 100);
+    let mut writer = FakeSink::new(rt.alloc(), 100);
+    let stopped = RunEnd::Stopped {
+        error: PreprocessorError::UnknownDirective,
+        location: Location {
+            start: 3,
+            end: 5,
+            line: 2,
+        },
+    };
+    assert_eq!(rt; run(rt.alloc(), &[], &mut reader, &mut writer), Ok(stopped));
+    assert_eq!(rt; writer.taken.as_slice(), b"a\n".as_slice());
 }

@@ -1,0 +1,66 @@
+-- The tokens that come one after another in a run
+use Rattle.std.proofs.Common.{◌≡◌, ◌∙◌, List, [], ◌∷◌, ◌++◌, refl, ap, sym, subst, append-nil}
+use Rattle.pp_model.specs.Calls.{Fault}
+use Rattle.pp_model.specs.declared.outcome.Outcome.TheVariants as outcome
+use Rattle.pp_rs.specs.declared.token.Token.{Token}
+use Rattle.pp_rs.proofs.SoFarLemmas.{one_item_so_far}
+use Rattle.pp_print.specs.SourceRuns.{State, Comes, Gives, nothing, first, last_outcome, AreFirstFrom, IsRunFrom}
+use Rattle.pp_print.specs.declared.ends.RunEnd.{RunEnd}
+use Rattle.pp_print.specs.declared.ends.RunEnd.TheVariants.{Done, Stopped}
+
+pub gives_nothing : (e : State) → Gives e [] e
+gives_nothing e = nothing [] e e refl refl
+
+-- one more token
+pub gives_more : (tokens : List Token) (token : Token) (e f g : State) → Gives e tokens f → Comes f (outcome.Token token) g → Gives e (tokens ++ (token ∷ [])) g
+gives_more tokens token e f g (nothing ts e1 f1 p q) comes =
+    first token [] (tokens ++ (token ∷ [])) e g g (subst (λ s. Comes s (outcome.Token token) g) q comes) (gives_nothing g) (ap (λ ts. ts ++ (token ∷ [])) p)
+gives_more tokens token e f g (first t rest ts e1 m f1 c more p) comes =
+    first t (rest ++ (token ∷ [])) (tokens ++ (token ∷ [])) e m g c (gives_more rest token m f g more comes) (ap (λ ts. ts ++ (token ∷ [])) p)
+
+-- a token is no end
+not_last : (t : Token) (end : RunEnd) → outcome.Token t ≡ last_outcome end → ⊥
+not_last t Done e = cc
+not_last t (Stopped error location) e = cc
+
+same_end : (end other : RunEnd) → last_outcome end ≡ last_outcome other → end ≡ other
+same_end Done Done e = refl
+same_end Done (Stopped fault place) e = cc
+same_end (Stopped error location) Done e = cc
+same_end (Stopped error location) (Stopped fault place) e =
+    let item : ◌≡◌ {A = Fault} (error, location) (fault, place) = cc in
+    ap (λ (x : Fault). Stopped (x.0) (x.1)) item
+
+-- what is left of a run behind tokens that come first
+pub gives_rest : (tokens all : List Token) (end : RunEnd) (e f g h : State) → Gives e tokens f → Gives e all g → Comes g (last_outcome end) h → (more : List Token) × (all ≡ tokens ++ more) × Gives f more g
+gives_rest tokens all end e f g h (nothing ts e1 f1 p q) given ends =
+    (all, ap (λ ts. ts ++ all) (sym p), subst (λ s. Gives s all g) (sym q) given)
+gives_rest tokens all end e f g h (first t rest ts e1 m f1 c more p) (nothing us e2 g1 q r) ends =
+    let there : Comes e (last_outcome end) h = subst (λ s. Comes s (last_outcome end) h) r ends in
+    absurd (not_last t end (one_item_so_far (outcome.Token t) (last_outcome end) e m h c there).0)
+gives_rest tokens all end e f g h (first t rest ts e1 m f1 c more p) (first u others us e2 n g1 d given q) ends =
+    let same = one_item_so_far (outcome.Token t) (outcome.Token u) e m n c d in
+    let token : u ≡ t = (let z = same.0 in cc) in
+    let left = gives_rest rest others end m f g h more (subst (λ s. Gives s others g) (sym same.1) given) ends in
+    (left.0, q ∙ ap (λ ts. u ∷ ts) left.1 ∙ ap (λ x. x ∷ (rest ++ left.0)) token ∙ ap (λ ts. ts ++ left.0) (sym p), left.2)
+
+-- behind the last token there is none
+none_left : (more : List Token) (end other : RunEnd) (f g x y : State) → Gives f more g → Comes f (last_outcome end) x → Comes g (last_outcome other) y → (more ≡ []) × (end ≡ other)
+none_left more end other f g x y (nothing ts f1 g1 p q) ends others =
+    let there : Comes f (last_outcome other) y = subst (λ s. Comes s (last_outcome other) y) q others in
+    (p, same_end end other (one_item_so_far (last_outcome end) (last_outcome other) f x y ends there).0)
+none_left more end other f g x y (first t rest ts f1 m g1 c given p) ends others =
+    absurd (not_last t end (one_item_so_far (outcome.Token t) (last_outcome end) f m x c ends).0)
+
+-- a state has one run
+pub one_run_from : (e : State) (tokens others : List Token) (end other : RunEnd) → IsRunFrom e tokens end → IsRunFrom e others other → (tokens ≡ others) × (end ≡ other)
+one_run_from e tokens others end other a b =
+    let left = gives_rest tokens others other e a.last b.last b.behind a.gives b.gives b.ends in
+    let none = none_left left.0 end other a.last b.last a.behind b.behind left.2 a.ends b.ends in
+    (sym (left.1 ∙ ap (λ more. tokens ++ more) none.0 ∙ append-nil tokens), none.1)
+
+-- which the tokens that come first begin
+pub first_tokens_from : (e : State) (tokens all : List Token) (end : RunEnd) → AreFirstFrom e tokens → IsRunFrom e all end → (more : List Token) × (all ≡ tokens ++ more)
+first_tokens_from e tokens all end a b =
+    let left = gives_rest tokens all end e a.behind b.last b.behind a.gives b.gives b.ends in
+    (left.0, left.1)

@@ -1,0 +1,80 @@
+-- Printing the tokens of a run one by one
+use Rattle.std.proofs.Common.{◌≡◌, ℕ, List, [], ◌∷◌, ◌++◌, Option, None, sym, ap, ◌∙◌, append_assoc, append-nil}
+use Rattle.std.specs.Io.KnownBytes.{Appends}
+use Rattle.std.proofs.lemmas.Grind.{flat_map-append}
+use Rattle.pp_model.specs.declared.outcome.Outcome.TheVariants as outcome
+use Rattle.pp_rs.specs.Preprocessing.{Preprocessing, Stands}
+use Rattle.pp_rs.specs.declared.token.Token.{Token}
+use Rattle.pp_print.specs.Output.{output_lines, written_lines, output}
+use Rattle.pp_print.specs.Printing.{begun_line, line_behind, ended_lines, lines_from}
+use Rattle.pp_print.specs.Runs.{IsPrinted, IsBegun}
+use Rattle.pp_print.specs.SourceRuns.{State, Comes, Gives, last_outcome, AreFirstFrom, IsRunFrom}
+use Rattle.pp_print.specs.declared.ends.RunEnd.{RunEnd}
+use Rattle.pp_print.proofs.GivesLemmas.{gives_nothing, gives_more}
+use Rattle.pp_print.proofs.OutputLemmas.{output_lines-from}
+use Rattle.pp_print.proofs.WriteLemmas.{appends_nothing, appends_more}
+
+-- Some tokens came first and are printed, but for the line that has been begun. The items to come are those of the state behind
+-- them.
+pub record IsPrinting (start : State) (items : Preprocessing) (line : Option (List ℕ)) (old new : Option (List ℕ)) : Type 0 where
+  pub tokens : List Token
+  pub state : State
+  pub given : Gives start tokens state
+  pub stands : Stands items state
+  pub done : List (List ℕ)
+  pub lines : (more : List Token) → output_lines (tokens ++ more) ≡ done ++ lines_from line more
+  pub written : Appends old new (written_lines done)
+
+-- lines that are written behind others
+appends_lines : (a b c : Option (List ℕ)) (first second : List (List ℕ)) → Appends a b (written_lines first) → Appends b c (written_lines second) → Appends a c (written_lines (first ++ second))
+appends_lines a b c first second f s = rw (flat_map-append (λ (line : List ℕ). line ++ (10 ∷ [])) first second) (appends_more a b c (written_lines first) (written_lines second) f s)
+
+-- nothing is printed before the first item
+pub printing_starts : (start : State) (items : Preprocessing) (known : Option (List ℕ)) → Stands items start → IsPrinting start items None known known
+printing_starts start items known stands = record {
+  tokens = [];
+  state = start;
+  given = gives_nothing start;
+  stands = stands;
+  done = [];
+  lines = output_lines-from;
+  written = appends_nothing known;
+}
+
+module _ (start : State) (items : Preprocessing) (line old mid new : Option (List ℕ)) (p : IsPrinting start items line old mid) where
+  -- a token is printed: it goes to the line, or ends it
+  pub printing_goes_on : (left : Preprocessing) (t : Token) (behind : State) (longer : Option (List ℕ)) → Comes p.state (outcome.Token t) behind → Stands left behind → longer ≡ line_behind line t.value → Appends mid new (written_lines (ended_lines line t.value))
+      → IsPrinting start left longer old new
+  printing_goes_on left t behind longer comes stands f w = rw f (record {
+    tokens = p.tokens ++ (t ∷ []);
+    state = behind;
+    given = gives_more p.tokens t start p.state behind p.given comes;
+    stands = stands;
+    done = p.done ++ ended_lines line t.value;
+    lines = λ more. ap output_lines (append_assoc p.tokens (t ∷ []) more) ∙ p.lines (t ∷ more) ∙ sym (append_assoc p.done (ended_lines line t.value) (lines_from (line_behind line t.value) more));
+    written = appends_lines old mid new p.done (ended_lines line t.value) p.written w;
+  })
+
+  -- the lines that are done and the one that has been begun are the whole output
+  whole_output : Appends mid new (written_lines (begun_line line)) → Appends old new (output p.tokens)
+  whole_output w =
+      let whole : output_lines p.tokens ≡ p.done ++ begun_line line = ap output_lines (sym (append-nil p.tokens)) ∙ p.lines [] in
+      rw whole (appends_lines old mid new p.done (begun_line line) p.written w)
+
+  -- at the end, or an error, all before it is printed
+  pub printing_ends : (end : RunEnd) (behind : State) → Comes p.state (last_outcome end) behind → Appends mid new (written_lines (begun_line line)) → IsPrinted (IsRunFrom start) end old new
+  printing_ends end behind comes w = record {
+    tokens = p.tokens;
+    run = record { last = p.state; gives = p.given; behind = behind; ends = comes };
+    written = whole_output w;
+  }
+
+-- what is printed so far begins the output
+pub printing_begun : (start : State) (items : Preprocessing) (line old new : Option (List ℕ)) → IsPrinting start items line old new → IsBegun (AreFirstFrom start) old new
+printing_begun start items line old new p = record {
+  tokens = p.tokens;
+  first = record { behind = p.state; gives = p.given };
+  lines = p.done;
+  begin = λ more. (lines_from line more, p.lines more);
+  written = p.written;
+}

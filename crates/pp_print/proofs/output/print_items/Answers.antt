@@ -1,0 +1,61 @@
+use Rattle.std.proofs.Common.{◌≡◌, ◌∙◌, ap, sym, subst, Err, rules}
+use Rattle.pp_rs.specs.Preprocessing.{Preprocessing, Stands}
+use Rattle.pp_print.specs.declared.ends.RunEnd.TheVariants.{Done, Stopped}
+use Rattle.pp_print.specs.declared.ends.RunFault.TheVariants.{OutOfMemory}
+use Rattle.pp_print.proofs.TextLemmas.{same_fault}
+use Rattle.pp_print.proofs.NextLemmas.{next_token, token_keeps_ready, next_error, next_none}
+use Rattle.pp_print.proofs.RunLemmas.{printing_starts, printing_goes_on, printing_ends, printing_begun}
+use Rattle.pp_print.proofs.output.print_items.Goals as goal
+
+pub loop-item-init : goal.loop-item-init
+loop-item-init g c =
+    let same = c.into_iter-item-iterator.ensures.into_iter_gives in
+    record {
+      ok = c.requires.ready;
+      unspent = ap (λ items. items.spent) same ∙ c.requires.unspent;
+      printing = λ start stands. printing_starts start _ (g.W.Sink.contents c.args.writer.now) (subst (λ (items : Preprocessing). Stands items start) (sym same) stands);
+    }
+
+pub loop-item-preserved : goal.loop-item-preserved
+loop-item-preserved g c =
+    let before = c.loop-item.invariant in
+    let printed = c.in_ok-print_token-in-Ok.ensures {u = tt} in
+    let steps = rw c.in-Ok.is at c.in-Some.ensures.steps in
+    record {
+      ok = printed.ok;
+      unspent = token_keeps_ready c.loop-item.item-iterator c.next.new.self before.unspent c.in-Ok.token steps;
+      printing = λ start stands.
+          let printing = before.printing start stands in
+          let next = next_token c.loop-item.item-iterator c.next.new.self before.unspent c.in-Ok.token steps printing.state printing.stands in
+          printing_goes_on start _ _ _ _ _ printing _ c.in-Ok.token next.0 _ next.1 next.2 printed.line printed.written;
+    }
+
+pub returns-in_err-print_token-in-Ok-clause-begun : goal.returns-in_err-print_token-in-Ok-clause-begun
+returns-in_err-print_token-in-Ok-clause-begun g c = λ e start stands.
+    let refused : c.print_token.result ≡ Err OutOfMemory = same_fault _ _ _ _ (c.in_err-print_token-in-Ok.was {u = tt}) c.from_residual.ensures.1 e in
+    rw (c.print_token.ensures.refused refused) (printing_begun start _ _ _ _ (c.loop-item.invariant.printing start stands))
+
+pub returns-in-Err-OutOfMemory-default-clause-begun : goal.returns-in-Err-OutOfMemory-default-clause-begun
+returns-in-Err-OutOfMemory-default-clause-begun g c = λ e start stands. printing_begun start _ _ _ _ (c.loop-item.invariant.printing start stands)
+
+pub returns-in_err-print_line-in-Err-clause-begun : goal.returns-in_err-print_line-in-Err-clause-begun
+returns-in_err-print_line-in-Err-clause-begun g c = λ e start stands.
+    let refused : c.print_line.result ≡ Err OutOfMemory = same_fault _ _ _ _ (c.in_err-print_line-in-Err.was {u = tt}) c.from_residual-in_err-print_line-in-Err.ensures.1 e in
+    rw (c.print_line.ensures.refused refused) (printing_begun start _ _ _ _ (c.loop-item.invariant.printing start stands))
+
+pub returns-in-Err-clause-printed : goal.returns-in-Err-clause-printed
+returns-in-Err-clause-printed g c = λ start stands.
+    let printing = c.loop-item.invariant.printing start stands in
+    let next = next_error c.loop-item.item-iterator c.next.new.self c.loop-item.invariant.unspent (c.in-Err.error, c.in-Err.location) (rw c.in-Err.is at c.in-Some.ensures.steps) (search rules) printing.state printing.stands in
+    printing_ends start _ _ _ _ _ printing (Stopped c.in-Err.error c.in-Err.location) next.0 next.1 c.in_ok-print_line-in-Err.ensures.written
+
+pub returns-in_err-print_line-clause-begun : goal.returns-in_err-print_line-clause-begun
+returns-in_err-print_line-clause-begun g c = λ e start stands.
+    let refused : c.print_line-2.result ≡ Err OutOfMemory = same_fault _ _ _ _ (c.in_err-print_line.was {u = tt}) c.from_residual-in_err-print_line.ensures.1 e in
+    rw (c.print_line-2.ensures.refused refused) (printing_begun start _ _ _ _ (c.loop-item.invariant.printing start stands))
+
+pub returns-clause-printed : goal.returns-clause-printed
+returns-clause-printed g c = λ start stands.
+    let printing = c.loop-item.invariant.printing start stands in
+    let next = next_none c.loop-item.item-iterator c.next.new.self c.loop-item.invariant.unspent c.in-None.ensures.steps printing.state printing.stands in
+    printing_ends start _ _ _ _ _ printing Done next.0 next.1 c.in_ok-print_line.ensures.written

@@ -1,0 +1,23 @@
+//! Laws of what is printed, over the definitions alone: each function's contract states one, for every
+//! list of tokens and every source. The bodies do nothing.
+
+ghost use Rattle.pp_print.specs.OutputLaws.{LinesAreTheCut, HeldTokensAreSpelledAlike};
+ghost use Rattle.pp_print.specs.RunLaws.{OneRun, FirstTokens};
+
+/// The printed lines are the tokens in a row, cut into lines of ordinary tokens, each as long as it can
+/// be, and lines of one directive item. There is no other such cut.
+pub fn lines()
+    ensures { LinesAreTheCut }
+{}
+
+/// The tokens that a directive item holds are spelled as they would be on a line of their own.
+pub fn held_tokens()
+    ensures { HeldTokensAreSpelledAlike }
+{}
+
+/// A source has no other run than one, and so no other output. The tokens that come first of it are the first tokens
+/// of its run.
+pub fn runs()
+    ensures one { OneRun }
+    ensures first { FirstTokens }
+{}
