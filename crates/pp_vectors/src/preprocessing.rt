@@ -1,12 +1,14 @@
-//! Whole sources: what each comes to, item by item up to the first error, by the plain program of the definitions.
+//! Whole sources: what each comes to, item by item up to the first error, by the plain program of the definitions and
+//! by the preprocessor.
 
 ghost use Rattle.std.specs.Prelude.{IsTrue, All};
 ghost use Rattle.pp_model.specs.Run.{HasRoom};
 
-use crate::shown::{joined, reply};
+use crate::shown::{item, joined, reply};
 use pp_model::call::{Call, Reply};
 use pp_model::outcome::Outcome;
 use pp_model::run::run;
+use pp_rs::pp::Preprocessor;
 use std::alloc::{AllocError, Global};
 
 mod added_definitions;
@@ -67,6 +69,21 @@ fn all_items(alloc: Global, source: &str) -> Result<String, AllocError> {
     replies(alloc, source, &[Call::Next; 40])
 }
 
+// What a source comes to by the preprocessor, up to the end or its first error.
+fn preprocessed(alloc: Global, source: &str) -> Result<String, AllocError> {
+    let mut parts = Vec::new(alloc);
+    if source.len() < 1000 {
+        for given in Preprocessor::new(alloc, source) {
+            parts.push(item(alloc, &given)?)?;
+            if given.is_err() {
+                return joined(alloc, &parts);
+            }
+        }
+        parts.push(format!(in alloc; "None")?)?;
+    }
+    joined(alloc, &parts)
+}
+
 // The first row that comes to something else, with what it comes to; the empty text where there is none.
 fn difference(alloc: Global, rows: &[Row]) -> Result<String, AllocError> {
     for row in rows {
@@ -76,4 +93,15 @@ fn difference(alloc: Global, rows: &[Row]) -> Result<String, AllocError> {
         }
     }
     Ok(String::new(alloc))
+}
+
+// The same of rows that the preprocessor reads too: it comes to the same items.
+fn both_differ(alloc: Global, rows: &[Row]) -> Result<String, AllocError> {
+    for row in rows {
+        let found = preprocessed(alloc, row.source)?;
+        if found.as_str() != row.expected {
+            return format!(in alloc; "{}, preprocessed: {}", row.name, found.as_str());
+        }
+    }
+    difference(alloc, rows)
 }

@@ -133,9 +133,10 @@ fn prints_up_to_the_first_error(rt: HostRuntime) {
         expect_output(&rt, "a # b", step, "a\n", &hash);
         let character = stopped(PreprocessorError::UnexpectedCharacter, 0, 0, 1);
         expect_output(&rt, "@ x", step, "", &character);
-        // Until `#define` is known.
-        let directive = stopped(PreprocessorError::UnknownDirective, 3, 9, 2);
-        expect_output(&rt, "x\n#define A B", step, "x\n", &directive);
+        expect_output(&rt, "#define A B +\nA\nA C", step, "B + B + C\n", &done);
+        // Until `#error` is known.
+        let directive = stopped(PreprocessorError::UnknownDirective, 3, 8, 2);
+        expect_output(&rt, "x\n#error A", step, "x\n", &directive);
     }
 }
 

@@ -1,9 +1,57 @@
 //! Blocks: live and dead text.
 
-use super::{Row, difference};
+use super::{Row, both_differ, difference};
 use std::test::Fail;
 
-const BLOCKS: [Row; 21] = [
+const OF_NAMES: [Row; 9] = [
+    Row {
+        name: "#else of an undefined name",
+        source: "#ifdef A\nx\n#else\ny\n#endif",
+        expected: "y 17..18 L4, None",
+    },
+    Row {
+        name: "#ifndef, #ifdef and no #endif",
+        source: "#ifndef A\n#ifdef B",
+        expected: "Error UnfinishedBlock 11..16 L2",
+    },
+    Row {
+        name: "an error in an #ifdef",
+        source: "#ifdef A\n@\n#endif",
+        expected: "Error UnexpectedCharacter 0..0 L1",
+    },
+    Row {
+        name: "a token behind #else",
+        source: "#ifdef A\n#else x",
+        expected: "Error UnexpectedToken(x) 15..16 L2",
+    },
+    Row {
+        name: "two #else",
+        source: "#ifdef A\n#else\n#else",
+        expected: "Error MoreThanOneElse 16..20 L3",
+    },
+    Row {
+        name: "#else alone",
+        source: "#else",
+        expected: "Error ElseOutsideOfBlock 1..5 L1",
+    },
+    Row {
+        name: "#endif alone",
+        source: "#endif",
+        expected: "Error EndifOutsideOfBlock 1..6 L1",
+    },
+    Row {
+        name: "dead directives do not act",
+        source: "#ifdef A\n#ifdef\n#endif %\n#define B 1\n#endif\nB",
+        expected: "B 44..45 L6, None",
+    },
+    Row {
+        name: "a token behind the #endif of an #ifdef",
+        source: "#ifdef A\n#endif %",
+        expected: "Error UnexpectedToken(Percent) 16..17 L2",
+    },
+];
+
+const OF_CONDITIONS: [Row; 12] = [
     Row {
         name: "#endif without its block",
         source: "#if 1\n#endif\n#endif",
@@ -55,51 +103,6 @@ const BLOCKS: [Row; 21] = [
         expected: "Error UnexpectedCharacter 0..0 L1",
     },
     Row {
-        name: "#else of an undefined name",
-        source: "#ifdef A\nx\n#else\ny\n#endif",
-        expected: "y 17..18 L4, None",
-    },
-    Row {
-        name: "#ifndef, #ifdef and no #endif",
-        source: "#ifndef A\n#ifdef B",
-        expected: "Error UnfinishedBlock 11..16 L2",
-    },
-    Row {
-        name: "an error in an #ifdef",
-        source: "#ifdef A\n@\n#endif",
-        expected: "Error UnexpectedCharacter 0..0 L1",
-    },
-    Row {
-        name: "a token behind #else",
-        source: "#ifdef A\n#else x",
-        expected: "Error UnexpectedToken(x) 15..16 L2",
-    },
-    Row {
-        name: "two #else",
-        source: "#ifdef A\n#else\n#else",
-        expected: "Error MoreThanOneElse 16..20 L3",
-    },
-    Row {
-        name: "#else alone",
-        source: "#else",
-        expected: "Error ElseOutsideOfBlock 1..5 L1",
-    },
-    Row {
-        name: "#endif alone",
-        source: "#endif",
-        expected: "Error EndifOutsideOfBlock 1..6 L1",
-    },
-    Row {
-        name: "dead directives do not act",
-        source: "#ifdef A\n#ifdef\n#endif %\n#define B 1\n#endif\nB",
-        expected: "B 44..45 L6, None",
-    },
-    Row {
-        name: "a token behind the #endif of an #ifdef",
-        source: "#ifdef A\n#endif %",
-        expected: "Error UnexpectedToken(Percent) 16..17 L2",
-    },
-    Row {
         name: "a block in an argument",
         source: "#define F(x) x\nF(\n#ifdef Q\n1\n#else\n2\n#endif\n)",
         expected: "2 35..36 L6, None",
@@ -112,8 +115,15 @@ const BLOCKS: [Row; 21] = [
 ];
 
 #[test]
+fn come_to_their_items_on_both(rt: HostRuntime) -> Result<(), Fail> {
+    let found = both_differ(rt.alloc(), &OF_NAMES)?;
+    assert_eq!(rt; found.as_str(), "");
+    Ok(())
+}
+
+#[test]
 fn come_to_their_items(rt: HostRuntime) -> Result<(), Fail> {
-    let found = difference(rt.alloc(), &BLOCKS)?;
+    let found = difference(rt.alloc(), &OF_CONDITIONS)?;
     assert_eq!(rt; found.as_str(), "");
     Ok(())
 }

@@ -1,9 +1,10 @@
 //! `#define` and `#undef`.
 
-use super::{Row, difference};
+use super::{Row, both_differ, difference};
 use std::test::Fail;
 
-const DEFINITIONS: [Row; 27] = [
+// Lines of macros without parameters.
+const OBJECT_LIKE: [Row; 25] = [
     Row {
         name: "parentheses behind an object-like macro",
         source: "#define A foo\nA()",
@@ -30,54 +31,9 @@ const DEFINITIONS: [Row; 27] = [
         expected: "Error UnexpectedNewLine 6..7 L1",
     },
     Row {
-        name: "a comma before the first parameter",
-        source: "#define A(,a) foo",
-        expected: "Error UnexpectedToken(Comma) 10..11 L1",
-    },
-    Row {
-        name: "no comma between parameters",
-        source: "#define A(a b) foo",
-        expected: "Error UnexpectedToken(b) 12..13 L1",
-    },
-    Row {
-        name: "one empty argument",
-        source: "#define A(a) foo a\nA()",
-        expected: "foo 13..16 L1, None",
-    },
-    Row {
-        name: "object-like, then function-like",
-        source: "#define A a\n#define A() a",
-        expected: "Error DefineRedefined 20..21 L2",
-    },
-    Row {
         name: "a blank before the parenthesis",
         source: "#define A ()\n#define C/**/(a, b)\nA C",
         expected: "LeftParen 10..11 L1, RightParen 11..12 L1, LeftParen 26..27 L2, a 27..28 L2, Comma 28..29 L2, b 30..31 L2, RightParen 31..32 L2, None",
-    },
-    Row {
-        name: "no parameters",
-        source: "#define A() foo\nA()",
-        expected: "foo 12..15 L1, None",
-    },
-    Row {
-        name: "a name without its call",
-        source: "#define A(a) foobar\nA + B",
-        expected: "A 20..21 L2, Plus 22..23 L2, B 24..25 L2, None",
-    },
-    Row {
-        name: "parameters in another order",
-        source: "#define A(b, d) a\n#define A(d, b) a",
-        expected: "Error DefineRedefined 26..27 L2",
-    },
-    Row {
-        name: "a parameter twice",
-        source: "#define A(a, a) foo",
-        expected: "Error DuplicateParameter 13..14 L1",
-    },
-    Row {
-        name: "a parameter twice, before a fault behind it",
-        source: "#define A(a, a b) x",
-        expected: "Error DuplicateParameter 13..14 L1",
     },
     Row {
         name: "# behind text",
@@ -125,6 +81,105 @@ const DEFINITIONS: [Row; 27] = [
         expected: "Error UnexpectedNewLine 7..7 L1",
     },
     Row {
+        name: "a word that is none",
+        source: "# ;",
+        expected: "Error UnexpectedToken(Semicolon) 2..3 L1",
+    },
+    Row {
+        name: "a body that says the same with other blanks",
+        source: "#define A 1 + 2\n #  define A /**/ 1+2\nA",
+        expected: "1 10..11 L1, Plus 12..13 L1, 2 14..15 L1, None",
+    },
+    Row {
+        name: "a longer body",
+        source: "#define A 1\n#define A 1 1",
+        expected: "Error DefineRedefined 20..21 L2",
+    },
+    Row {
+        name: "an empty body",
+        source: "#define A\n#define A\nA x A",
+        expected: "x 22..23 L3, None",
+    },
+    Row {
+        name: "a body again behind #undef",
+        source: "#define A 1\n#undef A\n#define A 2\nA",
+        expected: "2 31..32 L3, None",
+    },
+    Row {
+        name: "#undef of a name that isn't defined",
+        source: "#undef A\nA",
+        expected: "A 9..10 L2, None",
+    },
+    Row {
+        name: "#undef alone",
+        source: "#undef",
+        expected: "Error UnexpectedNewLine 6..6 L1",
+    },
+    Row {
+        name: "a number as the name",
+        source: "#undef 1",
+        expected: "Error UnexpectedToken(1) 7..8 L1",
+    },
+    Row {
+        name: "# as the name",
+        source: "#define #",
+        expected: "Error UnexpectedHash 8..9 L1",
+    },
+    Row {
+        name: "a word that no directive has",
+        source: "/**/ # /**/ nope",
+        expected: "Error UnknownDirective 12..16 L1",
+    },
+];
+
+// Lines of macros with parameters.
+const FUNCTION_LIKE: [Row; 11] = [
+    Row {
+        name: "a comma before the first parameter",
+        source: "#define A(,a) foo",
+        expected: "Error UnexpectedToken(Comma) 10..11 L1",
+    },
+    Row {
+        name: "no comma between parameters",
+        source: "#define A(a b) foo",
+        expected: "Error UnexpectedToken(b) 12..13 L1",
+    },
+    Row {
+        name: "one empty argument",
+        source: "#define A(a) foo a\nA()",
+        expected: "foo 13..16 L1, None",
+    },
+    Row {
+        name: "object-like, then function-like",
+        source: "#define A a\n#define A() a",
+        expected: "Error DefineRedefined 20..21 L2",
+    },
+    Row {
+        name: "no parameters",
+        source: "#define A() foo\nA()",
+        expected: "foo 12..15 L1, None",
+    },
+    Row {
+        name: "a name without its call",
+        source: "#define A(a) foobar\nA + B",
+        expected: "A 20..21 L2, Plus 22..23 L2, B 24..25 L2, None",
+    },
+    Row {
+        name: "parameters in another order",
+        source: "#define A(b, d) a\n#define A(d, b) a",
+        expected: "Error DefineRedefined 26..27 L2",
+    },
+    Row {
+        name: "a parameter twice",
+        source: "#define A(a, a) foo",
+        expected: "Error DuplicateParameter 13..14 L1",
+    },
+    Row {
+        name: "a parameter twice, before a fault behind it",
+        source: "#define A(a, a b) x",
+        expected: "Error DuplicateParameter 13..14 L1",
+    },
+    Row {
         name: "a comma behind the last parameter",
         source: "#define A(a,)",
         expected: "Error UnexpectedToken(RightParen) 12..13 L1",
@@ -134,16 +189,18 @@ const DEFINITIONS: [Row; 27] = [
         source: "#define A(a,b",
         expected: "Error UnexpectedNewLine 13..13 L1",
     },
-    Row {
-        name: "a word that is none",
-        source: "# ;",
-        expected: "Error UnexpectedToken(Semicolon) 2..3 L1",
-    },
 ];
 
 #[test]
+fn come_to_their_items_in_both(rt: HostRuntime) -> Result<(), Fail> {
+    let found = both_differ(rt.alloc(), &OBJECT_LIKE)?;
+    assert_eq!(rt; found.as_str(), "");
+    Ok(())
+}
+
+#[test]
 fn come_to_their_items(rt: HostRuntime) -> Result<(), Fail> {
-    let found = difference(rt.alloc(), &DEFINITIONS)?;
+    let found = difference(rt.alloc(), &FUNCTION_LIKE)?;
     assert_eq!(rt; found.as_str(), "");
     Ok(())
 }

@@ -1,9 +1,54 @@
 //! Macros: what opens, arguments and their faults.
 
-use super::{Row, difference};
+use super::{Row, both_differ, difference};
 use std::test::Fail;
 
-const EXPANSION: [Row; 26] = [
+// Macros without parameters.
+const OBJECT_LIKE: [Row; 8] = [
+    Row {
+        name: "a macro that names itself",
+        source: "#define A A B C\nA",
+        expected: "A 10..11 L1, B 12..13 L1, C 14..15 L1, None",
+    },
+    Row {
+        name: "two macros that name each other",
+        source: "#define A B\n#define B A\nA B",
+        expected: "A 22..23 L2, B 10..11 L1, None",
+    },
+    Row {
+        name: "open only up to its end",
+        source: "#define C C +\nC C",
+        expected: "C 10..11 L1, Plus 12..13 L1, C 10..11 L1, Plus 12..13 L1, None",
+    },
+    Row {
+        name: "macros inside each other",
+        source: "#define A B\n#define B C +\n#define C 1\nA A",
+        expected: "1 36..37 L3, Plus 24..25 L2, 1 36..37 L3, Plus 24..25 L2, None",
+    },
+    Row {
+        name: "three macros in a ring",
+        source: "#define A B 1\n#define B C 2\n#define C A 3\nA",
+        expected: "A 38..39 L3, 3 40..41 L3, 2 26..27 L2, 1 12..13 L1, None",
+    },
+    Row {
+        name: "defined behind its use",
+        source: "A\n#define A 1\nA",
+        expected: "A 0..1 L1, 1 12..13 L2, None",
+    },
+    Row {
+        name: "gone behind its use",
+        source: "#define A B\n#define B 1\nA\n#undef B\nA",
+        expected: "1 22..23 L2, B 10..11 L1, None",
+    },
+    Row {
+        name: "as long as a name is open, in one body twice",
+        source: "#define A B B\n#define B A C\nA",
+        expected: "A 24..25 L2, C 26..27 L2, A 24..25 L2, C 26..27 L2, None",
+    },
+];
+
+// Macros with parameters.
+const FUNCTION_LIKE: [Row; 23] = [
     Row {
         name: "too many arguments",
         source: "#define A(a, b) foo\nA(1, 2, 3)",
@@ -40,11 +85,6 @@ const EXPANSION: [Row; 26] = [
         expected: "C 94..95 L6, None",
     },
     Row {
-        name: "a macro that names itself",
-        source: "#define A A B C\nA",
-        expected: "A 10..11 L1, B 12..13 L1, C 14..15 L1, None",
-    },
-    Row {
         name: "a comma through two macros",
         source: "#define A(x, y) x + y\n#define COMMA ,\n#define B(foo) A(foo)\nB(1 COMMA 2)",
         expected: "1 62..63 L4, Plus 18..19 L1, 2 70..71 L4, None",
@@ -58,16 +98,6 @@ const EXPANSION: [Row; 26] = [
         name: "an opening parenthesis from a macro",
         source: "#define LPAREN (\n#define A(a) <a>\n#define B(a) a\nB(A LPAREN 1) 2)",
         expected: "LeftAngle 30..31 L2, 1 60..61 L4, 2 63..64 L4, RightAngle 32..33 L2, None",
-    },
-    Row {
-        name: "two macros that name each other",
-        source: "#define A B\n#define B A\nA B",
-        expected: "A 22..23 L2, B 10..11 L1, None",
-    },
-    Row {
-        name: "open only up to its end",
-        source: "#define C C +\nC C",
-        expected: "C 10..11 L1, Plus 12..13 L1, C 10..11 L1, Plus 12..13 L1, None",
     },
     Row {
         name: "a held name is looked up anew",
@@ -137,8 +167,15 @@ const EXPANSION: [Row; 26] = [
 ];
 
 #[test]
+fn come_to_their_items_in_both(rt: HostRuntime) -> Result<(), Fail> {
+    let found = both_differ(rt.alloc(), &OBJECT_LIKE)?;
+    assert_eq!(rt; found.as_str(), "");
+    Ok(())
+}
+
+#[test]
 fn come_to_their_items(rt: HostRuntime) -> Result<(), Fail> {
-    let found = difference(rt.alloc(), &EXPANSION)?;
+    let found = difference(rt.alloc(), &FUNCTION_LIKE)?;
     assert_eq!(rt; found.as_str(), "");
     Ok(())
 }

@@ -1,9 +1,39 @@
 //! `#line` and `__LINE__`.
 
-use super::{Row, difference};
+use super::{Row, both_differ, difference};
 use std::test::Fail;
 
-const LINE_NUMBERS: [Row; 22] = [
+// Without `#line` and parameters.
+const LINE_NAMES: [Row; 5] = [
+    Row {
+        name: "__LINE__ over a continuation",
+        source: "__L\\\nINE__",
+        expected: "1u 0..10 L1, None",
+    },
+    Row {
+        name: "a macro of the name __LINE__",
+        source: "#define __LINE__ 7\n__LINE__",
+        expected: "2u 19..27 L2, None",
+    },
+    Row {
+        name: "__LINE__ in text",
+        source: "__LINE__ x\n__LINE__",
+        expected: "1u 0..8 L1, x 9..10 L1, 2u 11..19 L2, None",
+    },
+    Row {
+        name: "__LINE__ in a body",
+        source: "#define L __LINE__\n\nL\nL",
+        expected: "3u 10..18 L1, 4u 10..18 L1, None",
+    },
+    Row {
+        name: "the line of the outermost macro",
+        source: "#define A B\n#define B __LINE__\n\nA __LINE__",
+        expected: "4u 22..30 L2, 4u 34..42 L4, None",
+    },
+];
+
+// With `#line` or parameters.
+const LINE_NUMBERS: [Row; 20] = [
     Row {
         name: "an expression as the line",
         source: "#line 20 * 0 -2 + 100\n__LINE__",
@@ -13,11 +43,6 @@ const LINE_NUMBERS: [Row; 22] = [
         name: "# on a #line",
         source: "#line 1 #",
         expected: "Error UnexpectedHash 8..9 L1",
-    },
-    Row {
-        name: "__LINE__ over a continuation",
-        source: "__L\\\nINE__",
-        expected: "1u 0..10 L1, None",
     },
     Row {
         name: "one #line behind another",
@@ -95,11 +120,6 @@ const LINE_NUMBERS: [Row; 22] = [
         expected: "4u 25..33 L2, 101u 25..33 L2, 101u 53..61 L4, None",
     },
     Row {
-        name: "a macro of the name __LINE__",
-        source: "#define __LINE__ 7\n__LINE__",
-        expected: "2u 19..27 L2, None",
-    },
-    Row {
         name: "a name behind a line below 0",
         source: "#line -1 foo",
         expected: "Error UnexpectedToken(foo) 9..12 L1",
@@ -115,6 +135,13 @@ const LINE_NUMBERS: [Row; 22] = [
         expected: "Error LineOverflow 1..5 L1",
     },
 ];
+
+#[test]
+fn come_to_their_items_in_both(rt: HostRuntime) -> Result<(), Fail> {
+    let found = both_differ(rt.alloc(), &LINE_NAMES)?;
+    assert_eq!(rt; found.as_str(), "");
+    Ok(())
+}
 
 #[test]
 fn come_to_their_items(rt: HostRuntime) -> Result<(), Fail> {
