@@ -88,7 +88,8 @@ pub settled_before : (live : Bool) (position : ℕ) (holds : Bool) (truths : Tru
 settled_before live position holds truths block before settled =
     all_fail_before position holds truths block before ∙ settled ∙ ap (λ taken. live && not taken) (sym (taken_branch_before position holds truths block before))
 
-opens_no_else : (p : Part) → opens p ≡ true → is_else p ≡ false
+-- a line that opens a block is no `#else`
+pub opens_no_else : (p : Part) → opens p ≡ true → is_else p ≡ false
 opens_no_else part.Opens h = refl
 opens_no_else part.Closes h = refl
 opens_no_else part.Elif h = refl

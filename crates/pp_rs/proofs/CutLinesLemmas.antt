@@ -34,7 +34,7 @@ alone_lexeme position (Ok token) comments = alone_value position token.location 
 alone_lexeme position (Err fault) comments = refl
 
 -- an item alone is no line of a block
-alone : (position : ℕ) (s : Seen) → block_lines position (s ∷ []) ≡ []
+pub alone : (position : ℕ) (s : Seen) → block_lines position (s ∷ []) ≡ []
 alone position s = alone_lexeme position s.item s.had_comments
 
 same_lexeme : (item : Lexeme) (comments : Bool) (next : Seen) (later other : List Seen)
@@ -43,7 +43,7 @@ same_lexeme (Ok token) comments next later other = refl
 same_lexeme (Err fault) comments next later other = refl
 
 -- what stands in front is told by two items
-same_sight : (s next : Seen) (later other : List Seen) → sight_of (s ∷ next ∷ later) ≡ sight_of (s ∷ next ∷ other)
+pub same_sight : (s next : Seen) (later other : List Seen) → sight_of (s ∷ next ∷ later) ≡ sight_of (s ∷ next ∷ other)
 same_sight s next later other = same_lexeme s.item s.had_comments next later other
 
 -- where the line of a block stands in front, the next item begins none

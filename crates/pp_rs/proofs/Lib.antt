@@ -47,3 +47,11 @@ pub mod SourceStepLemmas
 pub mod LinesBeforeLemmas
 pub mod StandsBehindLemmas
 pub mod SourceSimulates
+pub mod LastLemmas
+pub mod ReaderInvariantLemmas
+pub mod FewerLinesLemmas
+pub mod BranchedLemmas
+pub mod BranchesReadLemmas
+pub mod KnownBehindLemmas
+pub mod BranchActsLemmas
+pub mod LiveBranchLemmas

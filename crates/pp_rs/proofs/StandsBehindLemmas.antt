@@ -16,14 +16,9 @@ use Rattle.pp_rs.specs.OpenBlocks.{OpenBlock, last_block, outer_blocks, is_live_
 use Rattle.pp_rs.specs.Source.{Source}
 use Rattle.pp_rs.specs.Stands.{AreObjectLike, StandsForReader}
 use Rattle.pp_rs.proofs.BlockStackLemmas.{innermost_last, Innermost, stands_innermost, none_stand, live_outside, live_inside}
+use Rattle.pp_rs.proofs.LastLemmas.{last_split}
 use Rattle.pp_rs.proofs.LinedLemmas.{lined_behind}
 use Rattle.pp_rs.proofs.LinesBeforeLemmas.{AreLinesBefore, AddsLines, lines_here, lines_further}
-
-last_of_more : (first : OpenBlock) (blocks : List OpenBlock) → (kept : OpenBlock) → slice_get (first ∷ blocks) (length blocks) ≡ Some kept → first ∷ blocks ≡ take (length blocks) (first ∷ blocks) ++ kept ∷ []
-last_of_more first [] kept e =
-    let same : first ≡ kept = cc in
-    ap (λ b. b ∷ []) same
-last_of_more first (next ∷ blocks) kept e = ap (λ later. first ∷ later) (last_of_more next blocks kept e)
 
 some_last : (first : OpenBlock) (blocks : List OpenBlock) → slice_get (first ∷ blocks) (length blocks) ≡ None → ⊥
 some_last first [] e = cc
@@ -34,10 +29,7 @@ one_less first blocks = omega arith
 
 -- the blocks are the outer ones and the last
 pub blocks_split : (blocks : List OpenBlock) (kept : OpenBlock) → last_block blocks ≡ Some kept → blocks ≡ outer_blocks blocks ++ kept ∷ []
-blocks_split [] kept e = cc
-blocks_split (first ∷ blocks) kept e =
-    last_of_more first blocks kept (ap (slice_get (first ∷ blocks)) (sym (one_less first blocks)) ∙ e)
-    ∙ ap (λ n. take n (first ∷ blocks) ++ kept ∷ []) (sym (one_less first blocks))
+blocks_split = last_split
 
 -- there are none without a last
 pub no_blocks_kept : (blocks : List OpenBlock) → last_block blocks ≡ None → blocks ≡ []

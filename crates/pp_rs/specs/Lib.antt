@@ -21,6 +21,7 @@ pub mod Reader
 pub mod Frames
 pub mod Turns
 pub mod Stands
+pub mod LiveBranch
 pub mod Work
 pub mod Lined
 pub mod Halting

@@ -4,9 +4,11 @@
 ghost use Rattle.std.specs.Prelude.{ℕ};
 ghost use Rattle.pp_lexer.specs.ItemLaws.{TokensLieWithin, ItemsAreFinite};
 ghost use Rattle.pp_lexer.specs.PhaseLaws.{PairsCountOnce, LinesCountNewlines, SourcesNeverFall};
+ghost use Rattle.pp_model.specs.BlockLaws.{OneBranch, NoneBehindTaken, DeadTextGivesNothing};
 ghost use Rattle.pp_model.specs.Emitting.{answers_at};
 ghost use Rattle.pp_model.specs.RunLaws.{RedefinitionIsChecked};
 ghost use Rattle.pp_model.specs.RunStates.{RunKeepsMarksApart, RunShowsNoLineName, EndStays, RunEndsForGood};
+ghost use Rattle.pp_rs.specs.LiveBranch.{RunHasLiveBranches};
 
 use crate::lexer;
 
@@ -57,4 +59,21 @@ pub fn end_stays()
     ensures replies { (level : ℕ) → RunEndsForGood (answers_at level) }
 {
     pp_model::laws::run_end()
+}
+
+/// Of a block's branches at most one is live, and behind one that was taken none is. Of a block that was read to its
+/// `#endif`, that has an `#else` and begins in live text, just one is.
+pub fn live_branch()
+    ensures one { OneBranch }
+    ensures none_behind { NoneBehindTaken }
+    ensures read { (level : ℕ) → RunHasLiveBranches (answers_at level) }
+{
+    pp_model::laws::live_branch()
+}
+
+/// What stands in dead text comes to no token, no definition and no line number, and leaves the definitions as they are.
+pub fn dead_text()
+    ensures { DeadTextGivesNothing }
+{
+    pp_model::laws::dead_text()
 }
