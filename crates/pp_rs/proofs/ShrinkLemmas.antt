@@ -44,7 +44,7 @@ module _ (old new : Source) where
       record { shorter = shorter; names = omega arith; steps = omega arith }
 
   fault_shrinks : IsBehindFault old new → Shrinks old new
-  fault_shrinks behind = stays_shrinks behind.definitions (omega (arith, behind.shorter, ap length behind.blocks))
+  fault_shrinks behind = stays_shrinks behind.definitions (omega (arith, behind.fewer))
 
   block_shrinks : IsBehindBlock old new → length old.rest + (length old.blocks - 1) < length old.rest + length old.blocks → Shrinks old new
   block_shrinks behind low = stays_shrinks behind.definitions (omega (arith, ap length behind.rest, ap length behind.blocks, length-take (length old.blocks - 1) old.blocks))

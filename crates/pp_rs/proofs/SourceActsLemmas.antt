@@ -35,7 +35,7 @@ source_of l definitions blocks = record { rest = l.rest; definitions = definitio
 -- a line at fault, or without memory for it
 acts_failed : {A B : Type 0} (shows : A → B) (h : Halt) (line : Result B Fault) (effect : B → Effect) (n taken : ℕ) (definitions : List Defined) (blocks : List OpenBlock) (old new : Lexed)
     → Meets shows (Err h) line → TakesItems {A = A} taken old (Err h) new → Acts (line_move line effect n) (source_of old definitions blocks) (Err h) (source_of new definitions blocks)
-acts_failed shows (halt.Fault fault) line effect n taken definitions blocks old new m t = rw m (refl, record { rest = t.rest; definitions = refl; blocks = refl; spent = t.spent })
+acts_failed shows (halt.Fault fault) line effect n taken definitions blocks old new m t = rw m (refl, record { left = omega (arith, t.rest); definitions = refl; spent = t.spent })
 acts_failed shows halt.OutOfMemory line effect n taken definitions blocks old new m t = tt
 
 line_unless_fault : (fault : Option Fault) (line : Result Named Fault) (n : ℕ) → unless_refused fault (line_move line defines n) ≡ line_move (unless_fault fault line) defines n
@@ -76,7 +76,7 @@ module _ (definitions : List Defined) (blocks : List OpenBlock) (old mid : Lexed
   pub acts_behind : (effect : Effect) (result : Result (Unit {0}) Halt) (new : Source) → Acts (record { effect = effect; taken = more }) (source_of mid definitions blocks) result new → Acts (record { effect = effect; taken = total }) (source_of old definitions blocks) result new
   acts_behind effect (Ok done) new h = effect_behind effect new h
   acts_behind effect (Err (halt.Fault fault)) new h =
-      (h.0, record { rest = omega (arith, h.1.rest, drop_fewer old.rest mid.rest n taken); definitions = h.1.definitions; blocks = h.1.blocks; spent = h.1.spent })
+      (h.0, record { left = omega (arith, h.1.left, drop_fewer old.rest mid.rest n taken); definitions = h.1.definitions; spent = h.1.spent })
   acts_behind effect (Err halt.OutOfMemory) new h = tt
 
 -- a `#define`, by its line
@@ -97,7 +97,7 @@ module _ (definitions : List Defined) (blocks : List OpenBlock) (old new : Lexed
 -- a fault behind something that was read
 module _ (definitions : List Defined) (blocks : List OpenBlock) (old mid : Lexed) (new : Source) (fault : Fault) (fewer : length mid.rest < length old.rest) (kept : HasKept (source_of mid definitions blocks) new) where
   further : IsBehindFault (source_of old definitions blocks) new
-  further = record { shorter = omega (arith, kept.rest); definitions = kept.definitions; blocks = kept.blocks; spent = kept.spent }
+  further = record { fewer = omega (arith, kept.left); definitions = kept.definitions; spent = kept.spent }
 
   redefines : (named : Named) (before : Option Definition) (taken : ℕ) → RedefinesWith named before fault → DefinesOver named before taken (source_of old definitions blocks) (Err (Error fault)) new
   redefines named None taken h = absurd h

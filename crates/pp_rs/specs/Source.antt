@@ -26,11 +26,10 @@ pub record IsBehind (taken : ℕ) (still_open : List OpenBlock) (old new : Sourc
   pub blocks : new.blocks ≡ still_open
   pub spent : new.spent ≡ false
 
--- behind a fault: nothing is said of how far the reader went, but that it went on
+-- behind a fault: nothing is said of how far the reader went, nor of which blocks are open, but that fewer items and blocks are left
 pub record IsBehindFault (old new : Source) : Type 0 where
-  pub shorter : length new.rest < length old.rest
+  pub fewer : length new.rest + length new.blocks < length old.rest + length old.blocks
   pub definitions : new.definitions ≡ old.definitions
-  pub blocks : new.blocks ≡ old.blocks
   pub spent : new.spent ≡ false
 
 -- the innermost block was told at the end

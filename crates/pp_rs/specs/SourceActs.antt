@@ -1,5 +1,5 @@
 -- What a directive does, where the source stands behind its word.
-use Rattle.std.specs.Prelude.{◌≡◌, ◌≤◌, Bool, true, false, if◌then◌else◌, List, length, drop, Option, Some, None, Result, Ok, Err, ⊤}
+use Rattle.std.specs.Prelude.{◌≡◌, ◌≤◌, ◌+◌, Bool, true, false, if◌then◌else◌, List, length, drop, Option, Some, None, Result, Ok, Err, ⊤}
 use Rattle.pp_lexer.specs.Lexed.{Seen}
 use Rattle.pp_lexer.specs.declared.lexer.item.Token.{Token as LexerToken}
 use Rattle.pp_lexer.specs.declared.token.Location.{Location}
@@ -20,11 +20,10 @@ use Rattle.pp_rs.specs.declared.pp.halt.Halt.{Halt}
 use Rattle.pp_rs.specs.declared.pp.halt.Halt.TheVariants as halt
 use Rattle.pp_rs.specs.declared.pp.step.StepExit.TheVariants.{Continue}
 
--- behind a fault: nothing is said of how far the reader went
+-- behind a fault: nothing is said of how far the reader went, nor of which blocks are open, but that no more items and blocks are left
 pub record HasKept (old new : Source) : Type 0 where
-  pub rest : length new.rest ≤ length old.rest
+  pub left : length new.rest + length new.blocks ≤ length old.rest + length old.blocks
   pub definitions : new.definitions ≡ old.definitions
-  pub blocks : new.blocks ≡ old.blocks
   pub spent : new.spent ≡ false
 
 abbrev pub RedefinesWith : Named → Option Definition → Fault → Type 0

@@ -128,14 +128,13 @@ impl<'a> DirectiveProcessor<'a> {
         Ok(())
     }
 
-    // Opens a block in dead text.
+    // Opens a block in dead text, whatever stands on its line.
     fn open_unread(&mut self, word: Location) -> Result<(), Halt>
         requires { self.old.spent ≡ false }
         ensures { Acts (moves.skip_move (moves.opens_unread word) self.old.rest) self.old result self.new }
     {
-        skip_line(&mut self.lexer)?;
         self.blocks.push(OpenBlock::unread(word))?;
-        Ok(())
+        skip_line(&mut self.lexer)
     }
 
     // Does what an `#else` line says, behind its word.
@@ -154,17 +153,15 @@ impl<'a> DirectiveProcessor<'a> {
         Ok(())
     }
 
-    // Does what an `#endif` line says, behind its word.
+    // Does what an `#endif` line says, behind its word: the block closes, whatever else stands on the line.
     fn endif_line(&mut self, word: Location) -> Result<(), Halt>
         requires { self.old.spent ≡ false }
         ensures { Acts (moves.endif_move (last_block self.old.blocks) word self.old.rest) self.old result self.new }
     {
-        let Some(block) = self.blocks.last() else {
+        let Some(block) = self.blocks.pop() else {
             return Err(Halt::Fault((PreprocessorError::EndifOutsideOfBlock, word)));
         };
-        endif_end(block.live_around, word, &mut self.lexer)?;
-        self.blocks.pop();
-        Ok(())
+        endif_end(block.live_around, word, &mut self.lexer)
     }
 
     // Skips the line.

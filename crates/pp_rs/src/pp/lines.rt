@@ -101,6 +101,7 @@ fn pass_token(lexer: &mut SourceLexer<'_>) -> Result<bool, Halt>
     requires { lexer.old.spent ≡ false }
     ensures is { spec.Meets (λ t. t) result (spec.line_goes_on lexer.old.rest) }
     ensures takes { spec.TakesItems 1 lexer.old result lexer.new }
+    ensures fault { spec.FaultTakesSome result lexer.old lexer.new }
 {
     match lexer.next_token()? {
         Some(token) => Ok(!matches!(token.value, lexer::TokenValue::NewLine)),
@@ -113,6 +114,7 @@ pub fn skip_line(lexer: &mut SourceLexer<'_>) -> Result<(), Halt>
     requires { lexer.old.spent ≡ false }
     ensures is { spec.Meets (λ t. t) result (spec.skipped_line lexer.old.rest) }
     ensures takes { spec.TakesItems (line_length lexer.old.rest) lexer.old result lexer.new }
+    ensures fault { spec.FaultTakesSome result lexer.old lexer.new }
 {
     'line: while pass_token(lexer)? {}
     Ok(())
