@@ -1,9 +1,8 @@
--- What the next item of a preprocessor says of the states that it stands for
+-- What the next item of a preprocessor says of the states that it stands for.
 use Rattle.std.proofs.Common.{◌≡◌, ◌≢◌, Bool, true, false, Some, None, Ok, Err, inl, inr}
 use Rattle.std.specs.Prelude.{MatchBool}
 use Rattle.pp_model.specs.Calls.{Fault}
 use Rattle.pp_model.specs.declared.outcome.Outcome.TheVariants as outcome
-use Rattle.pp_rs.specs.Held.{HoldsOrdinary}
 use Rattle.pp_rs.specs.Preprocessing.{Preprocessing, Stands, IsGivenItem, IsNextItem}
 use Rattle.pp_rs.specs.declared.token.PreprocessorError.TheVariants.{OutOfMemory}
 use Rattle.pp_rs.specs.declared.token.Token.{Token}
@@ -24,9 +23,6 @@ module _ (old new : Preprocessing) (ready : old.spent ≡ false) where
 
   pub token_keeps_ready : (t : Token) → IsNextItem old (Some (Ok t)) new → new.spent ≡ false
   token_keeps_ready t h = (given_token t h).spent
-
-  pub token_holds : (t : Token) → IsNextItem old (Some (Ok t)) new → HoldsOrdinary t.value
-  token_holds t h = (given_token t h).holds
 
   -- an error came next, unless it is want of memory
   pub next_error : (fault : Fault) → IsNextItem old (Some (Err fault)) new → fault.0 ≢ OutOfMemory → (state : State) → Stands old state → (behind : State) × Comes state (outcome.Fault fault) behind

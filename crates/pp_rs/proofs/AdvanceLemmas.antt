@@ -8,6 +8,7 @@ use Rattle.pp_rs.specs.Defined.{Defined, meaning_of, body_tokens}
 use Rattle.pp_rs.specs.Frames.{Layer, layer, Advance, advance, body_token, argument_at}
 use Rattle.pp_rs.specs.Work.{token_steps, body_steps, steps_left}
 
+-- a frame behind a step: fewer steps are left, and its name stays
 pub record Advances (f : Layer) (a : Advance) : Type 0 where
   pub lower : steps_left a.after < steps_left f
   pub name : a.after.name ≡ f.name
@@ -17,6 +18,7 @@ pub body_steps_some : (parameters : List Name) (arguments : List (List Token)) (
 body_steps_some parameters arguments [] = omega arith
 body_steps_some parameters arguments (token ∷ rest) = omega (arith, body_steps_some parameters arguments rest)
 
+-- a frame has a step left
 pub some_steps_left : (f : Layer) → 0 < steps_left f
 some_steps_left f = omega (arith, body_steps_some f.parameters f.arguments f.body)
 
@@ -40,6 +42,7 @@ frame_lowers name line parameters body arguments (Some []) = record { lower = om
 frame_lowers name line parameters [] arguments None = tt
 frame_lowers name line parameters (token ∷ rest) arguments None = token_lowers name line parameters token rest arguments (parameter_of parameters token.value) refl
 
+-- each step of a frame is so
 pub advance_lowers : (f : Layer) → IfSome (advance f) (Advances f)
 advance_lowers f = frame_lowers f.name f.line f.parameters f.body f.arguments f.reading
 

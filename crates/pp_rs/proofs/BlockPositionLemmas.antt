@@ -7,7 +7,6 @@ use Rattle.pp_model.specs.Sights.{sight_of}
 use Rattle.pp_model.specs.Blocks.{part_of, line_with, line_at, block_lines, stays_open, inner_behind, opens, parts_block, parting, Block, open_blocks, blocks_at}
 use Rattle.pp_model.specs.declared.block.BlockLine.{BlockLine}
 use Rattle.pp_model.specs.declared.block.Part.{Part}
-use Rattle.pp_model.specs.declared.directive.Directive.{Directive}
 use Rattle.pp_model.specs.declared.sight.Sight.{Sight}
 use Rattle.pp_model.specs.declared.sight.Sight.TheVariants as sight
 use Rattle.pp_rs.specs.OpenBlocks.{marks}
@@ -33,6 +32,7 @@ part_stands : (position : ℕ) (word : Location) (p : Option Part) (line : Block
 part_stands position word (Some p) line e = cc
 part_stands position word None line e = cc
 
+-- the line of a block stands where its number sign does
 pub line_stands : (position : ℕ) (shown : Sight) (line : BlockLine) → line_at position shown ≡ Some line → line.position ≡ position
 line_stands position (sight.Directive directive word) line e = part_stands position word (part_of directive) line e
 line_stands position sight.End line e = cc
@@ -85,6 +85,7 @@ module _ (P : BlockLine → Type 0) where
 abbrev pub LiesBefore : ℕ → Block → Type 0
 LiesBefore position block = Each (λ line. line.position < position) (marks block)
 
+-- it lies before each later position too
 pub lies_before_later : (position later : ℕ) (block : Block) → position ≤ later → LiesBefore position block → LiesBefore later block
 lies_before_later position later block h = each_weaker (λ line. line.position < position) (λ line. line.position < later) (λ line there. omega (arith, there, h)) (marks block)
 

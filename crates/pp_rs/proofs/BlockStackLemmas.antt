@@ -1,13 +1,12 @@
 -- A stack of the blocks that are open, the outermost first, and whether a position is live.
 use Rattle.std.proofs.Common.{◌≡◌, ◌∙◌, ℕ, ◌-◌, Bool, true, ◌&&◌, List, [], ◌∷◌, ◌++◌, length, refl, ap, sym, Some, arith}
-use Rattle.std.specs.List.{AllByRecursion as Each, AllZip, slice_get, list_all}
+use Rattle.std.specs.List.{AllByRecursion as Each, slice_get, list_all}
 use Rattle.std.proofs.lemmas.List.{length_push}
 use Rattle.std.proofs.lemmas.List.Folds.{list_all-append}
 use Rattle.std.proofs.Math.Bool.{and-true}
 use Rattle.pp_lexer.specs.Lexed.{Seen}
-use Rattle.pp_lexer.specs.declared.token.Location.{Location}
-use Rattle.pp_model.specs.Blocks.{Block, blocks_at, innermost, Truths, is_branch_live, is_live, are_surroundings_live, has_taken_branch, has_else}
-use Rattle.pp_rs.specs.OpenBlocks.{OpenBlock, IsSettled, StandsForBlock, StandForBlocks}
+use Rattle.pp_model.specs.Blocks.{Block, blocks_at, innermost, Truths, is_branch_live, is_live, are_surroundings_live}
+use Rattle.pp_rs.specs.OpenBlocks.{OpenBlock, StandsForBlock, StandForBlocks}
 use Rattle.pp_rs.proofs.BlockPositionLemmas.{LiesBefore}
 use Rattle.pp_rs.proofs.TruthLemmas.{with_truth, branch_live_before, taken_branch_before, surroundings_before}
 use Rattle.pp_rs.proofs.BranchLemmas as branch

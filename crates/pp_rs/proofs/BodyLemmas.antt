@@ -1,5 +1,5 @@
 -- A body that is defined on a line has at most as many tokens as the line has items.
-use Rattle.std.proofs.Common.{◌≡◌, ℕ, ◌+◌, ◌≤◌, Bool, true, false, if◌then◌else◌, List, [], ◌∷◌, length, refl, arith, Some, None, Result, Ok, Err, IfOk}
+use Rattle.std.proofs.Common.{◌≡◌, ℕ, ◌+◌, ◌≤◌, Bool, true, false, if◌then◌else◌, List, [], ◌∷◌, length, refl, arith, None, Result, Ok, Err, IfOk}
 use Rattle.pp_lexer.specs.Lexed.{Seen}
 use Rattle.pp_lexer.specs.Items.{Lexeme}
 use Rattle.pp_lexer.specs.declared.lexer.item.Token.{Token as LexerToken}
@@ -11,7 +11,7 @@ use Rattle.pp_model.specs.Names.{Name}
 use Rattle.pp_model.specs.Calls.{Fault}
 use Rattle.pp_model.specs.Conversions.{is_newline, identifier_of, conversion}
 use Rattle.pp_model.specs.Definitions.{Definition, object_like}
-use Rattle.pp_model.specs.DefineLines.{definition_at, defined_on, has_parameters}
+use Rattle.pp_model.specs.DefineLines.{definition_at, defined_on}
 use Rattle.pp_model.specs.Emitting.{token_before}
 use Rattle.pp_model.specs.Lines.{◌>>=◌, line_length, line_tokens, tokens_from, ends_line, name_or_refused, first_name, behind_first_token}
 use Rattle.pp_model.specs.declared.definition.Named.{Named}

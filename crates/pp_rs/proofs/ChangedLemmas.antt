@@ -1,7 +1,7 @@
 -- What a change of one name leaves of all definitions.
-use Rattle.std.proofs.Common.{◌≡◌, ◌∙◌, Bool, true, false, if◌then◌else◌, List, refl, ap, sym, Option, Some, None}
+use Rattle.std.proofs.Common.{◌≡◌, ◌∙◌, Bool, true, false, if◌then◌else◌, List, ap, sym, Option, Some}
 use Rattle.pp_model.specs.Names.{Name, is_same_name}
-use Rattle.pp_model.specs.Definitions.{Definition, Definitions, changed}
+use Rattle.pp_model.specs.Definitions.{Definition, Definitions}
 use Rattle.pp_rs.specs.Defined.{Defined, meaning_of, IsChanged}
 use Rattle.pp_rs.specs.Stands.{AreObjectLike}
 
@@ -18,6 +18,7 @@ pub changed_object_like : (name : Name) (change : Option Definition) (old new : 
 changed_object_like name change old new c h all other definition e =
     found_object_like (is_same_name other name) change (meaning_of old other) definition h (λ found. all other found) (ap (λ (m : Definitions). m other) (sym c.meaning) ∙ e)
 
+-- a macro without parameters is so
 pub some_object_like : (made : Definition) → made.function_like ≡ false → IsObjectLike (Some made)
 some_object_like made h definition e =
     let same : made ≡ definition = cc in

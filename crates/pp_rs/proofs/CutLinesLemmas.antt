@@ -11,13 +11,12 @@ use Rattle.pp_lexer.specs.declared.token.Location.{Location}
 use Rattle.pp_model.specs.Sights.{sight_of, is_directive_hash}
 use Rattle.pp_model.specs.Blocks.{line_at, block_lines, Block, open_blocks, blocks_at}
 use Rattle.pp_model.specs.declared.block.BlockLine.{BlockLine}
-use Rattle.pp_model.specs.declared.directive.Directive.{Directive}
 use Rattle.pp_model.specs.declared.sight.Sight.{Sight}
 use Rattle.pp_model.specs.declared.sight.Sight.TheVariants as sight
 use Rattle.pp_rs.proofs.QuietLemmas.{quiet_item}
 use Rattle.pp_rs.proofs.DirectiveLineLemmas.{begins_directive}
 use Rattle.pp_rs.proofs.BlockPositionLemmas.{StandsWithin, line_stands, each_behind, block_lines_within, last_lies_before}
-use Rattle.pp_rs.proofs.SurroundingsLemmas.{open_at}
+use Rattle.pp_rs.proofs.SurroundingsLemmas.{none_within, open_at}
 
 alone_value : (position : ℕ) (location : Location) (value : LexerTokenValue) (blank at_start comments : Bool)
     → block_lines position (record { item = Ok (record { value = value; location = location; leading_whitespace = blank; start_of_line = at_start }); had_comments = comments } ∷ []) ≡ []
@@ -73,10 +72,6 @@ IsCut position n items earlier = block_lines position (take n items) ≡ earlier
 -- the lines before a line stand among the items before it
 abbrev IsCutBefore : ℕ → List Seen → BlockLine → List BlockLine → Type 0
 IsCutBefore position items line later = (n : ℕ) (earlier : List BlockLine) → block_lines position items ≡ earlier ++ line ∷ later → line.position ≡ position + n → IsCut position n items earlier
-
-no_line : (earlier later : List BlockLine) (line : BlockLine) → [] ≡ earlier ++ line ∷ later → ⊥
-no_line [] later line e = cc
-no_line (first ∷ earlier) later line e = cc
 
 module _ (position : ℕ) (s : Seen) (line : BlockLine) (later : List BlockLine) where
   -- an item that is no number sign of a directive
@@ -134,12 +129,12 @@ module _ (position : ℕ) (s : Seen) (line : BlockLine) (later : List BlockLine)
 
   cut_item : (hash : Bool) (rest : List Seen) → is_directive_hash s.item ≡ hash → IsCutBefore (position + 1) rest line later → IsCutBefore position (s ∷ rest) line later
   cut_item false rest is cut = cut_quiet rest is cut
-  cut_item true [] is cut = λ n earlier e at_line. absurd (no_line earlier later line (sym (alone position s) ∙ e))
+  cut_item true [] is cut = λ n earlier e at_line. absurd (none_within earlier later line (sym (alone position s) ∙ e))
   cut_item true (next ∷ behind) is cut = cut_found next behind (line_at position (sight_of (s ∷ next ∷ behind))) refl cut
 
 -- the lines of blocks before one of them are those of the items before it
 pub lines_cut : (items : List Seen) (position : ℕ) (line : BlockLine) (later : List BlockLine) → IsCutBefore position items line later
-lines_cut [] position line later = λ n earlier e at_line. absurd (no_line earlier later line e)
+lines_cut [] position line later = λ n earlier e at_line. absurd (none_within earlier later line e)
 lines_cut (s ∷ rest) position line later = cut_item position s line later (is_directive_hash s.item) rest refl (lines_cut rest (position + 1) line later)
 
 -- the blocks around an open block are those that are open at its first line

@@ -19,6 +19,7 @@ values_decide [] (y ∷ ys) e = absurd (omega arith)
 values_decide (x ∷ xs) (y ∷ ys) e =
     Decides-like _ (λ p. cc) (λ same. (cc, cc)) (Decides-and _ _ (value_decides x.value y.value) (values_decide xs ys (omega arith)))
 
+-- the same of a test that comes to that
 pub values_tested : (r : Bool) (xs ys : List Token) → length xs ≡ length ys → r ≡ list_all (λ (p : Token × Token). value_eq.it p.0.value p.1.value) (zip xs ys) → Decides r (values_of xs ≡ values_of ys)
 values_tested r xs ys n e = rw e (values_decide xs ys n)
 

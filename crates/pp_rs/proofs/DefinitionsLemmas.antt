@@ -19,6 +19,7 @@ use Rattle.pp_model.specs.Definitions.{Definition, changed}
 use Rattle.pp_model.specs.Names.{Name, is_same_name}
 use Rattle.pp_rs.specs.Defined.{Defined, meaning_of, body_tokens, IsChanged}
 
+-- names of which `==` says so are the same
 pub names_same : (x y : Name) → is_same_name x y ≡ true → x ≡ y
 names_same x y h = (bytes_decides x y).0 h
 
@@ -116,6 +117,7 @@ texts_same x y = chars_tested (string_bytes x) (string_bytes y) (IsUtf8-string_b
 pub text_tests : {Z : Type 0} (bs : List ℕ) → IsUtf8 bs → (k : String Z) → bytes_eq bs (string_bytes k) ≡ has_name text_name (chars bs) k
 text_tests bs u k = chars_tested bs (string_bytes k) u (IsUtf8-string_bytes k)
 
+-- what is found of a map, shown as its definition
 pub shown : {X : Type 0} (value_of : X → Definition) (r : Option (Bor X)) (o : Option X) → option_copied r ≡ o → option_map (λ d. value_of d.now) r ≡ option_map value_of o
 shown value_of (Some d) o e = ap (option_map value_of) e
 shown value_of None o e = ap (option_map value_of) e

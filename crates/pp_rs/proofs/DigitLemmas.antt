@@ -26,6 +26,7 @@ digit_more n d b r low =
 pub digit_less : (n d b r : ℕ) → 0 < d → 0 < b → n * b ^ suc r < (n * b + d) * b ^ r
 digit_less n d b r some wide = rw (one_place_more n b r) (mul-lt-mul_of_pos_right (omega arith) (one-le-pow r b wide))
 
+-- the larger of two numbers below a bound is below it
 pub max_less : (a b n : ℕ) → a < n → b < n → max a b < n
 max_less a b n low lower =
     let both : max a b ≤ n - 1 = max-le (omega arith) (omega arith) in

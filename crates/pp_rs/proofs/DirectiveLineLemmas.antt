@@ -1,23 +1,19 @@
--- The lines of `#define` and `#undef`: no line of a block stands among their items.
-use Rattle.std.proofs.Common.{◌≡◌, ◌≢◌, ◌∙◌, ℕ, suc, ◌+◌, ◌≤◌, Bool, true, false, ◌&&◌, if◌then◌else◌, List, [], ◌∷◌, ◌++◌, length, take, drop, refl, ap, sym, Option, Some, None, arith}
-use Rattle.std.specs.Prelude.{Result, Ok, Err, not}
+-- What stands in front of a directive's line, and what the line of a `#define` that acts so far defines.
+use Rattle.std.proofs.Common.{◌≡◌, ◌∙◌, ℕ, suc, ◌+◌, Bool, true, false, if◌then◌else◌, List, [], ◌∷◌, take, refl, ap, sym, Some, None, arith}
+use Rattle.std.specs.Prelude.{Result, Ok, Err}
 use Rattle.std.specs.List.{cons_option}
 use Rattle.pp_lexer.specs.Lexed.{Seen}
 use Rattle.pp_lexer.specs.Items.{Lexeme}
-use Rattle.pp_lexer.specs.declared.lexer.item.Token.{Token as LexerToken}
 use Rattle.pp_lexer.specs.declared.lexer.item.TokenValue.{TokenValue as LexerTokenValue}
 use Rattle.pp_lexer.specs.declared.lexer.item.TokenValue.TheVariants.{Hash, NewLine, Ident as LexerIdent, Integer as LexerInteger, Float as LexerFloat, Punct as LexerPunct}
 use Rattle.pp_lexer.specs.declared.token.Location.{Location}
 use Rattle.pp_lexer.specs.declared.token.Token.{Token}
-use Rattle.pp_lexer.specs.declared.token.TokenValue.TheVariants.{Ident}
-use Rattle.pp_model.specs.Names.{Name}
 use Rattle.pp_model.specs.Definitions.{Definition, object_like}
 use Rattle.pp_model.specs.Calls.{Fault}
-use Rattle.pp_model.specs.Conversions.{is_hash, is_newline, identifier_of, conversion, refused_token}
-use Rattle.pp_model.specs.Emitting.{token_before}
-use Rattle.pp_model.specs.Lines.{ends_line, line_length, line_tokens, first_token, behind_first_token, name_or_refused, first_name, newline_or_refused, ended_line, only_name, ◌>>=◌}
-use Rattle.pp_model.specs.DefineLines.{is_attached_paren, has_parameters, parameters, definition_at, defined_on}
-use Rattle.pp_model.specs.Sights.{sight_of, directive_of, named_directive, directive_sight, token_sight, is_directive_hash}
+use Rattle.pp_model.specs.Conversions.{identifier_of, refused_token}
+use Rattle.pp_model.specs.Lines.{ends_line, line_tokens, first_token, behind_first_token, first_name, ◌>>=◌}
+use Rattle.pp_model.specs.DefineLines.{is_attached_paren, has_parameters, definition_at, defined_on}
+use Rattle.pp_model.specs.Sights.{sight_of, named_directive, directive_sight, token_sight, is_directive_hash}
 use Rattle.pp_model.specs.Blocks.{part_of, line_at, line_with, block_lines}
 use Rattle.pp_model.specs.declared.definition.Named.{Named}
 use Rattle.pp_model.specs.declared.definition.Placed.{Placed}
@@ -25,7 +21,7 @@ use Rattle.pp_model.specs.declared.directive.Directive.{Directive}
 use Rattle.pp_model.specs.declared.sight.Sight.{Sight}
 use Rattle.pp_model.specs.declared.sight.Sight.TheVariants as sight
 use Rattle.pp_rs.specs.SoFar.{paren_fault, parameters_fault, parameters_fault_behind}
-use Rattle.pp_rs.proofs.QuietLemmas.{quiet_item, quiet_line}
+use Rattle.pp_rs.proofs.QuietLemmas.{quiet_item}
 
 -- the number sign and the word of a directive stand in front
 pub record BeginsDirective (directive : Directive) (word : Location) (rest : List Seen) : Type 0 where
@@ -84,102 +80,37 @@ begins_lexeme : (item : Lexeme) (comments : Bool) (rest : List Seen) (directive 
 begins_lexeme (Ok token) comments rest directive word e = begins_token token.location token.value token.leading_whitespace token.start_of_line comments rest directive word e
 begins_lexeme (Err fault) comments rest directive word e = cc
 
+-- where a directive is seen, its number sign and its word stand in front
 pub begins_directive : (rest : List Seen) (directive : Directive) (word : Location) → sight_of rest ≡ sight.Directive directive word → BeginsDirective directive word rest
 begins_directive [] directive word e = cc
 begins_directive (s ∷ rest) directive word e = begins_lexeme s.item s.had_comments rest directive word e
 
-no_line : (position : ℕ) (directive : Directive) (word : Location) (shown : Sight) → part_of directive ≡ None → shown ≡ sight.Directive directive word → line_at position shown ≡ None
-no_line position directive word shown p e =
+no_block_line : (position : ℕ) (directive : Directive) (word : Location) (shown : Sight) → part_of directive ≡ None → shown ≡ sight.Directive directive word → line_at position shown ≡ None
+no_block_line position directive word shown p e =
     ap (λ s. line_at position s) e ∙ ap (λ q. line_with position word q) p
 
--- the number sign and the word of a directive that is no line of a block
+-- the number sign and the word of a directive that is no line of a block add none
 pub quiet_word : (position : ℕ) (rest later : List Seen) (directive : Directive) (word : Location) (b : BeginsDirective directive word rest) → part_of directive ≡ None
     → block_lines position (b.hash ∷ b.name ∷ later) ≡ block_lines (position + 2) later
 quiet_word position rest later directive word b p =
-    ap (λ line. cons_option line (block_lines (position + 1) (b.name ∷ later))) (no_line position directive word (sight_of (b.hash ∷ b.name ∷ later)) p (b.seen later))
+    ap (λ line. cons_option line (block_lines (position + 1) (b.name ∷ later))) (no_block_line position directive word (sight_of (b.hash ∷ b.name ∷ later)) p (b.seen later))
     ∙ quiet_item (position + 1) b.name later b.plain ∙ ap (λ n. block_lines n later) (omega arith)
 
+-- two items are taken, and more behind them
 pub take_two : (n : ℕ) (a b : Seen) (rest : List Seen) → take (2 + n) (a ∷ b ∷ rest) ≡ a ∷ b ∷ take n rest
 take_two n a b rest =
     let e : 2 + n ≡ suc (suc n) = omega arith in
     ap (λ k. take k (a ∷ b ∷ rest)) e
 
--- the line of a directive that is no line of a block, where tokens alone stand behind its word
-pub quiet_directive : (position : ℕ) (rest later : List Seen) (directive : Directive) (word : Location) (tokens : List Token) → sight_of rest ≡ sight.Directive directive word → part_of directive ≡ None
-    → line_tokens (drop 2 rest) ≡ Ok tokens → block_lines position (take (2 + line_length (drop 2 rest)) rest ++ later) ≡ block_lines (position + (2 + line_length (drop 2 rest))) later
-quiet_directive position rest later directive word tokens e p t =
-    let b = begins_directive rest directive word e in
-    let behind : drop 2 rest ≡ b.behind = ap (λ items. drop 2 items) b.front in
-    let n = line_length (drop 2 rest) in
-    let whole : take (2 + n) rest ≡ b.hash ∷ b.name ∷ take n b.behind = ap (λ items. take (2 + n) items) b.front ∙ take_two n b.hash b.name b.behind in
-    ap (λ items. block_lines position (items ++ later)) whole
-    ∙ quiet_word position rest (take n b.behind ++ later) directive word b p
-    ∙ ap (λ items. block_lines (position + 2) (take n items ++ later)) (sym behind)
-    ∙ quiet_line (position + 2) (drop 2 rest) later tokens t
-    ∙ ap (λ k. block_lines k later) (omega arith)
-
--- a name in front of a line of tokens is one of its tokens
-name_before : (location : Location) (value : LexerTokenValue) (blank at_start comments : Bool) (rest : List Seen) (first : Placed) (tokens : List Token)
-    → name_or_refused (record { value = value; location = location; leading_whitespace = blank; start_of_line = at_start }) (identifier_of value) ≡ Ok first → line_tokens rest ≡ Ok tokens
-    → (all : List Token) × (line_tokens (record { item = Ok (record { value = value; location = location; leading_whitespace = blank; start_of_line = at_start }); had_comments = comments } ∷ rest) ≡ Ok all)
-name_before location (LexerIdent text) blank at_start comments rest first tokens e t =
-    let shown : Token = record { value = Ident text; location = location } in
-    (shown ∷ tokens, ap (λ later. token_before shown later) t)
-name_before location Hash blank at_start comments rest first tokens e t = cc
-name_before location NewLine blank at_start comments rest first tokens e t = cc
-name_before location (LexerInteger i) blank at_start comments rest first tokens e t = cc
-name_before location (LexerFloat f) blank at_start comments rest first tokens e t = cc
-name_before location (LexerPunct p) blank at_start comments rest first tokens e t = cc
-
--- a name in front, which the rest of the line follows
-name_then : {B : Type 0} (word : Location) (item : Lexeme) (comments : Bool) (rest : List Seen) (next : Placed → Result B Fault) (made : B) (tokens : List Token)
-    → (first_name word (record { item = item; had_comments = comments } ∷ rest) >>= next) ≡ Ok made → line_tokens rest ≡ Ok tokens
-    → (all : List Token) × (line_tokens (record { item = item; had_comments = comments } ∷ rest) ≡ Ok all)
-name_then word (Ok token) comments rest next made tokens e t = named (name_or_refused token (identifier_of token.value)) refl e
-  where
-    named : (first : Result Placed Fault) → name_or_refused token (identifier_of token.value) ≡ first → (first >>= next) ≡ Ok made → (all : List Token) × (line_tokens (record { item = Ok token; had_comments = comments } ∷ rest) ≡ Ok all)
-    named (Ok first) is e = name_before token.location token.value token.leading_whitespace token.start_of_line comments rest first tokens is t
-    named (Err fault) is e = cc
-name_then word (Err fault) comments rest next made tokens e t = cc
-
 -- a value, and what was made of it
-record Both (A B : Type 0) (first : Result A Fault) (next : A → Result B Fault) (made : B) : Type 0 where
+record Chained (A B : Type 0) (first : Result A Fault) (next : A → Result B Fault) (made : B) : Type 0 where
   value : A
   is : first ≡ Ok value
   made_of : next value ≡ Ok made
 
-both : {A B : Type 0} (first : Result A Fault) (next : A → Result B Fault) (made : B) → (first >>= next) ≡ Ok made → Both A B first next made
-both (Ok value) next made e = record { value = value; is = refl; made_of = e }
-both (Err fault) next made e = cc
-
-newline_line : (location : Location) (value : LexerTokenValue) (blank at_start comments : Bool) (rest : List Seen) (made : Unit {0})
-    → newline_or_refused (record { value = value; location = location; leading_whitespace = blank; start_of_line = at_start }) ≡ Ok made
-    → line_tokens (record { item = Ok (record { value = value; location = location; leading_whitespace = blank; start_of_line = at_start }); had_comments = comments } ∷ rest) ≡ Ok []
-newline_line location NewLine blank at_start comments rest made e = refl
-newline_line location Hash blank at_start comments rest made e = cc
-newline_line location (LexerIdent text) blank at_start comments rest made e = cc
-newline_line location (LexerInteger i) blank at_start comments rest made e = cc
-newline_line location (LexerFloat f) blank at_start comments rest made e = cc
-newline_line location (LexerPunct p) blank at_start comments rest made e = cc
-
-ended_lexeme : (word : Location) (item : Lexeme) (comments : Bool) (rest : List Seen) (made : Unit {0}) → ended_line word (record { item = item; had_comments = comments } ∷ rest) ≡ Ok made
-    → line_tokens (record { item = item; had_comments = comments } ∷ rest) ≡ Ok []
-ended_lexeme word (Ok token) comments rest made e = newline_line token.location token.value token.leading_whitespace token.start_of_line comments rest made e
-ended_lexeme word (Err fault) comments rest made e = cc
-
--- a line that ends at once has no tokens
-ended_tokens : (word : Location) (rest : List Seen) (made : Unit {0}) → ended_line word rest ≡ Ok made → line_tokens rest ≡ Ok []
-ended_tokens word [] made e = cc
-ended_tokens word (s ∷ rest) made e = ended_lexeme word s.item s.had_comments rest made e
-
--- behind the word of an `#undef` that acts stand tokens alone
-pub undef_tokens : (word : Location) (behind : List Seen) (name : Name) → only_name word behind ≡ Ok name → (all : List Token) × (line_tokens behind ≡ Ok all)
-undef_tokens word [] name e = cc
-undef_tokens word (s ∷ rest) name e =
-    let next = λ (first : Placed). ended_line word rest >>= λ end. Ok first.name in
-    let b = both (first_name word (s ∷ rest)) next name e in
-    let c = both (ended_line word rest) (λ end. Ok b.value.name) name b.made_of in
-    name_then word s.item s.had_comments rest next name [] e (ended_tokens word rest c.value c.is)
+chained : {A B : Type 0} (first : Result A Fault) (next : A → Result B Fault) (made : B) → (first >>= next) ≡ Ok made → Chained A B first next made
+chained (Ok value) next made e = record { value = value; is = refl; made_of = e }
+chained (Err fault) next made e = cc
 
 no_paren : (item : Lexeme) → paren_fault item ≡ None → is_attached_paren item ≡ false
 no_paren (Ok token) e = tested (is_attached_paren (Ok token)) e
@@ -189,6 +120,7 @@ no_paren (Ok token) e = tested (is_attached_paren (Ok token)) e
     tested false e = refl
 no_paren (Err fault) e = refl
 
+-- a macro's name behind which no parameters are refused has none
 pub no_parameters : (rest : List Seen) → parameters_fault rest ≡ None → has_parameters rest ≡ false
 no_parameters [] e = refl
 no_parameters (s ∷ rest) e = no_paren s.item e
@@ -199,21 +131,20 @@ ok_named first definition = Ok (record { name = first.name; location = first.loc
 plain_definition : (word : Location) (rest : List Seen) → has_parameters rest ≡ false → definition_at word rest ≡ (line_tokens rest >>= λ body. Ok (object_like body))
 plain_definition word rest h = rw h refl
 
--- the body of a macro without parameters, and the tokens that it is of
-pub record IsPlain (behind : List Seen) (named : Named) : Type 0 where
+-- the macro that is defined has no parameters, and this body
+pub record IsPlain (named : Named) : Type 0 where
   pub body : List Token
   pub definition : named.definition ≡ object_like body
-  pub tokens : (all : List Token) × (line_tokens behind ≡ Ok all)
 
--- behind the word of a `#define` that acts so far stand tokens alone, and the macro has no parameters
-pub define_plain : (word : Location) (behind : List Seen) (named : Named) → defined_on word behind ≡ Ok named → parameters_fault_behind (first_name word behind) (behind_first_token behind) ≡ None → IsPlain behind named
+-- a `#define` that acts so far defines a macro without parameters
+pub define_plain : (word : Location) (behind : List Seen) (named : Named) → defined_on word behind ≡ Ok named → parameters_fault_behind (first_name word behind) (behind_first_token behind) ≡ None → IsPlain named
 define_plain word [] named e none = cc
 define_plain word (s ∷ rest) named e none =
     let finish = λ (first : Placed) (definition : Definition). ok_named first definition in
-    let b = both (first_name word (s ∷ rest)) (λ first. definition_at word rest >>= finish first) named e in
-    let c = both (definition_at word rest) (finish b.value) named b.made_of in
+    let b = chained (first_name word (s ∷ rest)) (λ first. definition_at word rest >>= finish first) named e in
+    let c = chained (definition_at word rest) (finish b.value) named b.made_of in
     let plain : parameters_fault rest ≡ None = ap (λ name. parameters_fault_behind name rest) (sym b.is) ∙ none in
-    let d = both (line_tokens rest) (λ body. Ok (object_like body)) c.value (sym (plain_definition word rest (no_parameters rest plain)) ∙ c.is) in
+    let d = chained (line_tokens rest) (λ body. Ok (object_like body)) c.value (sym (plain_definition word rest (no_parameters rest plain)) ∙ c.is) in
     let is : named.definition ≡ c.value = cc (c.made_of) in
     let body : c.value ≡ object_like d.value = cc (d.made_of) in
-    record { body = d.value; definition = is ∙ body; tokens = name_then word s.item s.had_comments rest (λ first. definition_at word rest >>= finish first) named d.value e d.is }
+    record { body = d.value; definition = is ∙ body }

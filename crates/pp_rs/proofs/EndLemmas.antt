@@ -1,9 +1,8 @@
 -- Behind the end nothing is left.
-use Rattle.std.proofs.Common.{◌≡◌, ◌≢◌, ◌∙◌, ◌⊎◌, inl, inr, ℕ, Bool, true, false, if◌then◌else◌, List, [], ◌∷◌, length, drop, refl, ap, sym, subst, Option, Some, None, arith}
+use Rattle.std.proofs.Common.{◌≡◌, ◌∙◌, ◌⊎◌, inl, inr, ℕ, Bool, true, false, if◌then◌else◌, List, [], ◌∷◌, length, drop, refl, ap, sym, subst, Option, Some, None, arith}
 use Rattle.std.specs.Prelude.{Result, Ok, Err, MatchBool, ◌*◌, ◌-◌, ◌^◌}
 use native.Mathlib.Nat.{zero-mul}
 use Rattle.pp_lexer.specs.Lexed.{Seen}
-use Rattle.pp_lexer.specs.PreprocessorError.{out_of_memory}
 use Rattle.pp_lexer.specs.declared.token.Location.{Location}
 use Rattle.pp_lexer.specs.declared.token.PreprocessorError.TheVariants.{MoreThanOneElse}
 use Rattle.pp_lexer.specs.declared.token.Token.{Token}
@@ -26,10 +25,10 @@ use Rattle.pp_rs.specs.Reader.{Reader, of_source}
 use Rattle.pp_rs.specs.SoFar.{directive_fault}
 use Rattle.pp_rs.specs.OpenBlocks.{OpenBlock, last_block, is_live_in, block_parted}
 use Rattle.pp_rs.specs.SourceMoves.{Effect, gives, fails, ends, passes, defines, undefines, opens_where, opens_unread, parts, closes, unfinished, Move, line_move, skip_by, skip_move, else_effect, endif_move, live_move, dead_move, acting_move, unless_refused, move_at, move_of}
-use Rattle.pp_rs.specs.Source.{Source, DefinesOver, HasEffect, IsRefusedStep, Makes, StepsSource}
+use Rattle.pp_rs.specs.Source.{Source, DefinesOver, HasEffect, IsRefusedStep, Makes}
 use Rattle.pp_rs.specs.Turns.{as_pause, frame_move, Moves, taken_in, opens, OpensOrGives, FollowsTaken, Follows, Turns}
 use Rattle.pp_rs.specs.Work.{digit_base, most_reads, most_names, work_left}
-use Rattle.pp_rs.specs.declared.pp.step.StepExit.TheVariants.{Error, Continue, Finished}
+use Rattle.pp_rs.specs.declared.pp.step.StepExit.TheVariants.{Finished}
 use Rattle.pp_rs.proofs.SourceSimulates.{item_there}
 use Rattle.pp_rs.proofs.StandsBehindLemmas.{no_blocks_kept}
 
@@ -168,15 +167,16 @@ taken_on (outcome.Token token) frames reader after h = opens_on (opens frames re
 taken_on (outcome.Fault fault) frames reader after h = let e = h.0 in cc
 taken_on outcome.End frames reader after h = h
 
-follows_end : (moved : Step Token) (frames after : List Layer) (reader : Reader) → Follows moved frames reader (Err Finished) after → (moved ≡ Err Finished) × (after ≡ frames)
-follows_end (Ok token) frames after reader (inl h) = absurd (taken_on (taken_in frames reader token) frames reader after h)
-follows_end (Ok token) frames after reader (inr h) = cc
-follows_end (Err exit) frames after reader h = (sym h.0, h.1)
+-- the end follows only of the end, and keeps the frames
+before_end_is_end : (moved : Step Token) (frames after : List Layer) (reader : Reader) → Follows moved frames reader (Err Finished) after → (moved ≡ Err Finished) × (after ≡ frames)
+before_end_is_end (Ok token) frames after reader (inl h) = absurd (taken_on (taken_in frames reader token) frames reader after h)
+before_end_is_end (Ok token) frames after reader (inr h) = cc
+before_end_is_end (Err exit) frames after reader h = (sym h.0, h.1)
 
--- where the expander is at its end, no macro is open and no item is left
+-- where the expander is at its end, no macro is open, no item is left and no block is open
 pub turns_end : (frames after : List Layer) (old new : Source) → old.spent ≡ false → Turns frames (of_source old) (Err Finished) after (of_source new) → (after ≡ []) × (new.rest ≡ []) × (new.blocks ≡ [])
 turns_end frames after old new unspent turn =
-    let f = follows_end turn.moved turn.frames_then after (of_source new) turn.follows in
+    let f = before_end_is_end turn.moved turn.frames_then after (of_source new) turn.follows in
     let m = moves_end frames turn.frames_then old new unspent (subst (λ (x : Step Token). Moves frames (of_source old) x turn.frames_then (of_source new)) f.0 turn.moves) in
     (f.1 ∙ m.0, m.1.0, m.1.1)
 

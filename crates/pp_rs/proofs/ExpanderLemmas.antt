@@ -6,7 +6,7 @@ use Rattle.pp_model.specs.Names.{Name}
 use Rattle.pp_model.specs.Definitions.{Definition}
 use Rattle.pp_model.specs.Reading.{Expander, Opening}
 use Rattle.pp_model.specs.Taking.{Takes, listed, read}
-use Rattle.pp_model.specs.Calls.{Fault, Answers}
+use Rattle.pp_model.specs.Calls.{Answers}
 use Rattle.pp_model.specs.Emitting.{itself, object, opened}
 use Rattle.pp_model.specs.SourceReader.{SourceReader}
 use Rattle.pp_model.specs.SpliceList.{behind_marks, spliced}

@@ -3,12 +3,11 @@ use Rattle.std.proofs.Common.{◌≡◌, ◌∙◌, ℕ, List, [], ◌∷◌, re
 use Rattle.std.specs.Prelude.{Ok, Err, unwrap_or}
 use Rattle.pp_lexer.specs.declared.token.Token.{Token}
 use Rattle.pp_model.specs.Names.{Name}
-use Rattle.pp_model.specs.Definitions.{Definition}
-use Rattle.pp_model.specs.SpliceList.{behind_marks, open_names, outermost_line, followed_by, parameter_of, replacement, replaced, spliced}
+use Rattle.pp_model.specs.SpliceList.{behind_marks, open_names, outermost_line, followed_by, parameter_of, replacement, replaced}
 use Rattle.pp_model.specs.declared.splice.Entry.{Entry}
 use Rattle.pp_model.specs.declared.splice.Entry.TheVariants.{Plain, End}
 use Rattle.pp_rs.specs.Item.{Step}
-use Rattle.pp_rs.specs.Frames.{Layer, layer, body_token, advance, argument_at, reading_before, layer_before, flat, names_of, outermost_frame_line}
+use Rattle.pp_rs.specs.Frames.{Layer, body_token, advance, argument_at, reading_before, layer_before, flat, names_of, outermost_frame_line}
 use Rattle.pp_rs.specs.Turns.{frame_move}
 use Rattle.pp_rs.specs.declared.pp.step.StepExit.TheVariants.{Error, Continue, Finished}
 
@@ -46,10 +45,6 @@ open_flat (f ∷ fs) = blind_layer open_names (λ token entries. refl) f (flat f
 pub outermost_flat : (frames : List Layer) → outermost_line (flat frames) ≡ outermost_frame_line frames
 outermost_flat [] = refl
 outermost_flat (f ∷ fs) = blind_layer outermost_line (λ token entries. refl) f (flat fs) ∙ ap (λ line. Some (unwrap_or line f.line)) (outermost_flat fs)
-
--- a macro that opens is spliced into the list
-pub flat_opened : (name : Name) (line : ℕ) (definition : Definition) (arguments : List (List Token)) (frames : List Layer) → flat (layer name line definition arguments ∷ frames) ≡ spliced name definition line arguments (flat frames)
-flat_opened name line definition arguments frames = refl
 
 -- One step on the list: its first token is given, or a mark at its front is lost at the most.
 abbrev pub StepsList : Step Token → List Entry → List Entry → Type 0

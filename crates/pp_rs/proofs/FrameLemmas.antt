@@ -7,7 +7,7 @@ use Rattle.pp_lexer.specs.declared.token.Token.{Token}
 use Rattle.pp_rs.specs.Frames.{Layer, Advance}
 use Rattle.pp_rs.specs.Item.{Step}
 use Rattle.pp_rs.specs.Turns.{as_pause}
-use Rattle.pp_rs.specs.declared.pp.step.StepExit.TheVariants.{Error, Continue, Finished}
+use Rattle.pp_rs.specs.declared.pp.step.StepExit.TheVariants.{Error, Continue}
 
 -- the item at a place, and what stands behind it
 pub drop-some : {X : Type 0} (xs : List X) (k : ℕ) (x : X) → slice_get xs k ≡ Some x → drop k xs ≡ x ∷ drop (k + 1) xs
@@ -20,17 +20,19 @@ drop-some xs k x e =
 pub drop-none : {X : Type 0} (xs : List X) (k : ℕ) → slice_get xs k ≡ None → drop k xs ≡ []
 drop-none xs k e = elim (slice_get_cases xs k).1 [ inl w ↦ cc | inr w ↦ drop_all k xs w.0 ]
 
--- a step of a frame, unless memory is refused
-abbrev pub Advances : Option Advance → Option (Step Token) → Layer → Type 0
-Advances advanced step new = (step ≡ Some (Err (Error out_of_memory))) ⊎ MatchOption advanced (step ≡ None) (λ a. (step ≡ Some (as_pause a.gives)) × (new ≡ a.after))
+-- what a frame answers is its step, unless memory is refused
+abbrev pub TellsAdvance : Option Advance → Option (Step Token) → Layer → Type 0
+TellsAdvance advanced step new = (step ≡ Some (Err (Error out_of_memory))) ⊎ MatchOption advanced (step ≡ None) (λ a. (step ≡ Some (as_pause a.gives)) × (new ≡ a.after))
 
 -- a copy of the token is given
-pub advances_to : (advanced : Option Advance) (token : Token) (step : Step Token) (new : Layer) → advanced ≡ Some (record { gives = Some token; after = new }) → (step ≡ Err (Error out_of_memory)) ⊎ (step ≡ Ok token) → Advances advanced (Some step) new
+pub advances_to : (advanced : Option Advance) (token : Token) (step : Step Token) (new : Layer) → advanced ≡ Some (record { gives = Some token; after = new }) → (step ≡ Err (Error out_of_memory)) ⊎ (step ≡ Ok token) → TellsAdvance advanced (Some step) new
 advances_to advanced token step new e (inl refused) = inl (ap Some refused)
 advances_to advanced token step new e (inr given) = inr (rw e (ap Some given, refl))
 
-pub pauses : (advanced : Option Advance) (new : Layer) → advanced ≡ Some (record { gives = None; after = new }) → Advances advanced (Some (Err Continue)) new
+-- nothing is given
+pub pauses : (advanced : Option Advance) (new : Layer) → advanced ≡ Some (record { gives = None; after = new }) → TellsAdvance advanced (Some (Err Continue)) new
 pauses advanced new e = inr (rw e (refl, refl))
 
-pub finishes : (advanced : Option Advance) (new : Layer) → advanced ≡ None → Advances advanced None new
+-- the frame is at its end
+pub finishes : (advanced : Option Advance) (new : Layer) → advanced ≡ None → TellsAdvance advanced None new
 finishes advanced new e = inr (rw e refl)

@@ -22,6 +22,7 @@ abbrev pub closing_outer : List BlockLine → ℕ
 closing_outer [] = 0
 closing_outer (line ∷ later) = closing_with line.part (closing_outer later)
 
+-- a number with one more is not 0
 pub is_not_zero : (n : ℕ) → suc n == 0 ≡ false
 is_not_zero n = ne_eqb (suc n) 0 (λ e. absurd (omega (arith, e)))
 

@@ -27,9 +27,6 @@ LeadsFrom A e (Err (Error fault)) frames source = (f : Expander SourceReader) ×
 pub record Leads (A : Answers) (frames : List Layer) (source : Source) (step : Step Token) (frames_then : List Layer) (source_then : Source) : Type 0 where
   pub from : (e : Expander SourceReader) → StandsFor frames source e → LeadsFrom A e step frames_then source_then
 
-pub leads_nowhere : (A : Answers) (frames : List Layer) (source : Source) → Leads A frames source (Err Continue) frames source
-leads_nowhere A frames source = record { from = λ e stands. (e, stands, λ o g emits. emits) }
-
 leads_on : (A : Answers) (e f : Expander SourceReader) (step : Step Token) (frames : List Layer) (source : Source) → ((o : Outcome) (g : Expander SourceReader) → Emits reading_so_far A f o g → Emits reading_so_far A e o g) → LeadsFrom A f step frames source → LeadsFrom A e step frames source
 leads_on A e f (Ok token) frames source keeps leads = (leads.0, keeps (outcome.Token token) leads.0 leads.1, leads.2)
 leads_on A e f (Err Continue) frames source keeps leads = (leads.0, leads.1, λ o g emits. keeps o g (leads.2 o g emits))

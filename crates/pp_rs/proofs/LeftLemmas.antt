@@ -1,4 +1,4 @@
--- A step that isn't the end had something left to read.
+-- A step that isn't the end had something left: an open macro, an item, or an open block.
 use Rattle.std.proofs.Common.{◌≡◌, ◌≢◌, ◌⊎◌, inl, inr, ℕ, ◌*◌, ◌-◌, ◌^◌, ◌<◌, length, ◌≤◌, arith, mul-le-mul, false, List, [], ◌∷◌, refl, ◌∙◌}
 use Rattle.std.specs.Prelude.{Ok, Err}
 use Rattle.std.proofs.Math.Nat.{one-le-pow}
@@ -22,9 +22,9 @@ empty_source definitions new step (inl h) = absurd (h.some_left refl)
 empty_source definitions new step (inr h) = h.0
 
 -- what follows of the end is the end
-follows_end : (moved step : Step Token) (frames after : List Layer) (reader : Reader) → moved ≡ Err Finished → Follows moved frames reader step after → step ≡ Err Finished
-follows_end (Ok token) step frames after reader e h = cc
-follows_end (Err exit) step frames after reader e h = h.0 ∙ e
+behind_end_is_end : (moved step : Step Token) (frames after : List Layer) (reader : Reader) → moved ≡ Err Finished → Follows moved frames reader step after → step ≡ Err Finished
+behind_end_is_end (Ok token) step frames after reader e h = cc
+behind_end_is_end (Err exit) step frames after reader e h = h.0 ∙ e
 
 -- a step that isn't the end had a frame, an item, or an open block
 pub left_before : (frames after : List Layer) (rest : List Seen) (definitions : List Defined) (blocks : List OpenBlock) (new : Source) (step : Step Token)
@@ -33,7 +33,7 @@ left_before (f ∷ fs) after rest definitions blocks new step turn goes = inl (�
 left_before [] after (s ∷ rest) definitions blocks new step turn goes = inr (inl (λ e. cc))
 left_before [] after [] definitions (block ∷ blocks) new step turn goes = inr (inr (λ e. cc))
 left_before [] after [] definitions [] new step turn goes =
-    absurd (goes (follows_end turn.moved step turn.frames_then after (of_source new) (empty_source definitions new turn.moved turn.moves.1) turn.follows))
+    absurd (goes (behind_end_is_end turn.moved step turn.frames_then after (of_source new) (empty_source definitions new turn.moved turn.moves.1) turn.follows))
 
 number_some : (base items : ℕ) (frames : List Layer) → (frames ≢ []) ⊎ (0 < items) → 0 < number_of base items frames
 number_some base items [] (inl left) = absurd (left refl)
@@ -52,7 +52,7 @@ reads_some frames source (inl left) = inl left
 reads_some frames source (inr (inl left)) = inr (omega (arith, some_there source.rest left))
 reads_some frames source (inr (inr left)) = inr (omega (arith, some_there source.blocks left))
 
--- where something is left to read, there is something to do
+-- where something is left, there is something to do
 pub left_is_work : (frames : List Layer) (source : Source) → SomethingLeft frames source → 0 < work_left frames source
 unfolding work_left
 left_is_work frames source left =

@@ -25,6 +25,7 @@ behind-push tokens token (Err fault) = refl
 drop_past : (n : ℕ) (s : Seen) (rest : List Seen) → drop (1 + n) (s ∷ rest) ≡ drop n rest
 drop_past n s rest = let e : 1 + n ≡ suc n = omega arith in ap (λ k. drop k (s ∷ rest)) e
 
+-- no more is left behind some items
 pub drop_fewer : (rest after : List Seen) (n : ℕ) → after ≡ drop n rest → length after ≤ length rest
 drop_fewer rest after n e = omega (arith, ap length e, length-drop n rest)
 
@@ -56,6 +57,7 @@ pub line_tokens-next : (rest : List Seen) → line_tokens rest ≡ (next_line_to
 line_tokens-next [] = refl
 line_tokens-next (s ∷ rest) = tokens_behind_item s.item s.had_comments rest
 
+-- and the line ends where those behind it end
 pub line_place-next : (rest : List Seen) (next : Option Token) → next_line_token rest ≡ Ok next → drop (line_length rest) rest ≡ drop (length_behind next (drop 1 rest)) (drop 1 rest)
 line_place-next [] next e = let is : next ≡ None = cc in rw is refl
 line_place-next (s ∷ rest) next e = place_behind_item s.item s.had_comments rest next e
@@ -127,6 +129,7 @@ body_place_item : (item : Lexeme) (had : Bool) (rest : List Seen) (first : Optio
 body_place_item (Err fault) had rest first e = cc
 body_place_item (Ok token) had rest first e = place_behind_item (Ok token) had rest first (no_fault token (paren_fault (Ok token)) first e)
 
+-- and the line ends where those behind it end
 pub body_place-next : (rest : List Seen) (first : Option Token) → next_body_token rest ≡ Ok first → drop (line_length rest) rest ≡ drop (length_behind first (drop 1 rest)) (drop 1 rest)
 body_place-next [] first e = let is : first ≡ None = cc in rw is refl
 body_place-next (s ∷ rest) first e = body_place_item s.item s.had_comments rest first e

@@ -70,9 +70,11 @@ lined_at_start ss =
     let r : Reading = record { rest = ss; last = last } in
     subst AreLined (ap (λ l. l.rest) (start_seen r ss last refl)) (lined_from (segments ss) f last).0
 
+-- so in the items of a text they stand only where a line begins
 pub items_lined : (text : List ℕ) → AreLined (items_of text)
 items_lined text = lined_at_start (spots_of text)
 
+-- the same behind some of the items
 pub lined_behind : (n : ℕ) (items : List Seen) → AreLined items → AreLined (drop n items)
 lined_behind zero [] h = h
 lined_behind (suc n) [] h = h

@@ -1,19 +1,17 @@
 -- The lines of blocks that stand before a position, and how the items behind it add to them.
-use Rattle.std.proofs.Common.{◌≡◌, ◌∙◌, ℕ, suc, ◌+◌, Bool, true, false, ◌&&◌, ◌||◌, not, if◌then◌else◌, List, [], ◌∷◌, ◌++◌, take, drop, refl, ap, sym, append-nil, append_assoc, Option, Some, None, arith}
-use Rattle.std.specs.Prelude.{Ok}
+use Rattle.std.proofs.Common.{◌≡◌, ◌∙◌, ℕ, ◌+◌, List, [], ◌∷◌, ◌++◌, take, drop, refl, ap, sym, append-nil, append_assoc, Option, Some, None, arith}
 use Rattle.std.specs.List.{cons_option}
 use Rattle.std.proofs.Math.Seq.{take-add}
 use Rattle.pp_lexer.specs.Lexed.{Seen}
 use Rattle.pp_lexer.specs.declared.token.Location.{Location}
-use Rattle.pp_lexer.specs.declared.token.Token.{Token}
-use Rattle.pp_model.specs.Lines.{ends_line, line_length, line_tokens}
-use Rattle.pp_model.specs.Sights.{sight_of, is_directive_hash}
+use Rattle.pp_model.specs.Lines.{line_length}
+use Rattle.pp_model.specs.Sights.{sight_of}
 use Rattle.pp_model.specs.Blocks.{part_of, line_with, line_at, block_lines}
 use Rattle.pp_model.specs.declared.block.BlockLine.{BlockLine}
 use Rattle.pp_model.specs.declared.directive.Directive.{Directive}
 use Rattle.pp_model.specs.declared.sight.Sight.TheVariants as sight
-use Rattle.pp_rs.proofs.QuietLemmas.{quiet_item, quiet_line}
-use Rattle.pp_rs.proofs.DirectiveLineLemmas.{begins_directive}
+use Rattle.pp_rs.proofs.QuietLemmas.{quiet_item}
+use Rattle.pp_rs.proofs.DirectiveLineLemmas.{begins_directive, take_two}
 use Rattle.pp_rs.proofs.BlockStepLemmas.{AddsLine}
 
 -- these lines of blocks stand before the position, whatever stands behind it
@@ -24,12 +22,15 @@ AreLinesBefore source position lines = (behind : List Seen) → block_lines 0 (t
 abbrev pub AddsLines : ℕ → ℕ → List Seen → List BlockLine → Type 0
 AddsLines position count items lines = (behind : List Seen) → block_lines position (take count items ++ behind) ≡ lines ++ block_lines (position + count) behind
 
+-- at the start none stands before
 pub no_lines_before : (source : List Seen) → AreLinesBefore source 0 []
 no_lines_before source behind = refl
 
+-- the lines of blocks before the position are these
 pub lines_here : (source : List Seen) (position : ℕ) (lines : List BlockLine) → AreLinesBefore source position lines → block_lines 0 (take position source) ≡ lines
 lines_here source position lines before = ap (block_lines 0) (sym (append-nil (take position source))) ∙ before [] ∙ append-nil lines
 
+-- before a position further on stand those lines too that the items up to there add
 pub lines_further : (source : List Seen) (position count : ℕ) (lines more : List BlockLine) → AreLinesBefore source position lines → AddsLines position count (drop position source) more
     → AreLinesBefore source (position + count) (lines ++ more)
 lines_further source position count lines more before adds behind =
@@ -39,6 +40,7 @@ lines_further source position count lines more before adds behind =
     ∙ ap (λ later. lines ++ later) (adds behind)
     ∙ sym (append_assoc lines more (block_lines (position + count) behind))
 
+-- where they add one line, it is the only one up to there
 pub adds_one : (source : List Seen) (line : BlockLine) (count : ℕ) (lines : List BlockLine) → AreLinesBefore source line.position lines → AddsLines line.position count (drop line.position source) (line ∷ [])
     → AddsLine source line (line.position + count)
 adds_one source line count lines before adds =
@@ -49,49 +51,11 @@ adds_one source line count lines before adds =
 abbrev pub IsQuietRest : List Seen → Type 0
 IsQuietRest rest = (position : ℕ) → AddsLines position (line_length rest) rest []
 
--- a number sign of a directive stands on the rest of the line
-abbrev pub has_directive_hash : List Seen → Bool
-has_directive_hash [] = false
-has_directive_hash (s ∷ rest) = is_directive_hash s.item || (not (ends_line s.item) && has_directive_hash rest)
-
-take_more : (n : ℕ) (s : Seen) (rest : List Seen) → take (1 + n) (s ∷ rest) ≡ s ∷ take n rest
-take_more n s rest =
-    let e : 1 + n ≡ suc n = omega arith in
-    ap (λ k. take k (s ∷ rest)) e
-
-neither : (a b : Bool) → a || b ≡ false → (a ≡ false) × (b ≡ false)
-neither true b e = cc
-neither false b e = (refl, e)
-
-quiet_from : (s : Seen) (rest : List Seen) (last : Bool) (position : ℕ) → is_directive_hash s.item ≡ false → not last && has_directive_hash rest ≡ false → (has_directive_hash rest ≡ false → IsQuietRest rest)
-    → AddsLines position (if last then 1 else 1 + line_length rest) (s ∷ rest) []
-quiet_from s rest true position quiet more later behind = quiet_item position s behind quiet
-quiet_from s rest false position quiet more later behind =
-    ap (λ items. block_lines position (items ++ behind)) (take_more (line_length rest) s rest)
-    ∙ quiet_item position s (take (line_length rest) rest ++ behind) quiet ∙ later more (position + 1) behind
-    ∙ ap (λ p. block_lines p behind) (omega arith)
-
--- where none stands there, it adds no line of a block
-pub quiet_rest : (rest : List Seen) → has_directive_hash rest ≡ false → IsQuietRest rest
-quiet_rest [] none position behind = ap (λ p. block_lines p behind) (omega arith)
-quiet_rest (s ∷ rest) none position behind =
-    let n = neither (is_directive_hash s.item) (not (ends_line s.item) && has_directive_hash rest) none in
-    quiet_from s rest (ends_line s.item) position n.0 n.1 (quiet_rest rest) behind
-
--- so do tokens alone
-pub quiet_tokens : (rest : List Seen) (tokens : List Token) → line_tokens rest ≡ Ok tokens → IsQuietRest rest
-quiet_tokens rest tokens e position behind = quiet_line position rest behind tokens e
-
-take_two : (n : ℕ) (a b : Seen) (rest : List Seen) → take (2 + n) (a ∷ b ∷ rest) ≡ a ∷ b ∷ take n rest
-take_two n a b rest =
-    let e : 2 + n ≡ suc (suc n) = omega arith in
-    ap (λ k. take k (a ∷ b ∷ rest)) e
-
 added : (found : Option BlockLine) (later : List BlockLine) → cons_option found later ≡ cons_option found [] ++ later
 added (Some line) later = refl
 added None later = refl
 
--- a directive's line adds the line of a block that it is
+-- a directive's line adds the line of a block that its word says, if any, and no other
 pub directive_adds : (position : ℕ) (rest : List Seen) (directive : Directive) (word : Location) → sight_of rest ≡ sight.Directive directive word → IsQuietRest (drop 2 rest)
     → AddsLines position (2 + line_length (drop 2 rest)) rest (cons_option (line_with position word (part_of directive)) [])
 directive_adds position rest directive word e quiet behind =

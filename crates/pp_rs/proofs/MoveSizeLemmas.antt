@@ -1,5 +1,5 @@
 -- A directive takes at least as much as it adds, but for its number sign and its word.
-use Rattle.std.proofs.Common.{◌≡◌, ℕ, ◌+◌, ◌-◌, ◌≤◌, Bool, true, false, if◌then◌else◌, List, length, refl, subst, arith, Option, Some, None, Result, Ok, Err, IfOk}
+use Rattle.std.proofs.Common.{◌≡◌, ℕ, ◌+◌, ◌≤◌, Bool, true, false, if◌then◌else◌, List, length, refl, subst, arith, Option, Some, None, Result, Ok, Err, IfOk}
 use Rattle.pp_lexer.specs.Lexed.{Seen}
 use Rattle.pp_lexer.specs.declared.token.Location.{Location}
 use Rattle.pp_lexer.specs.declared.token.PreprocessorError.TheVariants.{MoreThanOneElse}
@@ -22,7 +22,7 @@ effect_adds (opens_unread word) = 1
 effect_adds (parts block) = 1
 effect_adds _ = 0
 
--- an open block is told at the end
+-- whether it tells, at the end, a block that is open
 abbrev pub tells_block : Effect → Bool
 tells_block (unfinished word) = true
 tells_block _ = false

@@ -23,7 +23,7 @@ use Rattle.pp_rs.specs.Work.{AreSound, work_left}
 use Rattle.pp_rs.specs.Preprocessing.{Preprocessing, Stands, SomethingLeft, most_items, IsRefusedItem, IsGivenItem, IsNextItem}
 use Rattle.pp_rs.specs.declared.pp.step.StepExit.TheVariants.{Error, Continue, Finished}
 use Rattle.pp_rs.proofs.ExpanderLemmas.{turn_leads}
-use Rattle.pp_rs.proofs.Leads.{LeadsFrom, Leads, leads_nowhere, leads_then}
+use Rattle.pp_rs.proofs.Leads.{LeadsFrom, Leads, leads_then}
 use Rattle.pp_rs.proofs.EndLemmas.{turns_end, end_is_no_work}
 use Rattle.pp_rs.proofs.LeftLemmas.{left_before, left_is_work}
 use Rattle.pp_rs.proofs.SourceSimulates.{source_simulates}
@@ -48,15 +48,6 @@ pub record Reached (frames : List Layer) (source : Source) (frames_now : List La
   pub leads : Leads (answers_at expansion_limit) frames source (Err Continue) frames_now source_now
   pub left : SomethingLeft frames_now source_now → SomethingLeft frames source
   pub less : work_left frames_now source_now ≤ work_left frames source
-
-pub reached_first : (frames : List Layer) (source : Source) → source.spent ≡ false → AreSound frames source → Reached frames source frames source
-reached_first frames source unspent sound = record {
-  unspent = unspent;
-  sound = sound;
-  leads = leads_nowhere (answers_at expansion_limit) frames source;
-  left = λ left. left;
-  less = omega arith;
-}
 
 left_now : (frames after : List Layer) (old new : Source) (step : Step Token) → old.spent ≡ false → Turns frames (of_source old) step after (of_source new) → (step ≡ Err Finished → ⊥) → SomethingLeft frames old
 left_now frames after old new step unspent turn goes =

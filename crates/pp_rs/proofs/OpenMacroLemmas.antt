@@ -3,7 +3,6 @@ use Rattle.std.proofs.Common.{◌≡◌, ◌∙◌, ℕ, ◌-◌, ◌+◌, ◌<�
 use Rattle.std.specs.List.{list_any}
 use Rattle.std.proofs.Math.Seq.{take-length}
 use Rattle.std.proofs.lemmas.List.{reverse-append, take_more, length-set, take-set}
-use Rattle.std.proofs.lemmas.List.Folds.{list_any-append}
 use Rattle.pp_lexer.specs.PreprocessorError.{out_of_memory}
 use Rattle.pp_lexer.specs.declared.token.Token.{Token}
 use Rattle.pp_model.specs.Names.{Name, is_in, is_same_name}
@@ -11,8 +10,8 @@ use Rattle.pp_rs.specs.Frames.{Layer, Advance, advance, names_of, outermost_fram
 use Rattle.pp_rs.specs.Item.{Step}
 use Rattle.pp_rs.specs.Reader.{Reader}
 use Rattle.pp_rs.specs.Turns.{Moves, frame_move}
-use Rattle.pp_rs.specs.declared.pp.step.StepExit.TheVariants.{Error, Continue}
-use Rattle.pp_rs.proofs.FrameLemmas.{Advances}
+use Rattle.pp_rs.specs.declared.pp.step.StepExit.TheVariants.{Error}
+use Rattle.pp_rs.proofs.FrameLemmas.{TellsAdvance}
 
 or_left_comm : (a b c : Bool) → (a || (b || c)) ≡ (b || (a || c))
 or_left_comm true true c = refl
@@ -25,6 +24,7 @@ names_at_end name [] f = refl
 names_at_end name (g ∷ gs) f =
     rw (names_at_end name gs f) (or_left_comm (is_same_name name g.name) (is_same_name name f.name) (is_in name (names_of gs)))
 
+-- a name is open where one of the macros has it
 pub is_in-names : (name : Name) (fs : List Layer) → is_in name (names_of (reverse fs)) ≡ list_any (λ f. is_same_name name f.name) fs
 is_in-names name [] = refl
 is_in-names name (f ∷ fs) =
@@ -35,6 +35,7 @@ outermost_at_end : (fs : List Layer) (f : Layer) → outermost_frame_line (fs ++
 outermost_at_end [] f = refl
 outermost_at_end (g ∷ gs) f = rw (outermost_at_end gs f) refl
 
+-- the line of the outermost is that of the first
 pub outermost_first : (fs : List Layer) (f : Layer) → slice_get fs 0 ≡ Some f → outermost_frame_line (reverse fs) ≡ Some f.line
 outermost_first [] f e = cc
 outermost_first (g ∷ gs) f e =
@@ -60,12 +61,13 @@ reverse_set_last xs v some =
     rw (e, get_or-set_same, take-set) at h
 
 -- a step of the innermost frame, which stays open
-frame_moves : (advanced : Option Advance) (fs : List Layer) (v : Layer) (step : Step Token) → Advances advanced (Some step) v → ((step ≡ (frame_move fs advanced).gives) × (v ∷ fs ≡ (frame_move fs advanced).after)) ⊎ (step ≡ Err (Error out_of_memory))
+frame_moves : (advanced : Option Advance) (fs : List Layer) (v : Layer) (step : Step Token) → TellsAdvance advanced (Some step) v → ((step ≡ (frame_move fs advanced).gives) × (v ∷ fs ≡ (frame_move fs advanced).after)) ⊎ (step ≡ Err (Error out_of_memory))
 frame_moves advanced fs v step (inl refused) = inr cc
 frame_moves (Some a) fs v step (inr (given, after)) = inl (cc, ap (λ w. w ∷ fs) after)
 frame_moves None fs v step (inr none) = inr cc
 
-pub last_moves : (fs : List Layer) (f v : Layer) (step : Step Token) (reader : Reader) (n : ℕ) → n ≡ length fs → 0 < n → f ≡ get_or fs (n - 1) f → Advances (advance f) (Some step) v → Moves (reverse fs) reader step (reverse (set fs (n - 1) v)) reader
+-- a step of the last of them is a step of the frames
+pub last_moves : (fs : List Layer) (f v : Layer) (step : Step Token) (reader : Reader) (n : ℕ) → n ≡ length fs → 0 < n → f ≡ get_or fs (n - 1) f → TellsAdvance (advance f) (Some step) v → Moves (reverse fs) reader step (reverse (set fs (n - 1) v)) reader
 last_moves fs f v step reader n e some last advances =
     let more = rw e at some in
     let is = rw e at last in

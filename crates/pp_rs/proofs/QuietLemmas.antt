@@ -1,29 +1,21 @@
 -- Items among which no line of a block stands, whatever stands behind them.
-use Rattle.std.proofs.Common.{◌≡◌, ◌∙◌, ℕ, suc, ◌+◌, Bool, true, false, ◌&&◌, if◌then◌else◌, List, [], ◌∷◌, ◌++◌, length, ◌≤◌, take, drop, refl, ap, sym, Option, Some, None, add-one, arith}
+use Rattle.std.proofs.Common.{◌≡◌, ℕ, suc, ◌+◌, Bool, true, false, ◌&&◌, List, [], ◌∷◌, ◌++◌, length, ◌≤◌, take, refl, ap, Option, Some, None, arith}
 use Rattle.std.specs.Prelude.{Result, Ok, Err}
 use Rattle.std.specs.List.{cons_option}
-use Rattle.std.proofs.lemmas.Grind.{common_steps}
 use Rattle.pp_lexer.specs.Lexed.{Seen}
 use Rattle.pp_lexer.specs.Items.{Lexeme}
 use Rattle.pp_lexer.specs.declared.lexer.item.Token.{Token as LexerToken}
 use Rattle.pp_lexer.specs.declared.lexer.item.TokenValue.{TokenValue as LexerTokenValue}
 use Rattle.pp_lexer.specs.declared.lexer.item.TokenValue.TheVariants.{Hash, NewLine, Ident as LexerIdent, Integer as LexerInteger, Float as LexerFloat, Punct as LexerPunct}
 use Rattle.pp_lexer.specs.declared.token.Location.{Location}
-use Rattle.pp_lexer.specs.declared.token.Token.{Token}
 use Rattle.pp_model.specs.Calls.{Fault}
-use Rattle.pp_model.specs.Conversions.{is_hash, is_newline, identifier_of, conversion}
-use Rattle.pp_model.specs.Emitting.{token_before}
-use Rattle.pp_model.specs.Lines.{first_token, ends_line, line_length, line_tokens, tokens_from, ◌>>=◌}
+use Rattle.pp_model.specs.Conversions.{is_hash, identifier_of}
+use Rattle.pp_model.specs.Lines.{first_token, ends_line}
 use Rattle.pp_model.specs.Names.{Name}
-use Rattle.pp_model.specs.Sights.{sight_of, item_sight, token_sight, text_sight, directive_sight, named_directive, is_directive_hash}
+use Rattle.pp_model.specs.Sights.{sight_of, item_sight, token_sight, directive_sight, named_directive, is_directive_hash}
 use Rattle.pp_model.specs.declared.sight.Sight.{Sight}
 use Rattle.pp_model.specs.declared.sight.Sight.TheVariants as sight
 use Rattle.pp_model.specs.Blocks.{line_at, block_lines}
-use Rattle.pp_model.specs.declared.block.BlockLine.{BlockLine}
-
-text_quiet : (position : ℕ) (converted : Result Token Fault) → line_at position (text_sight converted) ≡ None
-text_quiet position (Ok token) = refl
-text_quiet position (Err fault) = refl
 
 -- a token that is not the number sign of a directive begins no line of a block
 quiet_token : (position : ℕ) (location : Location) (value : LexerTokenValue) (blank at_start : Bool) (rest : List Seen) → is_hash value && at_start ≡ false
@@ -42,38 +34,11 @@ quiet_lexeme position (Ok token) comments rest h =
     ap (λ line. cons_option line (block_lines (position + 1) rest)) (quiet_token position token.location token.value token.leading_whitespace token.start_of_line rest h)
 quiet_lexeme position (Err fault) comments rest h = refl
 
--- such an item adds no line of a block
+-- an item that is not the number sign of a directive adds no line of a block
 pub quiet_item : (position : ℕ) (s : Seen) (rest : List Seen) → is_directive_hash s.item ≡ false → block_lines position (s ∷ rest) ≡ block_lines (position + 1) rest
 quiet_item position s rest h = quiet_lexeme position s.item s.had_comments rest h
 
-plain_value : (location : Location) (value : LexerTokenValue) (at_start : Bool) (tokens : Result (List Token) Fault) (all : List Token) (blank : Bool)
-    → tokens_from (Ok (record { value = value; location = location; leading_whitespace = blank; start_of_line = at_start })) tokens ≡ Ok all → is_hash value && at_start ≡ false
-plain_value location Hash at_start tokens all blank e = cc
-plain_value location NewLine at_start tokens all blank e = refl
-plain_value location (LexerIdent name) at_start tokens all blank e = refl
-plain_value location (LexerInteger i) at_start tokens all blank e = refl
-plain_value location (LexerFloat f) at_start tokens all blank e = refl
-plain_value location (LexerPunct p) at_start tokens all blank e = refl
-
--- an item of a line that has tokens is no number sign
-plain_lexeme : (item : Lexeme) (tokens : Result (List Token) Fault) (all : List Token) → tokens_from item tokens ≡ Ok all → is_directive_hash item ≡ false
-plain_lexeme (Ok token) tokens all e = plain_value token.location token.value token.start_of_line tokens all token.leading_whitespace e
-plain_lexeme (Err fault) tokens all e = cc
-
-prepended : (converted : Result Token Fault) (later : Result (List Token) Fault) (all : List Token) → (converted >>= λ first. token_before first later) ≡ Ok all → (tokens : List Token) × (later ≡ Ok tokens)
-prepended (Ok first) (Ok tokens) all e = (tokens, refl)
-prepended (Ok first) (Err fault) all e = cc
-prepended (Err fault) later all e = cc
-
-goes_on : (newline : Bool) (converted : Result Token Fault) (later : Result (List Token) Fault) (all : List Token) → newline ≡ false
-    → (if newline then Ok [] else (converted >>= λ first. token_before first later)) ≡ Ok all → (tokens : List Token) × (later ≡ Ok tokens)
-goes_on true converted later all n e = cc
-goes_on false converted later all n e = prepended converted later all e
-
-later_tokens : (item : Lexeme) (later : Result (List Token) Fault) (all : List Token) → ends_line item ≡ false → tokens_from item later ≡ Ok all → (tokens : List Token) × (later ≡ Ok tokens)
-later_tokens (Ok token) later all n e = goes_on (is_newline token.value) (conversion token) later all n e
-later_tokens (Err fault) later all n e = cc
-
+-- one item is taken, and more behind it
 pub take_more : (n : ℕ) (s : Seen) (rest : List Seen) → take (1 + n) (s ∷ rest) ≡ s ∷ take n rest
 take_more n s rest =
     let e : 1 + n ≡ suc n = omega arith in
@@ -82,21 +47,6 @@ take_more n s rest =
 -- so many items in front add no line of a block
 abbrev pub IsQuietLine : ℕ → List Seen → List Seen → ℕ → Type 0
 IsQuietLine position rest behind n = block_lines position (take n rest ++ behind) ≡ block_lines (position + n) behind
-
-quiet_rest : (position : ℕ) (s : Seen) (rest behind : List Seen) (all : List Token) (last : Bool) → ends_line s.item ≡ last → line_tokens (s ∷ rest) ≡ Ok all
-    → ((tokens : List Token) → line_tokens rest ≡ Ok tokens → IsQuietLine (position + 1) rest behind (line_length rest))
-    → IsQuietLine position (s ∷ rest) behind (if last then 1 else 1 + line_length rest)
-quiet_rest position s rest behind all true n e later = quiet_item position s behind (plain_lexeme s.item (line_tokens rest) all e)
-quiet_rest position s rest behind all false n e later =
-    let more = later_tokens s.item (line_tokens rest) all n e in
-    ap (λ items. block_lines position (items ++ behind)) (take_more (line_length rest) s rest)
-    ∙ quiet_item position s (take (line_length rest) rest ++ behind) (plain_lexeme s.item (line_tokens rest) all e) ∙ later more.0 more.1
-    ∙ ap (λ p. block_lines p behind) (omega arith)
-
--- a line that has tokens alone adds no line of a block
-pub quiet_line : (position : ℕ) (rest behind : List Seen) (all : List Token) → line_tokens rest ≡ Ok all → block_lines position (take (line_length rest) rest ++ behind) ≡ block_lines (position + line_length rest) behind
-quiet_line position [] behind all e = ap (λ p. block_lines p behind) (omega arith)
-quiet_line position (s ∷ rest) behind all e = quiet_rest position s rest behind all (ends_line s.item) refl e (λ tokens is. quiet_line (position + 1) rest behind tokens is)
 
 -- a newline, a token of the text, or a number sign that begins no line
 abbrev pub is_one_item : Sight → Bool
@@ -127,11 +77,12 @@ one_lexeme : (item : Lexeme) (rest : List Seen) → is_one_item (item_sight item
 one_lexeme (Ok token) rest h = one_value token.location token.value token.leading_whitespace token.start_of_line rest h
 one_lexeme (Err fault) rest h = cc
 
--- where a newline or a token of the text stands in front, it adds no line of a block
+-- where such an item stands in front, it adds no line of a block
 pub quiet_one : (position : ℕ) (rest behind : List Seen) → is_one_item (sight_of rest) ≡ true → block_lines position (take 1 rest ++ behind) ≡ block_lines (position + 1) behind
 quiet_one position [] behind h = cc
 quiet_one position (s ∷ rest) behind h = quiet_item position s behind (one_lexeme s.item rest h)
 
+-- such an item is there
 pub one_there : (rest : List Seen) → is_one_item (sight_of rest) ≡ true → 1 ≤ length rest
 one_there [] h = cc
 one_there (s ∷ rest) h = omega arith
@@ -165,6 +116,7 @@ no_word_lexeme : (item : Lexeme) (comments : Bool) (rest : List Seen) (fault : F
 no_word_lexeme (Ok token) comments rest fault e = no_word_token token.location token.value token.leading_whitespace token.start_of_line comments rest fault e
 no_word_lexeme (Err error) comments rest fault e = cc
 
+-- where no word is seen behind a number sign, both items stand in front
 pub begins_no_word : (rest : List Seen) (fault : Fault) → sight_of rest ≡ sight.NoWord fault → BeginsNoWord fault rest
 begins_no_word [] fault e = cc
 begins_no_word (s ∷ rest) fault e = no_word_lexeme s.item s.had_comments rest fault e

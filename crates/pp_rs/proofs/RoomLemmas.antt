@@ -28,6 +28,7 @@ pub record Fits (base : ℕ) (frames : List Layer) (source : Source) : Type 0 wh
   pub most : most_steps source < base
   pub longest : longest frames < base
 
+-- the digits fit the base that is made of them
 pub fits_its_base : (frames : List Layer) (source : Source) → Fits (digit_base frames source) frames source
 fits_its_base frames source = record {
   most = omega (arith, le-max_left (most_steps source) (longest frames));
@@ -48,6 +49,7 @@ pub record HasRoom (base bound : ℕ) (frames : List Layer) (source : Source) : 
   pub fits : Fits base frames source
   pub number : (number_of base (most_reads source) frames + 1) * base ^ (most_names source - length frames) ≤ bound
 
+-- what is left below a bound in a base is below it in its own
 pub work_left_below : (base bound : ℕ) (frames : List Layer) (source : Source) → IsBelow base bound frames source → work_left frames source < bound
 unfolding work_left
 work_left_below base bound frames source below =

@@ -64,6 +64,7 @@ empty_shortens : (blocks : List OpenBlock) (live : Bool) → Shortens (move_at l
 empty_shortens blocks true = end_shortens blocks [] (last_block blocks) refl
 empty_shortens blocks false = end_shortens blocks [] (last_block blocks) refl
 
+-- each move takes more than it adds
 pub move_of_shortens : (blocks : List OpenBlock) (rest : List Seen) → Shortens (move_of blocks rest) (length rest) (length blocks)
 move_of_shortens blocks [] = empty_shortens blocks (is_live_in (last_block blocks))
 move_of_shortens blocks (s ∷ rest) = shown_shortens blocks (s ∷ rest) (is_live_in (last_block blocks)) (omega arith)

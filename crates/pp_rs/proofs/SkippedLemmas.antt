@@ -1,16 +1,15 @@
 -- A line that is skipped adds no line of a block behind its directive's word, whatever tokens and errors stand there.
 use Rattle.std.proofs.Common.{◌≡◌, ◌∙◌, ℕ, ◌+◌, Bool, true, false, if◌then◌else◌, List, [], ◌∷◌, ◌++◌, take, drop, refl, ap, sym, subst, arith}
-use Rattle.std.specs.List.{cons_option}
 use Rattle.pp_lexer.specs.Lexed.{Seen}
 use Rattle.pp_lexer.specs.declared.token.Location.{Location}
-use Rattle.pp_model.specs.Blocks.{part_of, line_with, line_at, block_lines}
+use Rattle.pp_model.specs.Blocks.{block_lines}
 use Rattle.pp_model.specs.Lines.{ends_line, line_length}
 use Rattle.pp_model.specs.Sights.{sight_of, is_directive_hash}
 use Rattle.pp_model.specs.declared.directive.Directive.{Directive}
 use Rattle.pp_model.specs.declared.sight.Sight.TheVariants as sight
 use Rattle.pp_rs.specs.Lined.{BeginsNoDirective, AreLined}
 use Rattle.pp_rs.proofs.QuietLemmas.{quiet_item, take_more, IsQuietLine}
-use Rattle.pp_rs.proofs.DirectiveLineLemmas.{begins_directive, take_two}
+use Rattle.pp_rs.proofs.DirectiveLineLemmas.{begins_directive}
 
 quiet_first : (position : ℕ) (s : Seen) (rest behind : List Seen) (last : Bool) → ends_line s.item ≡ last → is_directive_hash s.item ≡ false
     → (ends_line s.item ≡ false → IsQuietLine (position + 1) rest behind (line_length rest))
@@ -40,21 +39,3 @@ quiet_behind_word position rest behind directive word e lined =
     let b = begins_directive rest directive word e in
     let there : AreLined (b.hash ∷ b.name ∷ b.behind) = subst AreLined b.front lined in
     subst (λ items. IsQuietLine position items behind (line_length items)) (sym (ap (λ items. drop 2 items) b.front)) (quiet_skipped position b.name b.behind behind b.goes_on there.1)
-
--- so the whole line of a directive adds the line of a block that its word says, if any, and no other
-pub skipped_directive : (position : ℕ) (rest later : List Seen) (directive : Directive) (word : Location) → sight_of rest ≡ sight.Directive directive word → AreLined rest
-    → block_lines position (take (2 + line_length (drop 2 rest)) rest ++ later)
-    ≡ cons_option (line_with position word (part_of directive)) (block_lines (position + (2 + line_length (drop 2 rest))) later)
-skipped_directive position rest later directive word e lined =
-    let b = begins_directive rest directive word e in
-    let n = line_length (drop 2 rest) in
-    let two : b.behind ≡ drop 2 rest = sym (ap (λ items. drop 2 items) b.front) in
-    let whole : take (2 + n) rest ≡ b.hash ∷ b.name ∷ take n b.behind = ap (λ items. take (2 + n) items) b.front ∙ take_two n b.hash b.name b.behind in
-    let tail = take n b.behind ++ later in
-    let added = cons_option (line_with position word (part_of directive)) in
-    ap (λ items. block_lines position (items ++ later)) whole
-    ∙ ap (λ s. cons_option (line_at position s) (block_lines (position + 1) (b.name ∷ tail))) (b.seen tail)
-    ∙ ap added (quiet_item (position + 1) b.name tail b.plain)
-    ∙ ap (λ items. added (block_lines (position + 1 + 1) (take n items ++ later))) two
-    ∙ ap added (quiet_behind_word (position + 1 + 1) rest later directive word e lined)
-    ∙ ap (λ k. added (block_lines k later)) (omega arith)

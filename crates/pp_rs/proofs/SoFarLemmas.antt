@@ -19,6 +19,7 @@ one_step_so_far r x y s t (refused fault x1 r1 s1 h p i) (refused other y1 r2 t1
     let same : fault ≡ other = cc in
     (p ∙ ap (λ (f : Fault). Some (outcome.Fault f)) same ∙ sym q, i ∙ sym j)
 
+-- reading comes to one outcome
 pub one_reading_so_far : OneReads reading_so_far
 one_reading_so_far r x y s t (here x1 r1 s1 a) (here y1 r2 t1 b) =
     let same = one_step_so_far r (Some x) (Some y) s t a b in

@@ -63,7 +63,8 @@ length_without name (other ∷ names) h = go (is_same_name other name) refl (len
         rw e (omega arith)
     go false e p = rw e (omega arith)
 
-abbrev IsDefined : List Defined → Name → Type 0
+-- the name stands for something
+abbrev pub IsDefined : List Defined → Name → Type 0
 IsDefined definitions name = IsSome (meaning_of definitions name)
 
 abbrev AreDefined : List Defined → List Name → Type 0
@@ -80,6 +81,7 @@ defined_without d ds (other ∷ names) h =
         let here : IsDefined ds other = rw e at p in
         rw e (All-cons (IsDefined ds) other (without d.name names) here q)
 
+-- names that differ and are defined are at most as many as the definitions
 pub apart_names_few : (definitions : List Defined) (names : List Name) → AreApart names → AreDefined definitions names → length names ≤ length definitions
 apart_names_few [] [] h g = omega arith
 apart_names_few [] (name ∷ names) h g = let p : IsDefined [] name = All-head (IsDefined []) name names g in absurd (cc)

@@ -24,6 +24,7 @@ use Rattle.pp_rs.specs.declared.pp.halt.Halt.TheVariants as halt
 use Rattle.pp_rs.specs.declared.pp.step.StepExit.TheVariants.{Error, Continue}
 use Rattle.pp_rs.proofs.LineReadingLemmas.{drop_fewer}
 
+-- an error that is known is the result
 pub err_result : {A E : Type 0} (r : Result A E) (h : E) → IsErrAnd r (λ e. e ≡ h) → r ≡ Err h
 err_result (Ok value) h e = absurd e
 err_result (Err other) h e = ap Err e

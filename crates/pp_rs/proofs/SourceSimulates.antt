@@ -1,11 +1,10 @@
 -- Each step of the source that is kept is one of the reader that it stands for.
-use Rattle.std.proofs.Common.{◌≡◌, ◌≢◌, ◌∙◌, ◌⊎◌, inl, inr, ℕ, zero, suc, pos, ◌+◌, ◌-◌, ◌≤◌, ◌<◌, Bool, true, false, ◌&&◌, ◌||◌, not, if◌then◌else◌, List, [], ◌∷◌, ◌++◌, length, take, drop, refl, ap, sym, subst, Option, Some, None, arith, length-drop}
+use Rattle.std.proofs.Common.{◌≡◌, ◌∙◌, ◌⊎◌, inl, inr, ℕ, ◌+◌, ◌≤◌, Bool, true, false, not, if◌then◌else◌, List, [], ◌∷◌, ◌++◌, length, take, drop, refl, ap, sym, subst, Option, Some, None, arith, length-drop}
 use Rattle.std.specs.Prelude.{Result, Ok, Err, MatchBool, is_some}
 use Rattle.std.specs.List.{cons_option}
-use Rattle.std.proofs.lemmas.List.{drop-drop, take_all}
+use Rattle.std.proofs.lemmas.List.{take_all}
 use Rattle.pp_lexer.specs.Lexed.{Seen}
 use Rattle.pp_lexer.specs.Items.{Lexeme}
-use Rattle.pp_lexer.specs.PreprocessorError.{out_of_memory}
 use Rattle.pp_lexer.specs.declared.lexer.item.Token.{Token as LexerToken}
 use Rattle.pp_lexer.specs.declared.lexer.item.TokenValue.{TokenValue as LexerTokenValue}
 use Rattle.pp_lexer.specs.declared.lexer.item.TokenValue.TheVariants.{Hash, NewLine, Ident as LexerIdent, Integer as LexerInteger, Float as LexerFloat, Punct as LexerPunct}
@@ -16,21 +15,18 @@ use Rattle.pp_model.specs.Names.{Name}
 use Rattle.pp_model.specs.Conversions.{identifier_of}
 use Rattle.pp_model.specs.Definitions.{Definition, Definitions, changed, IsSameDefinition}
 use Rattle.pp_model.specs.Calls.{Fault}
-use Rattle.pp_model.specs.Emitting.{answers_at, expansion_limit}
 use Rattle.pp_model.specs.Lines.{first_token, line_length, line_fault, ended_line, only_name}
 use Rattle.pp_model.specs.DefineLines.{defined_on}
 use Rattle.pp_model.specs.Sights.{sight_of, item_sight, token_sight, directive_sight, named_directive}
 use Rattle.pp_model.specs.Blocks.{part_of, line_with, line_at, block_lines, Block, Truths, blocks_at, innermost, is_live, are_surroundings_live, has_else}
 use Rattle.pp_model.specs.SourceReader.{SourceReader}
-use Rattle.pp_model.specs.Acts.{Acted, passed, failed, behind_word, behind_line, moved, decided, is_defined_now, skipped_by, skipped, acted, failed_at, only_word, else_in, endif_in, else_line, endif_line, live_directive, dead_directive, live_act, dead_act, ended_by, act}
-use Rattle.pp_model.specs.Reads.{Steps, passes, gives, defines, repeats, redefines, defining}
-use Rattle.pp_model.specs.declared.block.BlockLine.{BlockLine}
+use Rattle.pp_model.specs.Acts.{Acted, passed, failed, behind_word, behind_line, moved, decided, is_defined_now, skipped_by, skipped, acted, failed_at, only_word, else_in, endif_in, else_line, endif_line, live_act, dead_act, ended_by, act}
+use Rattle.pp_model.specs.Reads.{passes, gives, defines, repeats, redefines, defining}
 use Rattle.pp_model.specs.declared.block.Part.{Part}
 use Rattle.pp_model.specs.declared.block.Part.TheVariants as part
 use Rattle.pp_model.specs.declared.definition.Named.{Named}
 use Rattle.pp_model.specs.declared.directive.Directive.{Directive}
 use Rattle.pp_model.specs.declared.directive.Directive.TheVariants as d
-use Rattle.pp_model.specs.declared.outcome.Outcome.{Outcome}
 use Rattle.pp_model.specs.declared.outcome.Outcome.TheVariants as outcome
 use Rattle.pp_model.specs.declared.sight.Sight.{Sight}
 use Rattle.pp_model.specs.declared.sight.Sight.TheVariants as sight
@@ -39,23 +35,22 @@ use Rattle.pp_rs.specs.Item.{Step, wants_memory}
 use Rattle.pp_rs.specs.Defined.{Defined, meaning_of, IsChanged}
 use Rattle.pp_rs.specs.Lined.{AreLined}
 use Rattle.pp_rs.specs.OpenBlocks.{OpenBlock, last_block, outer_blocks, is_live_in, block_opened, block_unread, block_parted, StandForBlocks, AreBefore}
-use Rattle.pp_rs.specs.SoFar.{fault_at, fault_so_far, live_fault, dead_fault, directive_fault, StepsSoFar, acts, refused}
+use Rattle.pp_rs.specs.SoFar.{fault_at, fault_so_far, live_fault, dead_fault, acts, refused}
 use Rattle.pp_rs.specs.SourceMoves as moves
-use Rattle.pp_rs.specs.Source.{Source, IsBehind, IsBehindFault, HasEffect, DefinesOver, Pauses, holds_where, Makes, IsRefusedStep, StepsSource}
+use Rattle.pp_rs.specs.Source.{Source, IsBehind, HasEffect, DefinesOver, Pauses, holds_where, Makes, IsRefusedStep}
 use Rattle.pp_rs.specs.Stands.{AreObjectLike, StandsForReader}
 use Rattle.pp_rs.specs.declared.pp.step.StepExit.TheVariants.{Error, Continue, Finished}
-use Rattle.pp_rs.proofs.BlockPositionLemmas.{LiesBefore}
-use Rattle.pp_rs.proofs.BlockStackLemmas.{innermost_last, Innermost}
+use Rattle.pp_rs.proofs.BlockStackLemmas.{innermost_last}
 use Rattle.pp_rs.proofs.BlockStepLemmas.{AddsLine, opens_read, opens_unread, closes_last, parts_else}
 use Rattle.pp_rs.proofs.BodyLemmas.{line_length_least}
 use Rattle.pp_rs.proofs.ChangedLemmas.{changed_object_like, some_object_like}
-use Rattle.pp_rs.proofs.DirectiveLineLemmas.{BeginsDirective, begins_directive, quiet_word, IsPlain, define_plain}
+use Rattle.pp_rs.proofs.DirectiveLineLemmas.{begins_directive, quiet_word, define_plain}
 use Rattle.pp_rs.proofs.LinesBeforeLemmas.{AddsLines, adds_one, directive_adds}
 use Rattle.pp_rs.proofs.QuietLemmas.{is_one_item, quiet_item, quiet_one, one_there, BeginsNoWord, begins_no_word}
 use Rattle.pp_rs.proofs.Simulates.{Simulated, SimulatedFault, Simulates, SourceSimulates}
 use Rattle.pp_rs.proofs.SkippedLemmas.{quiet_behind_word}
 use Rattle.pp_rs.proofs.StandsBehindLemmas.{block_here, none_here, live_now, lined_here, behind_here, stands_further, blocks_stay, blocks_split}
-use Rattle.pp_rs.proofs.TruthLemmas.{with_truth, IsUnread, before_unread, before_later, before_more}
+use Rattle.pp_rs.proofs.TruthLemmas.{with_truth, before_unread, before_later, before_more}
 
 word_there : (token : LexerToken) (name : Option Name) → named_directive token name ≡ sight.End → ⊥
 word_there token (Some name) e = cc
@@ -230,9 +225,6 @@ module _ (old new : Source) (r : SourceReader) (s : StandsForReader old r) (live
 
     -- behind a line of a block, where these blocks are then open
     module _ (p : Part) (is : part_of directive ≡ Some p) where
-      this_line : BlockLine
-      this_line = record { position = r.position; word = word; part = p }
-
       adds_this : AddsLines r.position (2 + line_length (drop 2 old.rest)) old.rest (record { position = r.position; word = word; part = p } ∷ [])
       adds_this = subst (λ (found : Option Part). AddsLines r.position (2 + line_length (drop 2 old.rest)) old.rest (cons_option (line_with r.position word found) [])) is line_adds
 

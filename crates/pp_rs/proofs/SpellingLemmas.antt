@@ -20,6 +20,7 @@ unfolding chars
 chars-punctuator AddAssign = refl
 chars-punctuator _ = refl
 
+-- so are the digits of a number
 pub chars-decimal : (n : ℕ) → n < 2 ^ 64 → chars (decimal n) ≡ decimal n
 chars-decimal n h = chars-IsAscii (decimal n) (IsAscii-decimal n h)
 
@@ -46,6 +47,7 @@ abbrev pub spaced_spellings : List TokenValue → List ℕ
 spaced_spellings [] = []
 spaced_spellings (v ∷ vs) = 32 ∷ (spelling v ++ spaced_spellings vs)
 
+-- the first is spelled in front of them
 pub spelled_text-cons : (v : TokenValue) (vs : List TokenValue) → spelled_text (v ∷ vs) ≡ spelling v ++ spaced_spellings vs
 spelled_text-cons v [] = sym (append-nil (spelling v))
 spelled_text-cons v (w ∷ ws) = ap (λ t. spelling v ++ (32 ∷ t)) (spelled_text-cons w ws)

@@ -1,18 +1,16 @@
 -- The reader that a source stands for: whether its text is live, the innermost block there, and where it stands some items further on.
-use Rattle.std.proofs.Common.{◌≡◌, ◌≢◌, ◌∙◌, ℕ, zero, suc, pos, ◌+◌, ◌-◌, ◌≤◌, ◌<◌, Bool, true, false, ◌&&◌, if◌then◌else◌, List, [], ◌∷◌, ◌++◌, length, take, drop, refl, ap, sym, subst, Option, Some, None, arith, append-nil, length-drop}
-use Rattle.std.proofs.lemmas.List.{drop-drop, take_all}
+use Rattle.std.proofs.Common.{◌≡◌, ◌∙◌, ℕ, ◌+◌, ◌-◌, ◌≤◌, false, List, [], ◌∷◌, ◌++◌, length, take, drop, refl, ap, sym, subst, Option, Some, None, arith, append-nil, length-drop}
+use Rattle.std.proofs.lemmas.List.{drop-drop}
 use Rattle.std.specs.List.{slice_get}
 use Rattle.pp_lexer.specs.Lexed.{Seen}
 use Rattle.pp_model.specs.Definitions.{Definitions}
-use Rattle.pp_model.specs.Sights.{sight_of}
-use Rattle.pp_model.specs.Blocks.{Block, Truths, open_blocks, block_lines, blocks_at, innermost, is_live, are_surroundings_live, has_else}
+use Rattle.pp_model.specs.Blocks.{Truths, open_blocks, block_lines, blocks_at, is_live}
 use Rattle.pp_model.specs.SourceReader.{SourceReader}
-use Rattle.pp_model.specs.Acts.{Acted, behind_word, live_act, dead_act, act}
+use Rattle.pp_model.specs.Acts.{behind_word}
 use Rattle.pp_model.specs.declared.block.BlockLine.{BlockLine}
-use Rattle.pp_model.specs.declared.sight.Sight.{Sight}
 use Rattle.pp_rs.specs.Defined.{meaning_of}
 use Rattle.pp_rs.specs.Lined.{AreLined}
-use Rattle.pp_rs.specs.OpenBlocks.{OpenBlock, last_block, outer_blocks, is_live_in, StandsForBlock, StandForBlocks, AreBefore}
+use Rattle.pp_rs.specs.OpenBlocks.{OpenBlock, last_block, outer_blocks, is_live_in, StandForBlocks, AreBefore}
 use Rattle.pp_rs.specs.Source.{Source}
 use Rattle.pp_rs.specs.Stands.{AreObjectLike, StandsForReader}
 use Rattle.pp_rs.proofs.BlockStackLemmas.{innermost_last, Innermost, stands_innermost, none_stand, live_outside, live_inside}

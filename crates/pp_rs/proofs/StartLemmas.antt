@@ -4,6 +4,7 @@ use Rattle.pp_model.specs.Run.{items_of, start}
 use Rattle.pp_rs.specs.Preprocessing.{start_of, Stands}
 use Rattle.pp_rs.proofs.LinedLemmas.{items_lined}
 
+-- it stands for the state in which a run of its items begins
 pub start_stands : (text : List ℕ) → Stands (start_of text) (start (items_of text))
 start_stands text = record {
   held = refl;

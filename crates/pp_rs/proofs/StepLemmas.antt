@@ -6,15 +6,19 @@ use Rattle.pp_rs.specs.Item.{Step, wants_memory}
 use Rattle.pp_rs.specs.Work.{is_end, goes_on}
 use Rattle.pp_rs.specs.declared.pp.step.StepExit.TheVariants.{Error, Finished}
 
+-- a refusal of memory wants memory
 pub refused_wants : (step : Step Token) → step ≡ Err (Error out_of_memory) → wants_memory step ≡ true
 refused_wants step e = ap wants_memory e
 
+-- a step behind which reading goes on is not the end
 pub goes_on_not_end : (step : Step Token) → goes_on step ≡ true → step ≢ Err Finished
 goes_on_not_end step on end = let bad : goes_on step ≡ false = ap goes_on end in absurd (cc)
 
+-- nor a refusal of memory
 pub goes_on_not_want : (step : Step Token) → goes_on step ≡ true → step ≢ Err (Error out_of_memory)
 goes_on_not_want step on want = let bad : goes_on step ≡ false = ap goes_on want in absurd (cc)
 
+-- and wants no memory
 pub goes_on_wants_nothing : (step : Step Token) → goes_on step ≡ true → wants_memory step ≡ false
 goes_on_wants_nothing step on = go (is_end step) (wants_memory step) on
   where

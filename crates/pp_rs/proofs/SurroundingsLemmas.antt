@@ -121,12 +121,13 @@ module _ (line : BlockLine) (later : List BlockLine) (block : Block) where
   at_line true false before inner b s deeper e = beside_it before (rw (b, s) refl) (deeper before e)
   at_line false stays before inner b s deeper e = beside_it before (rw b refl) (deeper before e)
 
-none_open : (before inner : List Block) (block : Block) → [] ≡ before ++ block ∷ inner → ⊥
-none_open [] inner block e = cc
-none_open (first ∷ before) inner block e = cc
+-- no item stands in an empty list
+pub none_within : {X : Type 0} (before behind : List X) (x : X) → [] ≡ before ++ x ∷ behind → ⊥
+none_within [] behind x e = cc
+none_within (first ∷ before) behind x e = cc
 
 -- where each block that is open was opened
 pub open_at : (lines : List BlockLine) (before : List Block) (block : Block) (inner : List Block) → open_blocks lines ≡ before ++ block ∷ inner → IsOpen lines before block
-open_at [] before block inner e = absurd (none_open before inner block e)
+open_at [] before block inner e = absurd (none_within before inner block e)
 open_at (line ∷ later) before block inner e =
     at_line line later block (opens line.part) (stays_open 0 later) before inner refl refl (λ around. open_at later around block inner) e

@@ -1,5 +1,5 @@
 -- What follows of a token opens a macro that is defined and not yet open, or leaves the frames: so open macros stay sound.
-use Rattle.std.proofs.Common.{◌≡◌, ◌∙◌, ℕ, Bool, true, false, if◌then◌else◌, List, [], ◌∷◌, refl, sym, ap, subst, Option, Some, None, Ok, Err, IfSome, IsSome, inl, inr}
+use Rattle.std.proofs.Common.{◌≡◌, ◌∙◌, ℕ, Bool, true, false, if◌then◌else◌, List, [], ◌∷◌, refl, sym, ap, subst, Option, Some, None, Ok, Err, IfSome, inl, inr}
 use Rattle.std.proofs.lemmas.List.Elements.{All-head, All-tail, All-cons}
 use Rattle.pp_lexer.specs.declared.token.Token.{Token}
 use Rattle.pp_lexer.specs.declared.token.TokenValue.{TokenValue}
@@ -8,17 +8,15 @@ use Rattle.pp_model.specs.Names.{Name, is_in}
 use Rattle.pp_model.specs.Definitions.{Definition}
 use Rattle.pp_model.specs.declared.outcome.Outcome.{Outcome}
 use Rattle.pp_model.specs.declared.outcome.Outcome.TheVariants as outcome
-use Rattle.pp_rs.specs.Item.{wants_memory, is_out_of_memory}
-use Rattle.pp_rs.specs.Item.{Fault, Step}
-use Rattle.pp_rs.specs.Defined.{meaning_of}
+use Rattle.pp_rs.specs.Item.{wants_memory}
+use Rattle.pp_rs.specs.Item.{Step}
 use Rattle.pp_rs.specs.Frames.{Layer, layer, Advance, advance, names_of}
 use Rattle.pp_rs.specs.Reader.{Reader, of_source, visible}
 use Rattle.pp_rs.specs.Source.{Source}
 use Rattle.pp_rs.specs.Turns.{frame_move, Moves, taken_in, opens, opens_value, opened_by, OpensOrGives, FollowsTaken, Follows, Turns}
 use Rattle.pp_rs.specs.Work.{AreSound}
-use Rattle.pp_rs.specs.declared.pp.step.StepExit.TheVariants.{Error, Continue, Finished}
 use Rattle.pp_rs.proofs.AdvanceLemmas.{Advances, advance_lowers}
-use Rattle.pp_rs.proofs.SoundLemmas.{nothing_is_open}
+use Rattle.pp_rs.proofs.SoundLemmas.{IsDefined, nothing_is_open}
 use Rattle.pp_rs.proofs.StepLemmas.{refused_wants}
 
 -- a macro that may open: it is defined, and open in no frame
@@ -56,33 +54,32 @@ pub moved_wants : (moved step : Step Token) (frames after : List Layer) (reader 
 moved_wants (Ok token) step frames after reader h memory = refl
 moved_wants (Err exit) step frames after reader h memory = ap wants_memory (sym h.0) ∙ memory
 
-abbrev IsDefined : Source → Name → Type 0
-IsDefined source name = IsSome (meaning_of source.definitions name)
-
 sound_renamed : (f g : Layer) (fs : List Layer) (source : Source) → g.name ≡ f.name → AreSound (f ∷ fs) source → AreSound (g ∷ fs) source
 sound_renamed f g fs source same sound = record {
   apart = rw same sound.apart;
   defined =
-      let here : IsDefined source g.name = subst (IsDefined source) (sym same) (All-head (IsDefined source) f.name (names_of fs) sound.defined) in
-      All-cons (IsDefined source) g.name (names_of fs) here (All-tail (IsDefined source) f.name (names_of fs) sound.defined);
+      let here : IsDefined source.definitions g.name = subst (IsDefined source.definitions) (sym same) (All-head (IsDefined source.definitions) f.name (names_of fs) sound.defined) in
+      All-cons (IsDefined source.definitions) g.name (names_of fs) here (All-tail (IsDefined source.definitions) f.name (names_of fs) sound.defined);
 }
 
 sound_closed : (f : Layer) (fs : List Layer) (source : Source) → AreSound (f ∷ fs) source → AreSound fs source
 sound_closed f fs source sound = record {
   apart = sound.apart.1;
-  defined = All-tail (IsDefined source) f.name (names_of fs) sound.defined;
+  defined = All-tail (IsDefined source.definitions) f.name (names_of fs) sound.defined;
 }
 
+-- a macro that may open keeps open macros sound
 pub sound_opened : (frames : List Layer) (source : Source) → AreSound frames source → (macro : Name × Definition) (line : ℕ) → MayOpen frames (of_source source) macro → AreSound (layer macro.0 line macro.1 [] ∷ frames) source
 sound_opened frames source sound macro line may = record {
   apart = (may.apart, sound.apart);
-  defined = All-cons (IsDefined source) macro.0 (names_of frames) (rw may.visible refl) sound.defined;
+  defined = All-cons (IsDefined source.definitions) macro.0 (names_of frames) (rw may.visible refl) sound.defined;
 }
 
 sound_advance : (f : Layer) (fs : List Layer) (source : Source) (o : Option Advance) → IfSome o (Advances f) → AreSound (f ∷ fs) source → AreSound (frame_move fs o).after source
 sound_advance f fs source (Some a) lowers sound = sound_renamed f a.after fs source lowers.name sound
 sound_advance f fs source None lowers sound = sound_closed f fs source sound
 
+-- a step of the frames or the reader keeps them sound
 pub moves_sound : (frames between : List Layer) (old new : Source) (moved : Step Token) → AreSound frames old → Moves frames (of_source old) moved between (of_source new) → wants_memory moved ≡ false → AreSound between new
 moves_sound [] between old new moved sound h memory = rw h.0 (nothing_is_open new)
 moves_sound (f ∷ fs) between old new moved sound (stays, inl h) memory =
@@ -100,17 +97,3 @@ pub turns_sound : (frames after : List Layer) (old new : Source) (step : Step To
 turns_sound frames after old new step sound turns memory =
     let moved : wants_memory turns.moved ≡ false = moved_wants turns.moved step turns.frames_then after (of_source new) turns.follows memory in
     follows_sound turns.frames_then after new turns.moved step (moves_sound frames turns.frames_then old new turns.moved sound turns.moves moved) turns.follows memory
-
--- by the kind of the step
-module _ (frames after : List Layer) (old new : Source) where
-  pub continue_sound : AreSound frames old → Turns frames (of_source old) (Err Continue) after (of_source new) → AreSound after new
-  continue_sound sound turns = turns_sound frames after old new (Err Continue) sound turns refl
-
-  pub token_sound : (token : Token) → AreSound frames old → Turns frames (of_source old) (Ok token) after (of_source new) → AreSound after new
-  token_sound token sound turns = turns_sound frames after old new (Ok token) sound turns refl
-
-  pub end_sound : AreSound frames old → Turns frames (of_source old) (Err Finished) after (of_source new) → AreSound after new
-  end_sound sound turns = turns_sound frames after old new (Err Finished) sound turns refl
-
-  pub fault_sound : (fault : Fault) → AreSound frames old → Turns frames (of_source old) (Err (Error fault)) after (of_source new) → is_out_of_memory fault.0 ≡ false → AreSound after new
-  fault_sound fault sound turns known = turns_sound frames after old new (Err (Error fault)) sound turns known

@@ -1,14 +1,13 @@
 -- Each step of the expander lowers the number of what is left to do.
-use Rattle.std.proofs.Common.{◌≡◌, ◌∙◌, ℕ, ◌<◌, ◌≤◌, true, false, not, List, [], ◌∷◌, length, refl, sym, ap, subst, Option, Some, None, Ok, Err, IfSome, inl, inr}
+use Rattle.std.proofs.Common.{◌≡◌, ◌∙◌, ℕ, ◌<◌, ◌≤◌, true, false, List, [], ◌∷◌, length, refl, sym, ap, subst, Option, Some, None, Ok, Err, IfSome, inl, inr}
 use Rattle.pp_lexer.specs.declared.token.Token.{Token}
-use Rattle.pp_rs.specs.Item.{wants_memory, is_out_of_memory}
+use Rattle.pp_rs.specs.Item.{wants_memory}
 use Rattle.pp_rs.specs.Frames.{Layer, Advance, advance}
-use Rattle.pp_rs.specs.Item.{Fault, Step}
+use Rattle.pp_rs.specs.Item.{Step}
 use Rattle.pp_rs.specs.Reader.{Reader, of_source}
 use Rattle.pp_rs.specs.Source.{Source}
 use Rattle.pp_rs.specs.Turns.{as_pause, frame_move, Moves, Follows, Turns}
 use Rattle.pp_rs.specs.Work.{digit_base, work_in, work_left, goes_on, AreSound}
-use Rattle.pp_rs.specs.declared.pp.step.StepExit.TheVariants.{Error, Continue}
 use Rattle.pp_rs.proofs.AdvanceLemmas.{Advances, advance_lowers}
 use Rattle.pp_rs.proofs.RoomLemmas.{Fits, fits_its_base, IsBelow, HasRoom, work_left_below, stays_below, opened_below, advance_has_room, closed_is_below, shrunk_has_room}
 use Rattle.pp_rs.proofs.SoundLemmas.{sound_frames_few}
@@ -63,14 +62,3 @@ turns_fall frames after old new step sound turns on =
     let moved = moves_moved frames turns.frames_then old new turns.moved sound turns.moves moved_on in
     let base = digit_base frames old in
     work_left_below base (work_in base frames old) after new (follows_below base (work_in base frames old) turns.frames_then after new turns.moved step between moved turns.follows memory)
-
--- by the kind of the step
-module _ (frames after : List Layer) (old new : Source) where
-  pub continue_falls : AreSound frames old → Turns frames (of_source old) (Err Continue) after (of_source new) → work_left after new < work_left frames old
-  continue_falls sound turns = turns_fall frames after old new (Err Continue) sound turns refl
-
-  pub token_falls : (token : Token) → AreSound frames old → Turns frames (of_source old) (Ok token) after (of_source new) → work_left after new < work_left frames old
-  token_falls token sound turns = turns_fall frames after old new (Ok token) sound turns refl
-
-  pub fault_falls : (fault : Fault) → AreSound frames old → Turns frames (of_source old) (Err (Error fault)) after (of_source new) → is_out_of_memory fault.0 ≡ false → work_left after new < work_left frames old
-  fault_falls fault sound turns known = turns_fall frames after old new (Err (Error fault)) sound turns (ap not known)

@@ -1,5 +1,5 @@
 -- What stands behind the frames, as the interface object of a reader shows it.
-use Rattle.std.specs.Prelude.{ℕ, pos, List, length, Option}
+use Rattle.std.specs.Prelude.{ℕ, pos, Option}
 use Rattle.pp_lexer.specs.declared.token.Token.{Token}
 use Rattle.pp_model.specs.Definitions.{Definitions}
 use Rattle.pp_model.specs.LineValues.{as_line_number}

@@ -1,11 +1,10 @@
 -- What the reader of a source keeps, and one step of it.
-use Rattle.std.specs.Prelude.{◌≡◌, ◌≢◌, ℕ, ◌+◌, ◌<◌, ◌⊎◌, Bool, true, false, if◌then◌else◌, not, is_some, List, [], ◌∷◌, ◌++◌, length, drop, Option, Some, None, Result, Ok, Err, MatchBool, ⊤}
+use Rattle.std.specs.Prelude.{◌≡◌, ◌≢◌, ℕ, ◌<◌, ◌⊎◌, Bool, false, if◌then◌else◌, not, is_some, List, [], ◌∷◌, ◌++◌, length, drop, Option, Some, None, Ok, Err, MatchBool}
 use Rattle.pp_lexer.specs.Lexed.{Seen}
 use Rattle.pp_lexer.specs.PreprocessorError.{out_of_memory}
 use Rattle.pp_lexer.specs.declared.token.PreprocessorError.TheVariants.{DefineRedefined, UnfinishedBlock}
 use Rattle.pp_lexer.specs.declared.token.Token.{Token}
 use Rattle.pp_model.specs.Definitions.{Definition, IsSameDefinition}
-use Rattle.pp_model.specs.Calls.{Fault}
 use Rattle.pp_model.specs.declared.definition.Named.{Named}
 use Rattle.pp_rs.specs.Item.{Step}
 use Rattle.pp_rs.specs.Defined.{Defined, meaning_of, IsChanged}
@@ -47,7 +46,7 @@ DefinesOver named (Some before) taken old step new =
     (IsSameDefinition before named.definition × (step ≡ Err Continue) × IsBehind taken old.blocks old new × (new.definitions ≡ old.definitions))
     ⊎ ((IsSameDefinition before named.definition → ⊥) × (step ≡ Err (Error (DefineRedefined, named.location))) × IsBehindFault old new)
 
--- a block opens, where the name is defined or where it isn't
+-- whether the condition of an `#ifdef` holds, or that of an `#ifndef`, of a name for which this is found
 abbrev pub holds_where : Bool → Option Definition → Bool
 holds_where wanted found = if wanted then is_some found else not (is_some found)
 

@@ -1,4 +1,4 @@
--- What a directive does, where the source stands behind its word.
+-- What a directive does, where the source stands behind its word or its number sign.
 use Rattle.std.specs.Prelude.{◌≡◌, ◌≤◌, ◌+◌, Bool, true, false, if◌then◌else◌, List, length, drop, Option, Some, None, Result, Ok, Err, ⊤}
 use Rattle.pp_lexer.specs.Lexed.{Seen}
 use Rattle.pp_lexer.specs.declared.lexer.item.Token.{Token as LexerToken}

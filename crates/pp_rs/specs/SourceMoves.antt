@@ -1,5 +1,5 @@
 -- What a token or a line at the front of the items that are left comes to (docs/RULES.md, Directives 1 to 11).
-use Rattle.std.specs.Prelude.{ℕ, ◌+◌, Bool, true, false, if◌then◌else◌, List, [], ◌∷◌, drop, Option, Some, None, Result, Ok, Err}
+use Rattle.std.specs.Prelude.{ℕ, ◌+◌, Bool, true, false, if◌then◌else◌, List, drop, Option, Some, None, Result, Ok, Err}
 use Rattle.pp_lexer.specs.Lexed.{Seen}
 use Rattle.pp_lexer.specs.declared.token.Location.{Location}
 use Rattle.pp_lexer.specs.declared.token.PreprocessorError.TheVariants.{UnexpectedHash, UnknownDirective, ElseOutsideOfBlock, EndifOutsideOfBlock, MoreThanOneElse}

@@ -1,5 +1,5 @@
 -- The state of a run that a preprocessor stands for. It keeps less: neither what was read, nor the list into which its frames are spliced.
-use Rattle.std.specs.Prelude.{◌≡◌, ℕ, pos, ◌≤◌, false, List, [], ◌++◌, length, take, drop, Some, None}
+use Rattle.std.specs.Prelude.{◌≡◌, pos, ◌≤◌, false, List, [], ◌++◌, length, take, drop, Some, None}
 use Rattle.pp_lexer.specs.Lexed.{Seen}
 use Rattle.pp_model.specs.Names.{Name}
 use Rattle.pp_model.specs.Definitions.{Definition}

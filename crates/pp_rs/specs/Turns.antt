@@ -1,20 +1,19 @@
 -- One step of the expander over a reader: the frame rules, and what follows of the token that they give (docs/RULES.md,
 -- Expansion 1 to 4 and 10).
-use Rattle.std.specs.Prelude.{◌≡◌, ℕ, Bool, true, false, if◌then◌else◌, List, [], ◌∷◌, Option, Some, None, Result, Ok, Err, ◌⊎◌, unwrap_or}
+use Rattle.std.specs.Prelude.{◌≡◌, if◌then◌else◌, List, [], ◌∷◌, Option, Some, None, Ok, Err, ◌⊎◌, unwrap_or}
 use Rattle.pp_lexer.specs.PreprocessorError.{out_of_memory}
 use Rattle.pp_lexer.specs.declared.token.Token.{Token}
 use Rattle.pp_lexer.specs.declared.token.TokenValue.{TokenValue}
 use Rattle.pp_lexer.specs.declared.token.TokenValue.TheVariants.{Ident}
 use Rattle.pp_model.specs.Names.{Name, is_in, is_identifier, line_name}
-use Rattle.pp_model.specs.Definitions.{Definition, Definitions}
+use Rattle.pp_model.specs.Definitions.{Definition}
 use Rattle.pp_model.specs.Taking.{line_number}
 use Rattle.pp_model.specs.declared.outcome.Outcome.{Outcome}
 use Rattle.pp_model.specs.declared.outcome.Outcome.TheVariants as outcome
 use Rattle.pp_rs.specs.Item.{Step}
 use Rattle.pp_rs.specs.Frames.{Layer, layer, Advance, advance, names_of, outermost_frame_line}
 use Rattle.pp_rs.specs.Reader.{Reader, Reads, visible, shown_line}
-use Rattle.pp_rs.specs.declared.pp.step.StepExit.{StepExit}
-use Rattle.pp_rs.specs.declared.pp.step.StepExit.TheVariants.{Error, Continue, Finished}
+use Rattle.pp_rs.specs.declared.pp.step.StepExit.TheVariants.{Error, Continue}
 
 abbrev pub as_pause : Option Token → Step Token
 as_pause (Some token) = Ok token

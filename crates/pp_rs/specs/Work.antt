@@ -1,5 +1,5 @@
--- How much is left to do: a number that each step lowers, so that reading comes to an end. The items that are left count most, and
--- then the steps that are left in each frame from the outermost inwards: these are the digits of one number.
+-- How much is left to do: a number that each step lowers, so that reading comes to an end. The items and open blocks that are left
+-- count most, and then the steps that are left in each frame from the outermost inwards: these are the digits of one number.
 use Rattle.std.specs.Prelude.{ℕ, ◌+◌, ◌*◌, ◌-◌, ◌^◌, Bool, true, false, not, ◌&&◌, List, [], ◌∷◌, length, Option, Some, None, Err, All, IsSome, max}
 use Rattle.pp_lexer.specs.declared.token.Token.{Token}
 use Rattle.pp_model.specs.Names.{Name}
@@ -9,7 +9,7 @@ use Rattle.pp_model.specs.ApartMarks.{AreApart}
 use Rattle.pp_rs.specs.Frames.{Layer, argument_at, names_of}
 use Rattle.pp_rs.specs.Item.{Step, wants_memory}
 use Rattle.pp_rs.specs.Source.{Source}
-use Rattle.pp_rs.specs.declared.pp.step.StepExit.TheVariants.{Error, Finished}
+use Rattle.pp_rs.specs.declared.pp.step.StepExit.TheVariants.{Finished}
 
 -- a token of a body takes one step; a parameter one more than its argument has tokens, and one for its own
 abbrev pub token_steps : List (List Token) → Option ℕ → ℕ
@@ -41,7 +41,7 @@ most_reads source = length source.rest + length source.blocks
 abbrev pub most_steps : Source → ℕ
 most_steps source = 2 * (body_tokens source.definitions + most_reads source) + 1
 
--- more than any frame has left, or any that is still to open
+-- more steps than any frame has left, or any that is still to open
 abbrev pub digit_base : List Layer → Source → ℕ
 digit_base frames source = 1 + max (most_steps source) (longest frames)
 
@@ -49,7 +49,7 @@ digit_base frames source = 1 + max (most_steps source) (longest frames)
 abbrev pub most_names : Source → ℕ
 most_names source = length source.definitions + most_reads source
 
--- the number with these digits, the outermost frame's first, behind the count of the items
+-- the number with these digits, the outermost frame's first, behind the count of the items and open blocks
 abbrev pub number_of : ℕ → ℕ → List Layer → ℕ
 number_of base items [] = items
 number_of base items (f ∷ fs) = number_of base items fs * base + steps_left f

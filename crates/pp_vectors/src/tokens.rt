@@ -1,6 +1,5 @@
 //! Tokens, texts and errors: copies, names and conversions.
 
-use pp_rs::lexer;
 use pp_rs::token::{
     Extension, Float, Integer, Location, Pragma, PreprocessorError, Punct, Text, Token, TokenValue,
     Tokens, Version, out_of_memory,

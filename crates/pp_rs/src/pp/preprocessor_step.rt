@@ -7,7 +7,6 @@ ghost use Rattle.pp_rs.specs.Turns.{Turns};
 
 use crate::pp::directives::DirectiveProcessor;
 use crate::pp::expander::MacroProcessor;
-use crate::pp::reader::MeLexer;
 use crate::pp::step::Step;
 use crate::token::Token;
 

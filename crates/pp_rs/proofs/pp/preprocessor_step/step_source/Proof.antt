@@ -1,10 +1,8 @@
 use Rattle.std.specs.Prelude.{IfOk, IsTrue}
 use Rattle.pp_rs.proofs.Walk.{[], ◌∷◌, ◌++◌, ℕ, refl, MutBor, proved, full_share, common, id⊢, emp, wand, sep, apply∗, Lft, Incl, ftrue, flft, fdead, named, mut, ty_ref, ty_unit, vptr, fact, fact_i, tables, ⊑_meet, ⊑_refl, meet_⊑_left, meet_⊑_right, ‵, raw, ◌⊛◌, some, later, ◌$◌, ◌∵◌, !, qed, done, move, keep, use0, use1, use2, use3, split, join, fsplit, pick, await, suffices, frame, group, lft_new, lft_end, lft-common, agg, enter, addr, stop, no_more, and_then, returns, alloc_all, pass_all, free_all, look_at, get, through, sets, lands_as, vt_lit, lends_again, comes_back, LentAgain, MutRef, mut_vals, mut_Tells, mut_hides, MutAny, Includes-none, wide_val, table_at, plain, named_lft, nothing, heard, peeks, calls_at, lasts, triple_of, Stays, stay_ref, Goes-ref, ends_at, framed, hide_mut, Is, shows}
 use Rattle.pp_lexer.specs.TokenValue.{is_ordinary}
-use Rattle.pp_rs.specs.Item.{Step}
 use Rattle.pp_rs.specs.Reader.{of_source}
 use Rattle.pp_rs.specs.Turns.{Turns}
-use Rattle.pp_lexer.specs.declared.token.Token.{Token}
 use Rattle.pp_rs.specs.contracts.pp.preprocessor_step.step_source as f
 use Rattle.pp_rs.proofs.pp.preprocessor_step.step_source.Statement.{statement}
 use Rattle.pp_rs.proofs.pp.preprocessor_step.step_source.Code as code

@@ -1,7 +1,6 @@
-use Rattle.std.proofs.Common.{rules, ◌≡◌, ◌∙◌, ◌<◌, refl, ap, sym, false}
+use Rattle.std.proofs.Common.{◌≡◌, ◌∙◌, refl, ap, sym, false}
 use Rattle.pp_rs.specs.Item.{is_out_of_memory}
-use Rattle.pp_rs.specs.Preprocessing.{most_items}
-use Rattle.pp_rs.proofs.NextLemmas.{reached_first, reached_more, falls_more, token_sound_last, end_sound_last, fault_sound_last, next_token, next_end, next_error, less_behind_token, less_behind_error}
+use Rattle.pp_rs.proofs.NextLemmas.{reached_more, falls_more, token_sound_last, end_sound_last, fault_sound_last, next_token, next_end, next_error, less_behind_token, less_behind_error}
 use Rattle.pp_rs.proofs.pp.preprocessor.PreprocessorIterator.next.Goals as goal
 
 pub loop-token-smaller : goal.loop-token-smaller
