@@ -3,7 +3,7 @@
 use super::{Row, both_differ, difference};
 use std::test::Fail;
 
-const OF_NAMES: [Row; 9] = [
+const OF_NAMES: [Row; 12] = [
     Row {
         name: "#else of an undefined name",
         source: "#ifdef A\nx\n#else\ny\n#endif",
@@ -48,6 +48,21 @@ const OF_NAMES: [Row; 9] = [
         name: "a token behind the #endif of an #ifdef",
         source: "#ifdef A\n#endif %",
         expected: "Error UnexpectedToken(Percent) 16..17 L2",
+    },
+    Row {
+        name: "the live branch alone defines",
+        source: "#ifdef Q\n#define A 1\n#define B\n#else\n#define A 2\n#endif\nA B",
+        expected: "2 47..48 L5, B 58..59 L7, None",
+    },
+    Row {
+        name: "#undef of the name that its own block asked for",
+        source: "#define A 1\n#ifdef A\n#undef A\n#ifdef A\nx\n#else\ny\n#endif\n#else\nz\n#endif\nA",
+        expected: "y 47..48 L7, A 71..72 L12, None",
+    },
+    Row {
+        name: "dead blocks that hold anything, and #else behind them",
+        source: "#define A 1\n#ifdef Q\n#nope (\n#ifndef Q\n#1 #\n#\n#undef A\n#else\nA\n#ifdef ;\n#endif %\n#endif %\n#else\nA\n#endif",
+        expected: "1 10..11 L1, None",
     },
 ];
 
