@@ -42,10 +42,14 @@ pub mod SoFarLemmas
 pub mod DefineLemmas
 pub mod DefinitionsLemmas
 pub mod LineReadingLemmas
+pub mod ContentLemmas
 pub mod SourceActsLemmas
 pub mod SourceStepLemmas
 pub mod LinesBeforeLemmas
 pub mod StandsBehindLemmas
+pub mod AddingLemmas
+pub mod ComesLemmas
+pub mod CollectingLemmas
 pub mod SourceSimulates
 pub mod LastLemmas
 pub mod ReaderInvariantLemmas

@@ -18,7 +18,7 @@ abbrev pub behind : List Token → Result (List Token) Fault → Result (List To
 behind tokens (Ok rest) = Ok (tokens ++ rest)
 behind tokens (Err fault) = Err fault
 
-behind-push : (tokens : List Token) (token : Token) (rest : Result (List Token) Fault) → behind (tokens ++ token ∷ []) rest ≡ behind tokens (token_before token rest)
+pub behind-push : (tokens : List Token) (token : Token) (rest : Result (List Token) Fault) → behind (tokens ++ token ∷ []) rest ≡ behind tokens (token_before token rest)
 behind-push tokens token (Ok rest) = rw append_assoc refl
 behind-push tokens token (Err fault) = refl
 

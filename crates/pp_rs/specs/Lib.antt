@@ -28,3 +28,7 @@ pub mod Halting
 pub mod LineReading
 pub mod SourceActs
 pub mod Words
+pub mod Adding
+pub mod SettingContent
+pub mod Comes
+pub mod Collecting

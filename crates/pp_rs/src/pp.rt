@@ -1,6 +1,8 @@
 //! Directives and tokens: from the lexer's tokens to those of the preprocessed source.
 
+mod all_items;
 mod blocks;
+mod content;
 mod convert;
 mod define;
 mod definitions;
@@ -17,6 +19,7 @@ mod spelling;
 mod step;
 mod words;
 
+pub use all_items::preprocess_all;
 pub use convert::{convert_lexer_token, convert_lexer_token_to_step};
 pub use preprocessor::{Preprocessor, PreprocessorItem};
 pub use spelling::spell_tokens;

@@ -2,6 +2,8 @@
 #![tactic(auto)]
 
 #[cfg(test)]
+mod added;
+#[cfg(test)]
 mod deep_blocks;
 #[cfg(test)]
 mod lexer_items;

@@ -84,6 +84,59 @@ fn preprocessed(alloc: Global, source: &str) -> Result<String, AllocError> {
     joined(alloc, &parts)
 }
 
+// What a call of the preprocessor answers. Contents are short, as all are here.
+fn answer(pp: &mut Preprocessor<'_>, call: &Call<'_>) -> Option<Reply> {
+    match call {
+        Call::AddDefine(name, content) if content.len() < 1000 => {
+            Some(match pp.add_define(name, content) {
+                Ok(()) => Reply::Added,
+                Err(fault) => Reply::Refused(fault),
+            })
+        }
+        Call::AddDefine(..) => None,
+        Call::Next => Some(Reply::Given(match pp.next() {
+            Some(Ok(token)) => Outcome::Token(token),
+            Some(Err(fault)) => Outcome::Fault(fault),
+            None => Outcome::End,
+        })),
+    }
+}
+
+// What the calls of a source answer by the preprocessor, up to the end or its first error.
+fn preprocessed_replies(
+    alloc: Global,
+    source: &str,
+    calls: &[Call<'_>],
+) -> Result<String, AllocError> {
+    let mut parts = Vec::new(alloc);
+    if source.len() < 1000 {
+        let mut pp = Preprocessor::new(alloc, source);
+        for call in calls {
+            let Some(given) = answer(&mut pp, call) else {
+                break;
+            };
+            parts.push(reply(alloc, &given)?)?;
+            if matches!(
+                given,
+                Reply::Given(Outcome::End) | Reply::Given(Outcome::Fault(_))
+            ) {
+                break;
+            }
+        }
+    }
+    joined(alloc, &parts)
+}
+
+// What the calls answer by both, or what each answers where they differ.
+fn replies_of_both(alloc: Global, source: &str, calls: &[Call<'_>]) -> Result<String, AllocError> {
+    let plain = replies(alloc, source, calls)?;
+    let found = preprocessed_replies(alloc, source, calls)?;
+    if plain.as_str() == found.as_str() {
+        return Ok(plain);
+    }
+    format!(in alloc; "{}; preprocessed: {}", plain.as_str(), found.as_str())
+}
+
 // The first row that comes to something else, with what it comes to; the empty text where there is none.
 fn difference(alloc: Global, rows: &[Row]) -> Result<String, AllocError> {
     for row in rows {

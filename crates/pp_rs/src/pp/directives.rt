@@ -6,10 +6,12 @@ ghost use Rattle.pp_lexer.specs.Lexed.{start_of};
 ghost use Rattle.pp_lexer.specs.Spots.{spots_of};
 ghost use Rattle.pp_lexer.specs.TokenValue.{is_ordinary};
 ghost use Rattle.pp_model.specs.Lines.{only_name, line_length, first_name, first_token};
+ghost use Rattle.pp_model.specs.Run.{items_of, content_tokens};
 ghost use Rattle.pp_model.specs.declared.directive.Directive.TheVariants as d;
 ghost use Rattle.pp_rs.specs.Defined.{meaning_of};
 ghost use Rattle.pp_rs.specs.LineReading.{named};
 ghost use Rattle.pp_rs.specs.OpenBlocks.{last_block, is_live_in};
+ghost use Rattle.pp_rs.specs.SettingContent.{SetsContent};
 ghost use Rattle.pp_rs.specs.Source.{StepsSource};
 ghost use Rattle.pp_rs.specs.SourceActs.{Acts, live_word_move, dead_word_move, word_move, defining};
 ghost use Rattle.pp_rs.specs.SourceMoves as moves;
@@ -17,6 +19,7 @@ ghost use Rattle.pp_rs.specs.Words.{directive_named};
 
 use crate::lexer;
 use crate::pp::blocks::{Blocks, OpenBlock};
+use crate::pp::content::content_tokens;
 use crate::pp::convert::convert_lexer_token_to_step;
 use crate::pp::define::Define;
 use crate::pp::definitions::Definitions;
@@ -27,7 +30,7 @@ use crate::pp::lines::{
 use crate::pp::source_lexer::SourceLexer;
 use crate::pp::step::{Step, StepExit};
 use crate::pp::words::{Directive, directive_of};
-use crate::token::{Location, PreprocessorError, Token};
+use crate::token::{Location, PreprocessorError, Text, Token};
 use std::alloc::Global;
 use std::marker::Model;
 use std::rc::Rc;
@@ -70,6 +73,19 @@ impl<'a> DirectiveProcessor<'a> {
         ensures { option_map (λ d. d.now.value) result ≡ meaning_of self.now.definitions (chars name.now) }
     {
         self.definitions.find(name)
+    }
+
+    /// Lets the name stand for the tokens of a content of fewer than 2^32 - 1 bytes from now on, whatever it stood for.
+    /// Where that is refused, nothing changes.
+    pub fn set_content(&mut self, name: &str, content: &str) -> Result<(), Halt>
+        requires { length content.now < 2 ^ 32 - 1 }
+        ensures { SetsContent (chars name.now) (content_tokens (items_of content.now)) self.old result self.new }
+    {
+        let body = content_tokens(self.alloc, content)?;
+        let define = Rc::new(self.alloc, Define::object_like(self.alloc, body))?;
+        let name = Text::from(String::from_str(self.alloc, name)?);
+        self.definitions.set(name, define)?;
+        Ok(())
     }
 
     // Whether the text is live.

@@ -4,11 +4,13 @@ ghost use Rattle.std.specs.Prelude.{◌≡◌, ◌-◌, ◌^◌, ◌<◌, length
 ghost use Rattle.std.specs.Iterator.{at_most};
 ghost use Rattle.pp_lexer.specs.PreprocessorError.{out_of_memory};
 ghost use Rattle.pp_model.specs.Run.{items_of, start};
+ghost use Rattle.pp_rs.specs.Adding.{IsAdded};
 ghost use Rattle.pp_rs.specs.Item.{is_out_of_memory};
 ghost use Rattle.pp_rs.specs.Preprocessing.{IsNextItem, Stands, most_items, start_of};
 
 use crate::pp::directives::DirectiveProcessor;
 use crate::pp::expander::MacroProcessor;
+use crate::pp::halt::Halt;
 use crate::pp::preprocessor_step::step_source;
 use crate::pp::step::{StepExit, is_out_of_memory};
 use crate::token::{Location, PreprocessorError, Token, out_of_memory};
@@ -64,6 +66,29 @@ impl<'a> Preprocessor<'a> {
             processor: MacroProcessor::new(alloc),
             source: DirectiveProcessor::new(alloc, input),
             spent: false,
+        }
+    }
+
+    /// Lets the name stand for an object-like macro from now on, whatever it stood for.
+    ///
+    /// The tokens of the content are its body, without the newlines. Their places are places in the content, which has
+    /// fewer than 2^32 - 1 bytes. The name isn't checked: one that is no identifier is never met.
+    ///
+    /// The error is the first in the content: one of the lexer, or `UnexpectedHash` at a number sign. It is `OutOfMemory`,
+    /// in place of any other, where memory is refused. Behind an error nothing is changed. It works also between two calls
+    /// of `next` and once memory was refused there, though `next` then stays at `None`.
+    pub fn add_define(
+        &mut self,
+        name: &str,
+        content: &str,
+    ) -> Result<(), (PreprocessorError, Location)>
+        requires { length content.now < 2 ^ 32 - 1 }
+        ensures { IsAdded self.old name.now content.now result self.new }
+    {
+        match self.source.set_content(name, content) {
+            Ok(()) => Ok(()),
+            Err(Halt::Fault(fault)) => Err(fault),
+            Err(Halt::OutOfMemory) => Err(out_of_memory()),
         }
     }
 }

@@ -1,6 +1,6 @@
 //! Definitions that are added between calls of `next`.
 
-use super::replies;
+use super::{replies, replies_of_both};
 use pp_model::call::Call;
 use std::test::Fail;
 
@@ -20,7 +20,7 @@ fn added_between_a_name_and_what_is_held_behind_it(rt: HostRuntime) -> Result<()
 #[test]
 fn a_number_sign_in_the_content(rt: HostRuntime) -> Result<(), Fail> {
     let calls = [Call::AddDefine("A", "1 #"), Call::Next, Call::Next];
-    let found = replies(rt.alloc(), "A", &calls)?;
+    let found = replies_of_both(rt.alloc(), "A", &calls)?;
     assert_eq!(rt;
         found.as_str(),
         "Refused UnexpectedHash 2..3 L1, A 0..1 L1, None"
@@ -37,7 +37,7 @@ fn a_content_of_two_lines(rt: HostRuntime) -> Result<(), Fail> {
         Call::Next,
         Call::Next,
     ];
-    let found = replies(rt.alloc(), "A", &calls)?;
+    let found = replies_of_both(rt.alloc(), "A", &calls)?;
     assert_eq!(rt;
         found.as_str(),
         "Added, 1 0..1 L1, Plus 2..3 L2, 2 4..5 L2, None"
@@ -53,7 +53,7 @@ fn a_name_that_is_no_identifier(rt: HostRuntime) -> Result<(), Fail> {
         Call::Next,
         Call::Next,
     ];
-    let found = replies(rt.alloc(), "a b", &calls)?;
+    let found = replies_of_both(rt.alloc(), "a b", &calls)?;
     assert_eq!(rt; found.as_str(), "Added, a 0..1 L1, b 2..3 L1, None");
     Ok(())
 }
@@ -61,7 +61,7 @@ fn a_name_that_is_no_identifier(rt: HostRuntime) -> Result<(), Fail> {
 #[test]
 fn added_and_then_defined_alike(rt: HostRuntime) -> Result<(), Fail> {
     let calls = [Call::AddDefine("A", "1"), Call::Next, Call::Next];
-    let found = replies(rt.alloc(), "#define A 1\nA", &calls)?;
+    let found = replies_of_both(rt.alloc(), "#define A 1\nA", &calls)?;
     assert_eq!(rt; found.as_str(), "Added, 1 0..1 L1, None");
     Ok(())
 }
@@ -69,7 +69,7 @@ fn added_and_then_defined_alike(rt: HostRuntime) -> Result<(), Fail> {
 #[test]
 fn added_and_then_defined_otherwise(rt: HostRuntime) -> Result<(), Fail> {
     let calls = [Call::AddDefine("A", "2"), Call::Next];
-    let found = replies(rt.alloc(), "#define A 1", &calls)?;
+    let found = replies_of_both(rt.alloc(), "#define A 1", &calls)?;
     assert_eq!(rt; found.as_str(), "Added, Error DefineRedefined 8..9 L1");
     Ok(())
 }
@@ -77,7 +77,7 @@ fn added_and_then_defined_otherwise(rt: HostRuntime) -> Result<(), Fail> {
 #[test]
 fn line_name_added(rt: HostRuntime) -> Result<(), Fail> {
     let calls = [Call::AddDefine("__LINE__", "9"), Call::Next, Call::Next];
-    let found = replies(rt.alloc(), "__LINE__", &calls)?;
+    let found = replies_of_both(rt.alloc(), "__LINE__", &calls)?;
     assert_eq!(rt; found.as_str(), "Added, 1u 0..8 L1, None");
     Ok(())
 }
@@ -85,7 +85,7 @@ fn line_name_added(rt: HostRuntime) -> Result<(), Fail> {
 #[test]
 fn a_bad_character_in_the_content(rt: HostRuntime) -> Result<(), Fail> {
     let calls = [Call::AddDefine("A", "@"), Call::Next, Call::Next];
-    let found = replies(rt.alloc(), "A", &calls)?;
+    let found = replies_of_both(rt.alloc(), "A", &calls)?;
     assert_eq!(rt;
         found.as_str(),
         "Refused UnexpectedCharacter 0..0 L1, A 0..1 L1, None"

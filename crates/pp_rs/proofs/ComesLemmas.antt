@@ -1,0 +1,15 @@
+-- The tokens that come one after another in a state.
+use Rattle.std.proofs.Common.{List, [], ◌∷◌, ◌++◌, refl, ap, subst}
+use Rattle.pp_lexer.specs.declared.token.Token.{Token}
+use Rattle.pp_model.specs.declared.outcome.Outcome.TheVariants as outcome
+use Rattle.pp_rs.specs.Comes.{State, Comes, Gives, nothing, first}
+
+pub gives_nothing : (e : State) → Gives e [] e
+gives_nothing e = nothing [] e e refl refl
+
+-- one more token
+pub gives_more : (tokens : List Token) (token : Token) (e f g : State) → Gives e tokens f → Comes f (outcome.Token token) g → Gives e (tokens ++ (token ∷ [])) g
+gives_more tokens token e f g (nothing ts e1 f1 p q) comes =
+    first token [] (tokens ++ (token ∷ [])) e g g (subst (λ s. Comes s (outcome.Token token) g) q comes) (gives_nothing g) (ap (λ ts. ts ++ (token ∷ [])) p)
+gives_more tokens token e f g (first t rest ts e1 m f1 c more p) comes =
+    first t (rest ++ (token ∷ [])) (tokens ++ (token ∷ [])) e m g c (gives_more rest token m f g more comes) (ap (λ ts. ts ++ (token ∷ [])) p)

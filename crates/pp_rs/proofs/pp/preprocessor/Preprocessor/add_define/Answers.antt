@@ -1,0 +1,23 @@
+use Rattle.pp_rs.specs.Preprocessing.{Preprocessing}
+use Rattle.pp_rs.proofs.AddingLemmas.{added_now, faulty_now, refused_now}
+use Rattle.pp_rs.proofs.pp.preprocessor.Preprocessor.add_define.Goals.{in-Ok, in-Err-Fault, in-Err-OutOfMemory}
+use Rattle.pp_rs.proofs.pp.preprocessor.Preprocessor.add_define.Goals as goal
+
+pub returns : goal.returns
+returns c =
+    let p = c.self.inside in
+    let old : Preprocessing = record { frames = p.processor; source = p.source; spent = p.spent } in
+    let name = c.args.name.now in
+    let content = c.args.content.now in
+    let new = c.set_content.new.self in
+    elim c.match-set_content.branch [
+      | in-Ok w ↦
+          (let h = w.in-Ok.ensures {u = tt} in
+          rw (w.result-is, ← c.self.view_is) (added_now old name content new h.0 h.1 h.2))
+      | in-Err-Fault w ↦
+          (let h = rw w.in-Err-Fault.field-0-is at (w.in-Err-Fault.ensures {u = tt}) in
+          rw (w.result-is, ← c.self.view_is) (faulty_now old name content new w.in-Err-Fault.fault h.0 h.1))
+      | in-Err-OutOfMemory w ↦
+          (let h = rw w.in-Err-OutOfMemory.field-0-is at (w.in-Err-OutOfMemory.ensures {u = tt}) in
+          rw (w.result-is, w.out_of_memory.ensures, ← c.self.view_is) (refused_now old name content new h))
+    ]

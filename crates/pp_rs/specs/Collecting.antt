@@ -1,0 +1,60 @@
+-- One call of `preprocess_all` (docs/RULES.md, "Calls").
+use Rattle.std.specs.Prelude.{◌≡◌, ◌⊎◌, true, false, List, [], ◌∷◌, Option, Some, None, Ok, Err, MatchBool}
+use Rattle.pp_lexer.specs.declared.token.Token.{Token}
+use Rattle.pp_model.specs.declared.outcome.Outcome.{Outcome}
+use Rattle.pp_model.specs.declared.outcome.Outcome.TheVariants as outcome
+use Rattle.pp_rs.specs.Comes.{State, Gives, IsRunFrom}
+use Rattle.pp_rs.specs.Item.{Fault, Item}
+use Rattle.pp_rs.specs.Preprocessing.{Preprocessing, Stands, most_items}
+
+-- the tokens before the first error item
+abbrev pub tokens_before_error : List Item → List Token
+tokens_before_error [] = []
+tokens_before_error (Ok token ∷ items) = token ∷ tokens_before_error items
+tokens_before_error (Err fault ∷ items) = []
+
+-- the first error item
+abbrev pub first_error : List Item → Option Fault
+first_error [] = None
+first_error (Ok token ∷ items) = first_error items
+first_error (Err fault ∷ items) = Some fault
+
+-- an error, or the end where there is none
+abbrev pub error_or_end : Option Fault → Outcome
+error_or_end None = outcome.End
+error_or_end (Some fault) = outcome.Fault fault
+
+-- Up to and with their first error item these are the items that come from the state, all of them where none is an error. Behind an error
+-- nothing is said.
+abbrev pub AreItemsFrom : State → List Item → Type 0
+AreItemsFrom state items = IsRunFrom state (tokens_before_error items) (error_or_end (first_error items))
+
+-- all items, or none where memory was refused before
+abbrev pub AreItemsOf : Preprocessing → List Item → Type 0
+AreItemsOf old items = MatchBool old.spent (items ≡ []) ((state : State) → Stands old state → AreItemsFrom state items)
+
+-- these tokens come from the state, and the preprocessor stands for the state behind them
+pub record StandsBehind (state : State) (tokens : List Token) (new : Preprocessing) : Type 0 where
+  pub behind : State
+  pub gives : Gives state tokens behind
+  pub stands : Stands new behind
+
+-- the same of items, where none of them is an error: behind an error nothing is said
+abbrev pub StandsBehindItems : State → List Item → Option Fault → Preprocessing → Type 0
+StandsBehindItems state items None new = StandsBehind state (tokens_before_error items) new
+StandsBehindItems state items (Some fault) new = IsRunFrom state (tokens_before_error items) (outcome.Fault fault)
+
+-- memory for an item was refused, now or before: `next` gives nothing for good
+pub record IsOver (new : Preprocessing) : Type 0 where
+  pub spent : new.spent ≡ true
+  pub ended : most_items new ≡ 0
+
+-- these items were given up, and the preprocessor goes on behind them
+pub record GoesOnBehind (old new : Preprocessing) : Type 0 where
+  pub items : List Item
+  pub stands : (state : State) → Stands old state → StandsBehindItems state items (first_error items) new
+  pub spent : new.spent ≡ false
+
+-- memory was refused: for an item, or for the list of them
+abbrev pub IsGivenUp : Preprocessing → Preprocessing → Type 0
+IsGivenUp old new = IsOver new ⊎ GoesOnBehind old new

@@ -1,0 +1,59 @@
+//! All items of a source at once.
+
+ghost use Rattle.std.specs.Prelude.{◌≡◌, Some, IfOk, OnOk, IfErr, OnErr, All};
+ghost use Rattle.pp_lexer.specs.PreprocessorError.{out_of_memory};
+ghost use Rattle.pp_rs.specs.Collecting.{AreItemsOf, IsGivenUp};
+ghost use Rattle.pp_rs.specs.Held.{ItemHoldsOrdinary};
+ghost use Rattle.pp_rs.specs.Preprocessing.{most_items, is_refusal};
+
+use crate::pp::preprocessor::{Preprocessor, PreprocessorItem};
+use crate::token::{Location, PreprocessorError, out_of_memory};
+use std::alloc::{AllocError, Global};
+
+// Whether the item says that memory was refused.
+fn is_refusal(item: &PreprocessorItem) -> bool
+    ensures { result ≡ is_refusal (Some item.now) }
+{
+    matches!(item, Err((PreprocessorError::OutOfMemory, _)))
+}
+
+// Gathers the items up to the end. Room for an item is asked for before it is read.
+fn gather(alloc: Global, pp: &mut Preprocessor<'_>) -> Result<Vec<PreprocessorItem>, AllocError>
+    ensures items { IfOk result (λ items. AreItemsOf pp.old items.items) }
+    ensures holds { IfOk result (λ items. All ItemHoldsOrdinary items.items) }
+    ensures ended { OnOk result (most_items pp.new ≡ 0) }
+    ensures given_up { OnErr result (IsGivenUp pp.old pp.new) }
+{
+    let mut items = Vec::new(alloc);
+    'items: loop {
+        items.reserve(1)?;
+        let Some(item) = pp.next() else {
+            return Ok(items);
+        };
+        if is_refusal(&item) {
+            return Err(AllocError);
+        }
+        items.push(item)?;
+    }
+}
+
+/// Calls `next` until it gives `None`, and gives all items, error items among them.
+///
+/// `OutOfMemory` is the error where memory is refused, and what was gathered is given up. Where memory for an item is
+/// refused, `next` gives `None` for good. Where the list itself can't grow, `next` goes on behind the items that were
+/// gathered.
+pub fn preprocess_all(
+    alloc: Global,
+    pp: &mut Preprocessor<'_>,
+) -> Result<Vec<PreprocessorItem>, (PreprocessorError, Location)>
+    ensures items { IfOk result (λ items. AreItemsOf pp.old items.items) }
+    ensures holds { IfOk result (λ items. All ItemHoldsOrdinary items.items) }
+    ensures ended { OnOk result (most_items pp.new ≡ 0) }
+    ensures refused { IfErr result (λ fault. fault ≡ out_of_memory) }
+    ensures given_up { OnErr result (IsGivenUp pp.old pp.new) }
+{
+    match gather(alloc, pp) {
+        Ok(items) => Ok(items),
+        Err(_) => Err(out_of_memory()),
+    }
+}
