@@ -31,4 +31,17 @@ pub mod PassingLemmas
 pub mod LexLemmas
 pub mod ItemsLemmas
 pub mod PlacesLemmas
+pub mod TokenLinesLemmas
 pub mod CountLemmas
+pub mod PlainPhasesLemmas
+pub mod SetsLemmas
+pub mod BoundedLemmas
+pub mod NumberSetsLemmas
+pub mod SpelledWordLemmas
+pub mod DecimalLemmas
+pub mod FloatSpellingLemmas
+pub mod SpelledTextLemmas
+pub mod RespellingLemmas
+pub mod CharactersLemmas
+pub mod NumberSpelledLemmas
+pub mod SpelledValuesLemmas

@@ -8,7 +8,7 @@ use Rattle.pp_lexer.specs.Numbers.{is_zero, is_x, is_point, is_e, is_sign, is_de
 use Rattle.pp_lexer.proofs.LongestLemmas.{within_same, longest_same, longest_none, longest_step, longest_step_some, longest-many, many_pass, longest-maybe_pass, longest-maybe_stop, longest-optional_pass, longest-optional_stop}
 
 -- neither of the two characters is a digit
-either_apart : (a b radix : ℕ) → is_digit a radix ≡ false → is_digit b radix ≡ false → (c : ℕ) → is_digit c radix ≡ true → ((c == a) || (c == b)) ≡ false
+pub either_apart : (a b radix : ℕ) → is_digit a radix ≡ false → is_digit b radix ≡ false → (c : ℕ) → is_digit c radix ≡ true → ((c == a) || (c == b)) ≡ false
 either_apart a b radix na nb c h = by ((c == a) || (c == b)) refl
   where
     by : (t : Bool) → ((c == a) || (c == b)) ≡ t → ((c == a) || (c == b)) ≡ false
@@ -29,7 +29,7 @@ one_apart a radix na c h = by (c == a) refl
 pub small_e_apart : (c : ℕ) → is_decimal c ≡ true → (c == 101) ≡ false
 small_e_apart = one_apart 101 10 refl
 
-e_apart : (c : ℕ) → is_decimal c ≡ true → is_e c ≡ false
+pub e_apart : (c : ℕ) → is_decimal c ≡ true → is_e c ≡ false
 e_apart = either_apart 101 69 10 refl refl
 
 pub point_apart : (c : ℕ) → is_decimal c ≡ true → is_point c ≡ false

@@ -53,7 +53,8 @@ last_ordered (suc n) total s (t ∷ ss) h k o =
 abbrev pub Lies : ℕ → Segment → Type 0
 Lies total g = (g.first.begin ≤ g.last.end) × (g.last.end ≤ total)
 
-Each : {X : Type 0} → (X → Type 0) → List X → Type 0
+-- each element of the list has the property
+unfoldable pub Each : {X : Type 0} → (X → Type 0) → List X → Type 0
 Each P [] = Unit {0}
 Each P (x ∷ xs) = P x × Each P xs
 
@@ -90,7 +91,8 @@ unfolding Each items_from
 items_lie total [] before h b = newline_lies total before b
 items_lie total (g ∷ gs) before h b = item_lies total before g g.kind (items_from (g ∷ before) gs) h.0 (items_lie total gs (g ∷ before) h.1 (h.0, b))
 
-each_all : {X : Type 0} (P : X → Type 0) (xs : List X) → Each P xs → All P xs
+-- then it holds at each index
+pub each_all : {X : Type 0} (P : X → Type 0) (xs : List X) → Each P xs → All P xs
 unfolding Each
 each_all P [] h = λ k d l. absurd (omega arith)
 each_all P (x ∷ xs) h = All-cons P x xs h.0 (each_all P xs h.1)

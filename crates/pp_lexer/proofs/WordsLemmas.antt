@@ -29,10 +29,10 @@ no_letter c h = grind (arith, nat_tests)
 low_no_start : (c : ℕ) → c ≤ 64 → is_start c ≡ false
 low_no_start c h = rw (is_xid_start-ascii c (omega arith) ∙ no_letter c h, ne_eqb c 95 (omega arith)) refl
 
-ascii_no_start : (c : ℕ) → nat_lt c 128 ≡ true → (is_ascii_alphabetic c || (c == 95)) ≡ false → is_start c ≡ false
+pub ascii_no_start : (c : ℕ) → nat_lt c 128 ≡ true → (is_ascii_alphabetic c || (c == 95)) ≡ false → is_start c ≡ false
 ascii_no_start c l h = ap (λ b. b || (c == 95)) (is_xid_start-ascii c (ltb-true c 128 l)) ∙ h
 
-digit_low : (c : ℕ) → is_decimal c ≡ true → c ≤ 57
+pub digit_low : (c : ℕ) → is_decimal c ≡ true → c ≤ 57
 digit_low c h = let r = digit_from_value c (ltb-true (digit_value c) 10 h) in omega arith
 
 pub start_apart : (c d : ℕ) → is_start c ≡ true → d ≤ 64 → c ≢ d
@@ -48,7 +48,7 @@ start_no_digit c s = by (is_decimal c) refl
 -- Punctuators
 
 -- the first and the second character of a punctuator
-abbrev first_char : Punctuator → ℕ
+abbrev pub first_char : Punctuator → ℕ
 first_char p = unwrap_or (next_of (punctuator p)) 0
 
 abbrev second_char : Punctuator → ℕ
@@ -62,7 +62,7 @@ module _ (c : ℕ) (cs : List ℕ) (no_hash : (c == 35) ≡ false) where
       by None e = e
       by (Some p) e = absurd (apart p (ap (λ w. unwrap_or (next_of w) 0) (found (c ∷ []) p e)))
 
-punct_no_start : (p : Punctuator) → is_start (first_char p) ≡ false
+pub punct_no_start : (p : Punctuator) → is_start (first_char p) ≡ false
 punct_no_start AddAssign = ascii_no_start 43 refl refl
 punct_no_start p = ascii_no_start (first_char p) refl refl
 

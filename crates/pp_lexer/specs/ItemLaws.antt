@@ -16,3 +16,12 @@ TokensLieWithin = (source : List ℕ) → IsUtf8 source → All (λ i. IsWithin 
 -- A source has at most as many items as bytes, and one.
 abbrev pub ItemsAreFinite : Type 0
 ItemsAreFinite = (source : List ℕ) → IsUtf8 source → length (items_of (spots_of source)) ≤ length source + 1
+
+-- a token has a line that a source of that many bytes can have; an error has no place
+abbrev pub HasLineWithin : ℕ → Lexeme → Type 0
+HasLineWithin total (Ok t) = (1 ≤ t.location.line) × (t.location.line ≤ total + 1)
+HasLineWithin total (Err e) = Unit {0}
+
+-- Every token of a source has a line that is at least 1, and at most one more than the source's bytes.
+abbrev pub TokensHaveLines : Type 0
+TokensHaveLines = (source : List ℕ) → IsUtf8 source → All (λ i. HasLineWithin (length source) i.item) (items_of (spots_of source))

@@ -31,3 +31,4 @@ pub mod Items
 pub mod Lexed
 pub mod Passing
 pub mod ItemLaws
+pub mod Respelling

@@ -36,12 +36,12 @@ pub record HoldsOfLive (P : Acted → Type 0) (r : SourceReader) : Type 0 where
   pub decision : (holds : Bool) → P (passed (decided r holds))
   pub token : (shown : Token) (count : ℕ) → P (given shown (moved count r))
 
-either_holds : (P : Acted → Type 0) (b : Bool) (x y : Acted) → P x → P y → P (if b then x else y)
+pub either_holds : (P : Acted → Type 0) (b : Bool) (x y : Acted) → P x → P y → P (if b then x else y)
 either_holds P true x y h k = h
 either_holds P false x y h k = k
 
 module _ (P : Acted → Type 0) (r : SourceReader) (all : HoldsOfDead P r) where
-  value_holds : {A : Type 0} (value : Result A Fault) (next : A → Acted) → ((a : A) → P (next a)) → P (acted value r next)
+  pub value_holds : {A : Type 0} (value : Result A Fault) (next : A → Acted) → ((a : A) → P (next a)) → P (acted value r next)
   value_holds (Ok a) next h = h a
   value_holds (Err found) next h = all.fault found
 
@@ -52,13 +52,13 @@ module _ (P : Acted → Type 0) (r : SourceReader) (all : HoldsOfDead P r) where
   skipped_holds : P (skipped r)
   skipped_holds = skipped_by_holds (line_fault (behind_word r))
 
-  condition_holds : (word : Location) → P (condition word r)
+  pub condition_holds : (word : Location) → P (condition word r)
   condition_holds word = value_holds (line_tokens (behind_word r)) (λ tokens. record { step = step.Condition word tokens; after = r }) (all.wanted word)
 
-  word_holds : (word : Location) (next : SourceReader → Acted) → P (next (behind_line r)) → P (only_word word r next)
+  pub word_holds : (word : Location) (next : SourceReader → Acted) → P (next (behind_line r)) → P (only_word word r next)
   word_holds word next h = value_holds (ended_line word (behind_word r)) (λ end. next (behind_line r)) (λ end. h)
 
-  elif_holds : (block : Option Block) (word : Location) → P (elif_in block word r)
+  pub elif_holds : (block : Option Block) (word : Location) → P (elif_in block word r)
   elif_holds None word = all.fault _
   elif_holds (Some block) word =
       let can_not = not (are_surroundings_live r.items r.truths block) || has_taken_branch r.truths block in
@@ -69,10 +69,10 @@ module _ (P : Acted → Type 0) (r : SourceReader) (all : HoldsOfDead P r) where
   else_holds None word = all.fault _
   else_holds (Some block) word = either_holds P (has_else block) (failed_at MoreThanOneElse word r) (passed (behind_line r)) (all.fault _) (all.nothing _)
 
-  else_line_holds : (word : Location) → P (else_line word r)
+  pub else_line_holds : (word : Location) → P (else_line word r)
   else_line_holds word = word_holds word (else_in (block_here r) word r) (else_holds (block_here r) word)
 
-  endif_holds : (block : Option Block) (word : Location) → P (endif_in block word r)
+  pub endif_holds : (block : Option Block) (word : Location) → P (endif_in block word r)
   endif_holds None word = all.fault _
   endif_holds (Some block) word =
       either_holds P (are_surroundings_live r.items r.truths block) (only_word word r passed) (skipped r) (word_holds word passed (all.nothing _)) skipped_holds

@@ -30,3 +30,9 @@ pub mod DeadTextLemmas
 pub mod RedefinitionLemmas
 pub mod SourceStepLemmas
 pub mod RunProgramLemmas
+pub mod HoldingLemmas
+pub mod KeptTokensLemmas
+pub mod LineHoldsLemmas
+pub mod SourceHoldsLemmas
+pub mod SpelledRunLemmas
+pub mod RespellLemmas

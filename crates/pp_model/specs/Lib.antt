@@ -32,3 +32,4 @@ pub mod RunLaws
 pub mod RunStates
 pub mod BlockLaws
 pub use Rattle.pp_lexer.specs.Spelling
+pub mod RespellLaws

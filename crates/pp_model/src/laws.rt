@@ -8,6 +8,7 @@ ghost use Rattle.pp_model.specs.ExpansionLaws.{OneReads, OneTaking, OneGathering
 ghost use Rattle.pp_model.specs.NoLineName.{ShowsNoLineName, AloneShowsNoLineName};
 ghost use Rattle.pp_model.specs.Reading.{argument_reading, line_reading};
 ghost use Rattle.pp_model.specs.Reads.{source_reading};
+ghost use Rattle.pp_model.specs.RespellLaws.{RunsAreReadAfresh};
 ghost use Rattle.pp_model.specs.RunLaws.{OneEvaluation, OneCondition, OneLineNumber, OneStep, OneReplies, OneRun, RedefinitionIsChecked};
 ghost use Rattle.pp_model.specs.RunStates.{RunKeepsMarksApart, RunShowsNoLineName, EndStays, RunEndsForGood};
 ghost use Rattle.std.specs.Prelude.{ℕ};
@@ -130,4 +131,10 @@ pub fn dead_text()
 /// The old definition stays.
 pub fn redefinition()
     ensures { (level : ℕ) → RedefinitionIsChecked (answers_at level) }
+{}
+
+/// Where all tokens that a run gives are plain, the text that spells them with single spaces gives the same values, and then
+/// the end.
+pub fn respell()
+    ensures { (level : ℕ) → RunsAreReadAfresh (answers_at level) }
 {}

@@ -1,8 +1,9 @@
 //! Laws of the character phases and of the items, over their definitions alone: each function's contract states one,
 //! for every source. The bodies do nothing.
 
-ghost use Rattle.pp_lexer.specs.ItemLaws.{TokensLieWithin, ItemsAreFinite};
+ghost use Rattle.pp_lexer.specs.ItemLaws.{TokensLieWithin, TokensHaveLines, ItemsAreFinite};
 ghost use Rattle.pp_lexer.specs.PhaseLaws.{PairsCountOnce, LinesCountNewlines, SourcesNeverFall, SourcesAreTiled, SourcesShorten};
+ghost use Rattle.pp_lexer.specs.Respelling.{ValuesAreSpelled, SpellingsAreReadBack};
 
 /// Each newline pair counts once, a line is one more than the newlines before it, and lines never
 /// fall along the characters of any phase.
@@ -24,9 +25,22 @@ pub fn phase_lengths()
     ensures { SourcesShorten }
 {}
 
-/// Each token of a source starts at or before its end, and ends within the source. A source has at
-/// most one item for each byte, and one more.
+/// Each token of a source starts at or before its end, and ends within the source. Its line is at
+/// least 1, and at most one more than the source's bytes. A source has at most one item for each
+/// byte, and one more.
 pub fn places()
     ensures within { TokensLieWithin }
+    ensures lines { TokensHaveLines }
     ensures finite { ItemsAreFinite }
+{}
+
+/// Each token of a source is a newline, a `#`, or a value that can be spelled.
+pub fn spelled_values()
+    ensures { ValuesAreSpelled }
+{}
+
+/// Values that can be spelled, written with one space between each two, are read back as the same
+/// values in the same order, with a newline behind them if there are any, and without an error.
+pub fn respelled()
+    ensures { SpellingsAreReadBack }
 {}

@@ -4,11 +4,15 @@ use Rattle.pp_lexer.proofs.RisingLemmas.{rising-lines, rising-continued, stretch
 use Rattle.pp_lexer.proofs.ReplacedLemmas.{rising-replaced}
 use Rattle.pp_lexer.proofs.PhaseLemmas.{length-replaced_of}
 use Rattle.pp_lexer.proofs.PlacesLemmas.{items_within}
+use Rattle.pp_lexer.proofs.TokenLinesLemmas.{tokens_have_lines}
 use Rattle.pp_lexer.proofs.CountLemmas.{length-items_of}
 use Rattle.pp_lexer.proofs.lexer.laws.places.Goals as goal
 
 pub returns-clause-within : goal.returns-clause-within
 returns-clause-within c = λ source u. items_within 0 _ _ (stretches_follow 1 0 _ _ (rising-replaced 1 0 _ _ (rising-continued 1 0 _ _ (rising-lines source u))))
+
+pub returns-clause-lines : goal.returns-clause-lines
+returns-clause-lines c = tokens_have_lines
 
 pub returns-clause-finite : goal.returns-clause-finite
 returns-clause-finite c = λ source u. omega (arith, length-items_of 0 (replaced_of source), length-replaced_of source u)

@@ -1,0 +1,5 @@
+use Rattle.pp_lexer.proofs.RespellingLemmas.{read_back}
+use Rattle.pp_lexer.proofs.lexer.laws.respelled.Goals as goal
+
+pub returns : goal.returns
+returns c = read_back

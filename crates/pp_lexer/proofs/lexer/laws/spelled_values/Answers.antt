@@ -1,0 +1,5 @@
+use Rattle.pp_lexer.proofs.SpelledValuesLemmas.{values_spelled}
+use Rattle.pp_lexer.proofs.lexer.laws.spelled_values.Goals as goal
+
+pub returns : goal.returns
+returns c = values_spelled

@@ -1,0 +1,118 @@
+-- What holds of tokens and lines, in the entries of a list and in what is spliced into it.
+use Rattle.std.proofs.Common.{◌≡◌, ℕ, zero, suc, pos, false, List, [], ◌∷◌, refl, Option, Some, None}
+use Rattle.std.specs.Prelude.{⊤, Bool, true, ◌&&◌, ◌==◌, unwrap_or, slice_get, if◌then◌else◌}
+use Rattle.std.specs.List.{AllByRecursion as Each}
+use Rattle.pp_lexer.specs.declared.token.Location.{Location}
+use Rattle.pp_lexer.specs.declared.token.Token.{Token}
+use Rattle.pp_lexer.specs.declared.token.TokenValue.TheVariants.{Integer}
+use Rattle.pp_model.specs.Names.{Name, is_identifier, line_name}
+use Rattle.pp_model.specs.Definitions.{Definition, Definitions}
+use Rattle.pp_model.specs.SpliceList.{behind_marks, outermost_line, followed_by, parameter_of, replacement, replaced, spliced}
+use Rattle.pp_model.specs.Taking.{line_number, taken_token, read_outcome}
+use Rattle.pp_model.specs.Calls.{Pieces, is_comma, nesting_behind, cut_before, pieces, arguments_of}
+use Rattle.pp_model.specs.declared.outcome.Outcome.{Outcome}
+use Rattle.pp_model.specs.declared.outcome.Outcome.TheVariants as outcome
+use Rattle.pp_model.specs.declared.splice.Entry.{Entry}
+use Rattle.pp_model.specs.declared.splice.Entry.TheVariants.{Plain, End}
+
+-- a line's number as a token
+abbrev pub number_at : Location → ℕ → Token
+number_at place n = record { value = Integer (record { value = n; signed = false; width = pos 32 }); location = place }
+
+-- a property of tokens and one of lines: a token that has it stands on such a line, and the number of such a line is such a token
+pub record AreClosed (Q : Token → Type 0) (L : ℕ → Type 0) : Type 0 where
+  pub line : (token : Token) → Q token → L token.location.line
+  pub number : (place : Location) (n : ℕ) → L place.line → L n → Q (number_at place n)
+
+-- the body of each definition has it
+abbrev pub HoldInBodies : (Token → Type 0) → Definitions → Type 0
+HoldInBodies Q definitions = (name : Name) (definition : Definition) → definitions name ≡ Some definition → Each Q definition.body
+
+abbrev pub HoldsOfOutcome : (Token → Type 0) → Outcome → Type 0
+HoldsOfOutcome Q (outcome.Token token) = Q token
+HoldsOfOutcome Q (outcome.Fault fault) = ⊤
+HoldsOfOutcome Q outcome.End = ⊤
+
+abbrev pub HoldsOfHeld : (Token → Type 0) → Option Outcome → Type 0
+HoldsOfHeld Q None = ⊤
+HoldsOfHeld Q (Some o) = HoldsOfOutcome Q o
+
+module _ (Q : Token → Type 0) (L : ℕ → Type 0) where
+  -- an entry has it: a token, or the line of an end mark
+  abbrev pub HoldsOfEntry : Entry → Type 0
+  HoldsOfEntry (Plain token) = Q token
+  HoldsOfEntry (End mark) = L mark.line
+
+  abbrev pub HoldInList : List Entry → Type 0
+  HoldInList entries = Each HoldsOfEntry entries
+
+  pub behind_marks_hold : (entries : List Entry) → HoldInList entries → HoldInList (behind_marks entries)
+  behind_marks_hold [] all = tt
+  behind_marks_hold (End mark ∷ entries) all = behind_marks_hold entries all.1
+  behind_marks_hold (Plain token ∷ entries) all = all
+
+  pub outermost_holds : (entries : List Entry) (line : ℕ) → HoldInList entries → L line → L (unwrap_or (outermost_line entries) line)
+  outermost_holds [] line all h = h
+  outermost_holds (End mark ∷ entries) line all h = outermost_holds entries mark.line all.1 all.0
+  outermost_holds (Plain token ∷ entries) line all h = outermost_holds entries line all.1 h
+
+  pub followed_hold : (tokens : List Token) (entries : List Entry) → Each Q tokens → HoldInList entries → HoldInList (followed_by tokens entries)
+  followed_hold [] entries all h = h
+  followed_hold (token ∷ tokens) entries all h = (all.0, followed_hold tokens entries all.1 h)
+
+  argument_holds : (arguments : List (List Token)) (k : ℕ) → Each (λ tokens. Each Q tokens) arguments → Each Q (unwrap_or (slice_get arguments k) [])
+  argument_holds [] k all = tt
+  argument_holds (argument ∷ arguments) zero all = all.0
+  argument_holds (argument ∷ arguments) (suc k) all = argument_holds arguments k all.1
+
+  replacement_holds : (arguments : List (List Token)) (token : Token) (k : Option ℕ) (entries : List Entry) → Each (λ tokens. Each Q tokens) arguments → Q token → HoldInList entries → HoldInList (replacement arguments token k entries)
+  replacement_holds arguments token None entries all q h = (q, h)
+  replacement_holds arguments token (Some k) entries all q h = followed_hold (unwrap_or (slice_get arguments k) []) entries (argument_holds arguments k all) h
+
+  replaced_holds : (parameters : List Name) (arguments : List (List Token)) (body : List Token) (entries : List Entry) → Each (λ tokens. Each Q tokens) arguments → Each Q body → HoldInList entries → HoldInList (replaced parameters arguments body entries)
+  replaced_holds parameters arguments [] entries all q h = h
+  replaced_holds parameters arguments (token ∷ body) entries all q h =
+      replacement_holds arguments token (parameter_of parameters token.value) (replaced parameters arguments body entries) all q.0 (replaced_holds parameters arguments body entries all q.1 h)
+
+  -- a macro's replacement has it where its body, its arguments and its line have it
+  pub spliced_holds : (name : Name) (definition : Definition) (line : ℕ) (arguments : List (List Token)) (entries : List Entry) → Each Q definition.body → L line → Each (λ tokens. Each Q tokens) arguments → HoldInList entries
+      → HoldInList (spliced name definition line arguments entries)
+  spliced_holds name definition line arguments entries body l all h = replaced_holds definition.parameters arguments definition.body (End (record { name = name; line = line }) ∷ entries) all body (l, h)
+
+  cut_holds : (parts : Bool) (token : Token) (cut : Pieces) → Q token → Each Q cut.first → Each (λ tokens. Each Q tokens) cut.others
+      → Each Q (cut_before parts token cut).first × Each (λ tokens. Each Q tokens) (cut_before parts token cut).others
+  cut_holds true token cut q first others = (tt, (first, others))
+  cut_holds false token cut q first others = ((q, first), others)
+
+  pieces_hold : (n : ℕ) (tokens : List Token) → Each Q tokens → Each Q (pieces n tokens).first × Each (λ ts. Each Q ts) (pieces n tokens).others
+  pieces_hold n [] all = (tt, tt)
+  pieces_hold n (token ∷ tokens) all =
+      let later = pieces_hold (nesting_behind n token.value) tokens all.1 in
+      cut_holds (is_comma token.value && (n == 0)) token (pieces (nesting_behind n token.value) tokens) all.0 later.0 later.1
+
+  -- the arguments of a call have it where the tokens between its parentheses have it
+  pub arguments_hold : (tokens : List Token) → Each Q tokens → Each (λ ts. Each Q ts) (arguments_of tokens)
+  arguments_hold tokens all =
+      let cut = pieces_hold 0 tokens all in
+      (cut.0, cut.1)
+
+  module _ (closed : AreClosed Q L) (shown_line : ℕ → Option ℕ) (shown : (line n : ℕ) → L line → shown_line line ≡ Some n → L n) where
+    number_holds : (place : Location) (line : ℕ) (found : Option ℕ) → L place.line → L line → shown_line line ≡ found → HoldsOfOutcome Q (line_number place found)
+    number_holds place line None here l e = tt
+    number_holds place line (Some n) here l e = closed.number place n here (shown line n l e)
+
+    -- what is taken has it where the token and the rest of the list have it
+    pub taken_holds : (behind : List Entry) (token : Token) → HoldInList behind → Q token → HoldsOfOutcome Q (taken_token shown_line behind token)
+    taken_holds behind token all q = go (is_identifier line_name token.value) refl
+      where
+        line : ℕ
+        line = unwrap_or (outermost_line behind) token.location.line
+
+        go : (b : Bool) → is_identifier line_name token.value ≡ b → HoldsOfOutcome Q (if b then line_number token.location (shown_line line) else outcome.Token token)
+        go true e = number_holds token.location line (shown_line line) (closed.line token q) (outermost_holds behind token.location.line all (closed.line token q)) refl
+        go false e = q
+
+    pub read_holds : (x : Outcome) → HoldsOfOutcome Q x → HoldsOfOutcome Q (read_outcome shown_line x)
+    read_holds (outcome.Token token) q = taken_holds [] token tt q
+    read_holds (outcome.Fault fault) q = tt
+    read_holds outcome.End q = tt

@@ -1,0 +1,97 @@
+-- What holds of each token among items holds of the tokens of a line, and of the body that a `#define` line says.
+use Rattle.std.proofs.Common.{Bool, true, false, if◌then◌else◌, List, [], ◌∷◌}
+use Rattle.std.specs.Prelude.{⊤, IfOk, Result, Ok, Err}
+use Rattle.std.specs.List.{AllByRecursion as Each}
+use Rattle.pp_lexer.specs.Items.{Lexeme}
+use Rattle.pp_lexer.specs.Lexed.{Seen}
+use Rattle.pp_lexer.specs.declared.token.Location.{Location}
+use Rattle.pp_lexer.specs.declared.token.Token.{Token}
+use Rattle.pp_model.specs.Names.{Name}
+use Rattle.pp_model.specs.Conversions.{is_newline, closes_parameters, parts_parameters, identifier_of, conversion, refused_token}
+use Rattle.pp_model.specs.Definitions.{Definition, object_like}
+use Rattle.pp_model.specs.Calls.{Fault}
+use Rattle.pp_model.specs.Emitting.{token_before}
+use Rattle.pp_model.specs.Lines.{◌>>=◌, tokens_from, line_tokens, behind_first_token, first_name}
+use Rattle.pp_model.specs.DefineLines.{Parameters, parameter_here, behind_parameter, behind_comma, parameters, has_parameters, definition_at, defined_on}
+
+if_ok_then : {A B : Type 0} (P : A → Type 0) (Q : B → Type 0) (result : Result A Fault) (next : A → Result B Fault) → IfOk result P → ((a : A) → P a → IfOk (next a) Q) → IfOk (result >>= next) Q
+if_ok_then P Q (Ok a) next h more = more a h
+if_ok_then P Q (Err fault) next h more = tt
+
+any_ok : {A : Type 0} (result : Result A Fault) → IfOk result (λ a. ⊤)
+any_ok (Ok a) = tt
+any_ok (Err fault) = tt
+
+either_ok : {A : Type 0} (P : A → Type 0) (b : Bool) (x y : Result A Fault) → IfOk x P → IfOk y P → IfOk (if b then x else y) P
+either_ok P true x y h k = h
+either_ok P false x y h k = k
+
+module _ (Q : Token → Type 0) where
+  -- the token that an item is, if it is one of the text, has it
+  abbrev pub HoldsOfLexeme : Lexeme → Type 0
+  HoldsOfLexeme item = IfOk item (λ token. IfOk (conversion token) Q)
+
+  abbrev pub HoldInItems : List Seen → Type 0
+  HoldInItems items = Each (λ s. HoldsOfLexeme s.item) items
+
+  token_before_holds : (token : Token) (later : Result (List Token) Fault) → Q token → IfOk later (Each Q) → IfOk (token_before token later) (Each Q)
+  token_before_holds token (Ok tokens) q h = (q, h)
+  token_before_holds token (Err fault) q h = tt
+
+  tokens_from_hold : (item : Lexeme) (later : Result (List Token) Fault) → HoldsOfLexeme item → IfOk later (Each Q) → IfOk (tokens_from item later) (Each Q)
+  tokens_from_hold (Err fault) later h all = tt
+  tokens_from_hold (Ok token) later h all =
+      either_ok (Each Q) (is_newline token.value) (Ok []) (conversion token >>= λ first. token_before first later) tt
+      (if_ok_then Q (Each Q) (conversion token) (λ first. token_before first later) h (λ first q. token_before_holds first later q all))
+
+  -- the tokens of a line have it
+  pub line_tokens_hold : (rest : List Seen) → HoldInItems rest → IfOk (line_tokens rest) (Each Q)
+  line_tokens_hold [] all = tt
+  line_tokens_hold (s ∷ rest) all = tokens_from_hold s.item (line_tokens rest) all.0 (line_tokens_hold rest all.1)
+
+  pub behind_holds : (rest : List Seen) → HoldInItems rest → HoldInItems (behind_first_token rest)
+  behind_holds [] all = tt
+  behind_holds (s ∷ rest) all = all.1
+
+  abbrev HoldsBehind : Parameters → Type 0
+  HoldsBehind list = HoldInItems list.behind
+
+  mutual
+    parameter_holds : (word : Location) (names : List Name) (rest : List Seen) → HoldInItems rest → IfOk (behind_parameter word names rest) HoldsBehind
+    parameter_holds word names [] all = tt
+    parameter_holds word names (s ∷ rest) all =
+        if_ok_then (λ token. ⊤) HoldsBehind s.item _ (any_ok s.item) (λ token h.
+        either_ok HoldsBehind (closes_parameters token.value) (Ok (record { names = names; behind = rest })) _ all.1
+        (either_ok HoldsBehind (parts_parameters token.value) (behind_comma word names rest) (Err (refused_token token)) (comma_holds word names rest all.1) tt))
+
+    comma_holds : (word : Location) (names : List Name) (rest : List Seen) → HoldInItems rest → IfOk (behind_comma word names rest) HoldsBehind
+    comma_holds word names [] all = tt
+    comma_holds word names (s ∷ rest) all =
+        if_ok_then (λ token. ⊤) HoldsBehind s.item _ (any_ok s.item) (λ token h.
+        if_ok_then (λ more. ⊤) HoldsBehind (parameter_here names token (identifier_of token.value)) (λ more. behind_parameter word more rest) (any_ok (parameter_here names token (identifier_of token.value)))
+        (λ more g. parameter_holds word more rest all.1))
+
+  parameters_hold : (word : Location) (rest : List Seen) → HoldInItems rest → IfOk (parameters word rest) HoldsBehind
+  parameters_hold word [] all = tt
+  parameters_hold word (s ∷ rest) all =
+      if_ok_then (λ token. ⊤) HoldsBehind s.item _ (any_ok s.item) (λ token h.
+      either_ok HoldsBehind (closes_parameters token.value) (Ok (record { names = []; behind = rest })) _ all.1
+      (if_ok_then (λ names. ⊤) HoldsBehind (parameter_here [] token (identifier_of token.value)) (λ names. behind_parameter word names rest) (any_ok (parameter_here [] token (identifier_of token.value)))
+      (λ names g. parameter_holds word names rest all.1)))
+
+  abbrev HoldsInBody : Definition → Type 0
+  HoldsInBody definition = Each Q definition.body
+
+  definition_holds : (word : Location) (rest : List Seen) → HoldInItems rest → IfOk (definition_at word rest) HoldsInBody
+  definition_holds word rest all =
+      either_ok HoldsInBody (has_parameters rest) _ _
+      (if_ok_then HoldsBehind HoldsInBody (parameters word (behind_first_token rest)) _ (parameters_hold word (behind_first_token rest) (behind_holds rest all))
+      (λ list h. if_ok_then (Each Q) HoldsInBody (line_tokens list.behind) (λ body. Ok (record { function_like = true; parameters = list.names; body = body })) (line_tokens_hold list.behind h) (λ body g. g)))
+      (if_ok_then (Each Q) HoldsInBody (line_tokens rest) (λ body. Ok (object_like body)) (line_tokens_hold rest all) (λ body g. g))
+
+  -- so has the body that a `#define` line says
+  pub defined_holds : (word : Location) (rest : List Seen) → HoldInItems rest → IfOk (defined_on word rest) (λ named. Each Q named.definition.body)
+  defined_holds word rest all =
+      if_ok_then (λ first. ⊤) (λ named. Each Q named.definition.body) (first_name word rest) _ (any_ok (first_name word rest)) (λ first h.
+      if_ok_then HoldsInBody (λ named. Each Q named.definition.body) (definition_at word (behind_first_token rest)) (λ definition. Ok (record { name = first.name; location = first.location; definition = definition }))
+      (definition_holds word (behind_first_token rest) (behind_holds rest all)) (λ definition g. g))

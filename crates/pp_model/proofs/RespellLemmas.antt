@@ -1,0 +1,241 @@
+-- The tokens that a run gives can be spelled, and the text that spells them gives them again.
+use Rattle.std.proofs.Common.{◌≡◌, ◌⊎◌, inl, inr, ℕ, ℤ, pos, negsuc, ◌<◌, ◌^◌, ◌-◌, Bool, true, false, if◌then◌else◌, List, [], ◌∷◌, ◌++◌, length, map, refl, sym, subst, Some, None, arith}
+use Rattle.std.specs.Prelude.{IfOk, Result, Ok, Err, All, nat_lt}
+use Rattle.std.specs.List.{AllByRecursion as Each, cons_option}
+use Rattle.std.specs.Str.{encode_utf8_all, chars}
+use Rattle.std.proofs.lemmas.Bool.{ltb-true}
+use Rattle.std.proofs.lemmas.List.Elements.{All-head, All-tail, All-nil, All-cons}
+use Rattle.pp_lexer.specs.ItemLaws.{HasLineWithin}
+use Rattle.pp_lexer.specs.Items.{Lexeme, Item, items_of as lexed_items}
+use Rattle.pp_lexer.specs.Lexed.{Seen, seen}
+use Rattle.pp_lexer.specs.Respelling.{IsSpellable, IsSpelled, lexer_value, item_value, ending}
+use Rattle.pp_lexer.specs.Spelling.{spelled_text, values_of}
+use Rattle.pp_lexer.specs.Spots.{spots_of}
+use Rattle.pp_lexer.specs.TokenValue.{is_ordinary}
+use Rattle.pp_lexer.specs.declared.lexer.item.TokenValue.{TokenValue as LexerTokenValue}
+use Rattle.pp_lexer.specs.declared.lexer.item.TokenValue.TheVariants.{Hash, NewLine, Ident as LexerIdent, Integer as LexerInteger, Float as LexerFloat, Punct as LexerPunct}
+use Rattle.pp_lexer.specs.declared.token.Location.{Location}
+use Rattle.pp_lexer.specs.declared.token.Token.{Token}
+use Rattle.pp_lexer.specs.declared.token.TokenValue.{TokenValue}
+use Rattle.pp_lexer.specs.declared.token.TokenValue.TheVariants.{Ident, Integer, Float, Punct, Version, Extension, Pragma}
+use Rattle.pp_lexer.proofs.RespellingLemmas.{read_back}
+use Rattle.pp_lexer.proofs.SpelledValuesLemmas.{values_spelled}
+use Rattle.pp_lexer.proofs.TokenLinesLemmas.{tokens_have_lines}
+use Rattle.pp_model.specs.Names.{is_identifier, line_name}
+use Rattle.pp_model.specs.Conversions.{is_newline, is_hash, conversion}
+use Rattle.pp_model.specs.Calls.{Fault}
+use Rattle.pp_model.specs.Definitions.{object_like}
+use Rattle.pp_model.specs.Emitting.{token_before, answers_at}
+use Rattle.pp_model.specs.LineValues.{as_line_number}
+use Rattle.pp_model.specs.Lines.{◌>>=◌}
+use Rattle.pp_model.specs.Reading.{Expander}
+use Rattle.pp_model.specs.Reads.{source_reading}
+use Rattle.pp_model.specs.RespellLaws.{IsText, HasText, token_of, given_token, given_tokens, IsReadAfresh, RunsAreReadAfresh, calls_for, replies_with}
+use Rattle.pp_model.specs.Run.{Call, add_define, next, items_of, content_from, content_tokens, start, with_added, Runs, done, added, refused, given, failed}
+use Rattle.pp_model.specs.RunStates.{gives_line_name}
+use Rattle.pp_model.specs.SourceReader.{SourceReader}
+use Rattle.pp_model.specs.declared.call.Reply.{Reply}
+use Rattle.pp_model.specs.declared.call.Reply.TheVariants as reply
+use Rattle.pp_model.specs.declared.outcome.Outcome.{Outcome}
+use Rattle.pp_model.specs.declared.outcome.Outcome.TheVariants as outcome
+use Rattle.pp_model.proofs.HoldingLemmas.{AreClosed, HoldsOfOutcome}
+use Rattle.pp_model.proofs.KeptTokensLemmas.{ReaderKeeps, HoldsOf, item_keeps, answers_keep}
+use Rattle.pp_model.proofs.LineHoldsLemmas.{HoldsOfLexeme, HoldInItems}
+use Rattle.pp_model.proofs.RunStatesLemmas.{run_shows_no_line_name}
+use Rattle.pp_model.proofs.SourceHoldsLemmas.{DirectiveItemsHold, HoldsOfReader, source_keeps, defined_now_holds}
+use Rattle.pp_model.proofs.SpelledRunLemmas.{IsNoHash, IsPlain, starts_there, gives_from}
+
+-- a line whose number can be spelled
+abbrev IsLine : ℕ → Type 0
+IsLine n = n < 2 ^ 64
+
+-- a token that can be spelled, or holds a directive, on such a line
+abbrev IsGood : Token → Type 0
+IsGood token = (is_ordinary token.value ≡ true → IsSpellable token.value) × IsLine token.location.line
+
+good_closed : AreClosed IsGood IsLine
+good_closed = record { line = λ token q. q.1; number = λ place n l h. (λ o. (h, refl), l) }
+
+not_both : (b : Bool) → b ≡ false → b ≡ true → ⊥
+not_both true e h = cc
+not_both false e h = cc
+
+good_directives : DirectiveItemsHold IsGood IsLine good_closed
+good_directives token other l = (λ o. absurd (not_both (is_ordinary token.value) other o), l)
+
+shown_in_range : (k n : ℕ) (b : Bool) → nat_lt k (2 ^ 32) ≡ b → (if b then Some k else None) ≡ Some n → IsLine n
+shown_in_range k n true e is =
+    let same : k ≡ n = cc in
+    let low : k < 2 ^ 32 = ltb-true k (2 ^ 32) e in
+    omega (arith, low, same)
+shown_in_range k n false e is = cc
+
+shown_is_line : (z : ℤ) (n : ℕ) → as_line_number z ≡ Some n → IsLine n
+shown_is_line (pos k) n e = shown_in_range k n (nat_lt k (2 ^ 32)) refl e
+shown_is_line (negsuc k) n e = cc
+
+-- each item of a text has a line within it
+abbrev HasLines : List Seen → Type 0
+HasLines items = Each (λ s. IfOk s.item (λ token. IsLine token.location.line)) items
+
+good_value : (location : Location) (value : LexerTokenValue) (blank at_start : Bool) → IsSpelled (Ok value) → IsLine location.line
+    → HoldsOfLexeme IsGood (Ok (record { value = value; location = location; leading_whitespace = blank; start_of_line = at_start }))
+good_value location Hash blank at_start h l = tt
+good_value location NewLine blank at_start h l = tt
+good_value location (LexerIdent name) blank at_start h l = (λ o. h, l)
+good_value location (LexerInteger i) blank at_start h l = (λ o. h, l)
+good_value location (LexerFloat f) blank at_start h l = (λ o. h, l)
+good_value location (LexerPunct p) blank at_start h l = (λ o. tt, l)
+
+good_item : (item : Lexeme) → IsSpelled (item_value item) → IfOk item (λ token. IsLine token.location.line) → HoldsOfLexeme IsGood item
+good_item (Ok token) h l = good_value token.location token.value token.leading_whitespace token.start_of_line h l
+good_item (Err fault) h l = tt
+
+good_items : (items : List Seen) → All IsSpelled (map (λ s. item_value s.item) items) → HasLines items → HoldInItems IsGood items
+good_items [] all lines = tt
+good_items (s ∷ rest) all lines = (
+  good_item s.item (All-head IsSpelled (item_value s.item) (map (λ t. item_value t.item) rest) all) lines.0,
+  good_items rest (All-tail IsSpelled (item_value s.item) (map (λ t. item_value t.item) rest) all) lines.1,
+)
+
+either_ok : {X : Type 0} (P : X → Type 0) (b : Bool) (x y : Result X Fault) → IfOk x P → IfOk y P → IfOk (if b then x else y) P
+either_ok P true x y h k = h
+either_ok P false x y h k = k
+
+token_before_good : (token : Token) (later : Result (List Token) Fault) → IsGood token → IfOk later (Each IsGood) → IfOk (token_before token later) (Each IsGood)
+token_before_good token (Ok tokens) q h = (q, h)
+token_before_good token (Err fault) q h = tt
+
+converted_good : (converted : Result Token Fault) (later : Result (List Token) Fault) → IfOk converted IsGood → IfOk later (Each IsGood) → IfOk (converted >>= λ first. token_before first later) (Each IsGood)
+converted_good (Ok token) later h all = token_before_good token later h all
+converted_good (Err fault) later h all = tt
+
+content_from_good : (item : Lexeme) (later : Result (List Token) Fault) → HoldsOfLexeme IsGood item → IfOk later (Each IsGood) → IfOk (content_from item later) (Each IsGood)
+content_from_good (Err fault) later h all = tt
+content_from_good (Ok token) later h all = either_ok (Each IsGood) (is_newline token.value) later (conversion token >>= λ first. token_before first later) all (converted_good (conversion token) later h all)
+
+-- the tokens of an added content are good
+content_good : (items : List Seen) → HoldInItems IsGood items → IfOk (content_tokens items) (Each IsGood)
+content_good [] all = tt
+content_good (s ∷ rest) all = content_from_good s.item (content_tokens rest) all.0 (content_good rest all.1)
+
+given_good : (o : Outcome) (later : List Token) → HoldsOfOutcome IsGood o → Each IsGood later → Each IsGood (cons_option (token_of o) later)
+given_good (outcome.Token token) later q all = (q, all)
+given_good (outcome.Fault fault) later q all = all
+given_good outcome.End later q all = all
+
+lines_hold : (total : ℕ) (items : List Item) → total < 2 ^ 32 - 1 → All (λ i. HasLineWithin total i.item) items → HasLines (map seen items)
+lines_hold total [] short all = tt
+lines_hold total (i ∷ items) short all =
+    (line_holds i.item (All-head (λ j. HasLineWithin total j.item) i items all), lines_hold total items short (All-tail (λ j. HasLineWithin total j.item) i items all))
+  where
+    line_holds : (item : Lexeme) → HasLineWithin total item → IfOk item (λ token. IsLine token.location.line)
+    line_holds (Ok token) h = omega (arith, h.1, short)
+    line_holds (Err fault) h = tt
+
+lines : (text : List ℕ) → IsText text → HasLines (items_of text)
+lines text t = lines_hold (length text) (lexed_items (spots_of text)) t.1 (tokens_have_lines text t.0)
+
+-- so are the texts' tokens
+module _ (level : ℕ) where
+  abbrev K : SourceReader → Type 0
+  K = HoldsOfReader IsGood IsLine good_closed
+
+  text_good : (text : List ℕ) → IsText text → HoldInItems IsGood (items_of text)
+  text_good text t = good_items (items_of text) (values_spelled text t.0) (lines text t)
+
+  keeps : ReaderKeeps IsGood IsLine (source_reading (answers_at level)) K
+  keeps = source_keeps IsGood IsLine good_closed good_directives (answers_at level) shown_is_line
+
+  added_good : (content : List ℕ) (tokens : List Token) → IsText content → content_tokens (items_of content) ≡ Ok tokens → Each IsGood tokens
+  added_good content tokens t e = subst (λ (r : Result (List Token) Fault). IfOk r (Each IsGood)) e (content_good (items_of content) (text_good content t))
+
+  -- each token that a run gives is good
+  given_are_good : (e : Expander SourceReader) (calls : List Call) (replies : List Reply) → Runs (answers_at level) e calls replies → All HasText calls → HoldsOf IsGood IsLine K e → Each IsGood (given_tokens replies)
+  given_are_good e calls replies (done e1 r1 p) texts h = subst (λ (rs : List Reply). Each IsGood (given_tokens rs)) (sym p) tt
+  given_are_good e calls replies (added name content tokens e1 more rest r1 is runs p) texts h =
+      let body = added_good content tokens (All-head HasText (add_define name content) more texts) is in
+      let after : HoldsOf IsGood IsLine K (with_added (chars name) tokens e) = record { held = h.held; list = h.list; reader = (h.reader.0, defined_now_holds IsGood IsLine good_closed e.reader.definitions (chars name) (object_like tokens) h.reader.1 body) } in
+      subst (λ (rs : List Reply). Each IsGood (given_tokens rs)) (sym p) (given_are_good (with_added (chars name) tokens e) more rest runs (All-tail HasText (add_define name content) more texts) after)
+  given_are_good e calls replies (refused name content fault e1 more rest r1 is runs p) texts h =
+      subst (λ (rs : List Reply). Each IsGood (given_tokens rs)) (sym p) (given_are_good e more rest runs (All-tail HasText (add_define name content) more texts) h)
+  given_are_good e calls replies (given o e1 f more rest r1 item is runs p) texts h =
+      let after = item_keeps IsGood IsLine good_closed (source_reading (answers_at level)) K keeps (answers_at level) (answers_keep IsGood IsLine good_closed level) o e f item h in
+      subst (λ (rs : List Reply). Each IsGood (given_tokens rs)) (sym p) (given_good o (given_tokens rest) after.0 (given_are_good f more rest runs (All-tail HasText next more texts) after.1))
+  given_are_good e calls replies (failed fault e1 f more r1 item p) texts h = subst (λ (rs : List Reply). Each IsGood (given_tokens rs)) (sym p) tt
+
+  run_is_good : (text : List ℕ) (calls : List Call) (replies : List Reply) → IsText text → All HasText calls → Runs (answers_at level) (start (items_of text)) calls replies → Each IsGood (given_tokens replies)
+  run_is_good text calls replies t texts runs =
+      given_are_good (start (items_of text)) calls replies runs texts (record { held = tt; list = tt; reader = (text_good text t, λ name definition defined. cc) })
+
+  -- no `__LINE__` is among the tokens that are given
+  abbrev IsNoLine : Token → Type 0
+  IsNoLine token = is_identifier line_name token.value ≡ false
+
+  no_line_more : (answer : Reply) (later : List Token) → gives_line_name answer ≡ false → Each IsNoLine later → Each IsNoLine (cons_option (given_token answer) later)
+  no_line_more (reply.Given (outcome.Token token)) later e all = (e, all)
+  no_line_more (reply.Given (outcome.Fault fault)) later e all = all
+  no_line_more (reply.Given outcome.End) later e all = all
+  no_line_more (reply.Refused fault) later e all = all
+  no_line_more reply.Added later e all = all
+
+  no_line_given : (replies : List Reply) → All (λ answer. gives_line_name answer ≡ false) replies → Each IsNoLine (given_tokens replies)
+  no_line_given [] all = tt
+  no_line_given (answer ∷ replies) all =
+      no_line_more answer (given_tokens replies) (All-head (λ a. gives_line_name a ≡ false) answer replies all) (no_line_given replies (All-tail (λ a. gives_line_name a ≡ false) answer replies all))
+
+  plain_values : (tokens : List Token) → Each IsGood tokens → Each IsNoLine tokens → All (λ token. is_ordinary token.value ≡ true) tokens → Each IsPlain (values_of tokens)
+  plain_values [] good none plain = tt
+  plain_values (token ∷ tokens) good none plain =
+      ((good.0.0 (All-head (λ t. is_ordinary t.value ≡ true) token tokens plain), none.0), plain_values tokens good.1 none.1 (All-tail (λ t. is_ordinary t.value ≡ true) token tokens plain))
+
+  spellable : (values : List TokenValue) → Each IsPlain values → All IsSpellable values
+  spellable [] all = All-nil IsSpellable
+  spellable (value ∷ values) all = All-cons IsSpellable value values all.0.0 (spellable values all.1)
+
+  no_hash_value : (value : TokenValue) → IsSpellable value → is_hash (lexer_value value) ≡ false
+  no_hash_value (Ident name) h = refl
+  no_hash_value (Integer i) h = refl
+  no_hash_value (Float f) h = refl
+  no_hash_value (Punct p) h = refl
+  no_hash_value (Version v) h = absurd h
+  no_hash_value (Extension x) h = absurd h
+  no_hash_value (Pragma p) h = absurd h
+
+  no_hash_before : (values : List TokenValue) (last : List LexerTokenValue) → Each IsPlain values → Each (λ v. is_hash v ≡ false) last → Each (λ v. is_hash v ≡ false) (map lexer_value values ++ last)
+  no_hash_before [] last all none = none
+  no_hash_before (value ∷ values) last all none = (no_hash_value value all.0.0, no_hash_before values last all.1 none)
+
+  ending_has_none : (values : List TokenValue) → Each (λ v. is_hash v ≡ false) (ending values)
+  ending_has_none [] = tt
+  ending_has_none (value ∷ values) = (refl, tt)
+
+  no_hash_items : (items : List Seen) (values : List LexerTokenValue) → map (λ s. item_value s.item) items ≡ map Ok values → Each (λ v. is_hash v ≡ false) values → Each IsNoHash items
+  no_hash_items [] values e none = tt
+  no_hash_items (s ∷ rest) [] e none = cc
+  no_hash_items (s ∷ rest) (value ∷ values) e none =
+      let one : item_value s.item ≡ Ok value = cc in
+      let more : map (λ t. item_value t.item) rest ≡ map Ok values = cc in
+      ((value, one, none.0), no_hash_items rest values more none.1)
+
+  ends_once : (values : List TokenValue) → (ending values ≡ []) ⊎ (ending values ≡ NewLine ∷ [])
+  ends_once [] = inl refl
+  ends_once (value ∷ values) = inr refl
+
+  read_afresh : (values : List TokenValue) → Each IsPlain values → IsReadAfresh (answers_at level) values
+  read_afresh values all =
+      let items = items_of (encode_utf8_all (spelled_text values)) in
+      let e : map (λ s. item_value s.item) items ≡ map Ok (map lexer_value values ++ ending values) = read_back values (spellable values all) in
+      let none = no_hash_items items (map lexer_value values ++ ending values) e (no_hash_before values (ending values) all (ending_has_none values)) in
+      let g = gives_from (answers_at level) items none values (ending values) 0 items refl e (ends_once values) all in
+      record {
+        tokens = g.tokens;
+        same = g.same;
+        run = subst (λ (x : Expander SourceReader). Runs (answers_at level) x (calls_for g.tokens) (replies_with g.tokens)) (sym (starts_there items none)) g.run;
+      }
+
+  -- The text that spells the plain tokens of a run gives their values again.
+  pub runs_read_afresh : RunsAreReadAfresh (answers_at level)
+  runs_read_afresh text calls replies t texts runs plain =
+      read_afresh (values_of (given_tokens replies))
+      (plain_values (given_tokens replies) (run_is_good text calls replies t texts runs) (no_line_given replies (run_shows_no_line_name (answers_at level) (items_of text) calls replies runs)) plain)

@@ -1,0 +1,224 @@
+-- The run of a text in which only plain tokens stand, and a newline behind them: it gives the tokens, and then the end.
+use Rattle.std.proofs.Common.{◌≡◌, ◌∙◌, ◌⊎◌, inl, inr, ℕ, zero, suc, pos, ◌+◌, Bool, true, false, if◌then◌else◌, List, [], ◌∷◌, ◌++◌, length, take, drop, map, refl, ap, sym, Option, Some, None, arith}
+use Rattle.std.specs.Prelude.{Result, Ok, Err, unwrap_or}
+use Rattle.std.specs.List.{AllByRecursion as Each, cons_option, list_all}
+use Rattle.std.proofs.lemmas.List.{drop-drop}
+use Rattle.pp_lexer.specs.Items.{Lexeme}
+use Rattle.pp_lexer.specs.Lexed.{Seen}
+use Rattle.pp_lexer.specs.Respelling.{IsSpellable, lexer_value, item_value}
+use Rattle.pp_lexer.specs.Spelling.{values_of}
+use Rattle.pp_lexer.specs.declared.lexer.item.Token.{Token as LexerToken}
+use Rattle.pp_lexer.specs.declared.lexer.item.TokenValue.{TokenValue as LexerTokenValue}
+use Rattle.pp_lexer.specs.declared.lexer.item.TokenValue.TheVariants.{Hash, NewLine, Ident as LexerIdent, Integer as LexerInteger, Float as LexerFloat, Punct as LexerPunct}
+use Rattle.pp_lexer.specs.declared.token.Location.{Location}
+use Rattle.pp_lexer.specs.declared.token.PreprocessorError.{PreprocessorError}
+use Rattle.pp_lexer.specs.declared.token.Token.{Token}
+use Rattle.pp_lexer.specs.declared.token.TokenValue.{TokenValue}
+use Rattle.pp_lexer.specs.declared.token.TokenValue.TheVariants.{Ident, Integer, Float, Punct, Version, Extension, Pragma}
+use Rattle.pp_model.specs.Names.{is_identifier, line_name}
+use Rattle.pp_model.specs.Conversions.{is_hash}
+use Rattle.pp_model.specs.Definitions.{nothing_defined}
+use Rattle.pp_model.specs.Sights.{sight_of, item_sight, token_sight}
+use Rattle.pp_model.specs.Blocks.{line_at, block_lines, Block, open_blocks, blocks_at, innermost, is_branch_live, is_live}
+use Rattle.pp_model.specs.SourceReader.{SourceReader}
+use Rattle.pp_model.specs.Acts.{ended_by, live_act, dead_act, act}
+use Rattle.pp_model.specs.Reading.{Expander, opening}
+use Rattle.pp_model.specs.SpliceList.{outermost_line}
+use Rattle.pp_model.specs.Taking.{line_number, Takes, read, taken_token, read_outcome}
+use Rattle.pp_model.specs.Calls.{Answers}
+use Rattle.pp_model.specs.Emitting.{Emits, itself}
+use Rattle.pp_model.specs.Reads.{Steps, passes, gives, Reads, here, later, source_reading, shown_line}
+use Rattle.pp_model.specs.Run.{start, Runs, done, given}
+use Rattle.pp_model.specs.RespellLaws.{calls_for, replies_with}
+use Rattle.pp_model.specs.declared.call.Reply.TheVariants as reply
+use Rattle.pp_model.specs.declared.outcome.Outcome.{Outcome}
+use Rattle.pp_model.specs.declared.outcome.Outcome.TheVariants as outcome
+use Rattle.pp_model.specs.declared.sight.Sight.{Sight}
+use Rattle.pp_model.specs.declared.sight.Sight.TheVariants as sight
+use Rattle.pp_model.specs.declared.step.Step.TheVariants as step
+
+-- the value of an item that is no number sign
+abbrev pub IsNoHash : Seen → Type 0
+IsNoHash s = (value : LexerTokenValue) × (item_value s.item ≡ Ok value) × (is_hash value ≡ false)
+
+same_value : (token : LexerToken) (value : LexerTokenValue) → item_value (Ok token) ≡ Ok value → token.value ≡ value
+same_value token value e = cc
+
+quiet_value : (position : ℕ) (location : Location) (value : LexerTokenValue) (blank at_start : Bool) (rest : List Seen) → is_hash value ≡ false
+    → line_at position (token_sight (record { value = value; location = location; leading_whitespace = blank; start_of_line = at_start }) rest) ≡ None
+quiet_value position location Hash blank at_start rest e = cc
+quiet_value position location NewLine blank at_start rest e = refl
+quiet_value position location (LexerIdent name) blank at_start rest e = refl
+quiet_value position location (LexerInteger i) blank at_start rest e = refl
+quiet_value position location (LexerFloat f) blank at_start rest e = refl
+quiet_value position location (LexerPunct p) blank at_start rest e = refl
+
+quiet_item : (position : ℕ) (item : Lexeme) (rest : List Seen) (value : LexerTokenValue) → item_value item ≡ Ok value → is_hash value ≡ false → line_at position (item_sight item rest) ≡ None
+quiet_item position (Ok token) rest value e none =
+    quiet_value position token.location token.value token.leading_whitespace token.start_of_line rest (ap is_hash (same_value token value e) ∙ none)
+quiet_item position (Err fault) rest value e none = refl
+
+-- where no item is a number sign no line of a block stands
+no_block_lines : (position : ℕ) (items : List Seen) → Each IsNoHash items → block_lines position items ≡ []
+no_block_lines position [] all = refl
+no_block_lines position (s ∷ rest) all =
+    ap (λ line. cons_option line (block_lines (position + 1) rest)) (quiet_item position s.item rest all.0.0 all.0.1 all.0.2) ∙ no_block_lines (position + 1) rest all.1
+
+front_holds : (n : ℕ) (items : List Seen) → Each IsNoHash items → Each IsNoHash (take n items)
+front_holds zero [] all = tt
+front_holds (suc n) [] all = tt
+front_holds zero (s ∷ rest) all = tt
+front_holds (suc n) (s ∷ rest) all = (all.0, front_holds n rest all.1)
+
+no_blocks : (items : List Seen) (position : ℕ) → Each IsNoHash items → blocks_at items position ≡ []
+no_blocks items position all = ap open_blocks (no_block_lines 0 (take position items) (front_holds position items all))
+
+-- the reader of such a text, and the expander over it
+abbrev reader_at : List Seen → ℕ → SourceReader
+reader_at items position = record { items = items; position = position; definitions = nothing_defined; line_offset = pos 0; truths = []; unfinished = 0 }
+
+abbrev state_at : List Seen → ℕ → Expander SourceReader
+state_at items position = record { held = None; list = []; reader = reader_at items position; hidden = [] }
+
+pub starts_there : (items : List Seen) → Each IsNoHash items → start items ≡ state_at items 0
+starts_there items all =
+    ap (λ (n : ℕ). record { held = None; list = []; reader = record (reader_at items 0) { unfinished = n }; hidden = [] }) (ap length (no_blocks items (length items) all))
+
+-- a token of a plain value, which is not `__LINE__`
+abbrev pub IsPlain : TokenValue → Type 0
+IsPlain value = IsSpellable value × (is_identifier line_name value ≡ false)
+
+module _ (A : Answers) (items : List Seen) (all : Each IsNoHash items) where
+  opens_nothing : (position : ℕ) (value : TokenValue) (location : Location) → opening (source_reading A) (state_at items position) (outcome.Token (record { value = value; location = location })) ≡ None
+  opens_nothing position (Ident name) location = refl
+  opens_nothing position (Integer i) location = refl
+  opens_nothing position (Float f) location = refl
+  opens_nothing position (Punct p) location = refl
+  opens_nothing position (Version v) location = refl
+  opens_nothing position (Extension x) location = refl
+  opens_nothing position (Pragma p) location = refl
+
+  live_there : (position : ℕ) → is_live items [] position ≡ true
+  live_there position = ap (list_all (is_branch_live [])) (no_blocks items position all)
+
+  act_there : (position : ℕ) (shown : Sight) → sight_of (drop position items) ≡ shown → act (reader_at items position) ≡ live_act shown (reader_at items position)
+  act_there position shown e =
+      let r = reader_at items position in
+      ap (λ live. if live then live_act (sight_of (drop position items)) r else dead_act (sight_of (drop position items)) r) (live_there position) ∙ ap (λ s. live_act s r) e
+
+  -- what comes first of this text is taken
+  taken_there : (position : ℕ) (x o : Outcome) (behind : ℕ) → Reads A (reader_at items position) x (reader_at items behind) → o ≡ read_outcome (shown_line (reader_at items behind)) x → Takes (source_reading A) (state_at items position) o (state_at items behind)
+  taken_there position x o behind r is = read x o (reader_at items behind) (state_at items position) (state_at items behind) refl refl r is refl
+
+  taken_plain : (shown : ℕ → Option ℕ) (value : TokenValue) (location : Location) → is_identifier line_name value ≡ false
+      → outcome.Token (record { value = value; location = location }) ≡ taken_token shown [] (record { value = value; location = location })
+  taken_plain shown value location e =
+      ap (λ b. if b then line_number location (shown (unwrap_or (outermost_line []) location.line)) else outcome.Token (record { value = value; location = location })) (sym e)
+
+  -- a token gives itself
+  gives_token : (position : ℕ) (value : TokenValue) (location : Location) → sight_of (drop position items) ≡ sight.Token (record { value = value; location = location }) → is_identifier line_name value ≡ false
+      → Emits (source_reading A) A (state_at items position) (outcome.Token (record { value = value; location = location })) (state_at items (position + 1))
+  gives_token position value location e plain =
+      let token : Token = record { value = value; location = location } in
+      let a = act_there position (sight.Token token) e in
+      let r = reader_at items position in
+      let s : Steps A r (Some (outcome.Token token)) (reader_at items (position + 1)) = gives (outcome.Token token) (Some (outcome.Token token)) r (reader_at items (position + 1)) (ap (λ x. x.step) a) refl (sym (ap (λ x. x.after) a)) in
+      itself (outcome.Token token) (state_at items position) (state_at items (position + 1))
+      (taken_there position (outcome.Token token) (outcome.Token token) (position + 1) (here (outcome.Token token) r (reader_at items (position + 1)) s) (taken_plain (shown_line (reader_at items (position + 1))) value location plain))
+      (opens_nothing (position + 1) value location)
+
+  ended_there : innermost (take 0 (blocks_at items (length items))) ≡ None
+  ended_there = ap (λ (blocks : List Block). innermost (take 0 blocks)) (no_blocks items (length items) all)
+
+  reads_end : (position : ℕ) → drop position items ≡ [] → Reads A (reader_at items position) outcome.End (reader_at items position)
+  reads_end position e =
+      let r = reader_at items position in
+      let a : act r ≡ record { step = step.Given outcome.End; after = r } = act_there position sight.End (ap sight_of e) ∙ ap (λ block. ended_by block r) ended_there in
+      here outcome.End r r (gives outcome.End (Some outcome.End) r r (ap (λ x. x.step) a) refl (sym (ap (λ x. x.after) a)))
+
+  -- behind the last token a newline may stand
+  reads_newline : (position : ℕ) → sight_of (drop position items) ≡ sight.NewLine → drop (position + 1) items ≡ [] → Reads A (reader_at items position) outcome.End (reader_at items (position + 1))
+  reads_newline position e last =
+      let r = reader_at items position in
+      let a = act_there position sight.NewLine e in
+      later outcome.End r (reader_at items (position + 1)) (reader_at items (position + 1)) (passes None r (reader_at items (position + 1)) (ap (λ x. x.step) a) refl (sym (ap (λ x. x.after) a))) (reads_end (position + 1) last)
+
+  gives_end : (position behind : ℕ) → Reads A (reader_at items position) outcome.End (reader_at items behind) → Emits (source_reading A) A (state_at items position) outcome.End (state_at items behind)
+  gives_end position behind r = itself outcome.End (state_at items position) (state_at items behind) (taken_there position outcome.End outcome.End behind r refl) refl
+
+  -- from a position on the run gives these values
+  pub record GivesFrom (position : ℕ) (values : List TokenValue) : Type 0 where
+    pub tokens : List Token
+    pub same : values_of tokens ≡ values
+    pub run : Runs A (state_at items position) (calls_for tokens) (replies_with tokens)
+
+  ends_run : (position behind : ℕ) → Reads A (reader_at items position) outcome.End (reader_at items behind) → GivesFrom position []
+  ends_run position behind r = record {
+    tokens = [];
+    same = refl;
+    run = given outcome.End (state_at items position) (state_at items behind) [] [] (reply.Given outcome.End ∷ []) (gives_end position behind r) refl (done (state_at items behind) [] refl) refl;
+  }
+
+  behind_one : (position : ℕ) (s : Seen) (rest : List Seen) → drop position items ≡ s ∷ rest → drop (position + 1) items ≡ rest
+  behind_one position s rest e = ap (λ n. drop n items) (omega arith) ∙ sym (drop-drop 1 position items) ∙ ap (drop 1) e
+
+  values_there : List Seen → List (Result LexerTokenValue PreprocessorError)
+  values_there rest = map (λ s. item_value s.item) rest
+
+  none_there : (rest : List Seen) → map (λ s. item_value s.item) rest ≡ [] → rest ≡ []
+  none_there [] e = refl
+  none_there (s ∷ rest) e = cc
+
+  plain_value : (location : Location) (value : LexerTokenValue) (blank at_start : Bool) (rest : List Seen) (v : TokenValue) → value ≡ lexer_value v → IsSpellable v
+      → token_sight (record { value = value; location = location; leading_whitespace = blank; start_of_line = at_start }) rest ≡ sight.Token (record { value = v; location = location })
+  plain_value location value blank at_start rest (Ident name) e h = rw e refl
+  plain_value location value blank at_start rest (Integer i) e h = rw e refl
+  plain_value location value blank at_start rest (Float f) e h = rw e refl
+  plain_value location value blank at_start rest (Punct p) e h = rw e refl
+  plain_value location value blank at_start rest (Version v) e h = absurd h
+  plain_value location value blank at_start rest (Extension x) e h = absurd h
+  plain_value location value blank at_start rest (Pragma p) e h = absurd h
+
+  abbrev ShowsToken : Lexeme → List Seen → TokenValue → Type 0
+  ShowsToken item rest v = (location : Location) × (item_sight item rest ≡ sight.Token (record { value = v; location = location }))
+
+  plain_item : (item : Lexeme) (rest : List Seen) (v : TokenValue) → item_value item ≡ Ok (lexer_value v) → IsSpellable v → ShowsToken item rest v
+  plain_item (Ok token) rest v e h = (token.location, plain_value token.location token.value token.leading_whitespace token.start_of_line rest v (same_value token (lexer_value v) e) h)
+  plain_item (Err fault) rest v e h = cc
+
+  newline_value : (location : Location) (value : LexerTokenValue) (blank at_start : Bool) (rest : List Seen) → value ≡ NewLine
+      → token_sight (record { value = value; location = location; leading_whitespace = blank; start_of_line = at_start }) rest ≡ sight.NewLine
+  newline_value location value blank at_start rest e = rw e refl
+
+  newline_item : (item : Lexeme) (rest : List Seen) → item_value item ≡ Ok NewLine → item_sight item rest ≡ sight.NewLine
+  newline_item (Ok token) rest e = newline_value token.location token.value token.leading_whitespace token.start_of_line rest (same_value token NewLine e)
+  newline_item (Err fault) rest e = cc
+
+  newline_last : (position : ℕ) (rest : List Seen) → drop position items ≡ rest → map (λ s. item_value s.item) rest ≡ Ok NewLine ∷ [] → GivesFrom position []
+  newline_last position [] e is = cc
+  newline_last position (s ∷ rest) e is =
+      let one : item_value s.item ≡ Ok NewLine = cc in
+      let none : map (λ t. item_value t.item) rest ≡ [] = cc in
+      ends_run position (position + 1) (reads_newline position (ap sight_of e ∙ newline_item s.item rest one) (behind_one position s rest e ∙ none_there rest none))
+
+  gives_first : (position : ℕ) (value : TokenValue) (values : List TokenValue) (location : Location) → sight_of (drop position items) ≡ sight.Token (record { value = value; location = location }) → is_identifier line_name value ≡ false
+      → GivesFrom (position + 1) values → GivesFrom position (value ∷ values)
+  gives_first position value values location e plain g =
+      let token : Token = record { value = value; location = location } in
+      record {
+        tokens = token ∷ g.tokens;
+        same = ap (λ later. value ∷ later) g.same;
+        run = given (outcome.Token token) (state_at items position) (state_at items (position + 1)) (calls_for g.tokens) (replies_with g.tokens) (replies_with (token ∷ g.tokens)) (gives_token position value location e plain) refl g.run refl;
+      }
+
+  -- such a text gives its values from each position on
+  pub gives_from : (values : List TokenValue) (last : List LexerTokenValue) (position : ℕ) (rest : List Seen) → drop position items ≡ rest → map (λ s. item_value s.item) rest ≡ map Ok (map lexer_value values ++ last)
+      → (last ≡ []) ⊎ (last ≡ NewLine ∷ []) → Each IsPlain values → GivesFrom position values
+  gives_from [] last position rest e is (inl none) plain = ends_run position position (reads_end position (e ∙ none_there rest (is ∙ ap (map Ok) none)))
+  gives_from [] last position rest e is (inr newline) plain = newline_last position rest e (is ∙ ap (map Ok) newline)
+  gives_from (value ∷ values) last position [] e is end plain = cc
+  gives_from (value ∷ values) last position (s ∷ rest) e is end plain =
+      let one : item_value s.item ≡ Ok (lexer_value value) = cc in
+      let more : map (λ t. item_value t.item) rest ≡ map Ok (map lexer_value values ++ last) = cc in
+      let shown = plain_item s.item rest value one plain.0.0 in
+      gives_first position value values shown.0 (ap sight_of e ∙ shown.1) plain.0.1 (gives_from values last (position + 1) rest (behind_one position s rest e) more end plain.1)
