@@ -31,6 +31,10 @@ module _ (name : Name) (tokens : List Token) (old new : Source) (h : IsSetIn nam
     truths = s.truths;
     unfinished = s.unfinished;
     unspent = s.unspent;
+    remembers_text = s.remembers_text;
+    remembers_directive = s.remembers_directive;
+    directives = s.directives;
+    off_line = s.off_line;
   }
 
   -- each state is now one in which the definition was added

@@ -9,7 +9,7 @@ use Rattle.pp_lexer.specs.declared.token.Token.{Token}
 use Rattle.pp_model.specs.Calls.{Fault}
 use Rattle.pp_model.specs.Definitions.{Definition}
 use Rattle.pp_model.specs.DefineLines.{defined_on}
-use Rattle.pp_model.specs.Lines.{line_length, line_fault, ended_line, only_name}
+use Rattle.pp_model.specs.Lines.{line_length, line_fault, comments_before_end, ended_line, only_name}
 use Rattle.pp_model.specs.Sights.{sight_of}
 use Rattle.pp_model.specs.declared.definition.Named.{Named}
 use Rattle.pp_model.specs.declared.directive.Directive.{Directive}
@@ -24,7 +24,8 @@ use Rattle.pp_rs.specs.Frames.{Layer, Advance, advance}
 use Rattle.pp_rs.specs.Reader.{Reader, of_source}
 use Rattle.pp_rs.specs.SoFar.{directive_fault}
 use Rattle.pp_rs.specs.OpenBlocks.{OpenBlock, last_block, is_live_in, block_parted}
-use Rattle.pp_rs.specs.SourceMoves.{Effect, gives, fails, ends, passes, defines, undefines, opens_where, opens_unread, parts, closes, unfinished, Move, line_move, skip_by, skip_move, else_effect, endif_move, live_move, dead_move, acting_move, unless_refused, move_at, move_of}
+use Rattle.pp_rs.specs.DirectiveItems.{version, extension, pragma, line_entries}
+use Rattle.pp_rs.specs.SourceMoves.{Effect, gives, gives_item, fails, ends, passes, defines, undefines, opens_where, opens_unread, parts, closes, unfinished, Note, Move, line_move, skip_by, skip_move, else_effect, endif_move, live_move, dead_move, acting_move, unless_refused, move_at, move_of}
 use Rattle.pp_rs.specs.Source.{Source, DefinesOver, HasEffect, IsRefusedStep, Makes}
 use Rattle.pp_rs.specs.Turns.{as_pause, frame_move, Moves, taken_in, opens, OpensOrGives, FollowsTaken, Follows, Turns}
 use Rattle.pp_rs.specs.Work.{digit_base, most_reads, most_names, work_left}
@@ -69,6 +70,9 @@ live_goes_on block d.Ifdef word behind = line_goes_on (only_name word behind) (o
 live_goes_on block d.Ifndef word behind = line_goes_on (only_name word behind) (opens_where false word) (line_length behind) (λ name. refl)
 live_goes_on block d.Else word behind = line_goes_on (ended_line word behind) (λ end. else_effect block word) (line_length behind) (λ end. else_goes_on block word)
 live_goes_on block d.Endif word behind = endif_goes_on block word behind
+live_goes_on block d.Version word behind = line_goes_on (line_entries behind) (λ tokens. gives_item (version tokens (comments_before_end behind)) word) (line_length behind) (λ tokens. refl)
+live_goes_on block d.Extension word behind = line_goes_on (line_entries behind) (λ tokens. gives_item (extension tokens) word) (line_length behind) (λ tokens. refl)
+live_goes_on block d.Pragma word behind = line_goes_on (line_entries behind) (λ tokens. gives_item (pragma tokens) word) (line_length behind) (λ tokens. refl)
 live_goes_on block _ word behind = refl
 
 dead_goes_on : (block : Option OpenBlock) (directive : Directive) (word : Location) (behind : List Seen) → is_end_effect (dead_move block directive word behind).effect ≡ false
@@ -105,29 +109,30 @@ sight_goes_on false block (sight.Hash location) rest h = refl
 sight_goes_on false block (sight.NoWord fault) rest h = refl
 sight_goes_on false block (sight.Directive directive word) rest h = refused_goes_on (directive_fault false directive word (drop 2 rest)) (acting_move false block directive word (drop 2 rest)) (acting_goes_on false block directive word (drop 2 rest))
 
-defines_on : (named : Named) (before : Option Definition) (taken : ℕ) (old new : Source) → DefinesOver named before taken old (Err Finished) new → ⊥
-defines_on named None taken old new h = let e = h.0 in cc
-defines_on named (Some before) taken old new (inl h) = let e = h.1 in cc
-defines_on named (Some before) taken old new (inr h) = let e = h.1 in cc
+defines_on : (named : Named) (before : Option Definition) (taken : ℕ) (note : Note) (old new : Source) → DefinesOver named before taken note old (Err Finished) new → ⊥
+defines_on named None taken note old new h = let e = h.0 in cc
+defines_on named (Some before) taken note old new (inl h) = let e = h.1 in cc
+defines_on named (Some before) taken note old new (inr h) = let e = h.1 in cc
 
-finished_ends : (effect : Effect) (taken : ℕ) (old new : Source) → HasEffect effect taken old (Err Finished) new → is_end_effect effect ≡ true
-finished_ends (gives token) taken old new h = let e = h.0 in cc
-finished_ends (fails fault) taken old new h = let e = h.0 in cc
-finished_ends ends taken old new h = refl
-finished_ends passes taken old new h = let e = h.0 in cc
-finished_ends (defines named) taken old new h = absurd (defines_on named (meaning_of old.definitions named.name) taken old new h)
-finished_ends (undefines name) taken old new h = let e = h.0 in cc
-finished_ends (opens_where wanted word name) taken old new h = let e = h.0 in cc
-finished_ends (opens_unread word) taken old new h = let e = h.0 in cc
-finished_ends (parts block) taken old new h = let e = h.0 in cc
-finished_ends closes taken old new h = let e = h.0 in cc
-finished_ends (unfinished word) taken old new h = let e = h.0 in cc
+finished_ends : (effect : Effect) (taken : ℕ) (note : Note) (old new : Source) → HasEffect effect taken note old (Err Finished) new → is_end_effect effect ≡ true
+finished_ends (gives token) taken note old new h = let e = h.0 in cc
+finished_ends (gives_item item word) taken note old new h = let e = h.0 in cc
+finished_ends (fails fault) taken note old new h = let e = h.0 in cc
+finished_ends ends taken note old new h = refl
+finished_ends passes taken note old new h = let e = h.0 in cc
+finished_ends (defines named) taken note old new h = absurd (defines_on named (meaning_of old.definitions named.name) taken note old new h)
+finished_ends (undefines name) taken note old new h = let e = h.0 in cc
+finished_ends (opens_where wanted word name) taken note old new h = let e = h.0 in cc
+finished_ends (opens_unread word) taken note old new h = let e = h.0 in cc
+finished_ends (parts block) taken note old new h = let e = h.0 in cc
+finished_ends closes taken note old new h = let e = h.0 in cc
+finished_ends (unfinished word) taken note old new h = let e = h.0 in cc
 
 -- behind the end of a source no item is left, and no open block
 abbrev HasNothing : Source → Type 0
 HasNothing source = (source.rest ≡ []) × (source.blocks ≡ [])
 
-end_nothing : (live : Bool) (last : Option OpenBlock) (rest : List Seen) (old new : Source) → last_block old.blocks ≡ last → old.rest ≡ [] → HasEffect (move_at live last sight.End rest).effect (move_at live last sight.End rest).taken old (Err Finished) new → HasNothing new
+end_nothing : (live : Bool) (last : Option OpenBlock) (rest : List Seen) (old new : Source) → last_block old.blocks ≡ last → old.rest ≡ [] → HasEffect (move_at live last sight.End rest).effect (move_at live last sight.End rest).taken (move_at live last sight.End rest).note old (Err Finished) new → HasNothing new
 end_nothing true None rest old new none e h = (ap (λ (s : Source). s.rest) h.1 ∙ e, ap (λ (s : Source). s.blocks) h.1 ∙ no_blocks_kept old.blocks none)
 end_nothing false None rest old new none e h = (ap (λ (s : Source). s.rest) h.1 ∙ e, ap (λ (s : Source). s.blocks) h.1 ∙ no_blocks_kept old.blocks none)
 end_nothing true (Some kept) rest old new some e h = let bad = h.0 in cc
@@ -137,7 +142,7 @@ makes_end : (rest : List Seen) (old new : Source) → old.rest ≡ rest → Make
 makes_end [] old new e h = end_nothing (is_live_in (last_block old.blocks)) (last_block old.blocks) [] old new refl e h
 makes_end (s ∷ rest) old new e h =
     let on : is_end_effect (move_of old.blocks (s ∷ rest)).effect ≡ false = sight_goes_on (is_live_in (last_block old.blocks)) (last_block old.blocks) (sight_of (s ∷ rest)) (s ∷ rest) (λ is. item_there s.item rest is) in
-    let off : is_end_effect (move_of old.blocks (s ∷ rest)).effect ≡ true = finished_ends (move_of old.blocks (s ∷ rest)).effect (move_of old.blocks (s ∷ rest)).taken old new h in
+    let off : is_end_effect (move_of old.blocks (s ∷ rest)).effect ≡ true = finished_ends (move_of old.blocks (s ∷ rest)).effect (move_of old.blocks (s ∷ rest)).taken (move_of old.blocks (s ∷ rest)).note old new h in
     absurd (let bad : false ≡ true = sym on ∙ off in cc)
 
 source_end : (old new : Source) (spent : Bool) → old.spent ≡ spent → spent ≡ false → MatchBool spent ((◌≡◌ {A = Step Token} (Err Finished) (Err Finished)) × (new ≡ old)) (IsRefusedStep old (Err Finished) ⊎ Makes (move_of old.blocks old.rest) old (Err Finished) new) → HasNothing new

@@ -1,5 +1,5 @@
--- A step that isn't the end had something left: an open macro, an item, or an open block.
-use Rattle.std.proofs.Common.{◌≡◌, ◌≢◌, ◌⊎◌, inl, inr, ℕ, ◌*◌, ◌-◌, ◌^◌, ◌<◌, length, ◌≤◌, arith, mul-le-mul, false, List, [], ◌∷◌, refl, ◌∙◌}
+-- A step that isn't the end had something left to read.
+use Rattle.std.proofs.Common.{◌≡◌, ◌≢◌, ◌⊎◌, inl, inr, ℕ, ◌*◌, ◌-◌, ◌^◌, ◌<◌, length, ◌≤◌, arith, mul-le-mul, false, Bool, List, [], ◌∷◌, refl, ◌∙◌}
 use Rattle.std.specs.Prelude.{Ok, Err}
 use Rattle.std.proofs.Math.Nat.{one-le-pow}
 use Rattle.pp_lexer.specs.Lexed.{Seen}
@@ -17,9 +17,9 @@ use Rattle.pp_rs.proofs.AdvanceLemmas.{some_steps_left}
 use Rattle.pp_rs.specs.declared.pp.step.StepExit.TheVariants.{Finished}
 
 -- a source with nothing left is at its end
-empty_source : (definitions : List Defined) (new : Source) (step : Step Token) → StepsSource (record { rest = []; definitions = definitions; blocks = []; spent = false }) step new → step ≡ Err Finished
-empty_source definitions new step (inl h) = absurd (h.some_left refl)
-empty_source definitions new step (inr h) = h.0
+empty_source : (definitions : List Defined) (has_text has_directive : Bool) (new : Source) (step : Step Token) → StepsSource (record { rest = []; definitions = definitions; blocks = []; spent = false; has_text = has_text; has_directive = has_directive }) step new → step ≡ Err Finished
+empty_source definitions has_text has_directive new step (inl h) = absurd (h.some_left refl)
+empty_source definitions has_text has_directive new step (inr h) = h.0
 
 -- what follows of the end is the end
 behind_end_is_end : (moved step : Step Token) (frames after : List Layer) (reader : Reader) → moved ≡ Err Finished → Follows moved frames reader step after → step ≡ Err Finished
@@ -27,13 +27,13 @@ behind_end_is_end (Ok token) step frames after reader e h = cc
 behind_end_is_end (Err exit) step frames after reader e h = h.0 ∙ e
 
 -- a step that isn't the end had a frame, an item, or an open block
-pub left_before : (frames after : List Layer) (rest : List Seen) (definitions : List Defined) (blocks : List OpenBlock) (new : Source) (step : Step Token)
-    → Turns frames (of_source (record { rest = rest; definitions = definitions; blocks = blocks; spent = false })) step after (of_source new) → (step ≡ Err Finished → ⊥) → (frames ≢ []) ⊎ (rest ≢ []) ⊎ (blocks ≢ [])
-left_before (f ∷ fs) after rest definitions blocks new step turn goes = inl (λ e. cc)
-left_before [] after (s ∷ rest) definitions blocks new step turn goes = inr (inl (λ e. cc))
-left_before [] after [] definitions (block ∷ blocks) new step turn goes = inr (inr (λ e. cc))
-left_before [] after [] definitions [] new step turn goes =
-    absurd (goes (behind_end_is_end turn.moved step turn.frames_then after (of_source new) (empty_source definitions new turn.moved turn.moves.1) turn.follows))
+pub left_before : (frames after : List Layer) (rest : List Seen) (definitions : List Defined) (blocks : List OpenBlock) (has_text has_directive : Bool) (new : Source) (step : Step Token)
+    → Turns frames (of_source (record { rest = rest; definitions = definitions; blocks = blocks; spent = false; has_text = has_text; has_directive = has_directive })) step after (of_source new) → (step ≡ Err Finished → ⊥) → (frames ≢ []) ⊎ (rest ≢ []) ⊎ (blocks ≢ [])
+left_before (f ∷ fs) after rest definitions blocks has_text has_directive new step turn goes = inl (λ e. cc)
+left_before [] after (s ∷ rest) definitions blocks has_text has_directive new step turn goes = inr (inl (λ e. cc))
+left_before [] after [] definitions (block ∷ blocks) has_text has_directive new step turn goes = inr (inr (λ e. cc))
+left_before [] after [] definitions [] has_text has_directive new step turn goes =
+    absurd (goes (behind_end_is_end turn.moved step turn.frames_then after (of_source new) (empty_source definitions has_text has_directive new turn.moved turn.moves.1) turn.follows))
 
 number_some : (base items : ℕ) (frames : List Layer) → (frames ≢ []) ⊎ (0 < items) → 0 < number_of base items frames
 number_some base items [] (inl left) = absurd (left refl)

@@ -1,6 +1,8 @@
 pub mod SpellingLemmas
 pub mod QuietLemmas
 pub mod LinedLemmas
+pub mod EndedLemmas
+pub mod HeldLemmas
 pub mod DirectiveLineLemmas
 pub mod SkippedLemmas
 pub mod ChangedLemmas
@@ -43,9 +45,16 @@ pub mod DefineLemmas
 pub mod DefinitionsLemmas
 pub mod LineReadingLemmas
 pub mod ContentLemmas
+pub mod CommentsBehindLemmas
 pub mod SourceActsLemmas
+pub mod UnnotedLemmas
+pub mod NotedLemmas
 pub mod SourceStepLemmas
 pub mod LinesBeforeLemmas
+pub mod DirectivePlaceLemmas
+pub mod DirectiveBeforeLemmas
+pub mod TextBeforeLemmas
+pub mod RememberedLemmas
 pub mod StandsBehindLemmas
 pub mod AddingLemmas
 pub mod ComesLemmas

@@ -28,7 +28,7 @@ same_newline (Float f) = refl
 same_newline (Punct p) = refl
 
 -- an item ends a line where the lexer is at a line's start behind it
-ends_with : (f : Flags) (first last : Spot) (r : Result TokenValue PreprocessorError) → ends_line (lexeme_seen f first last r) ≡ is_newline_result r
+pub ends_with : (f : Flags) (first last : Spot) (r : Result TokenValue PreprocessorError) → ends_line (lexeme_seen f first last r) ≡ is_newline_result r
 ends_with f first last (Ok value) = same_newline value
 ends_with f first last (Err fault) = refl
 

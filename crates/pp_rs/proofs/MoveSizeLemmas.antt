@@ -1,17 +1,19 @@
 -- A directive takes at least as much as it adds, but for its number sign and its word.
 use Rattle.std.proofs.Common.{◌≡◌, ℕ, ◌+◌, ◌≤◌, Bool, true, false, if◌then◌else◌, List, length, refl, subst, arith, Option, Some, None, Result, Ok, Err, IfOk}
+use Rattle.pp_lexer.specs.Entry.{Entry}
 use Rattle.pp_lexer.specs.Lexed.{Seen}
 use Rattle.pp_lexer.specs.declared.token.Location.{Location}
 use Rattle.pp_lexer.specs.declared.token.PreprocessorError.TheVariants.{MoreThanOneElse}
 use Rattle.pp_model.specs.Calls.{Fault}
 use Rattle.pp_model.specs.DefineLines.{defined_on}
-use Rattle.pp_model.specs.Lines.{line_length, line_fault, ended_line, only_name}
+use Rattle.pp_model.specs.Lines.{line_length, line_fault, comments_before_end, ended_line, only_name}
 use Rattle.pp_model.specs.declared.definition.Named.{Named}
 use Rattle.pp_model.specs.declared.directive.Directive.{Directive}
 use Rattle.pp_model.specs.declared.directive.Directive.TheVariants as d
+use Rattle.pp_rs.specs.DirectiveItems.{DirectiveItem, version, extension, pragma, line_entries}
 use Rattle.pp_rs.specs.OpenBlocks.{OpenBlock, block_parted}
 use Rattle.pp_rs.specs.SoFar.{directive_fault}
-use Rattle.pp_rs.specs.SourceMoves.{Effect, fails, defines, undefines, opens_where, opens_unread, parts, closes, passes, unfinished, Move, failing, line_move, skip_by, skip_move, else_effect, else_move, endif_move, live_move, dead_move, acting_move, directive_move, unless_refused}
+use Rattle.pp_rs.specs.SourceMoves.{Effect, gives_item, fails, defines, undefines, opens_where, opens_unread, parts, closes, passes, unfinished, Move, failing, line_move, skip_by, skip_move, else_effect, else_move, endif_move, item_move, live_move, dead_move, acting_move, directive_move, unless_refused}
 use Rattle.pp_rs.proofs.BodyLemmas.{line_length_least, defined_least}
 
 -- how many tokens an effect defines, or blocks it adds; a block that is parted counts as one that is added
@@ -78,6 +80,9 @@ module _ (word : Location) (behind : List Seen) where
       go true = line_within (ended_line word behind) (λ end. closes) (λ value e. small)
       go false = skip_within closes small
 
+  item_within : (item : List Entry → DirectiveItem) → IsWithin (item_move item word behind) (length behind)
+  item_within item = line_within (line_entries behind) (λ tokens. gives_item (item tokens) word) (λ value is. record { untold = refl; adds = omega arith })
+
   module _ (block : Option OpenBlock) where
     live_within : (directive : Directive) → directive_fault true directive word behind ≡ None → IsWithin (live_move block directive word behind) (length behind)
     live_within d.Define e = line_within (defined_on word behind) defines (define_small e)
@@ -86,6 +91,9 @@ module _ (word : Location) (behind : List Seen) where
     live_within d.Ifndef e = line_within (only_name word behind) (opens_where false word) (λ value is. record { untold = refl; adds = omega arith })
     live_within d.Else e = else_within block
     live_within d.Endif e = endif_within block
+    live_within d.Version e = item_within (λ tokens. version tokens (comments_before_end behind))
+    live_within d.Extension e = item_within extension
+    live_within d.Pragma e = item_within pragma
     live_within _ e = failing_within _ (length behind)
 
     unread_within : IsWithin (skip_move (opens_unread word) behind) (length behind)

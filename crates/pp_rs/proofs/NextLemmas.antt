@@ -1,18 +1,13 @@
 -- What the loop of `next` has reached, and what its answers are to the state that it began in.
-use Rattle.std.proofs.Common.{◌≡◌, ◌∙◌, ◌<◌, ◌≤◌, ◌⊎◌, inl, inr, Bool, true, false, if◌then◌else◌, List, refl, ap, sym, subst, Option, Some, None, IsTrue, arith}
+use Rattle.std.proofs.Common.{◌≡◌, ◌∙◌, ◌<◌, ◌≤◌, ◌⊎◌, inl, inr, Bool, true, false, if◌then◌else◌, List, refl, ap, sym, subst, Option, Some, None, arith}
 use Rattle.std.specs.Prelude.{Ok, Err, MatchBool, not}
-use Rattle.std.proofs.lemmas.List.Elements.{All-nil}
 use Rattle.pp_lexer.specs.PreprocessorError.{out_of_memory}
-use Rattle.pp_lexer.specs.TokenValue.{is_ordinary}
-use Rattle.pp_lexer.specs.Entry.{Entry}
 use Rattle.pp_lexer.specs.declared.token.Token.{Token}
-use Rattle.pp_lexer.specs.declared.token.TokenValue.{TokenValue}
-use Rattle.pp_lexer.specs.declared.token.TokenValue.TheVariants.{Ident, Integer, Float, Punct, Version, Extension, Pragma}
 use Rattle.pp_model.specs.Emitting.{answers_at, expansion_limit}
 use Rattle.pp_model.specs.Calls.{Fault}
 use Rattle.pp_model.specs.Reading.{Expander}
 use Rattle.pp_model.specs.SourceReader.{SourceReader}
-use Rattle.pp_rs.specs.Held.{is_ordinary_leaf, HoldsOrdinary}
+use Rattle.pp_rs.specs.Held.{HoldsOrdinary}
 use Rattle.pp_rs.specs.Item.{Item, Step, is_out_of_memory, wants_memory}
 use Rattle.pp_rs.specs.Frames.{Layer}
 use Rattle.pp_rs.specs.Reader.{of_source}
@@ -31,16 +26,6 @@ use Rattle.pp_rs.proofs.TurnLemmas.{turns_sound}
 use Rattle.pp_rs.proofs.UnspentLemmas.{turns_unspent}
 use Rattle.pp_rs.proofs.WorkLemmas.{turns_fall}
 
--- an ordinary token holds no others
-pub ordinary_holds : (value : TokenValue) → IsTrue (is_ordinary value) → HoldsOrdinary value
-ordinary_holds (Ident name) h = All-nil (λ (entry : Entry). IsTrue (is_ordinary_leaf entry.leaf))
-ordinary_holds (Integer n) h = All-nil (λ (entry : Entry). IsTrue (is_ordinary_leaf entry.leaf))
-ordinary_holds (Float f) h = All-nil (λ (entry : Entry). IsTrue (is_ordinary_leaf entry.leaf))
-ordinary_holds (Punct p) h = All-nil (λ (entry : Entry). IsTrue (is_ordinary_leaf entry.leaf))
-ordinary_holds (Version v) h = cc
-ordinary_holds (Extension e) h = cc
-ordinary_holds (Pragma p) h = cc
-
 -- a state from which the same comes next as from the first
 pub record Reached (frames : List Layer) (source : Source) (frames_now : List Layer) (source_now : Source) : Type 0 where
   pub unspent : source_now.spent ≡ false
@@ -51,7 +36,7 @@ pub record Reached (frames : List Layer) (source : Source) (frames_now : List La
 
 left_now : (frames after : List Layer) (old new : Source) (step : Step Token) → old.spent ≡ false → Turns frames (of_source old) step after (of_source new) → (step ≡ Err Finished → ⊥) → SomethingLeft frames old
 left_now frames after old new step unspent turn goes =
-    left_before frames after old.rest old.definitions old.blocks new step (subst (λ (b : Bool). Turns frames (of_source (record { rest = old.rest; definitions = old.definitions; blocks = old.blocks; spent = b })) step after (of_source new)) unspent turn) goes
+    left_before frames after old.rest old.definitions old.blocks old.has_text old.has_directive new step (subst (λ (b : Bool). Turns frames (of_source (record { rest = old.rest; definitions = old.definitions; blocks = old.blocks; spent = b; has_text = old.has_text; has_directive = old.has_directive })) step after (of_source new)) unspent turn) goes
 
 module _ (frames now after : List Layer) (source source_now source_after : Source) (r : Reached frames source now source_now) where
   -- a pause
@@ -97,16 +82,16 @@ module _ (frames now after : List Layer) (source source_now source_after : Sourc
     as_next : (answer : Option Item) (new : Preprocessing) → IsRefusedItem old answer new ⊎ IsGivenItem old answer new → IsNextItem old answer new
     as_next answer new h = subst (λ (b : Bool). MatchBool b ((answer ≡ None) × (new ≡ old)) (IsRefusedItem old answer new ⊎ IsGivenItem old answer new)) (sym fresh) h
 
-    pub next_token : (token : Token) (spent : Bool) → spent ≡ false → Turns now (of_source source_now) (Ok token) after (of_source source_after) → IsTrue (is_ordinary token.value)
+    pub next_token : (token : Token) (spent : Bool) → spent ≡ false → Turns now (of_source source_now) (Ok token) after (of_source source_after) → HoldsOrdinary token.value
         → IsNextItem old (Some (Ok token)) (record { frames = after; source = source_after; spent = spent })
-    next_token token true fresh_now turn ordinary = cc
-    next_token token false fresh_now turn ordinary =
+    next_token token true fresh_now turn holds = cc
+    next_token token false fresh_now turn holds =
         let falls : work_left after source_after < work_left now source_now = turns_fall now after source_now source_after (Ok token) r.sound turn refl in
         as_next (Some (Ok token)) (record { frames = after; source = source_after; spent = false }) (inr (record {
           item = λ e stands.
               let leads : LeadsFrom (answers_at expansion_limit) e (Ok token) after source_after = (leads_last (Ok token) turn refl).from e (stands_first e stands) in
               record { after = leads.0; emits = leads.1; goes_on = leads.2 };
-          holds = ordinary_holds token.value ordinary;
+          holds = holds;
           less_left = omega (arith, falls, r.less, most_first);
           spent = refl;
         }))

@@ -87,6 +87,17 @@ pub one_there : (rest : List Seen) → is_one_item (sight_of rest) ≡ true → 
 one_there [] h = cc
 one_there (s ∷ rest) h = omega arith
 
+-- such an item, and that it is no number sign of a directive
+pub record OneInFront (rest : List Seen) : Type 0 where
+  pub first : Seen
+  pub later : List Seen
+  pub front : rest ≡ first ∷ later
+  pub quiet : is_directive_hash first.item ≡ false
+
+pub one_in_front : (rest : List Seen) → is_one_item (sight_of rest) ≡ true → OneInFront rest
+one_in_front [] h = cc
+one_in_front (s ∷ rest) h = record { first = s; later = rest; front = refl; quiet = one_lexeme s.item rest h }
+
 -- a number sign of a directive with a token behind it that is no word
 pub record BeginsNoWord (fault : Fault) (rest : List Seen) : Type 0 where
   pub hash : Seen

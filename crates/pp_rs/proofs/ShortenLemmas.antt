@@ -8,7 +8,7 @@ use Rattle.pp_model.specs.declared.directive.Directive.{Directive}
 use Rattle.pp_model.specs.declared.sight.Sight.{Sight}
 use Rattle.pp_model.specs.declared.sight.Sight.TheVariants as sight
 use Rattle.pp_rs.specs.OpenBlocks.{OpenBlock, last_block, is_live_in}
-use Rattle.pp_rs.specs.SourceMoves.{Effect, fails, ends, Move, directive_move, taking_more, end_effect, live_move_at, dead_move_at, move_at, move_of}
+use Rattle.pp_rs.specs.SourceMoves.{Effect, fails, ends, unnoted, Move, directive_move, taking_more, end_effect, live_move_at, dead_move_at, move_at, move_of}
 use Rattle.pp_rs.proofs.DirectiveLineLemmas.{begins_directive}
 use Rattle.pp_rs.proofs.MoveSizeLemmas.{effect_adds, tells_block, IsWithin, directive_within}
 
@@ -39,7 +39,7 @@ module _ (blocks : List OpenBlock) (rest : List Seen) where
   directive_shortens true directive word is e = within_shortens (directive_move true (last_block blocks) directive word (drop 2 rest)) (directive_within word (drop 2 rest) (last_block blocks) true directive) (two_items rest directive word is)
   directive_shortens false directive word is e = within_shortens (directive_move false (last_block blocks) directive word (drop 2 rest)) (directive_within word (drop 2 rest) (last_block blocks) false directive) (two_items rest directive word is)
 
-  end_shortens : (block : Option OpenBlock) → last_block blocks ≡ block → Shortens (record { effect = end_effect block; taken = 0 }) (length rest) (length blocks)
+  end_shortens : (block : Option OpenBlock) → last_block blocks ≡ block → Shortens (record { effect = end_effect block; taken = 0; note = unnoted }) (length rest) (length blocks)
   end_shortens None is e = absurd (cc)
   end_shortens (Some block) is e = omega (arith, slice_get_within blocks (length blocks - 1) block is)
 

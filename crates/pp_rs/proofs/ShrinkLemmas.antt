@@ -8,7 +8,7 @@ use Rattle.pp_rs.specs.Defined.{meaning_of, body_tokens}
 use Rattle.pp_rs.specs.Item.{Step}
 use Rattle.pp_rs.specs.OpenBlocks.{OpenBlock, outer_blocks, block_opened, block_unread}
 use Rattle.pp_rs.specs.Source.{Source, IsBehind, IsBehindFault, IsBehindBlock, DefinesOver, holds_where, HasEffect, Makes, IsRefusedStep, StepsSource}
-use Rattle.pp_rs.specs.SourceMoves.{Effect, gives, fails, ends, passes, defines, undefines, opens_where, opens_unread, parts, closes, unfinished, Move, move_of}
+use Rattle.pp_rs.specs.SourceMoves.{Effect, gives, gives_item, fails, ends, passes, defines, undefines, opens_where, opens_unread, parts, closes, unfinished, Note, Move, move_of}
 use Rattle.pp_rs.specs.Work.{goes_on, most_reads, most_names, most_steps}
 use Rattle.pp_rs.specs.declared.pp.step.StepExit.TheVariants.{Finished}
 use Rattle.pp_rs.proofs.ShortenLemmas.{Shortens, move_of_shortens}
@@ -24,18 +24,18 @@ parted_least : (blocks : List OpenBlock) (block : OpenBlock) → length (outer_b
 parted_least blocks block = omega (arith, length_push (outer_blocks blocks) block, length-take (length blocks - 1) blocks)
 
 module _ (old new : Source) where
-  behind_shrinks : (taken adds : ℕ) (blocks : List OpenBlock) → IsBehind taken blocks old new → length new.definitions ≤ length old.definitions + 1 → body_tokens new.definitions + length blocks ≤ body_tokens old.definitions + length old.blocks + adds
+  behind_shrinks : (taken adds : ℕ) (note : Note) (blocks : List OpenBlock) → IsBehind taken note blocks old new → length new.definitions ≤ length old.definitions + 1 → body_tokens new.definitions + length blocks ≤ body_tokens old.definitions + length old.blocks + adds
       → length old.rest - taken + length old.blocks + adds < length old.rest + length old.blocks → length blocks ≤ length old.blocks + adds → Shrinks old new
-  behind_shrinks taken adds blocks behind names more low few =
+  behind_shrinks taken adds note blocks behind names more low few =
       let left : length new.rest ≡ length old.rest - taken = ap length behind.rest ∙ length-drop taken old.rest in
       let still : length new.blocks ≡ length blocks = ap length behind.blocks in
       record { shorter = omega arith; names = omega arith; steps = omega arith }
 
-  passed_shrinks : (taken adds : ℕ) (blocks : List OpenBlock) → IsBehind taken blocks old new → new.definitions ≡ old.definitions → length old.rest - taken + length old.blocks + adds < length old.rest + length old.blocks → length blocks ≤ length old.blocks + adds → Shrinks old new
-  passed_shrinks taken adds blocks behind same low few =
+  passed_shrinks : (taken adds : ℕ) (note : Note) (blocks : List OpenBlock) → IsBehind taken note blocks old new → new.definitions ≡ old.definitions → length old.rest - taken + length old.blocks + adds < length old.rest + length old.blocks → length blocks ≤ length old.blocks + adds → Shrinks old new
+  passed_shrinks taken adds note blocks behind same low few =
       let names : length new.definitions ≡ length old.definitions = ap length same in
       let more : body_tokens new.definitions ≡ body_tokens old.definitions = ap body_tokens same in
-      behind_shrinks taken adds blocks behind (omega arith) (omega arith) low few
+      behind_shrinks taken adds note blocks behind (omega arith) (omega arith) low few
 
   stays_shrinks : new.definitions ≡ old.definitions → most_reads new < most_reads old → Shrinks old new
   stays_shrinks same shorter =
@@ -49,27 +49,28 @@ module _ (old new : Source) where
   block_shrinks : IsBehindBlock old new → length old.rest + (length old.blocks - 1) < length old.rest + length old.blocks → Shrinks old new
   block_shrinks behind low = stays_shrinks behind.definitions (omega (arith, ap length behind.rest, ap length behind.blocks, length-take (length old.blocks - 1) old.blocks))
 
-  define_shrinks : (named : Named) (o : Option Definition) (taken : ℕ) (step : Step Token) → length old.rest - taken + length old.blocks + length named.definition.body < length old.rest + length old.blocks → DefinesOver named o taken old step new → Shrinks old new
-  define_shrinks named None taken step low h = behind_shrinks taken (length named.definition.body) old.blocks h.1 h.2.names (omega (arith, h.2.tokens)) low (omega arith)
-  define_shrinks named (Some before) taken step low (inl h) = passed_shrinks taken (length named.definition.body) old.blocks h.2 h.3 low (omega arith)
-  define_shrinks named (Some before) taken step low (inr h) = fault_shrinks h.2
+  define_shrinks : (named : Named) (o : Option Definition) (taken : ℕ) (note : Note) (step : Step Token) → length old.rest - taken + length old.blocks + length named.definition.body < length old.rest + length old.blocks → DefinesOver named o taken note old step new → Shrinks old new
+  define_shrinks named None taken note step low h = behind_shrinks taken (length named.definition.body) note old.blocks h.1 h.2.names (omega (arith, h.2.tokens)) low (omega arith)
+  define_shrinks named (Some before) taken note step low (inl h) = passed_shrinks taken (length named.definition.body) note old.blocks h.2 h.3 low (omega arith)
+  define_shrinks named (Some before) taken note step low (inr h) = fault_shrinks h.2
 
-  effect_shrinks : (effect : Effect) (taken : ℕ) (step : Step Token) → Shortens (record { effect = effect; taken = taken }) (length old.rest) (length old.blocks) → HasEffect effect taken old step new → step ≢ Err Finished → Shrinks old new
-  effect_shrinks (gives token) taken step low h not_end = passed_shrinks taken 0 old.blocks h.1 h.2 (low refl) (omega arith)
-  effect_shrinks (fails fault) taken step low h not_end = fault_shrinks h.1
-  effect_shrinks ends taken step low h not_end = absurd (not_end h.0)
-  effect_shrinks passes taken step low h not_end = passed_shrinks taken 0 old.blocks h.1 h.2 (low refl) (omega arith)
-  effect_shrinks (defines named) taken step low h not_end = define_shrinks named (meaning_of old.definitions named.name) taken step (low refl) h
-  effect_shrinks (undefines name) taken step low h not_end =
+  effect_shrinks : (effect : Effect) (taken : ℕ) (note : Note) (step : Step Token) → Shortens (record { effect = effect; taken = taken; note = note }) (length old.rest) (length old.blocks) → HasEffect effect taken note old step new → step ≢ Err Finished → Shrinks old new
+  effect_shrinks (gives token) taken note step low h not_end = passed_shrinks taken 0 note old.blocks h.1 h.2 (low refl) (omega arith)
+  effect_shrinks (gives_item item word) taken note step low h not_end = passed_shrinks taken 0 note old.blocks h.1 h.2 (low refl) (omega arith)
+  effect_shrinks (fails fault) taken note step low h not_end = fault_shrinks h.1
+  effect_shrinks ends taken note step low h not_end = absurd (not_end h.0)
+  effect_shrinks passes taken note step low h not_end = passed_shrinks taken 0 note old.blocks h.1 h.2 (low refl) (omega arith)
+  effect_shrinks (defines named) taken note step low h not_end = define_shrinks named (meaning_of old.definitions named.name) taken note step (low refl) h
+  effect_shrinks (undefines name) taken note step low h not_end =
       let names : length new.definitions ≤ length old.definitions + 0 = h.2.names in
-      behind_shrinks taken 0 old.blocks h.1 (omega arith) (omega (arith, h.2.tokens)) (low refl) (omega arith)
-  effect_shrinks (opens_where wanted word name) taken step low h not_end =
+      behind_shrinks taken 0 note old.blocks h.1 (omega arith) (omega (arith, h.2.tokens)) (low refl) (omega arith)
+  effect_shrinks (opens_where wanted word name) taken note step low h not_end =
       let block = block_opened word (holds_where wanted (meaning_of old.definitions name)) in
-      passed_shrinks taken 1 (old.blocks ++ block ∷ []) h.1 h.2 (low refl) (omega (arith, length_push old.blocks block))
-  effect_shrinks (opens_unread word) taken step low h not_end = passed_shrinks taken 1 (old.blocks ++ block_unread word ∷ []) h.1 h.2 (low refl) (omega (arith, length_push old.blocks (block_unread word)))
-  effect_shrinks (parts block) taken step low h not_end = passed_shrinks taken 1 (outer_blocks old.blocks ++ block ∷ []) h.1 h.2 (low refl) (parted_least old.blocks block)
-  effect_shrinks closes taken step low h not_end = passed_shrinks taken 0 (outer_blocks old.blocks) h.1 h.2 (low refl) (omega (arith, length-take (length old.blocks - 1) old.blocks))
-  effect_shrinks (unfinished word) taken step low h not_end = block_shrinks h.1 (low refl)
+      passed_shrinks taken 1 note (old.blocks ++ block ∷ []) h.1 h.2 (low refl) (omega (arith, length_push old.blocks block))
+  effect_shrinks (opens_unread word) taken note step low h not_end = passed_shrinks taken 1 note (old.blocks ++ block_unread word ∷ []) h.1 h.2 (low refl) (omega (arith, length_push old.blocks (block_unread word)))
+  effect_shrinks (parts block) taken note step low h not_end = passed_shrinks taken 1 note (outer_blocks old.blocks ++ block ∷ []) h.1 h.2 (low refl) (parted_least old.blocks block)
+  effect_shrinks closes taken note step low h not_end = passed_shrinks taken 0 note (outer_blocks old.blocks) h.1 h.2 (low refl) (omega (arith, length-take (length old.blocks - 1) old.blocks))
+  effect_shrinks (unfinished word) taken note step low h not_end = block_shrinks h.1 (low refl)
 
   -- so does a step behind which reading goes on
   pub source_shrinks : (step : Step Token) → StepsSource old step new → goes_on step ≡ true → Shrinks old new
@@ -81,4 +82,4 @@ module _ (old new : Source) where
       go : (b : Bool) → MatchBool b ((step ≡ Err Finished) × (new ≡ old)) (IsRefusedStep old step ⊎ Makes move old step new) → Shrinks old new
       go true h = absurd (goes_on_not_end step on h.0)
       go false (inl h) = absurd (goes_on_not_want step on h.fault)
-      go false (inr h) = effect_shrinks move.effect move.taken step (move_of_shortens old.blocks old.rest) h (goes_on_not_end step on)
+      go false (inr h) = effect_shrinks move.effect move.taken move.note step (move_of_shortens old.blocks old.rest) h (goes_on_not_end step on)

@@ -1,26 +1,31 @@
 -- Each step of the source that is kept is one of the reader that it stands for.
-use Rattle.std.proofs.Common.{◌≡◌, ◌∙◌, ◌⊎◌, inl, inr, ℕ, ◌+◌, ◌≤◌, Bool, true, false, not, if◌then◌else◌, List, [], ◌∷◌, ◌++◌, length, take, drop, refl, ap, sym, subst, Option, Some, None, arith, length-drop}
+use Rattle.std.proofs.Common.{◌≡◌, ◌∙◌, ◌⊎◌, inl, inr, ℕ, ◌+◌, ◌≤◌, Bool, true, false, ◌&&◌, ◌||◌, not, if◌then◌else◌, List, [], ◌∷◌, ◌++◌, length, take, drop, refl, ap, sym, subst, Option, Some, None, arith, length-drop}
 use Rattle.std.specs.Prelude.{Result, Ok, Err, MatchBool, is_some}
 use Rattle.std.specs.List.{cons_option}
+use Rattle.std.proofs.Math.Bool.{and-false}
 use Rattle.std.proofs.lemmas.List.{take_all}
+use Rattle.pp_lexer.specs.Entry.{Entry}
 use Rattle.pp_lexer.specs.Lexed.{Seen}
 use Rattle.pp_lexer.specs.Items.{Lexeme}
 use Rattle.pp_lexer.specs.declared.lexer.item.Token.{Token as LexerToken}
 use Rattle.pp_lexer.specs.declared.lexer.item.TokenValue.{TokenValue as LexerTokenValue}
 use Rattle.pp_lexer.specs.declared.lexer.item.TokenValue.TheVariants.{Hash, NewLine, Ident as LexerIdent, Integer as LexerInteger, Float as LexerFloat, Punct as LexerPunct}
 use Rattle.pp_lexer.specs.declared.token.Location.{Location}
-use Rattle.pp_lexer.specs.declared.token.PreprocessorError.TheVariants.{DefineRedefined, UnknownDirective, UnexpectedHash, ElseOutsideOfBlock, EndifOutsideOfBlock, MoreThanOneElse, UnfinishedBlock}
+use Rattle.pp_lexer.specs.declared.token.PreprocessorError.TheVariants.{DefineRedefined, ErrorDirective, UnknownDirective, UnexpectedHash, ElseOutsideOfBlock, EndifOutsideOfBlock, MoreThanOneElse, UnfinishedBlock}
+use Rattle.pp_lexer.specs.Preorder.{preorder}
 use Rattle.pp_lexer.specs.declared.token.Token.{Token}
+use Rattle.pp_lexer.specs.declared.token.TokenValue.{TokenValue}
+use Rattle.pp_lexer.specs.declared.token.TokenValue.TheVariants.{Version, Extension, Pragma}
 use Rattle.pp_model.specs.Names.{Name}
 use Rattle.pp_model.specs.Conversions.{identifier_of}
 use Rattle.pp_model.specs.Definitions.{Definition, Definitions, changed, IsSameDefinition}
 use Rattle.pp_model.specs.Calls.{Fault}
-use Rattle.pp_model.specs.Lines.{first_token, line_length, line_fault, ended_line, only_name}
+use Rattle.pp_model.specs.Lines.{◌>>=◌, first_token, line_length, line_fault, line_tokens, comments_before_end, ended_line, only_name}
 use Rattle.pp_model.specs.DefineLines.{defined_on}
-use Rattle.pp_model.specs.Sights.{sight_of, item_sight, token_sight, directive_sight, named_directive}
+use Rattle.pp_model.specs.Sights.{sight_of, item_sight, token_sight, directive_sight, named_directive, is_text}
 use Rattle.pp_model.specs.Blocks.{part_of, line_with, line_at, block_lines, Block, Truths, blocks_at, innermost, is_live, are_surroundings_live, has_else}
-use Rattle.pp_model.specs.SourceReader.{SourceReader}
-use Rattle.pp_model.specs.Acts.{Acted, passed, failed, behind_word, behind_line, moved, decided, is_defined_now, skipped_by, skipped, acted, failed_at, only_word, else_in, endif_in, else_line, endif_line, live_act, dead_act, ended_by, act}
+use Rattle.pp_model.specs.SourceReader.{SourceReader, has_directive, has_live_text_before, is_first_directive}
+use Rattle.pp_model.specs.Acts.{Acted, passed, failed, given, line_item, behind_word, behind_line, moved, decided, is_defined_now, skipped_by, skipped, acted, failed_at, only_word, else_in, endif_in, else_line, endif_line, live_act, dead_act, ended_by, act}
 use Rattle.pp_model.specs.Reads.{passes, gives, defines, repeats, redefines, defining}
 use Rattle.pp_model.specs.declared.block.Part.{Part}
 use Rattle.pp_model.specs.declared.block.Part.TheVariants as part
@@ -33,10 +38,12 @@ use Rattle.pp_model.specs.declared.sight.Sight.TheVariants as sight
 use Rattle.pp_model.specs.declared.step.Step.TheVariants as step
 use Rattle.pp_rs.specs.Item.{Step, wants_memory}
 use Rattle.pp_rs.specs.Defined.{Defined, meaning_of, IsChanged}
+use Rattle.pp_rs.specs.DirectiveItems.{DirectiveItem, version, extension, pragma, value_of}
 use Rattle.pp_rs.specs.Lined.{AreLined}
 use Rattle.pp_rs.specs.OpenBlocks.{OpenBlock, last_block, outer_blocks, is_live_in, block_opened, block_unread, block_parted, StandForBlocks, AreBefore}
 use Rattle.pp_rs.specs.SoFar.{fault_at, fault_so_far, live_fault, dead_fault, acts, refused}
 use Rattle.pp_rs.specs.SourceMoves as moves
+use Rattle.pp_rs.specs.SourceMoves.{notes_text, notes_directive}
 use Rattle.pp_rs.specs.Source.{Source, IsBehind, HasEffect, DefinesOver, Pauses, holds_where, Makes, IsRefusedStep}
 use Rattle.pp_rs.specs.Stands.{AreObjectLike, StandsForReader}
 use Rattle.pp_rs.specs.declared.pp.step.StepExit.TheVariants.{Error, Continue, Finished}
@@ -44,12 +51,15 @@ use Rattle.pp_rs.proofs.BlockStackLemmas.{innermost_last}
 use Rattle.pp_rs.proofs.BlockStepLemmas.{AddsLine, opens_read, opens_unread, closes_last, parts_else}
 use Rattle.pp_rs.proofs.BodyLemmas.{line_length_least}
 use Rattle.pp_rs.proofs.ChangedLemmas.{changed_object_like, some_object_like}
+use Rattle.pp_rs.proofs.DirectiveBeforeLemmas.{begins_with_hash, AddsDirective, word_adds, no_word_adds}
 use Rattle.pp_rs.proofs.DirectiveLineLemmas.{begins_directive, quiet_word, define_plain}
 use Rattle.pp_rs.proofs.LinesBeforeLemmas.{AddsLines, adds_one, directive_adds}
-use Rattle.pp_rs.proofs.QuietLemmas.{is_one_item, quiet_item, quiet_one, one_there, BeginsNoWord, begins_no_word}
+use Rattle.pp_rs.proofs.QuietLemmas.{is_one_item, quiet_item, quiet_one, one_there, one_in_front, BeginsNoWord, begins_no_word}
+use Rattle.pp_rs.proofs.RememberedLemmas.{IsRemembered, one_remembered, two_remembered, line_remembered}
 use Rattle.pp_rs.proofs.Simulates.{Simulated, SimulatedFault, Simulates, SourceSimulates}
 use Rattle.pp_rs.proofs.SkippedLemmas.{quiet_behind_word}
-use Rattle.pp_rs.proofs.StandsBehindLemmas.{block_here, none_here, live_now, lined_here, behind_here, stands_further, blocks_stay, blocks_split}
+use Rattle.pp_rs.proofs.StandsBehindLemmas.{block_here, none_here, live_now, lined_here, behind_here, remembered_here, stands_further, blocks_stay, blocks_split}
+use Rattle.pp_rs.proofs.TextBeforeLemmas.{text_before_truth}
 use Rattle.pp_rs.proofs.TruthLemmas.{with_truth, before_unread, before_later, before_more}
 
 word_there : (token : LexerToken) (name : Option Name) → named_directive token name ≡ sight.End → ⊥
@@ -112,13 +122,13 @@ module _ (old new : Source) (r : SourceReader) (s : StandsForReader old r) (live
   fails_as move fault e f = subst (λ (x : Step Token). Simulates x r new) (sym e) f
 
   -- behind so many items among which no line of a block stands
-  stands_quiet : (n : ℕ) (definitions : Definitions) → n ≤ length old.rest → IsBehind n old.blocks old new → AreObjectLike new.definitions → definitions ≡ meaning_of new.definitions → AddsLines r.position n old.rest []
-      → StandsForReader new (record r { position = r.position + n; definitions = definitions })
-  stands_quiet n definitions within b plain means adds =
+  stands_quiet : (n : ℕ) (note : moves.Note) (definitions : Definitions) → n ≤ length old.rest → IsBehind n note old.blocks old new → AreObjectLike new.definitions → definitions ≡ meaning_of new.definitions → AddsLines r.position n old.rest []
+      → IsRemembered new r.items r.truths (r.position + n) → StandsForReader new (record r { position = r.position + n; definitions = definitions })
+  stands_quiet n note definitions within b plain means adds remembered =
       stands_further old r s n definitions r.truths [] new within b.rest b.spent plain means adds
       (subst (λ (kept : List OpenBlock). StandForBlocks r.items r.truths kept (blocks_at r.items (r.position + n))) (sym b.blocks)
       (subst (λ (blocks : List Block). StandForBlocks r.items r.truths old.blocks blocks) (sym (blocks_stay old r s n adds)) s.blocks))
-      (before_later r.position (r.position + n) r.truths (omega arith) s.truths)
+      (before_later r.position (r.position + n) r.truths (omega arith) s.truths) remembered
 
   -- a step that gives nothing
   passes_on : (shown : Sight) (t : SourceReader) → sight_of old.rest ≡ shown → fault_at live shown old.rest ≡ None → acts_on live shown r ≡ passed t → StandsForReader new t → Simulated None r new
@@ -134,23 +144,27 @@ module _ (old new : Source) (r : SourceReader) (s : StandsForReader old r) (live
   pauses_as move e h = subst (λ (x : Step Token). Simulates x r new) (sym e) h
 
   -- one item that is passed, or given
-  one_passed : (shown : Sight) → sight_of old.rest ≡ shown → is_one_item shown ≡ true → IsBehind 1 old.blocks old new → new.definitions ≡ old.definitions → StandsForReader new (record r { position = r.position + 1 })
-  one_passed shown e one b same =
+  one_passed : (shown : Sight) (note : moves.Note) → sight_of old.rest ≡ shown → is_one_item shown ≡ true → notes_text note ≡ (live && is_text shown) → notes_directive note ≡ false → IsBehind 1 note old.blocks old new → new.definitions ≡ old.definitions
+      → StandsForReader new (record r { position = r.position + 1 })
+  one_passed shown note e one text none b same =
       let h : is_one_item (sight_of old.rest) ≡ true = ap is_one_item e ∙ one in
-      stands_quiet 1 r.definitions (one_there old.rest h) b (stays_object_like same) (same_meaning same) (λ behind. quiet_one r.position old.rest behind h)
+      let f = one_in_front old.rest h in
+      let noted : notes_text note ≡ (live && is_text (sight_of old.rest)) = text ∙ ap (λ x. live && is_text x) (sym e) in
+      stands_quiet 1 note r.definitions (one_there old.rest h) b (stays_object_like same) (same_meaning same) (λ behind. quiet_one r.position old.rest behind h)
+      (one_remembered old new r.items r.truths r.position s.rest (remembered_here old r s) live alive live_here f.first f.later f.front f.quiet note noted none b)
 
-  newline_simulated : (move : Step Token) → sight_of old.rest ≡ sight.NewLine → Pauses 1 old.blocks old move new → acts_on live sight.NewLine r ≡ passed (moved 1 r) → Simulates move r new
-  newline_simulated move e h is = pauses_as move h.0 (passes_on sight.NewLine (moved 1 r) e refl is (one_passed sight.NewLine e refl h.1 h.2))
+  newline_simulated : (move : Step Token) → sight_of old.rest ≡ sight.NewLine → Pauses 1 moves.unnoted old.blocks old move new → acts_on live sight.NewLine r ≡ passed (moved 1 r) → Simulates move r new
+  newline_simulated move e h is = pauses_as move h.0 (passes_on sight.NewLine (moved 1 r) e refl is (one_passed sight.NewLine moves.unnoted e refl (sym (and-false live)) refl h.1 h.2))
 
-  token_simulated : (token : Token) → sight_of old.rest ≡ sight.Token token → acts_on live (sight.Token token) r ≡ record { step = step.Given (outcome.Token token); after = moved 1 r }
-      → IsBehind 1 old.blocks old new → new.definitions ≡ old.definitions → Simulated (Some (outcome.Token token)) r new
-  token_simulated token e is b same =
+  token_simulated : (token : Token) → live ≡ true → sight_of old.rest ≡ sight.Token token → acts_on live (sight.Token token) r ≡ record { step = step.Given (outcome.Token token); after = moved 1 r }
+      → IsBehind 1 moves.live_text old.blocks old new → new.definitions ≡ old.definitions → Simulated (Some (outcome.Token token)) r new
+  token_simulated token alive_here e is b same =
       let a = act_here (sight.Token token) e ∙ is in
       let t = moved 1 r in
       record {
         after = t;
         steps = acts (Some (outcome.Token token)) r t (fault_here (sight.Token token) e) (gives (outcome.Token token) (Some (outcome.Token token)) r t (ap (λ x. x.step) a) refl (sym (ap (λ x. x.after) a)));
-        stands = one_passed (sight.Token token) e refl b same;
+        stands = one_passed (sight.Token token) moves.live_text e refl (ap (λ x. x && true) (sym alive_here)) refl b same;
       }
 
   -- at the end all items were read
@@ -193,7 +207,7 @@ module _ (old new : Source) (r : SourceReader) (s : StandsForReader old r) (live
       }
 
   end_simulates : (move : Step Token) (last : Option OpenBlock) → sight_of old.rest ≡ sight.End → last_block old.blocks ≡ last → acts_on live sight.End r ≡ ended_by (innermost (take r.unfinished (blocks_at r.items (length r.items)))) r
-      → HasEffect (moves.end_effect last) 0 old move new → Simulates move r new
+      → HasEffect (moves.end_effect last) 0 moves.unnoted old move new → Simulates move r new
   end_simulates move None e found is h =
       let a = act_here sight.End e ∙ is ∙ ended_here None e (ap innermost (none_here old r s found)) in
       subst (λ (x : Step Token). Simulates x r new) (sym h.0) (end_simulated e found a h.1)
@@ -216,12 +230,18 @@ module _ (old new : Source) (r : SourceReader) (s : StandsForReader old r) (live
     behind_line_is : (definitions : Definitions) (truths : Truths) → StandsForReader new (record r { position = r.position + (2 + line_length (drop 2 old.rest)); definitions = definitions; truths = truths }) → StandsForReader new (record (behind_line r) { definitions = definitions; truths = truths })
     behind_line_is definitions truths = subst (λ (k : List Seen). StandsForReader new (record r { position = r.position + (2 + line_length k); definitions = definitions; truths = truths })) (sym (behind_here old r s))
 
+    -- what it remembers
+    remembers_line : (truths : Truths) (blocks : List OpenBlock) → has_live_text_before r.items truths r.position ≡ has_live_text_before r.items r.truths r.position → IsBehind (2 + line_length (drop 2 old.rest)) moves.directive_line blocks old new
+        → IsRemembered new r.items truths (r.position + (2 + line_length (drop 2 old.rest)))
+    remembers_line truths blocks same b = line_remembered old new r.items r.truths r.position s.rest (remembered_here old r s) directive word e truths same blocks b
+
     -- behind a line that adds none
-    stands_line : (definitions : Definitions) → part_of directive ≡ None → IsBehind (2 + line_length (drop 2 old.rest)) old.blocks old new → AreObjectLike new.definitions → definitions ≡ meaning_of new.definitions
+    stands_line : (definitions : Definitions) → part_of directive ≡ None → IsBehind (2 + line_length (drop 2 old.rest)) moves.directive_line old.blocks old new → AreObjectLike new.definitions → definitions ≡ meaning_of new.definitions
         → StandsForReader new (record (behind_line r) { definitions = definitions })
     stands_line definitions part b plain means =
-        behind_line_is definitions r.truths (stands_quiet (2 + line_length (drop 2 old.rest)) definitions line_there b plain means
-        (subst (λ (found : Option Part). AddsLines r.position (2 + line_length (drop 2 old.rest)) old.rest (cons_option (line_with r.position word found) [])) part line_adds))
+        behind_line_is definitions r.truths (stands_quiet (2 + line_length (drop 2 old.rest)) moves.directive_line definitions line_there b plain means
+        (subst (λ (found : Option Part). AddsLines r.position (2 + line_length (drop 2 old.rest)) old.rest (cons_option (line_with r.position word found) [])) part line_adds)
+        (remembers_line r.truths old.blocks refl b))
 
     -- behind a line of a block, where these blocks are then open
     module _ (p : Part) (is : part_of directive ≡ Some p) where
@@ -233,18 +253,19 @@ module _ (old new : Source) (r : SourceReader) (s : StandsForReader old r) (live
           adds_one r.items (record { position = r.position; word = word; part = p }) (2 + line_length (drop 2 old.rest)) _ s.lines
           (subst (λ (items : List Seen). AddsLines r.position (2 + line_length (drop 2 old.rest)) items (record { position = r.position; word = word; part = p } ∷ [])) s.rest adds_this)
 
-      stands_block : (truths : Truths) (blocks : List OpenBlock) → IsBehind (2 + line_length (drop 2 old.rest)) blocks old new → new.definitions ≡ old.definitions
+      stands_block : (truths : Truths) (blocks : List OpenBlock) → has_live_text_before r.items truths r.position ≡ has_live_text_before r.items r.truths r.position → IsBehind (2 + line_length (drop 2 old.rest)) moves.directive_line blocks old new → new.definitions ≡ old.definitions
           → StandForBlocks r.items truths blocks (blocks_at r.items (r.position + (2 + line_length (drop 2 old.rest)))) → AreBefore (r.position + (2 + line_length (drop 2 old.rest))) truths
           → StandsForReader new (record (behind_line r) { truths = truths })
-      stands_block truths blocks b same stand before =
+      stands_block truths blocks text b same stand before =
           behind_line_is r.definitions truths (stands_further old r s (2 + line_length (drop 2 old.rest)) r.definitions truths (record { position = r.position; word = word; part = p } ∷ []) new line_there b.rest b.spent
           (stays_object_like same) (same_meaning same) adds_this
-          (subst (λ (kept : List OpenBlock). StandForBlocks r.items truths kept (blocks_at r.items (r.position + (2 + line_length (drop 2 old.rest))))) (sym b.blocks) stand) before)
+          (subst (λ (kept : List OpenBlock). StandForBlocks r.items truths kept (blocks_at r.items (r.position + (2 + line_length (drop 2 old.rest))))) (sym b.blocks) stand) before
+          (remembers_line truths blocks text b))
 
   -- a line that is skipped, and what it adds
   module _ (directive : Directive) (word : Location) (e : sight_of old.rest ≡ sight.Directive directive word) where
     skip_simulates : (move : Step Token) (effect : moves.Effect) (found : Option Fault) → line_fault (drop 2 old.rest) ≡ found → fault_at live (sight.Directive directive word) old.rest ≡ None → acts_on live (sight.Directive directive word) r ≡ skipped r
-        → (HasEffect effect (2 + line_length (drop 2 old.rest)) old move new → (move ≡ Err Continue) × StandsForReader new (behind_line r))
+        → (HasEffect effect (2 + line_length (drop 2 old.rest)) moves.directive_line old move new → (move ≡ Err Continue) × StandsForReader new (behind_line r))
         → Makes (moves.taking_more 2 (moves.skip_by found effect (line_length (drop 2 old.rest)))) old move new → Simulates move r new
     skip_simulates move effect (Some fault) is none a stands h =
         let failed_line : line_fault (behind_word r) ≡ Some fault = ap line_fault (behind_here old r s) ∙ is in
@@ -255,52 +276,53 @@ module _ (old new : Source) (r : SourceReader) (s : StandsForReader old r) (live
         pauses_as move t.0 (passes_on (sight.Directive directive word) (behind_line r) e none (a ∙ ap (λ x. skipped_by x r) passed_line) t.1)
 
     -- a skipped line that adds no line of a block
-    passed_line_stands : (move : Step Token) → part_of directive ≡ None → Pauses (2 + line_length (drop 2 old.rest)) old.blocks old move new → (move ≡ Err Continue) × StandsForReader new (behind_line r)
+    passed_line_stands : (move : Step Token) → part_of directive ≡ None → Pauses (2 + line_length (drop 2 old.rest)) moves.directive_line old.blocks old move new → (move ≡ Err Continue) × StandsForReader new (behind_line r)
     passed_line_stands move its h = (h.0, stands_line directive word e r.definitions its h.1 (stays_object_like h.2) (same_meaning h.2))
 
     further_on : (truths : Truths) → AreBefore r.position truths → AreBefore (r.position + (2 + line_length (drop 2 old.rest))) truths
     further_on truths = before_later r.position (r.position + (2 + line_length (drop 2 old.rest))) truths (omega arith)
 
     -- a skipped line that opens a block
-    opened_line_stands : (move : Step Token) → live ≡ false → part_of directive ≡ Some part.Opens → Pauses (2 + line_length (drop 2 old.rest)) (old.blocks ++ block_unread word ∷ []) old move new → (move ≡ Err Continue) × StandsForReader new (behind_line r)
+    opened_line_stands : (move : Step Token) → live ≡ false → part_of directive ≡ Some part.Opens → Pauses (2 + line_length (drop 2 old.rest)) moves.directive_line (old.blocks ++ block_unread word ∷ []) old move new → (move ≡ Err Continue) × StandsForReader new (behind_line r)
     opened_line_stands move dead its h =
         let n = 2 + line_length (drop 2 old.rest) in (
           h.0,
-          stands_block directive word e part.Opens its r.truths (old.blocks ++ block_unread word ∷ []) h.1 h.2
+          stands_block directive word e part.Opens its r.truths (old.blocks ++ block_unread word ∷ []) refl h.1 h.2
               (opens_unread r.items (record { position = r.position; word = word; part = part.Opens }) (r.position + n) (adds_here directive word e part.Opens its) r.truths
               (before_unread r.position r.truths s.truths) old.blocks refl (live_here ∙ dead) s.blocks)
               (further_on r.truths s.truths),
         )
 
     -- a line that closes the innermost block
-    closed_line_stands : (move : Step Token) (kept : OpenBlock) → last_block old.blocks ≡ Some kept → part_of directive ≡ Some part.Closes → Pauses (2 + line_length (drop 2 old.rest)) (outer_blocks old.blocks) old move new → (move ≡ Err Continue) × StandsForReader new (behind_line r)
+    closed_line_stands : (move : Step Token) (kept : OpenBlock) → last_block old.blocks ≡ Some kept → part_of directive ≡ Some part.Closes → Pauses (2 + line_length (drop 2 old.rest)) moves.directive_line (outer_blocks old.blocks) old move new → (move ≡ Err Continue) × StandsForReader new (behind_line r)
     closed_line_stands move kept found its h =
         let n = 2 + line_length (drop 2 old.rest) in
         let split = subst (λ (bs : List OpenBlock). StandForBlocks r.items r.truths bs (blocks_at r.items r.position)) (blocks_split old.blocks kept found) s.blocks in (
           h.0,
-          stands_block directive word e part.Closes its r.truths (outer_blocks old.blocks) h.1 h.2
+          stands_block directive word e part.Closes its r.truths (outer_blocks old.blocks) refl h.1 h.2
               (closes_last r.items (record { position = r.position; word = word; part = part.Closes }) (r.position + n) (adds_here directive word e part.Closes its) r.truths (outer_blocks old.blocks) kept split refl)
               (further_on r.truths s.truths),
         )
 
     -- an `#else` of the innermost block
-    parted_line_stands : (move : Step Token) (kept : OpenBlock) → last_block old.blocks ≡ Some kept → part_of directive ≡ Some part.Else → Pauses (2 + line_length (drop 2 old.rest)) (outer_blocks old.blocks ++ block_parted kept ∷ []) old move new
+    parted_line_stands : (move : Step Token) (kept : OpenBlock) → last_block old.blocks ≡ Some kept → part_of directive ≡ Some part.Else → Pauses (2 + line_length (drop 2 old.rest)) moves.directive_line (outer_blocks old.blocks ++ block_parted kept ∷ []) old move new
         → (move ≡ Err Continue) × StandsForReader new (behind_line r)
     parted_line_stands move kept found its h =
         let n = 2 + line_length (drop 2 old.rest) in
         let split = subst (λ (bs : List OpenBlock). StandForBlocks r.items r.truths bs (blocks_at r.items r.position)) (blocks_split old.blocks kept found) s.blocks in (
           h.0,
-          stands_block directive word e part.Else its r.truths (outer_blocks old.blocks ++ block_parted kept ∷ []) h.1 h.2
+          stands_block directive word e part.Else its r.truths (outer_blocks old.blocks ++ block_parted kept ∷ []) refl h.1 h.2
               (parts_else r.items (record { position = r.position; word = word; part = part.Else }) (r.position + n) (adds_here directive word e part.Else its) r.truths (outer_blocks old.blocks) kept split refl (before_unread r.position r.truths s.truths))
               (further_on r.truths s.truths),
         )
 
     -- a line whose condition is read in live text, and opens a block
-    read_line_stands : (move : Step Token) (holds : Bool) → live ≡ true → part_of directive ≡ Some part.Opens → Pauses (2 + line_length (drop 2 old.rest)) (old.blocks ++ block_opened word holds ∷ []) old move new → (move ≡ Err Continue) × StandsForReader new (decided r holds)
+    read_line_stands : (move : Step Token) (holds : Bool) → live ≡ true → part_of directive ≡ Some part.Opens → Pauses (2 + line_length (drop 2 old.rest)) moves.directive_line (old.blocks ++ block_opened word holds ∷ []) old move new → (move ≡ Err Continue) × StandsForReader new (decided r holds)
     read_line_stands move holds alive_here its h =
         let n = 2 + line_length (drop 2 old.rest) in (
           h.0,
-          stands_block directive word e part.Opens its (with_truth r.position holds r.truths) (old.blocks ++ block_opened word holds ∷ []) h.1 h.2
+          stands_block directive word e part.Opens its (with_truth r.position holds r.truths) (old.blocks ++ block_opened word holds ∷ [])
+              (text_before_truth r.items r.position holds r.truths r.position (omega arith)) h.1 h.2
               (opens_read r.items (record { position = r.position; word = word; part = part.Opens }) (r.position + n) (adds_here directive word e part.Opens its) r.truths holds old.blocks refl (live_here ∙ alive_here) s.blocks)
               (before_more r.position (r.position + n) holds r.truths (omega arith) s.truths),
         )
@@ -329,7 +351,7 @@ module _ (old new : Source) (r : SourceReader) (s : StandsForReader old r) (live
 
       else_in_simulates : (kept : OpenBlock) (block : Block) (with_else : Bool) → last_block old.blocks ≡ Some kept → kept.with_else ≡ with_else → has_else block ≡ with_else → part_of directive ≡ Some part.Else
           → acts_on live (sight.Directive directive word) r ≡ (if has_else block then failed_at MoreThanOneElse word r else passed (behind_line r))
-          → HasEffect (if with_else then moves.fails (MoreThanOneElse, word) else moves.parts (block_parted kept)) (2 + line_length (drop 2 old.rest)) old move new → Simulates move r new
+          → HasEffect (if with_else then moves.fails (MoreThanOneElse, word) else moves.parts (block_parted kept)) (2 + line_length (drop 2 old.rest)) moves.directive_line old move new → Simulates move r new
       else_in_simulates kept block true found is same its a h =
           fault_as (MoreThanOneElse, word) (failed_at MoreThanOneElse word r) (a ∙ ap (λ b. if b then failed_at MoreThanOneElse word r else passed (behind_line r)) same) refl h.0
       else_in_simulates kept block false found is same its a h =
@@ -396,10 +418,10 @@ module _ (old new : Source) (r : SourceReader) (s : StandsForReader old r) (aliv
       define_free : fault_so_far r ≡ None
       define_free = fault_here old new r s true alive (sight.Directive d.Define word) e ∙ none
 
-      define_same : IsBehind (2 + line_length (drop 2 old.rest)) old.blocks old new → new.definitions ≡ old.definitions → StandsForReader new (behind_line r)
+      define_same : IsBehind (2 + line_length (drop 2 old.rest)) moves.directive_line old.blocks old new → new.definitions ≡ old.definitions → StandsForReader new (behind_line r)
       define_same b same = stands_line old new r s true alive d.Define word e r.definitions refl b (stays_object_like old new r s true alive same) (same_meaning old new r s true alive same)
 
-      new_simulated : meaning_of old.definitions named.name ≡ None → IsBehind (2 + line_length (drop 2 old.rest)) old.blocks old new → IsChanged named.name (Some named.definition) old.definitions new.definitions → Simulated None r new
+      new_simulated : meaning_of old.definitions named.name ≡ None → IsBehind (2 + line_length (drop 2 old.rest)) moves.directive_line old.blocks old new → IsChanged named.name (Some named.definition) old.definitions new.definitions → Simulated None r new
       new_simulated unknown b c =
           let p = define_plain word (drop 2 old.rest) named is none in
           let t = record (behind_line r) { definitions = changed r.definitions named.name (Some named.definition) } in
@@ -411,7 +433,7 @@ module _ (old new : Source) (r : SourceReader) (s : StandsForReader old r) (aliv
                 (ap (λ (m : Definitions). changed m named.name (Some named.definition)) s.definitions ∙ sym c.meaning);
           }
 
-      same_simulated : (before : Definition) → meaning_of old.definitions named.name ≡ Some before → IsSameDefinition before named.definition → IsBehind (2 + line_length (drop 2 old.rest)) old.blocks old new → new.definitions ≡ old.definitions → Simulated None r new
+      same_simulated : (before : Definition) → meaning_of old.definitions named.name ≡ Some before → IsSameDefinition before named.definition → IsBehind (2 + line_length (drop 2 old.rest)) moves.directive_line old.blocks old new → new.definitions ≡ old.definitions → Simulated None r new
       same_simulated before known same b stays = record {
         after = behind_line r;
         steps = acts None r (behind_line r) define_free (repeats named before None r (behind_line r) (ap (λ x. x.step) define_acts) (ap (λ (m : Definitions). m named.name) s.definitions ∙ known) same refl (sym (ap (λ x. x.after) define_acts)));
@@ -425,7 +447,7 @@ module _ (old new : Source) (r : SourceReader) (s : StandsForReader old r) (aliv
             (redefines named before (Some (outcome.Fault (DefineRedefined, named.location))) r (behind_line r) (ap (λ x. x.step) define_acts) (ap (λ (m : Definitions). m named.name) s.definitions ∙ known) other refl (sym (ap (λ x. x.after) define_acts)));
       }
 
-      define_simulates : (before : Option Definition) → meaning_of old.definitions named.name ≡ before → DefinesOver named before (2 + line_length (drop 2 old.rest)) old move new → Simulates move r new
+      define_simulates : (before : Option Definition) → meaning_of old.definitions named.name ≡ before → DefinesOver named before (2 + line_length (drop 2 old.rest)) moves.directive_line old move new → Simulates move r new
       define_simulates None known h = subst (λ (x : Step Token). Simulates x r new) (sym h.0) (new_simulated known h.1 h.2)
       define_simulates (Some before) known (inl h) = subst (λ (x : Step Token). Simulates x r new) (sym h.1) (same_simulated before known h.0 h.2 h.3)
       define_simulates (Some before) known (inr h) = subst (λ (x : Step Token). Simulates x r new) (sym h.1) (other_simulated before known h.0)
@@ -454,6 +476,50 @@ module _ (old new : Source) (r : SourceReader) (s : StandsForReader old r) (aliv
     refused_line : (directive : Directive) → sight_of old.rest ≡ sight.Directive directive word → live_fault directive word (drop 2 old.rest) ≡ Some (UnknownDirective, word) → move ≡ Err (Error (UnknownDirective, word)) → Simulates move r new
     refused_line directive e some is = fails_as old new r s true alive move (UnknownDirective, word) is (fault_refused old new r s true alive (UnknownDirective, word) (sight.Directive directive word) e some)
 
+    -- a line that is an item
+    item_simulates : (directive : Directive) (e : sight_of old.rest ≡ sight.Directive directive word) (item : List Entry → DirectiveItem) (value : List Token → TokenValue) → part_of directive ≡ None → fault_at true (sight.Directive directive word) old.rest ≡ None
+        → ((tokens : List Token) → value tokens ≡ value_of (item (preorder tokens)) old.has_text old.has_directive) → live_act (sight.Directive directive word) r ≡ line_item value word r → (found : Result (List Token) Fault) → line_tokens (drop 2 old.rest) ≡ found
+        → Makes (moves.taking_more 2 (moves.line_move (found >>= λ tokens. Ok (preorder tokens)) (λ tokens. moves.gives_item (item tokens) word) (line_length (drop 2 old.rest)))) old move new → Simulates move r new
+    item_simulates directive e item value its none same is (Ok tokens) found h =
+        let read : line_tokens (behind_word r) ≡ Ok tokens = ap line_tokens behind ∙ found in
+        let given_token : Token = record { value = value tokens; location = word } in
+        let a : act r ≡ given given_token (behind_line r) = act_here old new r s true alive (sight.Directive directive word) e ∙ is ∙ ap (λ x. acted x r (λ tokens. given (record { value = value tokens; location = word }) (behind_line r))) read in
+        let stands = stands_line old new r s true alive directive word e r.definitions its h.1 (stays_object_like old new r s true alive h.2) (same_meaning old new r s true alive h.2) in
+        let told : move ≡ Ok given_token = h.0 ∙ ap (λ v. Ok (record { value = v; location = word })) (sym (same tokens)) in
+        subst (λ (x : Step Token). Simulates x r new) (sym told) (record {
+          after = behind_line r;
+          steps = acts (Some (outcome.Token given_token)) r (behind_line r) (fault_here old new r s true alive (sight.Directive directive word) e ∙ none)
+              (gives (outcome.Token given_token) (Some (outcome.Token given_token)) r (behind_line r) (ap (λ x. x.step) a) refl (sym (ap (λ x. x.after) a)));
+          stands = stands;
+        })
+    item_simulates directive e item value its none same is (Err fault) found h =
+        let read : line_tokens (behind_word r) ≡ Err fault = ap line_tokens behind ∙ found in
+        fails_as old new r s true alive move fault h.0 (fault_given old new r s true alive fault (sight.Directive directive word) e none
+        (ap (λ x. x.step) is ∙ ap (λ x. (acted x r (λ tokens. given (record { value = value tokens; location = word }) (behind_line r))).step) read))
+
+    -- what the three hold, as the reader tells it
+    abbrev version_value : List Token → TokenValue
+    version_value tokens = Version (record {
+      tokens = preorder tokens;
+      is_first_directive = is_first_directive r.items r.truths r.position;
+      has_comments_before = comments_before_end (behind_word r);
+    })
+
+    version_is : (tokens : List Token) → version_value tokens ≡ value_of (version (preorder tokens) (comments_before_end (drop 2 old.rest))) old.has_text old.has_directive
+    version_is tokens =
+        ap (λ text. Version (record { tokens = preorder tokens; is_first_directive = not (has_directive (take r.position r.items) || text); has_comments_before = comments_before_end (behind_word r) })) (sym s.remembers_text)
+        ∙ ap (λ directive. Version (record { tokens = preorder tokens; is_first_directive = not (directive || old.has_text); has_comments_before = comments_before_end (behind_word r) })) (sym s.remembers_directive)
+        ∙ ap (λ items. Version (record { tokens = preorder tokens; is_first_directive = not (old.has_directive || old.has_text); has_comments_before = comments_before_end items })) behind
+
+    abbrev extension_value : List Token → TokenValue
+    extension_value tokens = Extension (record { tokens = preorder tokens; has_non_directive_before = has_live_text_before r.items r.truths r.position })
+
+    extension_is : (tokens : List Token) → extension_value tokens ≡ value_of (extension (preorder tokens)) old.has_text old.has_directive
+    extension_is tokens = ap (λ text. Extension (record { tokens = preorder tokens; has_non_directive_before = text })) (sym s.remembers_text)
+
+    abbrev pragma_value : List Token → TokenValue
+    pragma_value tokens = Pragma (record { tokens = preorder tokens })
+
     is_defined_here : (name : Name) → is_some (r.definitions name) ≡ is_some (meaning_of old.definitions name)
     is_defined_here name = ap (λ (m : Definitions). is_some (m name)) s.definitions
 
@@ -468,18 +534,18 @@ module _ (old new : Source) (r : SourceReader) (s : StandsForReader old r) (aliv
     live_simulates d.Elif e h = refused_line d.Elif e refl h.0
     live_simulates d.Else e h = else_simulates old new r s true alive d.Else word e move refl (last_block old.blocks) (ended_line word (drop 2 old.rest)) refl refl refl refl h
     live_simulates d.Endif e h = endif_simulates old new r s true alive d.Endif word e move refl (last_block old.blocks) refl refl refl h
-    live_simulates d.Error e h = refused_line d.Error e refl h.0
+    live_simulates d.Error e h = fails_as old new r s true alive move (ErrorDirective, word) h.0 (fault_given old new r s true alive (ErrorDirective, word) (sight.Directive d.Error word) e refl refl)
     live_simulates d.Line e h = refused_line d.Line e refl h.0
-    live_simulates d.Version e h = refused_line d.Version e refl h.0
-    live_simulates d.Extension e h = refused_line d.Extension e refl h.0
-    live_simulates d.Pragma e h = refused_line d.Pragma e refl h.0
+    live_simulates d.Version e h = item_simulates d.Version e (λ tokens. version tokens (comments_before_end (drop 2 old.rest))) version_value refl refl version_is refl (line_tokens (drop 2 old.rest)) refl h
+    live_simulates d.Extension e h = item_simulates d.Extension e extension extension_value refl refl extension_is refl (line_tokens (drop 2 old.rest)) refl h
+    live_simulates d.Pragma e h = item_simulates d.Pragma e pragma pragma_value refl refl (λ tokens. refl) refl (line_tokens (drop 2 old.rest)) refl h
     live_simulates d.Unknown e h = fails_as old new r s true alive move (UnknownDirective, word) h.0 (fault_given old new r s true alive (UnknownDirective, word) (sight.Directive d.Unknown word) e refl refl)
 
   live_sight : (shown : Sight) (move : Step Token) → sight_of old.rest ≡ shown → Makes (moves.live_move_at (last_block old.blocks) shown old.rest) old move new → Simulates move r new
   live_sight sight.End move e h = end_simulates old new r s true alive move (last_block old.blocks) e refl refl h
   live_sight sight.NewLine move e h = newline_simulated old new r s true alive move e h refl
   live_sight (sight.Fault fault) move e h = fails_as old new r s true alive move fault h.0 (fault_given old new r s true alive fault (sight.Fault fault) e refl refl)
-  live_sight (sight.Token token) move e h = subst (λ (x : Step Token). Simulates x r new) (sym h.0) (token_simulated old new r s true alive token e refl h.1 h.2)
+  live_sight (sight.Token token) move e h = subst (λ (x : Step Token). Simulates x r new) (sym h.0) (token_simulated old new r s true alive token refl e refl h.1 h.2)
   live_sight (sight.Hash location) move e h = fails_as old new r s true alive move (UnexpectedHash, location) h.0 (fault_given old new r s true alive (UnexpectedHash, location) (sight.Hash location) e refl refl)
   live_sight (sight.NoWord fault) move e h = fails_as old new r s true alive move fault h.0 (fault_given old new r s true alive fault (sight.NoWord fault) e refl refl)
   live_sight (sight.Directive directive word) move e h = live_simulates word move directive e h
@@ -501,11 +567,13 @@ module _ (old new : Source) (r : SourceReader) (s : StandsForReader old r) (dead
       ap (λ shown. cons_option (line_at r.position shown) (block_lines (r.position + 1) (b.name ∷ later))) (b.seen later)
       ∙ quiet_item (r.position + 1) b.name later (there.0 b.goes_on) ∙ ap (λ n. block_lines n later) (omega arith)
 
-  two_passed : (move : Step Token) (shown : Sight) (a b : Seen) (rest : List Seen) → sight_of old.rest ≡ shown → fault_at false shown old.rest ≡ None → dead_act shown r ≡ passed (moved 2 r) → old.rest ≡ a ∷ b ∷ rest
-      → ((later : List Seen) → block_lines r.position (a ∷ b ∷ later) ≡ block_lines (r.position + 2) later) → Pauses 2 old.blocks old move new → Simulates move r new
-  two_passed move shown a b rest e none is front quiet h =
+  two_passed : (move : Step Token) (shown : Sight) (note : moves.Note) (a b : Seen) (rest : List Seen) → sight_of old.rest ≡ shown → begins_with_hash shown ≡ true → notes_text note ≡ false → AddsDirective 2 old.rest (notes_directive note)
+      → fault_at false shown old.rest ≡ None → dead_act shown r ≡ passed (moved 2 r) → old.rest ≡ a ∷ b ∷ rest
+      → ((later : List Seen) → block_lines r.position (a ∷ b ∷ later) ≡ block_lines (r.position + 2) later) → Pauses 2 note old.blocks old move new → Simulates move r new
+  two_passed move shown note a b rest e begins text adds none is front quiet h =
       pauses_as old new r s false dead move h.0 (passes_on old new r s false dead shown (moved 2 r) e none is
-      (stands_quiet old new r s false dead 2 r.definitions (two_there a b rest front) h.1 (stays_object_like old new r s false dead h.2) (same_meaning old new r s false dead h.2) (two_quiet a b rest front quiet)))
+      (stands_quiet old new r s false dead 2 note r.definitions (two_there a b rest front) h.1 (stays_object_like old new r s false dead h.2) (same_meaning old new r s false dead h.2) (two_quiet a b rest front quiet)
+      (two_remembered old new r.items r.truths r.position s.rest (remembered_here old r s) dead shown e begins a b rest front note text (notes_directive note) refl adds h.1)))
 
   module _ (word : Location) (move : Step Token) where
     -- a line that is skipped
@@ -519,10 +587,10 @@ module _ (old new : Source) (r : SourceReader) (s : StandsForReader old r) (dead
     skipped_opens directive e its none is h =
         skip_simulates old new r s false dead directive word e move (moves.opens_unread word) (line_fault (drop 2 old.rest)) refl none is (opened_line_stands old new r s false dead directive word e move refl its) h
 
-    unknown_passes : sight_of old.rest ≡ sight.Directive d.Unknown word → Pauses 2 old.blocks old move new → Simulates move r new
+    unknown_passes : sight_of old.rest ≡ sight.Directive d.Unknown word → Pauses 2 moves.directive_line old.blocks old move new → Simulates move r new
     unknown_passes e h =
         let b = begins_directive old.rest d.Unknown word e in
-        two_passed move (sight.Directive d.Unknown word) b.hash b.name b.behind e refl refl b.front (λ later. quiet_word r.position old.rest later d.Unknown word b refl) h
+        two_passed move (sight.Directive d.Unknown word) moves.directive_line b.hash b.name b.behind e refl refl (word_adds old.rest d.Unknown word e) refl refl b.front (λ later. quiet_word r.position old.rest later d.Unknown word b refl) h
 
     dead_simulates : (directive : Directive) → sight_of old.rest ≡ sight.Directive directive word → Makes (moves.dead_move_at (last_block old.blocks) (sight.Directive directive word) old.rest) old move new → Simulates move r new
     dead_simulates d.Define e h = skipped_passes d.Define e refl refl refl h
@@ -540,9 +608,9 @@ module _ (old new : Source) (r : SourceReader) (s : StandsForReader old r) (dead
     dead_simulates d.Pragma e h = skipped_passes d.Pragma e refl refl refl h
     dead_simulates d.Unknown e h = unknown_passes e h
 
-  one_dead : (shown : Sight) (move : Step Token) → sight_of old.rest ≡ shown → is_one_item shown ≡ true → fault_at false shown old.rest ≡ None → dead_act shown r ≡ passed (moved 1 r) → Pauses 1 old.blocks old move new → Simulates move r new
+  one_dead : (shown : Sight) (move : Step Token) → sight_of old.rest ≡ shown → is_one_item shown ≡ true → fault_at false shown old.rest ≡ None → dead_act shown r ≡ passed (moved 1 r) → Pauses 1 moves.unnoted old.blocks old move new → Simulates move r new
   one_dead shown move e one none is h =
-      pauses_as old new r s false dead move h.0 (passes_on old new r s false dead shown (moved 1 r) e none is (one_passed old new r s false dead shown e one h.1 h.2))
+      pauses_as old new r s false dead move h.0 (passes_on old new r s false dead shown (moved 1 r) e none is (one_passed old new r s false dead shown moves.unnoted e one refl refl h.1 h.2))
 
   dead_sight : (shown : Sight) (move : Step Token) → sight_of old.rest ≡ shown → Makes (moves.dead_move_at (last_block old.blocks) shown old.rest) old move new → Simulates move r new
   dead_sight sight.End move e h = end_simulates old new r s false dead move (last_block old.blocks) e refl refl h
@@ -552,7 +620,7 @@ module _ (old new : Source) (r : SourceReader) (s : StandsForReader old r) (dead
   dead_sight (sight.Hash location) move e h = one_dead (sight.Hash location) move e refl refl refl h
   dead_sight (sight.NoWord fault) move e h =
       let b = begins_no_word old.rest fault e in
-      two_passed move (sight.NoWord fault) b.hash b.name b.behind e refl refl b.front (no_word_quiet fault b) h
+      two_passed move (sight.NoWord fault) moves.unnoted b.hash b.name b.behind e refl refl (no_word_adds old.rest fault e (lined_here old r s)) refl refl b.front (no_word_quiet fault b) h
   dead_sight (sight.Directive directive word) move e h = dead_simulates word move directive e h
 
 sight_simulates : (live : Bool) (old new : Source) (r : SourceReader) (move : Step Token) → StandsForReader old r → is_live_in (last_block old.blocks) ≡ live → Makes (moves.move_at live (last_block old.blocks) (sight_of old.rest) old.rest) old move new → Simulates move r new

@@ -20,11 +20,11 @@ use Rattle.pp_rs.specs.Item.{Step}
 use Rattle.pp_rs.specs.LineReading.{HasTaken, next_token}
 use Rattle.pp_rs.specs.OpenBlocks.{OpenBlock, last_block, is_live_in}
 use Rattle.pp_rs.specs.Source.{Source, Makes, IsRefusedStep, StepsSource}
-use Rattle.pp_rs.specs.SourceActs.{Acts, live_word_move, dead_word_move, dead_name_move, word_move}
-use Rattle.pp_rs.specs.SourceMoves.{Effect, fails, passes, Move, directive_move, taking_more, move_at, move_of}
+use Rattle.pp_rs.specs.SourceActs.{Gives, live_word_move, dead_word_move, dead_name_move, word_move}
+use Rattle.pp_rs.specs.SourceMoves.{Effect, fails, passes, Note, unnoted, directive_line, Move, directive_move, taking_more, move_at, move_of}
 use Rattle.pp_rs.specs.declared.pp.halt.Halt.{Halt}
 use Rattle.pp_rs.specs.declared.pp.halt.Halt.TheVariants as halt
-use Rattle.pp_rs.proofs.SourceActsLemmas.{source_of, acts_behind, fault_makes}
+use Rattle.pp_rs.proofs.SourceActsLemmas.{source_of, gives_behind, fault_makes}
 
 match_false : (P Q : Type 0) (b : Bool) → b ≡ false → Q → MatchBool b P Q
 match_false P Q true e q = cc
@@ -49,40 +49,41 @@ hash_sight token rest v s = rw (v, s) refl
 abbrev word_move_by : Bool → Option OpenBlock → Result LexerToken Fault → List Seen → Move
 word_move_by live block first behind = if live then live_word_move block (first >>= λ token. name_or_refused token (identifier_of token.value)) behind else dead_word_move block first behind
 
-module _ (definitions : List Defined) (blocks : List OpenBlock) (old mid : Lexed) (new : Source) (taken : mid.rest ≡ drop 1 old.rest) (fewer : length mid.rest < length old.rest) where
+module _ (definitions : List Defined) (blocks : List OpenBlock) (has_text has_directive : Bool) (old mid : Lexed) (new : Source) (taken : mid.rest ≡ drop 1 old.rest) (fewer : length mid.rest < length old.rest) where
   -- what a move means behind the number sign is a step of the source, or memory was refused
-  abbrev StepsBy : Result (Unit {0}) Halt → Move → Type 0
-  StepsBy result move = IsRefusedStep (source_of old definitions blocks) (step_of result) ⊎ Makes move (source_of old definitions blocks) (step_of result) new
+  abbrev StepsBy : Result (Option Token) Halt → Move → Type 0
+  StepsBy result move = IsRefusedStep (source_of old definitions blocks has_text has_directive) (step_of result) ⊎ Makes move (source_of old definitions blocks has_text has_directive) (step_of result) new
 
-  acts_make : (effect : Effect) (more total : ℕ) → total ≡ 1 + more → (result : Result (Unit {0}) Halt) → Acts (record { effect = effect; taken = more }) (source_of mid definitions blocks) result new → StepsBy result (record { effect = effect; taken = total })
-  acts_make effect more total sum (Ok done) h = inr (acts_behind definitions blocks old mid 1 more total sum taken effect (Ok done) new h)
-  acts_make effect more total sum (Err (halt.Fault fault)) h = inr (fault_makes definitions blocks old mid new fault fewer h.1 effect total h.0)
-  acts_make effect more total sum (Err halt.OutOfMemory) h = inl (record { some_left = λ e. absurd (omega (arith, ap length e)); fault = refl })
+  acts_make : (effect : Effect) (more total : ℕ) (note : Note) → total ≡ 1 + more → (result : Result (Option Token) Halt) → Gives (record { effect = effect; taken = more; note = note }) (source_of mid definitions blocks has_text has_directive) result new
+      → StepsBy result (record { effect = effect; taken = total; note = note })
+  acts_make effect more total note sum (Ok given) h = inr (gives_behind definitions blocks has_text has_directive old mid 1 more total sum taken note effect (Ok given) new h)
+  acts_make effect more total note sum (Err (halt.Fault fault)) h = inr (fault_makes definitions blocks has_text has_directive old mid new fault fewer h.1 effect total note h.0)
+  acts_make effect more total note sum (Err halt.OutOfMemory) h = inl (record { some_left = λ e. absurd (omega (arith, ap length e)); fault = refl })
 
-  directive_makes : (live : Bool) (block : Option OpenBlock) (name : Name) (word : Location) (result : Result (Unit {0}) Halt)
-      → Acts (taking_more 1 (directive_move live block (directive_of name) word (drop 1 mid.rest))) (source_of mid definitions blocks) result new → StepsBy result (taking_more 2 (directive_move live block (directive_of name) word (drop 2 old.rest)))
+  directive_makes : (live : Bool) (block : Option OpenBlock) (name : Name) (word : Location) (result : Result (Option Token) Halt)
+      → Gives (taking_more 1 (directive_move live block (directive_of name) word (drop 1 mid.rest))) (source_of mid definitions blocks has_text has_directive) result new → StepsBy result (taking_more 2 (directive_move live block (directive_of name) word (drop 2 old.rest)))
   directive_makes live block name word result h =
       let move = directive_move live block (directive_of name) word (drop 2 old.rest) in
       let behind : drop 1 mid.rest ≡ drop 2 old.rest = ap (drop 1) taken ∙ drop-drop 1 1 old.rest in
-      acts_make move.effect (1 + move.taken) (2 + move.taken) (omega arith) result
-      (subst (λ (rest : List Seen). Acts (taking_more 1 (directive_move live block (directive_of name) word rest)) (source_of mid definitions blocks) result new) behind h)
+      acts_make move.effect (1 + move.taken) (2 + move.taken) directive_line (omega arith) result
+      (subst (λ (rest : List Seen). Gives (taking_more 1 (directive_move live block (directive_of name) word rest)) (source_of mid definitions blocks has_text has_directive) result new) behind h)
 
-  live_makes : (block : Option OpenBlock) (token : LexerToken) (name : Option Name) (result : Result (Unit {0}) Halt) → Acts (live_word_move block (name_or_refused token name) (drop 1 mid.rest)) (source_of mid definitions blocks) result new
+  live_makes : (block : Option OpenBlock) (token : LexerToken) (name : Option Name) (result : Result (Option Token) Halt) → Gives (live_word_move block (name_or_refused token name) (drop 1 mid.rest)) (source_of mid definitions blocks has_text has_directive) result new
       → StepsBy result (move_at true block (named_directive token name) old.rest)
-  live_makes block token None result h = acts_make (fails (refused_token token)) 0 1 refl result h
+  live_makes block token None result h = acts_make (fails (refused_token token)) 0 1 unnoted refl result h
   live_makes block token (Some name) result h = directive_makes true block name token.location result h
 
-  dead_makes : (block : Option OpenBlock) (token : LexerToken) (name : Option Name) (result : Result (Unit {0}) Halt) → Acts (dead_name_move block token.location name (drop 1 mid.rest)) (source_of mid definitions blocks) result new
+  dead_makes : (block : Option OpenBlock) (token : LexerToken) (name : Option Name) (result : Result (Option Token) Halt) → Gives (dead_name_move block token.location name (drop 1 mid.rest)) (source_of mid definitions blocks has_text has_directive) result new
       → StepsBy result (move_at false block (named_directive token name) old.rest)
-  dead_makes block token None result h = acts_make passes 1 2 refl result h
+  dead_makes block token None result h = acts_make passes 1 2 unnoted refl result h
   dead_makes block token (Some name) result h = directive_makes false block name token.location result h
 
-  word_makes : (live : Bool) (block : Option OpenBlock) (first : Result LexerToken Fault) (result : Result (Unit {0}) Halt) → Acts (word_move_by live block first (drop 1 mid.rest)) (source_of mid definitions blocks) result new
+  word_makes : (live : Bool) (block : Option OpenBlock) (first : Result LexerToken Fault) (result : Result (Option Token) Halt) → Gives (word_move_by live block first (drop 1 mid.rest)) (source_of mid definitions blocks has_text has_directive) result new
       → StepsBy result (move_at live block (directive_sight first) old.rest)
   word_makes true block (Ok token) result h = live_makes block token (identifier_of token.value) result h
-  word_makes true block (Err fault) result h = acts_make (fails fault) 0 1 refl result h
+  word_makes true block (Err fault) result h = acts_make (fails fault) 0 1 unnoted refl result h
   word_makes false block (Ok token) result h = dead_makes block token (identifier_of token.value) result h
-  word_makes false block (Err fault) result h = acts_make (fails fault) 0 1 refl result h
+  word_makes false block (Err fault) result h = acts_make (fails fault) 0 1 unnoted refl result h
 
 fewer_behind : (rest after : List Seen) (token : LexerToken) → next_token rest ≡ Ok (Some token) → after ≡ drop 1 rest → length after < length rest
 fewer_behind [] after token e d = cc
@@ -94,7 +95,7 @@ gives_token (Some other) token e f = cc
 gives_token None token e f = cc
 
 -- the lexer gave a token, which is behind the source now
-module _ (definitions : List Defined) (blocks : List OpenBlock) (old mid : Lexed) (next : Option LexerToken) (token : LexerToken) (is : next ≡ Some token)
+module _ (definitions : List Defined) (blocks : List OpenBlock) (has_text has_directive : Bool) (old mid : Lexed) (next : Option LexerToken) (token : LexerToken) (is : next ≡ Some token)
     (spent : old.spent ≡ true → ◌≡◌ {A = Result (Option LexerToken) Halt} (Ok next) (Ok None) × (mid ≡ old)) (gave : old.spent ≡ false → next_token old.rest ≡ Ok next) (took : old.spent ≡ false → HasTaken 1 old mid) where
   unspent : old.spent ≡ false
   unspent = false_from_ne_true old.spent (λ all. gives_token next token is (spent all).0)
@@ -106,13 +107,13 @@ module _ (definitions : List Defined) (blocks : List OpenBlock) (old mid : Lexed
   shown : sight_of old.rest ≡ token_sight token mid.rest
   shown = token_shown old.rest token gave_token ∙ ap (token_sight token) (sym (took unspent).rest)
 
-  steps_by : (step : Step Token) (new : Source) → IsRefusedStep (source_of old definitions blocks) step ⊎ Makes (move_at (is_live_in (last_block blocks)) (last_block blocks) (token_sight token mid.rest) old.rest) (source_of old definitions blocks) step new
-      → StepsSource (source_of old definitions blocks) step new
-  steps_by step new h = steps_unspent (source_of old definitions blocks) step new unspent (rw shown h)
+  steps_by : (step : Step Token) (new : Source) → IsRefusedStep (source_of old definitions blocks has_text has_directive) step ⊎ Makes (move_at (is_live_in (last_block blocks)) (last_block blocks) (token_sight token mid.rest) old.rest) (source_of old definitions blocks has_text has_directive) step new
+      → StepsSource (source_of old definitions blocks has_text has_directive) step new
+  steps_by step new h = steps_unspent (source_of old definitions blocks has_text has_directive) step new unspent (rw shown h)
 
-  pub step_directive : (result : Result (Unit {0}) Halt) (new : Source) → token.value ≡ Hash → token.start_of_line ≡ true
-      → Acts (word_move (is_live_in (last_block blocks)) (last_block blocks) token.location mid.rest) (source_of mid definitions blocks) result new → StepsSource (source_of old definitions blocks) (step_of result) new
+  pub step_directive : (result : Result (Option Token) Halt) (new : Source) → token.value ≡ Hash → token.start_of_line ≡ true
+      → Gives (word_move (is_live_in (last_block blocks)) (last_block blocks) token.location mid.rest) (source_of mid definitions blocks has_text has_directive) result new → StepsSource (source_of old definitions blocks has_text has_directive) (step_of result) new
   step_directive result new v s acts =
       let taken = (took unspent).rest in
-      let made = word_makes definitions blocks old mid new taken (fewer_behind old.rest mid.rest token gave_token taken) (is_live_in (last_block blocks)) (last_block blocks) (first_token token.location mid.rest) result acts in
+      let made = word_makes definitions blocks has_text has_directive old mid new taken (fewer_behind old.rest mid.rest token gave_token taken) (is_live_in (last_block blocks)) (last_block blocks) (first_token token.location mid.rest) result acts in
       steps_by (step_of result) new (rw (hash_sight token mid.rest v s) made)

@@ -13,10 +13,11 @@ use Rattle.pp_rs.specs.Lined.{AreLined}
 use Rattle.pp_rs.specs.OpenBlocks.{OpenBlock, last_block, outer_blocks, is_live_in, StandForBlocks, AreBefore}
 use Rattle.pp_rs.specs.Source.{Source}
 use Rattle.pp_rs.specs.Stands.{AreObjectLike, StandsForReader}
-use Rattle.pp_rs.proofs.BlockStackLemmas.{innermost_last, Innermost, stands_innermost, none_stand, live_outside, live_inside}
+use Rattle.pp_rs.proofs.BlockStackLemmas.{Innermost, stands_innermost, none_stand, live_outside, live_inside}
 use Rattle.pp_rs.proofs.LastLemmas.{last_split}
 use Rattle.pp_rs.proofs.LinedLemmas.{lined_behind}
 use Rattle.pp_rs.proofs.LinesBeforeLemmas.{AreLinesBefore, AddsLines, lines_here, lines_further}
+use Rattle.pp_rs.proofs.RememberedLemmas.{IsRemembered}
 
 some_last : (first : OpenBlock) (blocks : List OpenBlock) → slice_get (first ∷ blocks) (length blocks) ≡ None → ⊥
 some_last first [] e = cc
@@ -60,11 +61,14 @@ module _ (old : Source) (r : SourceReader) (s : StandsForReader old r) where
   pub behind_here : behind_word r ≡ drop 2 old.rest
   behind_here = sym (drop-drop 2 r.position r.items) ∙ ap (λ items. drop 2 items) (sym s.rest)
 
+  pub remembered_here : IsRemembered old r.items r.truths r.position
+  remembered_here = record { text = s.remembers_text; directive = s.remembers_directive; apart = s.directives; off_line = s.off_line }
+
   -- some items further on
   pub stands_further : (n : ℕ) (definitions : Definitions) (truths : Truths) (more : List BlockLine) (new : Source) → n ≤ length old.rest → new.rest ≡ drop n old.rest → new.spent ≡ false → AreObjectLike new.definitions
       → definitions ≡ meaning_of new.definitions → AddsLines r.position n old.rest more → StandForBlocks r.items truths new.blocks (blocks_at r.items (r.position + n)) → AreBefore (r.position + n) truths
-      → StandsForReader new (record r { position = r.position + n; definitions = definitions; truths = truths })
-  stands_further n definitions truths more new within behind unspent plain means adds blocks before =
+      → IsRemembered new r.items truths (r.position + n) → StandsForReader new (record r { position = r.position + n; definitions = definitions; truths = truths })
+  stands_further n definitions truths more new within behind unspent plain means adds blocks before remembered =
       let further : AreLinesBefore r.items (r.position + n) (block_lines 0 (take r.position r.items) ++ more) =
       lines_further r.items r.position n (block_lines 0 (take r.position r.items)) more s.lines (subst (λ (items : List Seen). AddsLines r.position n items more) s.rest adds) in
       record {
@@ -79,6 +83,10 @@ module _ (old : Source) (r : SourceReader) (s : StandsForReader old r) where
         truths = before;
         unfinished = s.unfinished;
         unspent = unspent;
+        remembers_text = remembered.text;
+        remembers_directive = remembered.directive;
+        directives = remembered.apart;
+        off_line = remembered.off_line;
       }
 
   -- where no line of a block is added, the same blocks are open

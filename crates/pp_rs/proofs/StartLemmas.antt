@@ -21,6 +21,10 @@ start_stands text = record {
     truths = tt;
     unfinished = refl;
     unspent = refl;
+    remembers_text = refl;
+    remembers_directive = refl;
+    directives = λ behind. refl;
+    off_line = λ live left. refl;
   };
   hidden = refl;
 }

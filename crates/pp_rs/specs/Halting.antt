@@ -1,19 +1,20 @@
 -- Why a part of the source has no value, as the exit of a step.
-use Rattle.std.specs.Prelude.{Result, Ok, Err}
+use Rattle.std.specs.Prelude.{Option, Result, Ok, Err}
 use Rattle.pp_lexer.specs.PreprocessorError.{out_of_memory}
 use Rattle.pp_lexer.specs.declared.token.Token.{Token}
 use Rattle.pp_rs.specs.Item.{Step}
+use Rattle.pp_rs.specs.Turns.{as_pause}
 use Rattle.pp_rs.specs.declared.pp.halt.Halt.{Halt}
 use Rattle.pp_rs.specs.declared.pp.halt.Halt.TheVariants as halt
 use Rattle.pp_rs.specs.declared.pp.step.StepExit.{StepExit}
-use Rattle.pp_rs.specs.declared.pp.step.StepExit.TheVariants.{Error, Continue}
+use Rattle.pp_rs.specs.declared.pp.step.StepExit.TheVariants.{Error}
 
 -- the exit that it comes to
 abbrev pub exit_of : Halt → StepExit
 exit_of (halt.Fault fault) = Error fault
 exit_of halt.OutOfMemory = Error out_of_memory
 
--- the step of what gives no token
-abbrev pub step_of : Result (Unit {0}) Halt → Step Token
-step_of (Ok done) = Err Continue
+-- the step of what gives a token or nothing
+abbrev pub step_of : Result (Option Token) Halt → Step Token
+step_of (Ok given) = as_pause given
 step_of (Err halt) = Err (exit_of halt)

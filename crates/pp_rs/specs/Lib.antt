@@ -14,6 +14,7 @@ pub mod Held
 pub mod Preprocessing
 pub mod Defined
 pub mod SoFar
+pub mod DirectiveItems
 pub mod SourceMoves
 pub mod OpenBlocks
 pub mod Source

@@ -10,7 +10,7 @@ use Rattle.pp_model.specs.Calls.{Fault}
 use Rattle.pp_model.specs.Conversions.{is_newline, conversion}
 use Rattle.pp_model.specs.DefineLines.{defined_on}
 use Rattle.pp_model.specs.Emitting.{token_before}
-use Rattle.pp_model.specs.Lines.{◌>>=◌, line_tokens, line_length, line_fault, ended_line}
+use Rattle.pp_model.specs.Lines.{◌>>=◌, line_tokens, line_length, line_fault, comments_before_end, ended_line}
 use Rattle.pp_model.specs.declared.definition.Named.{Named}
 use Rattle.pp_model.specs.declared.directive.Directive.TheVariants as d
 use Rattle.pp_model.specs.declared.definition.Placed.{Placed}
@@ -53,6 +53,20 @@ abbrev pub RefusedWithin : {A : Type 0} → Result A Halt → List Seen → Type
 RefusedWithin (Ok value) rest = ⊤
 RefusedWithin (Err (halt.Fault fault)) rest = ⊤
 RefusedWithin (Err halt.OutOfMemory) rest = rest ≢ []
+
+-- the token doesn't end its line
+abbrev pub IsWithinLine : Option LexerToken → Type 0
+IsWithinLine None = ⊥
+IsWithinLine (Some token) = is_newline token.value ≡ false
+
+-- behind a token that doesn't end its line something is left
+abbrev pub LeavesSome : Option LexerToken → List Seen → Type 0
+LeavesSome token rest = IsWithinLine token → rest ≢ []
+
+-- whether a comment stands before the end of a line whose first token was read, where this is known of what was read
+abbrev pub comments_behind : Option Token → List Seen → Bool → Bool
+comments_behind None rest before = before
+comments_behind (Some token) rest before = comments_before_end rest
 
 abbrev pub as_next : Lexeme → Result (Option LexerToken) Fault
 as_next (Ok token) = Ok (Some token)

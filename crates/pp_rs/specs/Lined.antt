@@ -1,5 +1,5 @@
--- Where the number signs of directives stand among items: only where a line begins.
-use Rattle.std.specs.Prelude.{◌≡◌, false, List, [], ◌∷◌, ⊤}
+-- Where the number signs of directives stand among items, only where a line begins, and that each line ends.
+use Rattle.std.specs.Prelude.{◌≡◌, ◌≢◌, false, List, [], ◌∷◌, ⊤}
 use Rattle.pp_lexer.specs.Lexed.{Seen}
 use Rattle.pp_model.specs.Lines.{ends_line}
 use Rattle.pp_model.specs.Sights.{is_directive_hash}
@@ -13,3 +13,8 @@ BeginsNoDirective (s ∷ rest) = is_directive_hash s.item ≡ false
 abbrev pub AreLined : List Seen → Type 0
 AreLined [] = ⊤
 AreLined (s ∷ rest) = (ends_line s.item ≡ false → BeginsNoDirective rest) × AreLined rest
+
+-- behind an item that ends no line more stands
+abbrev pub AreEnded : List Seen → Type 0
+AreEnded [] = ⊤
+AreEnded (s ∷ rest) = (ends_line s.item ≡ false → rest ≢ []) × AreEnded rest

@@ -23,7 +23,7 @@ pub record Preprocessing : Type 0 where
 
 -- a preprocessor at the start of a source
 abbrev pub start_of : List ℕ → Preprocessing
-start_of text = record { frames = []; source = record { rest = items_of text; definitions = []; blocks = []; spent = false }; spent = false }
+start_of text = record { frames = []; source = record { rest = items_of text; definitions = []; blocks = []; spent = false; has_text = false; has_directive = false }; spent = false }
 
 -- a state of a run that it stands for
 abbrev pub Stands : Preprocessing → Expander SourceReader → Type 0

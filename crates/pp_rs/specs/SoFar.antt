@@ -36,16 +36,12 @@ abbrev pub parameters_fault_behind : Result Placed Fault → List Seen → Optio
 parameters_fault_behind (Ok name) rest = parameters_fault rest
 parameters_fault_behind (Err fault) rest = None
 
--- In live text these act so far: `#define` of a macro without parameters, `#undef`, `#ifdef`, `#ifndef`, `#else` and `#endif`.
+-- In live text all act so far but `#define` of a macro with parameters, `#if`, `#elif` and `#line`.
 abbrev pub live_fault : Directive → Location → List Seen → Option Fault
 live_fault d.Define word behind = parameters_fault_behind (first_name word behind) (behind_first_token behind)
 live_fault d.If word behind = Some (UnknownDirective, word)
 live_fault d.Elif word behind = Some (UnknownDirective, word)
-live_fault d.Error word behind = Some (UnknownDirective, word)
 live_fault d.Line word behind = Some (UnknownDirective, word)
-live_fault d.Version word behind = Some (UnknownDirective, word)
-live_fault d.Extension word behind = Some (UnknownDirective, word)
-live_fault d.Pragma word behind = Some (UnknownDirective, word)
 live_fault _ word behind = None
 
 -- in dead text all but `#elif` are read as they will be

@@ -1,29 +1,35 @@
 -- What the reader of a source keeps, and one step of it.
-use Rattle.std.specs.Prelude.{◌≡◌, ◌≢◌, ℕ, ◌<◌, ◌⊎◌, Bool, false, if◌then◌else◌, not, is_some, List, [], ◌∷◌, ◌++◌, length, drop, Option, Some, None, Ok, Err, MatchBool}
+use Rattle.std.specs.Prelude.{◌≡◌, ◌≢◌, ℕ, ◌+◌, ◌<◌, ◌⊎◌, Bool, false, if◌then◌else◌, not, ◌||◌, is_some, List, [], ◌∷◌, ◌++◌, length, drop, Option, Some, None, Ok, Err, MatchBool}
 use Rattle.pp_lexer.specs.Lexed.{Seen}
 use Rattle.pp_lexer.specs.PreprocessorError.{out_of_memory}
 use Rattle.pp_lexer.specs.declared.token.PreprocessorError.TheVariants.{DefineRedefined, UnfinishedBlock}
 use Rattle.pp_lexer.specs.declared.token.Token.{Token}
 use Rattle.pp_model.specs.Definitions.{Definition, IsSameDefinition}
 use Rattle.pp_model.specs.declared.definition.Named.{Named}
+use Rattle.pp_rs.specs.DirectiveItems.{value_of}
 use Rattle.pp_rs.specs.Item.{Step}
 use Rattle.pp_rs.specs.Defined.{Defined, meaning_of, IsChanged}
 use Rattle.pp_rs.specs.OpenBlocks.{OpenBlock, outer_blocks, block_opened, block_unread}
-use Rattle.pp_rs.specs.SourceMoves.{Effect, gives, fails, ends, passes, defines, undefines, opens_where, opens_unread, parts, closes, unfinished, Move, move_of}
+use Rattle.pp_rs.specs.SourceMoves.{Effect, gives, gives_item, fails, ends, passes, defines, undefines, opens_where, opens_unread, parts, closes, unfinished, Note, notes_text, notes_directive, Move, move_of}
 use Rattle.pp_rs.specs.declared.pp.step.StepExit.TheVariants.{Error, Continue, Finished}
 
--- the items that are left, what is defined, the blocks that are open, the outermost first, and whether memory was refused
+-- the items that are left, what is defined, the blocks that are open, the outermost first, whether memory was refused, and whether a live
+-- token of the text was read so far, and a directive
 pub record Source : Type 0 where
   pub rest : List Seen
   pub definitions : List Defined
   pub blocks : List OpenBlock
   pub spent : Bool
+  pub has_text : Bool
+  pub has_directive : Bool
 
--- behind so many items, where these blocks are open
-pub record IsBehind (taken : ℕ) (still_open : List OpenBlock) (old new : Source) : Type 0 where
+-- behind so many items, of which this is remembered, where these blocks are open
+pub record IsBehind (taken : ℕ) (note : Note) (still_open : List OpenBlock) (old new : Source) : Type 0 where
   pub rest : new.rest ≡ drop taken old.rest
   pub blocks : new.blocks ≡ still_open
   pub spent : new.spent ≡ false
+  pub has_text : new.has_text ≡ (notes_text note || old.has_text)
+  pub has_directive : new.has_directive ≡ (notes_directive note || old.has_directive)
 
 -- behind a fault: nothing is said of how far the reader went, nor of which blocks are open, but that fewer items and blocks are left
 pub record IsBehindFault (old new : Source) : Type 0 where
@@ -39,37 +45,39 @@ pub record IsBehindBlock (old new : Source) : Type 0 where
   pub spent : new.spent ≡ false
 
 -- a `#define` of a name that stood for this
-abbrev pub DefinesOver : Named → Option Definition → ℕ → Source → Step Token → Source → Type 0
-DefinesOver named None taken old step new =
-    (step ≡ Err Continue) × IsBehind taken old.blocks old new × IsChanged named.name (Some named.definition) old.definitions new.definitions
-DefinesOver named (Some before) taken old step new =
-    (IsSameDefinition before named.definition × (step ≡ Err Continue) × IsBehind taken old.blocks old new × (new.definitions ≡ old.definitions))
+abbrev pub DefinesOver : Named → Option Definition → ℕ → Note → Source → Step Token → Source → Type 0
+DefinesOver named None taken note old step new =
+    (step ≡ Err Continue) × IsBehind taken note old.blocks old new × IsChanged named.name (Some named.definition) old.definitions new.definitions
+DefinesOver named (Some before) taken note old step new =
+    (IsSameDefinition before named.definition × (step ≡ Err Continue) × IsBehind taken note old.blocks old new × (new.definitions ≡ old.definitions))
     ⊎ ((IsSameDefinition before named.definition → ⊥) × (step ≡ Err (Error (DefineRedefined, named.location))) × IsBehindFault old new)
 
 -- whether the condition of an `#ifdef` holds, or that of an `#ifndef`, of a name for which this is found
 abbrev pub holds_where : Bool → Option Definition → Bool
 holds_where wanted found = if wanted then is_some found else not (is_some found)
 
--- a pause behind so many items, where these blocks are open
-abbrev pub Pauses : ℕ → List OpenBlock → Source → Step Token → Source → Type 0
-Pauses taken blocks old step new = (step ≡ Err Continue) × IsBehind taken blocks old new × (new.definitions ≡ old.definitions)
+-- a pause behind so many items, of which this is remembered, where these blocks are open
+abbrev pub Pauses : ℕ → Note → List OpenBlock → Source → Step Token → Source → Type 0
+Pauses taken note blocks old step new = (step ≡ Err Continue) × IsBehind taken note blocks old new × (new.definitions ≡ old.definitions)
 
 -- what an effect means for the step, and for the source behind it
-abbrev pub HasEffect : Effect → ℕ → Source → Step Token → Source → Type 0
-HasEffect (gives token) taken old step new = (step ≡ Ok token) × IsBehind taken old.blocks old new × (new.definitions ≡ old.definitions)
-HasEffect (fails fault) taken old step new = (step ≡ Err (Error fault)) × IsBehindFault old new
-HasEffect ends taken old step new = (step ≡ Err Finished) × (new ≡ old)
-HasEffect passes taken old step new = Pauses taken old.blocks old step new
-HasEffect (defines named) taken old step new = DefinesOver named (meaning_of old.definitions named.name) taken old step new
-HasEffect (undefines name) taken old step new = (step ≡ Err Continue) × IsBehind taken old.blocks old new × IsChanged name None old.definitions new.definitions
-HasEffect (opens_where wanted word name) taken old step new = Pauses taken (old.blocks ++ block_opened word (holds_where wanted (meaning_of old.definitions name)) ∷ []) old step new
-HasEffect (opens_unread word) taken old step new = Pauses taken (old.blocks ++ block_unread word ∷ []) old step new
-HasEffect (parts block) taken old step new = Pauses taken (outer_blocks old.blocks ++ block ∷ []) old step new
-HasEffect closes taken old step new = Pauses taken (outer_blocks old.blocks) old step new
-HasEffect (unfinished word) taken old step new = (step ≡ Err (Error (UnfinishedBlock, word))) × IsBehindBlock old new
+abbrev pub HasEffect : Effect → ℕ → Note → Source → Step Token → Source → Type 0
+HasEffect (gives token) taken note old step new = (step ≡ Ok token) × IsBehind taken note old.blocks old new × (new.definitions ≡ old.definitions)
+HasEffect (gives_item item word) taken note old step new =
+    (step ≡ Ok (record { value = value_of item old.has_text old.has_directive; location = word })) × IsBehind taken note old.blocks old new × (new.definitions ≡ old.definitions)
+HasEffect (fails fault) taken note old step new = (step ≡ Err (Error fault)) × IsBehindFault old new
+HasEffect ends taken note old step new = (step ≡ Err Finished) × (new ≡ old)
+HasEffect passes taken note old step new = Pauses taken note old.blocks old step new
+HasEffect (defines named) taken note old step new = DefinesOver named (meaning_of old.definitions named.name) taken note old step new
+HasEffect (undefines name) taken note old step new = (step ≡ Err Continue) × IsBehind taken note old.blocks old new × IsChanged name None old.definitions new.definitions
+HasEffect (opens_where wanted word name) taken note old step new = Pauses taken note (old.blocks ++ block_opened word (holds_where wanted (meaning_of old.definitions name)) ∷ []) old step new
+HasEffect (opens_unread word) taken note old step new = Pauses taken note (old.blocks ++ block_unread word ∷ []) old step new
+HasEffect (parts block) taken note old step new = Pauses taken note (outer_blocks old.blocks ++ block ∷ []) old step new
+HasEffect closes taken note old step new = Pauses taken note (outer_blocks old.blocks) old step new
+HasEffect (unfinished word) taken note old step new = (step ≡ Err (Error (UnfinishedBlock, word))) × IsBehindBlock old new
 
 abbrev pub Makes : Move → Source → Step Token → Source → Type 0
-Makes move old step new = HasEffect move.effect move.taken old step new
+Makes move old step new = HasEffect move.effect move.taken move.note old step new
 
 -- memory was refused, where something is left to read
 pub record IsRefusedStep (old : Source) (step : Step Token) : Type 0 where

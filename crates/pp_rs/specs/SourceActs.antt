@@ -4,6 +4,7 @@ use Rattle.pp_lexer.specs.Lexed.{Seen}
 use Rattle.pp_lexer.specs.declared.lexer.item.Token.{Token as LexerToken}
 use Rattle.pp_lexer.specs.declared.token.Location.{Location}
 use Rattle.pp_lexer.specs.declared.token.PreprocessorError.TheVariants.{DefineRedefined}
+use Rattle.pp_lexer.specs.declared.token.Token.{Token}
 use Rattle.pp_model.specs.Calls.{Fault}
 use Rattle.pp_model.specs.Conversions.{identifier_of}
 use Rattle.pp_model.specs.Definitions.{Definition, IsSameDefinition}
@@ -13,9 +14,11 @@ use Rattle.pp_model.specs.Sights.{directive_of}
 use Rattle.pp_model.specs.declared.definition.Named.{Named}
 use Rattle.pp_model.specs.declared.definition.Placed.{Placed}
 use Rattle.pp_rs.specs.Defined.{Defined, meaning_of}
+use Rattle.pp_rs.specs.Item.{Step}
 use Rattle.pp_rs.specs.OpenBlocks.{OpenBlock}
 use Rattle.pp_rs.specs.Source.{Source, Makes}
-use Rattle.pp_rs.specs.SourceMoves.{Effect, fails, passes, defines, Move, failing, directive_move, taking_more}
+use Rattle.pp_rs.specs.SourceMoves.{Effect, fails, passes, defines, unnoted, Move, failing, directive_move, taking_more}
+use Rattle.pp_rs.specs.Turns.{as_pause}
 use Rattle.pp_rs.specs.declared.pp.halt.Halt.{Halt}
 use Rattle.pp_rs.specs.declared.pp.halt.Halt.TheVariants as halt
 use Rattle.pp_rs.specs.declared.pp.step.StepExit.TheVariants.{Continue}
@@ -36,11 +39,19 @@ FailsWith (fails wanted) definitions fault = fault ≡ wanted
 FailsWith (defines named) definitions fault = RedefinesWith named (meaning_of definitions named.name) fault
 FailsWith _ definitions fault = ⊥
 
--- a directive does what the move says, unless memory is refused
+-- a directive does what the move says, where this is the step that its value comes to, unless memory is refused
+abbrev pub ActsAs : {A : Type 0} → (A → Step Token) → Move → Source → Result A Halt → Source → Type 0
+ActsAs shows move old (Ok value) new = Makes move old (shows value) new
+ActsAs shows move old (Err (halt.Fault fault)) new = FailsWith move.effect old.definitions fault × HasKept old new
+ActsAs shows move old (Err halt.OutOfMemory) new = ⊤
+
+-- a directive that gives nothing
 abbrev pub Acts : Move → Source → Result (Unit {0}) Halt → Source → Type 0
-Acts move old (Ok done) new = Makes move old (Err Continue) new
-Acts move old (Err (halt.Fault fault)) new = FailsWith move.effect old.definitions fault × HasKept old new
-Acts move old (Err halt.OutOfMemory) new = ⊤
+Acts move old result new = ActsAs (λ done. Err Continue) move old result new
+
+-- a directive that gives an item or nothing
+abbrev pub Gives : Move → Source → Result (Option Token) Halt → Source → Type 0
+Gives move old result new = ActsAs as_pause move old result new
 
 -- what a directive comes to behind its number sign, where this is its word and these items stand behind that
 abbrev pub live_word_move : Option OpenBlock → Result Placed Fault → List Seen → Move
@@ -50,7 +61,7 @@ live_word_move block (Err fault) behind = failing fault
 -- the same in dead text, where this is the token behind the number sign
 abbrev pub dead_name_move : Option OpenBlock → Location → Option Name → List Seen → Move
 dead_name_move block location (Some name) behind = taking_more 1 (directive_move false block (directive_of name) location behind)
-dead_name_move block location None behind = record { effect = passes; taken = 1 }
+dead_name_move block location None behind = record { effect = passes; taken = 1; note = unnoted }
 
 abbrev pub dead_word_move : Option OpenBlock → Result LexerToken Fault → List Seen → Move
 dead_word_move block (Ok token) behind = dead_name_move block token.location (identifier_of token.value) behind
@@ -62,4 +73,4 @@ word_move live block hash rest = if live then live_word_move block (first_name h
 
 -- a `#define`, once its line is read
 abbrev pub defining : Named → Move
-defining named = record { effect = defines named; taken = 0 }
+defining named = record { effect = defines named; taken = 0; note = unnoted }

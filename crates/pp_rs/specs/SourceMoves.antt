@@ -1,12 +1,13 @@
--- What a token or a line at the front of the items that are left comes to (docs/RULES.md, Directives 1 to 11).
+-- What a token or a line at the front of the items that are left comes to (docs/RULES.md, Directives 1 to 12 and 14).
 use Rattle.std.specs.Prelude.{ℕ, ◌+◌, Bool, true, false, if◌then◌else◌, List, drop, Option, Some, None, Result, Ok, Err}
+use Rattle.pp_lexer.specs.Entry.{Entry}
 use Rattle.pp_lexer.specs.Lexed.{Seen}
 use Rattle.pp_lexer.specs.declared.token.Location.{Location}
-use Rattle.pp_lexer.specs.declared.token.PreprocessorError.TheVariants.{UnexpectedHash, UnknownDirective, ElseOutsideOfBlock, EndifOutsideOfBlock, MoreThanOneElse}
+use Rattle.pp_lexer.specs.declared.token.PreprocessorError.TheVariants.{UnexpectedHash, ErrorDirective, UnknownDirective, ElseOutsideOfBlock, EndifOutsideOfBlock, MoreThanOneElse}
 use Rattle.pp_lexer.specs.declared.token.Token.{Token}
 use Rattle.pp_model.specs.Names.{Name}
 use Rattle.pp_model.specs.Calls.{Fault}
-use Rattle.pp_model.specs.Lines.{line_length, line_fault, ended_line, only_name}
+use Rattle.pp_model.specs.Lines.{line_length, line_fault, comments_before_end, ended_line, only_name}
 use Rattle.pp_model.specs.DefineLines.{defined_on}
 use Rattle.pp_model.specs.Sights.{sight_of}
 use Rattle.pp_model.specs.declared.definition.Named.{Named}
@@ -14,13 +15,15 @@ use Rattle.pp_model.specs.declared.directive.Directive.{Directive}
 use Rattle.pp_model.specs.declared.directive.Directive.TheVariants as d
 use Rattle.pp_model.specs.declared.sight.Sight.{Sight}
 use Rattle.pp_model.specs.declared.sight.Sight.TheVariants as sight
+use Rattle.pp_rs.specs.DirectiveItems.{DirectiveItem, version, extension, pragma, line_entries}
 use Rattle.pp_rs.specs.OpenBlocks.{OpenBlock, last_block, is_live_in, block_parted}
 use Rattle.pp_rs.specs.SoFar.{directive_fault}
 
--- What comes of it: a token or a fault is given, nothing, or the end; a name stands for something from now on, or for nothing; a block
+-- What comes of it: a token of the text, a directive that is an item, or a fault is given, nothing, or the end; a name stands for something from now on, or for nothing; a block
 -- opens where a name is defined, or where it isn't, or unread; the innermost block is parted, or closes, or is told at the end.
 pub data Effect : Type 0 where
   gives : Token → Effect
+  gives_item : DirectiveItem → Location → Effect
   fails : Fault → Effect
   ends : Effect
   passes : Effect
@@ -32,23 +35,38 @@ pub data Effect : Type 0 where
   closes : Effect
   unfinished : Location → Effect
 
--- what it comes to, and how many items it takes
+-- what is remembered of what was read: nothing, or that it was a live token of the text, or a directive
+pub data Note : Type 0 where
+  unnoted : Note
+  live_text : Note
+  directive_line : Note
+
+abbrev pub notes_text : Note → Bool
+notes_text live_text = true
+notes_text _ = false
+
+abbrev pub notes_directive : Note → Bool
+notes_directive directive_line = true
+notes_directive _ = false
+
+-- what it comes to, how many items it takes, and what is remembered of them
 pub record Move : Type 0 where
   pub effect : Effect
   pub taken : ℕ
+  pub note : Note
 
 abbrev pub failing : Fault → Move
-failing fault = record { effect = fails fault; taken = 0 }
+failing fault = record { effect = fails fault; taken = 0; note = unnoted }
 
 -- a line with this value or fault, where so many items belong to it
 abbrev pub line_move : {A : Type 0} → Result A Fault → (A → Effect) → ℕ → Move
-line_move (Ok value) effect taken = record { effect = effect value; taken = taken }
+line_move (Ok value) effect taken = record { effect = effect value; taken = taken; note = unnoted }
 line_move (Err fault) effect taken = failing fault
 
 -- a line that is skipped, but for the lexer's errors
 abbrev pub skip_by : Option Fault → Effect → ℕ → Move
 skip_by (Some fault) effect taken = failing fault
-skip_by None effect taken = record { effect = effect; taken = taken }
+skip_by None effect taken = record { effect = effect; taken = taken; note = unnoted }
 
 abbrev pub skip_move : Effect → List Seen → Move
 skip_move effect behind = skip_by (line_fault behind) effect (line_length behind)
@@ -67,6 +85,10 @@ endif_move None word behind = failing (EndifOutsideOfBlock, word)
 endif_move (Some block) word behind =
     if block.live_around then line_move (ended_line word behind) (λ end. closes) (line_length behind) else skip_move closes behind
 
+-- a line that is an item
+abbrev pub item_move : (List Entry → DirectiveItem) → Location → List Seen → Move
+item_move item word behind = line_move (line_entries behind) (λ tokens. gives_item (item tokens) word) (line_length behind)
+
 -- a directive in live text, where these items stand behind its word
 abbrev pub live_move : Option OpenBlock → Directive → Location → List Seen → Move
 live_move block d.Define word behind = line_move (defined_on word behind) defines (line_length behind)
@@ -75,6 +97,10 @@ live_move block d.Ifdef word behind = line_move (only_name word behind) (opens_w
 live_move block d.Ifndef word behind = line_move (only_name word behind) (opens_where false word) (line_length behind)
 live_move block d.Else word behind = else_move block word behind
 live_move block d.Endif word behind = endif_move block word behind
+live_move block d.Error word behind = failing (ErrorDirective, word)
+live_move block d.Version word behind = item_move (λ tokens. version tokens (comments_before_end behind)) word behind
+live_move block d.Extension word behind = item_move extension word behind
+live_move block d.Pragma word behind = item_move pragma word behind
 live_move block _ word behind = failing (UnknownDirective, word)
 
 -- a directive in dead text
@@ -85,7 +111,7 @@ dead_move block d.Ifndef word behind = skip_move (opens_unread word) behind
 dead_move block d.Elif word behind = failing (UnknownDirective, word)
 dead_move block d.Else word behind = else_move block word behind
 dead_move block d.Endif word behind = endif_move block word behind
-dead_move block d.Unknown word behind = record { effect = passes; taken = 0 }
+dead_move block d.Unknown word behind = record { effect = passes; taken = 0; note = unnoted }
 dead_move block _ word behind = skip_move passes behind
 
 abbrev pub acting_move : Bool → Option OpenBlock → Directive → Location → List Seen → Move
@@ -98,9 +124,9 @@ unless_refused None move = move
 abbrev pub directive_move : Bool → Option OpenBlock → Directive → Location → List Seen → Move
 directive_move live block directive word behind = unless_refused (directive_fault live directive word behind) (acting_move live block directive word behind)
 
--- so many items more
+-- so many items more, the number sign and the word of a directive among them
 abbrev pub taking_more : ℕ → Move → Move
-taking_more count move = record move { taken = count + move.taken }
+taking_more count move = record move { taken = count + move.taken; note = directive_line }
 
 -- the end, where each block that is open is told first, the innermost before the others
 abbrev pub end_effect : Option OpenBlock → Effect
@@ -109,21 +135,21 @@ end_effect (Some block) = unfinished block.word
 
 -- what stands in live text, and in dead text
 abbrev pub live_move_at : Option OpenBlock → Sight → List Seen → Move
-live_move_at block sight.End rest = record { effect = end_effect block; taken = 0 }
-live_move_at block sight.NewLine rest = record { effect = passes; taken = 1 }
+live_move_at block sight.End rest = record { effect = end_effect block; taken = 0; note = unnoted }
+live_move_at block sight.NewLine rest = record { effect = passes; taken = 1; note = unnoted }
 live_move_at block (sight.Fault fault) rest = failing fault
-live_move_at block (sight.Token token) rest = record { effect = gives token; taken = 1 }
+live_move_at block (sight.Token token) rest = record { effect = gives token; taken = 1; note = live_text }
 live_move_at block (sight.Hash location) rest = failing (UnexpectedHash, location)
 live_move_at block (sight.NoWord fault) rest = failing fault
 live_move_at block (sight.Directive directive word) rest = taking_more 2 (directive_move true block directive word (drop 2 rest))
 
 abbrev pub dead_move_at : Option OpenBlock → Sight → List Seen → Move
-dead_move_at block sight.End rest = record { effect = end_effect block; taken = 0 }
-dead_move_at block sight.NewLine rest = record { effect = passes; taken = 1 }
+dead_move_at block sight.End rest = record { effect = end_effect block; taken = 0; note = unnoted }
+dead_move_at block sight.NewLine rest = record { effect = passes; taken = 1; note = unnoted }
 dead_move_at block (sight.Fault fault) rest = failing fault
-dead_move_at block (sight.Token token) rest = record { effect = passes; taken = 1 }
-dead_move_at block (sight.Hash location) rest = record { effect = passes; taken = 1 }
-dead_move_at block (sight.NoWord fault) rest = record { effect = passes; taken = 2 }
+dead_move_at block (sight.Token token) rest = record { effect = passes; taken = 1; note = unnoted }
+dead_move_at block (sight.Hash location) rest = record { effect = passes; taken = 1; note = unnoted }
+dead_move_at block (sight.NoWord fault) rest = record { effect = passes; taken = 2; note = unnoted }
 dead_move_at block (sight.Directive directive word) rest = taking_more 2 (directive_move false block directive word (drop 2 rest))
 
 abbrev pub move_at : Bool → Option OpenBlock → Sight → List Seen → Move

@@ -1,15 +1,15 @@
 -- The state of a run that a preprocessor stands for. It keeps less: neither what was read, nor the list into which its frames are spliced.
-use Rattle.std.specs.Prelude.{◌≡◌, pos, ◌≤◌, false, List, [], ◌++◌, length, take, drop, Some, None}
+use Rattle.std.specs.Prelude.{◌≡◌, ◌≢◌, pos, ◌≤◌, true, false, ◌||◌, List, [], ◌++◌, length, take, drop, Some, None}
 use Rattle.pp_lexer.specs.Lexed.{Seen}
 use Rattle.pp_model.specs.Names.{Name}
 use Rattle.pp_model.specs.Definitions.{Definition}
 use Rattle.pp_model.specs.Reading.{Expander}
 use Rattle.pp_model.specs.Blocks.{block_lines, blocks_at}
-use Rattle.pp_model.specs.SourceReader.{SourceReader}
+use Rattle.pp_model.specs.SourceReader.{SourceReader, has_directive, is_on_directive_line, has_live_text_before}
 use Rattle.pp_rs.specs.Defined.{Defined, meaning_of}
 use Rattle.pp_rs.specs.Frames.{Layer, flat}
 use Rattle.pp_rs.specs.Lined.{AreLined}
-use Rattle.pp_rs.specs.OpenBlocks.{StandForBlocks, AreBefore}
+use Rattle.pp_rs.specs.OpenBlocks.{last_block, is_live_in, StandForBlocks, AreBefore}
 use Rattle.pp_rs.specs.Source.{Source}
 
 -- no name stands for a macro with parameters: none can be defined so far
@@ -17,7 +17,8 @@ abbrev pub AreObjectLike : List Defined → Type 0
 AreObjectLike definitions = (name : Name) (definition : Definition) → meaning_of definitions name ≡ Some definition → definition.function_like ≡ false
 
 -- A reader of a source: what is left to read stands behind its position, the lines of blocks are those before it and those behind it, and
--- the blocks that are kept are those that are open there.
+-- the blocks that are kept are those that are open there. It remembers whether a live token of the text was read, and a directive. No
+-- number sign of a directive stands directly before its position; in live text the position isn't on a directive's line, but at the end.
 pub record StandsForReader (source : Source) (reader : SourceReader) : Type 0 where
   pub rest : source.rest ≡ drop reader.position reader.items
   pub within : reader.position ≤ length reader.items
@@ -30,6 +31,10 @@ pub record StandsForReader (source : Source) (reader : SourceReader) : Type 0 wh
   pub truths : AreBefore reader.position reader.truths
   pub unfinished : reader.unfinished ≡ length (blocks_at reader.items (length reader.items))
   pub unspent : source.spent ≡ false
+  pub remembers_text : source.has_text ≡ has_live_text_before reader.items reader.truths reader.position
+  pub remembers_directive : source.has_directive ≡ has_directive (take reader.position reader.items)
+  pub directives : (behind : List Seen) → has_directive (take reader.position reader.items ++ behind) ≡ (has_directive (take reader.position reader.items) || has_directive behind)
+  pub off_line : is_live_in (last_block source.blocks) ≡ true → source.rest ≢ [] → is_on_directive_line reader.items reader.position ≡ false
 
 -- an expander over it: the frames are its splice list
 pub record StandsFor (frames : List Layer) (source : Source) (state : Expander SourceReader) : Type 0 where

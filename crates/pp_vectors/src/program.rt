@@ -134,8 +134,14 @@ fn prints_up_to_the_first_error(rt: HostRuntime) {
         let character = stopped(PreprocessorError::UnexpectedCharacter, 0, 0, 1);
         expect_output(&rt, "@ x", step, "", &character);
         expect_output(&rt, "#define A B +\nA\nA C", step, "B + B + C\n", &done);
-        // Until `#error` is known.
-        let directive = stopped(PreprocessorError::UnknownDirective, 3, 8, 2);
+        expect_output(
+            &rt,
+            "#version 300 es\nx",
+            step,
+            "#version 300 es\nx\n",
+            &done,
+        );
+        let directive = stopped(PreprocessorError::ErrorDirective, 3, 8, 2);
         expect_output(&rt, "x\n#error A", step, "x\n", &directive);
     }
 }

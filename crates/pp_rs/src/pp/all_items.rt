@@ -37,10 +37,11 @@ fn gather(alloc: Global, pp: &mut Preprocessor<'_>) -> Result<Vec<PreprocessorIt
     }
 }
 
-/// Calls `next` until it gives `None`, and gives all items, error items among them.
+/// Calls `next` until it gives `None`, and gives all items that were left, error items among them. pp-rs 0.2.1 has no such
+/// function.
 ///
-/// `OutOfMemory` is the error where memory is refused, and what was gathered is given up. Where memory for an item is
-/// refused, `next` gives `None` for good. Where the list itself can't grow, `next` goes on behind the items that were
+/// The error is `OutOfMemory`, where memory is refused, and what was gathered is given up. Where memory for an item is
+/// refused, `next` gives `None` for good. Where the list of the items can't grow, `next` goes on behind those that were
 /// gathered.
 pub fn preprocess_all(
     alloc: Global,

@@ -1,19 +1,23 @@
 //! The source's reader: directives act, and the tokens between them are given.
 
-ghost use Rattle.std.specs.Prelude.{◌≡◌, ◌-◌, ◌^◌, ◌<◌, [], length, drop, false, true, Err, IsTrue, IfOk, option_map};
+ghost use Rattle.std.specs.Prelude.{◌≡◌, ◌≢◌, ◌||◌, ◌-◌, ◌^◌, ◌<◌, [], length, drop, false, true, Ok, Err, is_ok, IfOk, IfSome, option_map};
 ghost use Rattle.std.specs.Str.{chars};
 ghost use Rattle.pp_lexer.specs.Lexed.{start_of};
 ghost use Rattle.pp_lexer.specs.Spots.{spots_of};
-ghost use Rattle.pp_lexer.specs.TokenValue.{is_ordinary};
+ghost use Rattle.pp_lexer.specs.declared.lexer.item.TokenValue.TheVariants.{NewLine};
+ghost use Rattle.pp_model.specs.Conversions.{conversion};
 ghost use Rattle.pp_model.specs.Lines.{only_name, line_length, first_name, first_token};
 ghost use Rattle.pp_model.specs.Run.{items_of, content_tokens};
 ghost use Rattle.pp_model.specs.declared.directive.Directive.TheVariants as d;
 ghost use Rattle.pp_rs.specs.Defined.{meaning_of};
+ghost use Rattle.pp_rs.specs.DirectiveItems.{is_item};
+ghost use Rattle.pp_rs.specs.Held.{HoldsOrdinary};
+ghost use Rattle.pp_rs.specs.Item.{as_step};
 ghost use Rattle.pp_rs.specs.LineReading.{named};
 ghost use Rattle.pp_rs.specs.OpenBlocks.{last_block, is_live_in};
 ghost use Rattle.pp_rs.specs.SettingContent.{SetsContent};
 ghost use Rattle.pp_rs.specs.Source.{StepsSource};
-ghost use Rattle.pp_rs.specs.SourceActs.{Acts, live_word_move, dead_word_move, word_move, defining};
+ghost use Rattle.pp_rs.specs.SourceActs.{Acts, ActsAs, Gives, live_word_move, dead_word_move, word_move, defining};
 ghost use Rattle.pp_rs.specs.SourceMoves as moves;
 ghost use Rattle.pp_rs.specs.Words.{directive_named};
 
@@ -25,12 +29,15 @@ use crate::pp::define::Define;
 use crate::pp::definitions::Definitions;
 use crate::pp::halt::Halt;
 use crate::pp::lines::{
-    DefineLine, define_line, ended_line, endif_end, first_name, first_token, only_name, skip_line,
+    DefineLine, define_line, ended_line, endif_end, first_name, first_token, line_tokens,
+    only_name, skip_line,
 };
 use crate::pp::source_lexer::SourceLexer;
 use crate::pp::step::{Step, StepExit};
 use crate::pp::words::{Directive, directive_of};
-use crate::token::{Location, PreprocessorError, Text, Token};
+use crate::token::{
+    Extension, Location, Pragma, PreprocessorError, Text, Token, TokenValue, Version,
+};
 use std::alloc::Global;
 use std::marker::Model;
 use std::rc::Rc;
@@ -42,6 +49,8 @@ pub struct DirectiveProcessor<'a> {
     lexer: SourceLexer<'a>,
     definitions: Definitions,
     blocks: Blocks,
+    has_text: bool,
+    has_directive: bool,
 }
 
 impl<'a> Model for DirectiveProcessor<'a> {
@@ -49,7 +58,7 @@ impl<'a> Model for DirectiveProcessor<'a> {
 
     ghost Value = { Source };
 
-    ghost view = { λ p. record { rest = p.lexer.rest; definitions = p.definitions; blocks = p.blocks; spent = p.lexer.spent } };
+    ghost view = { λ p. record { rest = p.lexer.rest; definitions = p.definitions; blocks = p.blocks; spent = p.lexer.spent; has_text = p.has_text; has_directive = p.has_directive } };
 }
 
 impl<'a> DirectiveProcessor<'a> {
@@ -58,13 +67,15 @@ impl<'a> DirectiveProcessor<'a> {
     /// Takes no memory and reads nothing yet.
     pub fn new(alloc: Global, input: &'a str) -> DirectiveProcessor<'a>
         requires { length input.now < 2 ^ 32 - 1 }
-        ensures { result ≡ record { rest = (start_of (spots_of input.now)).rest; definitions = []; blocks = []; spent = false } }
+        ensures { result ≡ record { rest = (start_of (spots_of input.now)).rest; definitions = []; blocks = []; spent = false; has_text = false; has_directive = false } }
     {
         DirectiveProcessor {
             alloc,
             lexer: SourceLexer::new(alloc, input),
             definitions: Definitions::new(alloc),
             blocks: Blocks::new(alloc),
+            has_text: false,
+            has_directive: false,
         }
     }
 
@@ -188,9 +199,61 @@ impl<'a> DirectiveProcessor<'a> {
         skip_line(&mut self.lexer)
     }
 
-    // Does what a directive says in live text, behind its word.
+    // A `#version` line as an item.
+    fn version(&mut self, word: Location) -> Result<Token, Halt>
+        requires unspent { self.old.spent ≡ false }
+        requires left { self.old.rest ≢ [] }
+        ensures acts { ActsAs (λ token. Ok token) (moves.live_move (last_block self.old.blocks) d.Version word self.old.rest) self.old result self.new }
+        ensures holds { IfOk result (λ token. HoldsOrdinary token.value) }
+    {
+        let tokens = line_tokens(self.alloc, &mut self.lexer)?;
+        let value = TokenValue::Version(Version {
+            tokens,
+            is_first_directive: !(self.has_directive || self.has_text),
+            has_comments_before: self.lexer.had_comments(),
+        });
+        Ok(Token {
+            value,
+            location: word,
+        })
+    }
+
+    // An `#extension` line as an item.
+    fn extension(&mut self, word: Location) -> Result<Token, Halt>
+        requires unspent { self.old.spent ≡ false }
+        requires left { self.old.rest ≢ [] }
+        ensures acts { ActsAs (λ token. Ok token) (moves.live_move (last_block self.old.blocks) d.Extension word self.old.rest) self.old result self.new }
+        ensures holds { IfOk result (λ token. HoldsOrdinary token.value) }
+    {
+        let tokens = line_tokens(self.alloc, &mut self.lexer)?;
+        let value = TokenValue::Extension(Extension {
+            tokens,
+            has_non_directive_before: self.has_text,
+        });
+        Ok(Token {
+            value,
+            location: word,
+        })
+    }
+
+    // A `#pragma` line as an item.
+    fn pragma(&mut self, word: Location) -> Result<Token, Halt>
+        requires unspent { self.old.spent ≡ false }
+        requires left { self.old.rest ≢ [] }
+        ensures acts { ActsAs (λ token. Ok token) (moves.live_move (last_block self.old.blocks) d.Pragma word self.old.rest) self.old result self.new }
+        ensures holds { IfOk result (λ token. HoldsOrdinary token.value) }
+    {
+        let tokens = line_tokens(self.alloc, &mut self.lexer)?;
+        Ok(Token {
+            value: TokenValue::Pragma(Pragma { tokens }),
+            location: word,
+        })
+    }
+
+    // Does what a directive that is no item says in live text, behind its word.
     fn act_live(&mut self, directive: Directive, word: Location) -> Result<(), Halt>
-        requires { self.old.spent ≡ false }
+        requires unspent { self.old.spent ≡ false }
+        requires silent { is_item (directive_named directive) ≡ false }
         ensures { Acts (moves.directive_move true (last_block self.old.blocks) (directive_named directive) word self.old.rest) self.old result self.new }
     {
         match directive {
@@ -200,7 +263,26 @@ impl<'a> DirectiveProcessor<'a> {
             Directive::Ifndef => self.open_where(false, word),
             Directive::Else => self.else_line(word),
             Directive::Endif => self.endif_line(word),
+            Directive::Error => Err(Halt::Fault((PreprocessorError::ErrorDirective, word))),
             _ => Err(Halt::Fault((PreprocessorError::UnknownDirective, word))),
+        }
+    }
+
+    // What a directive gives in live text, behind its word.
+    fn give_live(&mut self, directive: Directive, word: Location) -> Result<Option<Token>, Halt>
+        requires unspent { self.old.spent ≡ false }
+        requires left { self.old.rest ≢ [] }
+        ensures gives { Gives (moves.directive_move true (last_block self.old.blocks) (directive_named directive) word self.old.rest) self.old result self.new }
+        ensures holds { IfOk result (λ given. IfSome given (λ token. HoldsOrdinary token.value)) }
+    {
+        match directive {
+            Directive::Version => Ok(Some(self.version(word)?)),
+            Directive::Extension => Ok(Some(self.extension(word)?)),
+            Directive::Pragma => Ok(Some(self.pragma(word)?)),
+            _ => {
+                self.act_live(directive, word)?;
+                Ok(None)
+            }
         }
     }
 
@@ -219,13 +301,16 @@ impl<'a> DirectiveProcessor<'a> {
         }
     }
 
-    // Does what a directive says in live text, behind its number sign.
-    fn read_live(&mut self, hash: Location) -> Result<(), Halt>
+    // What a directive gives in live text, behind its number sign.
+    fn read_live(&mut self, hash: Location) -> Result<Option<Token>, Halt>
         requires { self.old.spent ≡ false }
-        ensures { Acts (live_word_move (last_block self.old.blocks) (first_name hash self.old.rest) (drop 1 self.old.rest)) self.old result self.new }
+        ensures gives { Gives (live_word_move (last_block self.old.blocks) (first_name hash self.old.rest) (drop 1 self.old.rest)) self.old result self.new }
+        ensures holds { IfOk result (λ given. IfSome given (λ token. HoldsOrdinary token.value)) }
     {
         let word = first_name(hash, &mut self.lexer)?;
-        self.act_live(directive_of(&word.name), word.location)
+        let given = self.give_live(directive_of(&word.name), word.location)?;
+        self.has_directive = true;
+        Ok(given)
     }
 
     // Does what a directive says in dead text, behind its number sign. Where no word stands there, nothing is said.
@@ -236,21 +321,38 @@ impl<'a> DirectiveProcessor<'a> {
         let token = first_token(hash, &mut self.lexer)?;
         let word = token.location;
         match token.value {
-            lexer::TokenValue::Ident(name) => self.act_dead(directive_of(&name), word),
+            lexer::TokenValue::Ident(name) => {
+                self.act_dead(directive_of(&name), word)?;
+                self.has_directive = true;
+                Ok(())
+            }
             _ => Ok(()),
         }
     }
 
-    // Does what a directive says, behind its number sign.
-    fn read_directive(&mut self, hash: Location) -> Result<(), Halt>
+    // What a directive gives, behind its number sign.
+    fn read_directive(&mut self, hash: Location) -> Result<Option<Token>, Halt>
         requires { self.old.spent ≡ false }
-        ensures { Acts (word_move (is_live_in (last_block self.old.blocks)) (last_block self.old.blocks) hash self.old.rest) self.old result self.new }
+        ensures gives { Gives (word_move (is_live_in (last_block self.old.blocks)) (last_block self.old.blocks) hash self.old.rest) self.old result self.new }
+        ensures holds { IfOk result (λ given. IfSome given (λ token. HoldsOrdinary token.value)) }
     {
         if self.is_live() {
-            self.read_live(hash)
-        } else {
-            self.read_dead(hash)
+            return self.read_live(hash);
         }
+        self.read_dead(hash)?;
+        Ok(None)
+    }
+
+    // A token of live text. A number sign is refused.
+    fn give_token(&mut self, token: lexer::Token) -> Step<Token>
+        requires { token.value ≢ NewLine }
+        ensures is { result ≡ as_step (conversion token) }
+        ensures holds { IfOk result (λ token. HoldsOrdinary token.value) }
+        ensures remembers { self.new ≡ record self.old { has_text = is_ok result || self.old.has_text } }
+    {
+        let token = convert_lexer_token_to_step(token)?;
+        self.has_text = true;
+        Ok(token)
     }
 
     // Tells the innermost of the blocks that are open at the end of the source, or the end.
@@ -271,12 +373,14 @@ impl<'a> DirectiveProcessor<'a> {
     ///
     /// A newline and a directive that acts are pauses, and so are the tokens of dead text. These
     /// directives act: `#define` of a macro without parameters, `#undef`, `#ifdef`, `#ifndef`,
-    /// `#else` and `#endif`. A number sign that begins no line is `UnexpectedHash` at its place in
-    /// live text. The lexer's errors are given as they are. At the end `UnfinishedBlock` is told
-    /// of each block that is open, the innermost first.
+    /// `#else` and `#endif`. In live text `#version`, `#extension` and `#pragma` are tokens at their
+    /// word, which hold the tokens of their line; `#error` is `ErrorDirective` at its word, and a
+    /// number sign that begins no line is `UnexpectedHash` at its place. The lexer's errors are
+    /// given as they are. At the end `UnfinishedBlock` is told of each block that is open, the
+    /// innermost first.
     pub fn step(&mut self) -> Step<Token>
         ensures reads { StepsSource self.old result self.new }
-        ensures ordinary { IfOk result (λ token. IsTrue (is_ordinary token.value)) }
+        ensures holds { IfOk result (λ token. HoldsOrdinary token.value) }
     {
         let Some(token) = self.lexer.next_token()? else {
             return Err(self.end());
@@ -284,10 +388,12 @@ impl<'a> DirectiveProcessor<'a> {
         match token.value {
             lexer::TokenValue::NewLine => Err(StepExit::Continue),
             lexer::TokenValue::Hash if token.start_of_line => {
-                self.read_directive(token.location)?;
-                Err(StepExit::Continue)
+                match self.read_directive(token.location)? {
+                    Some(item) => Ok(item),
+                    None => Err(StepExit::Continue),
+                }
             }
-            _ if self.is_live() => convert_lexer_token_to_step(token),
+            _ if self.is_live() => self.give_token(token),
             _ => Err(StepExit::Continue),
         }
     }

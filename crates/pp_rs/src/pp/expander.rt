@@ -1,14 +1,14 @@
 //! The expander: open macros over a reader.
 
-ghost use Rattle.std.specs.Prelude.{◌≡◌, ◌⊎◌, ◌∷◌, [], IfOk, IsTrue, MatchResult, Ok, Err, option_map, pos, false};
+ghost use Rattle.std.specs.Prelude.{◌≡◌, ◌⊎◌, ◌∷◌, [], IfOk, MatchResult, Ok, Err, option_map, pos, false};
 ghost use Rattle.std.specs.List.{list_any};
 ghost use Rattle.pp_lexer.specs.PreprocessorError.{out_of_memory};
-ghost use Rattle.pp_lexer.specs.TokenValue.{is_ordinary};
 ghost use Rattle.pp_lexer.specs.declared.token.PreprocessorError.TheVariants.{LineOverflow};
 ghost use Rattle.pp_lexer.specs.declared.token.TokenValue.TheVariants as value;
 ghost use Rattle.pp_model.specs.Names.{is_in, is_identifier, is_same_name, line_name};
 ghost use Rattle.pp_model.specs.declared.outcome.Outcome.TheVariants as outcome;
 ghost use Rattle.pp_rs.specs.Frames.{layer, names_of, outermost_frame_line};
+ghost use Rattle.pp_rs.specs.Held.{HoldsOrdinary};
 ghost use Rattle.pp_rs.specs.Turns.{Moves, taken_in, opens_value, opens, OpensOrGives, Turns};
 ghost use Rattle.pp_rs.specs.declared.pp.step.StepExit.TheVariants.{Error, Continue};
 
@@ -101,7 +101,7 @@ impl MacroProcessor {
     // end is closed.
     fn advance(&mut self, lexer: &mut dyn MeLexer) -> Step<Token>
         ensures moves { Moves self.old (reader lexer.old) result self.new (reader lexer.new) }
-        ensures ordinary { IfOk result (λ token. IsTrue (is_ordinary token.value)) }
+        ensures holds { IfOk result (λ token. HoldsOrdinary token.value) }
     {
         let Some(frame) = self.frames.last_mut() else {
             return lexer.step();
@@ -117,9 +117,9 @@ impl MacroProcessor {
 
     // A token that is taken: `__LINE__` becomes a number at once.
     fn take_in(&self, lexer: &dyn MeLexer, token: Token) -> Step<Token>
-        requires { IsTrue (is_ordinary token.value) }
+        requires { HoldsOrdinary token.value }
         ensures taken { MatchResult result (λ taken. taken_in self.now (reader lexer.now) token ≡ outcome.Token taken) (λ exit. (exit ≡ Error (LineOverflow, token.location)) × (taken_in self.now (reader lexer.now) token ≡ outcome.Fault (LineOverflow, token.location))) }
-        ensures ordinary { IfOk result (λ token. IsTrue (is_ordinary token.value)) }
+        ensures holds { IfOk result (λ token. HoldsOrdinary token.value) }
     {
         if !is_line_name(&token.value) {
             return Ok(token);
@@ -157,7 +157,7 @@ impl MacroProcessor {
     // A name that is taken opens its macro, or is given.
     fn follow_name(&mut self, lexer: &dyn MeLexer, name: Text, location: Location) -> Step<Token>
         ensures follows { OpensOrGives (opens_value self.old (reader lexer.now) (value.Ident name)) (record { value = value.Ident name; location = location }) self.old result self.new ⊎ (result ≡ Err (Error out_of_memory)) }
-        ensures ordinary { IfOk result (λ token. IsTrue (is_ordinary token.value)) }
+        ensures holds { IfOk result (λ token. HoldsOrdinary token.value) }
     {
         match self.find_macro(lexer, &name) {
             Ok(Some(define)) => self.open(name, location.line, define),
@@ -174,9 +174,9 @@ impl MacroProcessor {
 
     // A token that is taken opens its macro, or is given.
     fn follow(&mut self, lexer: &dyn MeLexer, token: Token) -> Step<Token>
-        requires { IsTrue (is_ordinary token.value) }
+        requires { HoldsOrdinary token.value }
         ensures follows { OpensOrGives (opens self.old (reader lexer.now) token) token self.old result self.new ⊎ (result ≡ Err (Error out_of_memory)) }
-        ensures ordinary { IfOk result (λ token. IsTrue (is_ordinary token.value)) }
+        ensures holds { IfOk result (λ token. HoldsOrdinary token.value) }
     {
         let location = token.location;
         match token.value {
@@ -189,7 +189,7 @@ impl MacroProcessor {
     /// becomes a number, and a name that is defined and not open opens its macro.
     pub fn step(&mut self, lexer: &mut dyn MeLexer) -> Step<Token>
         ensures turns { Turns self.old (reader lexer.old) result self.new (reader lexer.new) }
-        ensures ordinary { IfOk result (λ token. IsTrue (is_ordinary token.value)) }
+        ensures holds { IfOk result (λ token. HoldsOrdinary token.value) }
     {
         let token = self.advance(lexer)?;
         let token = self.take_in(&*lexer, token)?;

@@ -1,10 +1,13 @@
 //! The lines of directives, read token by token.
 
-ghost use Rattle.std.specs.Prelude.{◌≡◌, false, Ok, IsTrue, All, IfOk, IfSome};
+ghost use Rattle.std.specs.Prelude.{◌≡◌, ◌≢◌, [], false, Some, Ok, IsTrue, All, IfOk, IfSome};
+ghost use Rattle.pp_lexer.specs.Lexed.{comments_before};
 ghost use Rattle.pp_lexer.specs.TokenValue.{is_ordinary};
 ghost use Rattle.pp_model.specs.Conversions as conversions;
 ghost use Rattle.pp_model.specs.DefineLines.{is_attached_paren};
-ghost use Rattle.pp_model.specs.Lines.{first_token, first_name, ended_line, only_name, line_length};
+ghost use Rattle.pp_model.specs.Lines.{first_token, first_name, ended_line, only_name, line_length, comments_before_end};
+ghost use Rattle.pp_rs.specs.DirectiveItems.{line_entries};
+ghost use Rattle.pp_rs.specs.Held.{is_ordinary_leaf};
 ghost use Rattle.pp_rs.specs.LineReading as spec;
 
 use crate::lexer;
@@ -12,7 +15,7 @@ use crate::pp::convert::convert_lexer_token;
 use crate::pp::define::Define;
 use crate::pp::halt::Halt;
 use crate::pp::source_lexer::SourceLexer;
-use crate::token::{Location, PreprocessorError, Punct, Text, Token, TokenValue};
+use crate::token::{Location, PreprocessorError, Punct, Text, Token, TokenValue, Tokens};
 use std::alloc::Global;
 
 /// The next token; the end is refused at the directive's word.
@@ -20,6 +23,7 @@ pub fn first_token(word: Location, lexer: &mut SourceLexer<'_>) -> Result<lexer:
     requires { lexer.old.spent ≡ false }
     ensures is { spec.Meets (λ t. t) result (first_token word lexer.old.rest) }
     ensures takes { spec.TakesItems 1 lexer.old result lexer.new }
+    ensures left { IfOk result (λ token. spec.LeavesSome (Some token) lexer.new.rest) }
 {
     match lexer.next_token()? {
         Some(token) => Ok(token),
@@ -63,6 +67,7 @@ pub fn first_name(word: Location, lexer: &mut SourceLexer<'_>) -> Result<PlacedN
     requires { lexer.old.spent ≡ false }
     ensures is { spec.Meets spec.placed result (first_name word lexer.old.rest) }
     ensures takes { spec.TakesItems 1 lexer.old result lexer.new }
+    ensures left { IfOk result (λ name. lexer.new.rest ≢ []) }
 {
     let token = first_token(word, lexer)?;
     let location = token.location;
@@ -137,6 +142,7 @@ pub fn endif_end(live_around: bool, word: Location, lexer: &mut SourceLexer<'_>)
 fn line_token(token: Option<lexer::Token>) -> Result<Option<Token>, Halt>
     ensures is { spec.Meets (λ t. t) result (spec.line_token token) }
     ensures ordinary { spec.IsOrdinaryIfOk result }
+    ensures within { IfOk result (λ next. IfSome next (λ t. spec.IsWithinLine token)) }
 {
     match token {
         Some(token) if !matches!(token.value, lexer::TokenValue::NewLine) => {
@@ -152,6 +158,8 @@ pub fn next_line_token(lexer: &mut SourceLexer<'_>) -> Result<Option<Token>, Hal
     ensures is { spec.Meets (λ t. t) result (spec.next_line_token lexer.old.rest) }
     ensures takes { spec.TakesItems 1 lexer.old result lexer.new }
     ensures ordinary { spec.IsOrdinaryIfOk result }
+    ensures comments { IfOk result (λ next. lexer.new.had_comments ≡ comments_before lexer.old.rest lexer.old.at_end) }
+    ensures left { IfOk result (λ next. IfSome next (λ t. lexer.new.rest ≢ [])) }
 {
     line_token(lexer.next_token()?)
 }
@@ -167,6 +175,7 @@ fn is_attached_paren(token: &lexer::Token) -> bool
 fn token_behind_name(token: Option<lexer::Token>) -> Result<Option<Token>, Halt>
     ensures is { spec.Meets (λ t. t) result (spec.token_behind_name token) }
     ensures ordinary { spec.IsOrdinaryIfOk result }
+    ensures within { IfOk result (λ next. IfSome next (λ t. spec.IsWithinLine token)) }
 {
     match token {
         Some(token) if is_attached_paren(&token) => Err(Halt::Fault(refused_token(token))),
@@ -180,6 +189,7 @@ fn next_body_token(lexer: &mut SourceLexer<'_>) -> Result<Option<Token>, Halt>
     ensures is { spec.Meets (λ t. t) result (spec.next_body_token lexer.old.rest) }
     ensures takes { spec.TakesItems 1 lexer.old result lexer.new }
     ensures ordinary { spec.IsOrdinaryIfOk result }
+    ensures left { IfOk result (λ next. IfSome next (λ t. lexer.new.rest ≢ [])) }
 {
     token_behind_name(lexer.next_token()?)
 }
@@ -192,8 +202,10 @@ pub fn line_tokens_from(
 ) -> Result<Vec<Token>, Halt>
     requires unspent { lexer.old.spent ≡ false }
     requires ordinary { IfSome first (λ t. IsTrue (is_ordinary t.value)) }
+    requires left { IfSome first (λ t. lexer.old.rest ≢ []) }
     ensures is { spec.Meets (λ tokens. tokens.items) result (spec.tokens_behind first lexer.old.rest) }
     ensures takes { spec.TakesItems (spec.length_behind first lexer.old.rest) lexer.old result lexer.new }
+    ensures comments { IfOk result (λ tokens. lexer.new.had_comments ≡ spec.comments_behind first lexer.old.rest lexer.old.had_comments) }
     ensures ordinary { IfOk result (λ tokens. All (λ t. IsTrue (is_ordinary t.value)) tokens.items) }
 {
     let mut tokens = Vec::new(alloc);
@@ -203,6 +215,20 @@ pub fn line_tokens_from(
         next = next_line_token(lexer)?;
     }
     Ok(tokens)
+}
+
+/// The tokens of the rest of the line.
+pub fn line_tokens(alloc: Global, lexer: &mut SourceLexer<'_>) -> Result<Tokens, Halt>
+    requires unspent { lexer.old.spent ≡ false }
+    requires left { lexer.old.rest ≢ [] }
+    ensures is { spec.Meets (λ t. t) result (line_entries lexer.old.rest) }
+    ensures takes { spec.TakesItems (line_length lexer.old.rest) lexer.old result lexer.new }
+    ensures comments { IfOk result (λ tokens. lexer.new.had_comments ≡ comments_before_end lexer.old.rest) }
+    ensures ordinary { IfOk result (λ tokens. All (λ entry. IsTrue (is_ordinary_leaf entry.leaf)) tokens) }
+{
+    let first = next_line_token(lexer)?;
+    let tokens = line_tokens_from(alloc, first, lexer)?;
+    Ok(Tokens::from(tokens))
 }
 
 /// The body of a macro without parameters, behind its name. Parameters are refused.

@@ -69,14 +69,15 @@ impl<'a> Preprocessor<'a> {
         }
     }
 
-    /// Lets the name stand for an object-like macro from now on, whatever it stood for.
+    /// Lets the name stand for an object-like macro from now on, whatever it stood for, as `Preprocessor::add_define` of
+    /// pp-rs 0.2.1 does.
     ///
-    /// The tokens of the content are its body, without the newlines. Their places are places in the content, which has
-    /// fewer than 2^32 - 1 bytes. The name isn't checked: one that is no identifier is never met.
+    /// The tokens of the content are its body, without the newlines. Their places are byte offsets and 1-based lines in
+    /// the content, which has fewer than 2^32 - 1 bytes. The name isn't checked: one that is no identifier is never met.
     ///
-    /// The error is the first in the content: one of the lexer, or `UnexpectedHash` at a number sign. It is `OutOfMemory`,
-    /// in place of any other, where memory is refused. Behind an error nothing is changed. It works also between two calls
-    /// of `next` and once memory was refused there, though `next` then stays at `None`.
+    /// The error is the first in the content: the lexer's, or `UnexpectedHash` at a number sign. It is `OutOfMemory`, in
+    /// place of any other, where memory is refused. Behind an error nothing is changed. It may be called between any two
+    /// calls of `next`, also once memory was refused there, though `next` stays at `None` then.
     pub fn add_define(
         &mut self,
         name: &str,

@@ -1,7 +1,7 @@
 //! One step over the reader of a source.
 
-ghost use Rattle.std.specs.Prelude.{IfOk, IsTrue};
-ghost use Rattle.pp_lexer.specs.TokenValue.{is_ordinary};
+ghost use Rattle.std.specs.Prelude.{IfOk};
+ghost use Rattle.pp_rs.specs.Held.{HoldsOrdinary};
 ghost use Rattle.pp_rs.specs.Reader.{of_source};
 ghost use Rattle.pp_rs.specs.Turns.{Turns};
 
@@ -16,7 +16,7 @@ pub fn step_source(
     source: &mut DirectiveProcessor<'_>,
 ) -> Step<Token>
     ensures turns { Turns processor.old (of_source source.old) result processor.new (of_source source.new) }
-    ensures ordinary { IfOk result (λ token. IsTrue (is_ordinary token.value)) }
+    ensures holds { IfOk result (λ token. HoldsOrdinary token.value) }
 {
     processor.step(source)
 }

@@ -1,9 +1,9 @@
 //! What stands behind the frames: the reader of a source.
 
-ghost use Rattle.std.specs.Prelude.{◌≡◌, IfOk, IsTrue, option_map, ok_or};
+ghost use Rattle.std.specs.Prelude.{◌≡◌, IfOk, option_map, ok_or};
 ghost use Rattle.std.specs.Str.{chars};
-ghost use Rattle.pp_lexer.specs.TokenValue.{is_ordinary};
 ghost use Rattle.pp_lexer.specs.declared.token.PreprocessorError.TheVariants.{LineOverflow};
+ghost use Rattle.pp_rs.specs.Held.{HoldsOrdinary};
 ghost use Rattle.pp_rs.specs.Item.{as_step};
 ghost use Rattle.pp_rs.specs.Reader.{Reader, of_source, Reads, visible, shown_line};
 
@@ -20,7 +20,7 @@ pub trait MeLexer {
     /// Reads on by one token or line.
     fn step(&mut self) -> Step<Token>
         ensures reads { Reads (reader self.old) result (reader self.new) }
-        ensures ordinary { IfOk result (λ token. IsTrue (is_ordinary token.value)) };
+        ensures holds { IfOk result (λ token. HoldsOrdinary token.value) };
 
     /// What the name stands for there.
     fn get_define(&self, name: &str) -> Option<&Rc<Define>>

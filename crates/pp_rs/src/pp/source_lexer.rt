@@ -1,7 +1,7 @@
 //! The lexer of a source, which can say whether it is spent.
 
-ghost use Rattle.std.specs.Prelude.{◌≡◌, ◌-◌, ◌^◌, ◌<◌, length, false, true, None, Ok};
-ghost use Rattle.pp_lexer.specs.Lexed.{start_of};
+ghost use Rattle.std.specs.Prelude.{◌≡◌, ◌-◌, ◌^◌, ◌<◌, length, false, true, None, Ok, IfOk};
+ghost use Rattle.pp_lexer.specs.Lexed.{start_of, comments_before};
 ghost use Rattle.pp_lexer.specs.Spots.{spots_of};
 ghost use Rattle.pp_rs.specs.LineReading as spec;
 
@@ -21,12 +21,13 @@ pub struct SourceLexer<'a> {
 impl<'a> Model for SourceLexer<'a> {
     ghost use Rattle.std.specs.Prelude.{◌≡◌, false};
     ghost use Rattle.pp_lexer.specs.Lexed.{Lexed};
+    ghost use Rattle.pp_rs.specs.Lined.{AreEnded};
 
     ghost Value = { Lexed };
 
     ghost view = { λ s. record s.lexer { spent = s.spent } };
 
-    ghost invariant = { λ s. s.spent ≡ false → s.lexer.spent ≡ false };
+    ghost invariant = { λ s. s.spent ≡ false → (s.lexer.spent ≡ false) × AreEnded s.lexer.rest };
 }
 
 impl<'a> SourceLexer<'a> {
@@ -50,11 +51,21 @@ impl<'a> SourceLexer<'a> {
         self.spent
     }
 
+    /// Whether a comment stands before the token that was given last, or before the end once that
+    /// was met.
+    pub fn had_comments(&self) -> bool
+        ensures { result ≡ self.now.had_comments }
+    {
+        self.lexer.had_comments()
+    }
+
     /// The next token, or nothing at the end. A spent lexer is at its end, and stays as it is.
     pub fn next_token(&mut self) -> Result<Option<lexer::Token>, Halt>
         ensures is { self.old.spent ≡ false → spec.Meets (λ t. t) result (spec.next_token self.old.rest) }
         ensures takes { self.old.spent ≡ false → spec.TakesItems 1 self.old result self.new }
         ensures fault { self.old.spent ≡ false → spec.FaultTakesSome result self.old self.new }
+        ensures comments { IfOk result (λ token. self.old.spent ≡ false → self.new.had_comments ≡ comments_before self.old.rest self.old.at_end) }
+        ensures left { IfOk result (λ token. spec.LeavesSome token self.new.rest) }
         ensures refused { spec.RefusedWithin result self.old.rest }
         ensures spent { self.old.spent ≡ true → (result ≡ Ok None) × (self.new ≡ self.old) }
     {

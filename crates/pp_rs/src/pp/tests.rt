@@ -242,6 +242,7 @@ fn refuses_directives(rt: HostRuntime) -> Result<(), Fail> {
         ("#define", "UnexpectedNewLine 7..7 L1 "),
         ("#undef A B", "UnexpectedToken 9..10 L1 "),
         ("#if 1", "UnknownDirective 1..3 L1 1 "),
+        ("x\n#error y", "x ErrorDirective 3..8 L2 y "),
         ("a #define", "a UnexpectedHash 2..3 L1 define "),
     ] {
         let found = items_text(rt.alloc(), source)?;

@@ -1,7 +1,8 @@
-use Rattle.std.proofs.Common.{IsTrue, arith}
+use Rattle.std.proofs.Common.{◌∙◌, IsTrue, arith}
 use Rattle.std.proofs.lemmas.List.Elements.{All-push}
 use Rattle.pp_lexer.specs.TokenValue.{is_ordinary}
 use Rattle.pp_lexer.specs.declared.token.Token.{Token}
+use Rattle.pp_rs.proofs.CommentsBehindLemmas.{comments_more}
 use Rattle.pp_rs.proofs.LineReadingLemmas.{whole_more, place_more, drop_fewer}
 use Rattle.pp_rs.proofs.pp.lines.line_tokens_from.Goals as goal
 
@@ -17,4 +18,9 @@ loop-next-preserved c =
       unspent = n.takes.spent;
       read_ordinary = rw items (All-push (λ (t : Token). IsTrue (is_ordinary t.value)) _ _ before.read_ordinary (rw c.in-Some.is at before.next_ordinary));
       next_ordinary = n.ordinary;
+      comments = comments_more _ _ _ _ _ (rw c.in-Some.is at before.left) n.is n.takes.rest n.comments ∙ (rw c.in-Some.is at before.comments);
+      left = n.left;
     }
+
+pub returns-clause-comments : goal.returns-clause-comments
+returns-clause-comments c = rw c.in_default.is at c.loop-next.invariant.comments

@@ -1,4 +1,4 @@
-use Rattle.std.proofs.Common.{◌≡◌, false, IsTrue, All, IfSome, ◌+◌, ◌≤◌, length, drop}
+use Rattle.std.proofs.Common.{◌≡◌, ◌≢◌, [], false, IsTrue, All, IfSome, ◌+◌, ◌≤◌, length, drop}
 use Rattle.pp_lexer.specs.TokenValue.{is_ordinary}
 use Rattle.pp_rs.specs.LineReading as spec
 use Rattle.pp_rs.proofs.LineReadingLemmas.{behind, wanted_items}
@@ -13,6 +13,8 @@ invariant-loop-next l = record {
   unspent : l.lexer.spent ≡ false;
   read_ordinary : All (λ t. IsTrue (is_ordinary t.value)) l.tokens.items;
   next_ordinary : IfSome l.next (λ t. IsTrue (is_ordinary t.value));
+  comments : spec.comments_behind l.next l.lexer.rest l.lexer.had_comments ≡ spec.comments_behind l.initial.next l.initial.lexer.rest l.initial.lexer.had_comments;
+  left : IfSome l.next (λ t. l.lexer.rest ≢ []);
 }
 
 abbrev pub decreases-loop-next : goal.decreases-loop-next

@@ -1,6 +1,6 @@
-use Rattle.std.specs.Prelude.{IfOk, IsTrue}
+use Rattle.std.specs.Prelude.{IfOk}
 use Rattle.pp_rs.proofs.Walk.{[], ◌∷◌, ◌++◌, ℕ, refl, MutBor, proved, full_share, common, id⊢, emp, wand, sep, apply∗, Lft, Incl, ftrue, flft, fdead, named, mut, ty_ref, ty_unit, vptr, fact, fact_i, tables, ⊑_meet, ⊑_refl, meet_⊑_left, meet_⊑_right, ‵, raw, ◌⊛◌, some, later, ◌$◌, ◌∵◌, !, qed, done, move, keep, use0, use1, use2, use3, split, join, fsplit, pick, await, suffices, frame, group, lft_new, lft_end, lft-common, agg, enter, addr, stop, no_more, and_then, returns, alloc_all, pass_all, free_all, look_at, get, through, sets, lands_as, vt_lit, lends_again, comes_back, LentAgain, MutRef, mut_vals, mut_Tells, mut_hides, MutAny, Includes-none, wide_val, table_at, plain, named_lft, nothing, heard, peeks, calls_at, lasts, triple_of, Stays, stay_ref, Goes-ref, ends_at, framed, hide_mut, Is, shows}
-use Rattle.pp_lexer.specs.TokenValue.{is_ordinary}
+use Rattle.pp_rs.specs.Held.{HoldsOrdinary}
 use Rattle.pp_rs.specs.Reader.{of_source}
 use Rattle.pp_rs.specs.Turns.{Turns}
 use Rattle.pp_rs.specs.contracts.pp.preprocessor_step.step_source as f
@@ -67,7 +67,7 @@ step_source_spec 𝓤 𝓛 𝓜 𝓡 wired =
     (met 𝓤 𝓛 𝓜 𝓡 (code.calls-pp_rs::pp::expander::MacroProcessor::step 𝓡.env wired) T (Includes-none lists.own-1) (hidden.met-1 𝓤 𝓛 𝓜 𝓡 wired)) z
     (and_then ! (get ! refl) (and_then ! (get ! refl) (no_more !))) (λ v.
     use1 𝓛 (later (some (λ (u : O.Denot). ((‵ (flft (β ∷ []) full_share) ⊛ ‵ (flft κ' share) ⊛ ‵ ftrue) ⊛ ‵ (O.own_val u (v ∷ []))) ⊛
-    some (λ (ws : P.Denot × (R.Denot × Unit {0})). ‵ (lasts (g.ended T) z.0.0 z.0.3 ws) ⊛ (raw (fact 𝓤 (Turns p.now (of_source r.now) u ws.0 (of_source ws.1.0))) ⊛ raw (fact 𝓤 (IfOk u (λ token. IsTrue (is_ordinary token.value))))))))) (id⊢ 𝓤 _) $
+    some (λ (ws : P.Denot × (R.Denot × Unit {0})). ‵ (lasts (g.ended T) z.0.0 z.0.3 ws) ⊛ (raw (fact 𝓤 (Turns p.now (of_source r.now) u ws.0 (of_source ws.1.0))) ⊛ raw (fact 𝓤 (IfOk u (λ token. HoldsOrdinary token.value)))))))) (id⊢ 𝓤 _) $
     await ! tt $ pick ! (λ u. split ! $ split ! $ split ! $ move ! (1 ∷ []) $ split ! $
     -- [the token of κ'; nothing; the token of β; the result; the ensures; the way back; the source's lender; the processor's]
     move ! (0 ∷ 5 ∷ []) $ use2 𝓛 (‵ (flft κ₁ q₁) ⊛ ‵ (flft (α ∷ []) full_share)) (apply∗ 𝓤 (𝓛.A.lft κ' share) Both) $ split ! $
@@ -75,7 +75,7 @@ step_source_spec 𝓤 𝓛 𝓜 𝓡 wired =
     move ! (3 ∷ []) $ lft_end ! tt $
     -- [β is over; κ' is over; the token of the borrow; nothing; the result; the ensures; the source's lender; the processor's]
     move ! (4 ∷ []) $ peeks ! O (Is O) (shows 𝓛 O) u (v ∷ []) (λ is. lands_as ! refl refl (((result_laws token_row exit_row token_laws exit_laws).lawful 𝓛).typed u _ is).0 $
-    move ! (5 ∷ []) $ pick ! (λ ws. split ! $ move ! (1 ∷ []) $ split ! $ heard ! _ (λ turns. heard ! _ (λ ordinary. fsplit ! $ fsplit ! $
+    move ! (5 ∷ []) $ pick ! (λ ws. split ! $ move ! (1 ∷ []) $ split ! $ heard ! _ (λ turns. heard ! _ (λ holds. fsplit ! $ fsplit ! $
     -- [the processor's last value; its loan; the source's; the result; β is over; κ' is over; the token of the borrow; nothing; the source's lender; the processor's]
     move ! (4 ∷ 9 ∷ 0 ∷ []) $ use3 𝓛 (later (‵ (RefP κp (record p { now = ws.0 })) ⊛ ‵ (flft κp qp)))
     (comes_back 𝓛 P (named 0) κp (β ∷ []) qp p.ghost_name p.ref_ptr.0 p.ref_ptr.1 δp p.now ws.0) $ await ! tt $ split ! $
@@ -88,4 +88,4 @@ step_source_spec 𝓤 𝓛 𝓜 𝓡 wired =
     nothing ! $ move ! (1 ∷ 0 ∷ []) $ join ! $ move ! (2 ∷ 0 ∷ []) $ join ! $
     nothing ! $ move ! (5 ∷ 0 ∷ []) $ join ! $ move ! (2 ∷ 0 ∷ []) $ join ! $ move ! (2 ∷ 0 ∷ []) $ join ! $
     group ! 3 $ frame ! $ use0 𝓛 (raw (fact 𝓤 (Turns p.now (of_source r.now) u ws.0 (of_source ws.1.0)))) (fact_i 𝓤 (Turns p.now (of_source r.now) u ws.0 (of_source ws.1.0)) (emp 𝓤) turns) $ frame ! $
-    use0 𝓛 (raw (fact 𝓤 (IfOk u (λ token. IsTrue (is_ordinary token.value))))) (fact_i 𝓤 (IfOk u (λ token. IsTrue (is_ordinary token.value))) (emp 𝓤) ordinary) $ done !))))))))))))
+    use0 𝓛 (raw (fact 𝓤 (IfOk u (λ token. HoldsOrdinary token.value)))) (fact_i 𝓤 (IfOk u (λ token. HoldsOrdinary token.value)) (emp 𝓤) holds) $ done !))))))))))))

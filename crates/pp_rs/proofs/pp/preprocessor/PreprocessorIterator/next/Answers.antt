@@ -24,7 +24,7 @@ invariant_of-self-in-Err-Error c = λ e. fault_sound_last _ _ _ _ _ _ c.loop-tok
 pub returns-in-Ok-clause-steps : goal.returns-in-Ok-clause-steps
 returns-in-Ok-clause-steps c =
     let fresh : c.args.self.now.spent ≡ false = ap (λ p. p.spent) (sym c.self.view_is) ∙ c.if-self.false in
-    next_token _ _ _ _ _ _ c.loop-token.invariant.reached c.args.self.now fresh refl refl c.in-Ok.token c.loop-token.self-inside.spent c.loop-token.invariant.unspent c.in-Ok.ensures.turns c.in-Ok.ensures.ordinary
+    next_token _ _ _ _ _ _ c.loop-token.invariant.reached c.args.self.now fresh refl refl c.in-Ok.token c.loop-token.self-inside.spent c.loop-token.invariant.unspent c.in-Ok.ensures.turns c.in-Ok.ensures.holds
 
 pub returns-in-Ok-clause-goes : goal.returns-in-Ok-clause-goes
 returns-in-Ok-clause-goes c =

@@ -1,0 +1,76 @@
+-- Of what stands behind a directive's word nothing more is remembered.
+use Rattle.std.proofs.Common.{◌≡◌, ℕ, Bool, true, false, if◌then◌else◌, List, Option, Some, None, Result, Ok, Err, refl}
+use Rattle.pp_lexer.specs.Lexed.{Seen}
+use Rattle.pp_lexer.specs.declared.token.Location.{Location}
+use Rattle.pp_model.specs.Calls.{Fault}
+use Rattle.pp_model.specs.DefineLines.{defined_on}
+use Rattle.pp_model.specs.Lines.{line_length, line_fault, comments_before_end, ended_line, only_name}
+use Rattle.pp_model.specs.declared.directive.Directive.{Directive}
+use Rattle.pp_model.specs.declared.directive.Directive.TheVariants as d
+use Rattle.pp_rs.specs.DirectiveItems.{version, extension, pragma, line_entries}
+use Rattle.pp_rs.specs.OpenBlocks.{OpenBlock}
+use Rattle.pp_rs.specs.SoFar.{directive_fault}
+use Rattle.pp_rs.specs.SourceMoves.{Effect, gives_item, defines, undefines, opens_where, opens_unread, closes, passes, unnoted, Move, line_move, skip_by, skip_move, else_effect, else_move, endif_move, live_move, dead_move, acting_move, unless_refused, directive_move}
+
+abbrev IsUnnoted : Move → Type 0
+IsUnnoted move = move.note ≡ unnoted
+
+line_unnoted : {A : Type 0} (line : Result A Fault) (effect : A → Effect) (taken : ℕ) → IsUnnoted (line_move line effect taken)
+line_unnoted (Ok value) effect taken = refl
+line_unnoted (Err fault) effect taken = refl
+
+skip_unnoted : (found : Option Fault) (effect : Effect) (taken : ℕ) → IsUnnoted (skip_by found effect taken)
+skip_unnoted (Some fault) effect taken = refl
+skip_unnoted None effect taken = refl
+
+either_unnoted : (b : Bool) (x y : Move) → IsUnnoted x → IsUnnoted y → IsUnnoted (if b then x else y)
+either_unnoted true x y h k = h
+either_unnoted false x y h k = k
+
+module _ (word : Location) (behind : List Seen) where
+  skipped_unnoted : (effect : Effect) → IsUnnoted (skip_move effect behind)
+  skipped_unnoted effect = skip_unnoted (line_fault behind) effect (line_length behind)
+
+  else_unnoted : (block : Option OpenBlock) → IsUnnoted (else_move block word behind)
+  else_unnoted block = line_unnoted (ended_line word behind) (λ end. else_effect block word) (line_length behind)
+
+  endif_unnoted : (block : Option OpenBlock) → IsUnnoted (endif_move block word behind)
+  endif_unnoted None = refl
+  endif_unnoted (Some block) =
+      either_unnoted block.live_around (line_move (ended_line word behind) (λ end. closes) (line_length behind)) (skip_move closes behind)
+      (line_unnoted (ended_line word behind) (λ end. closes) (line_length behind)) (skipped_unnoted closes)
+
+  module _ (block : Option OpenBlock) where
+    live_unnoted : (directive : Directive) → IsUnnoted (live_move block directive word behind)
+    live_unnoted d.Define = line_unnoted (defined_on word behind) defines (line_length behind)
+    live_unnoted d.Undef = line_unnoted (only_name word behind) undefines (line_length behind)
+    live_unnoted d.Ifdef = line_unnoted (only_name word behind) (opens_where true word) (line_length behind)
+    live_unnoted d.Ifndef = line_unnoted (only_name word behind) (opens_where false word) (line_length behind)
+    live_unnoted d.Else = else_unnoted block
+    live_unnoted d.Endif = endif_unnoted block
+    live_unnoted d.Version = line_unnoted (line_entries behind) (λ tokens. gives_item (version tokens (comments_before_end behind)) word) (line_length behind)
+    live_unnoted d.Extension = line_unnoted (line_entries behind) (λ tokens. gives_item (extension tokens) word) (line_length behind)
+    live_unnoted d.Pragma = line_unnoted (line_entries behind) (λ tokens. gives_item (pragma tokens) word) (line_length behind)
+    live_unnoted _ = refl
+
+    dead_unnoted : (directive : Directive) → IsUnnoted (dead_move block directive word behind)
+    dead_unnoted d.If = skipped_unnoted (opens_unread word)
+    dead_unnoted d.Ifdef = skipped_unnoted (opens_unread word)
+    dead_unnoted d.Ifndef = skipped_unnoted (opens_unread word)
+    dead_unnoted d.Elif = refl
+    dead_unnoted d.Else = else_unnoted block
+    dead_unnoted d.Endif = endif_unnoted block
+    dead_unnoted d.Unknown = refl
+    dead_unnoted _ = skipped_unnoted passes
+
+    acting_unnoted : (live : Bool) (directive : Directive) → IsUnnoted (acting_move live block directive word behind)
+    acting_unnoted true directive = live_unnoted directive
+    acting_unnoted false directive = dead_unnoted directive
+
+    refused_unnoted : (found : Option Fault) (move : Move) → IsUnnoted move → IsUnnoted (unless_refused found move)
+    refused_unnoted (Some fault) move h = refl
+    refused_unnoted None move h = h
+
+    -- so it is of each directive, in live and in dead text
+    pub directive_unnoted : (live : Bool) (directive : Directive) → IsUnnoted (directive_move live block directive word behind)
+    directive_unnoted live directive = refused_unnoted (directive_fault live directive word behind) (acting_move live block directive word behind) (acting_unnoted live directive)
