@@ -36,3 +36,4 @@ pub mod LineHoldsLemmas
 pub mod SourceHoldsLemmas
 pub mod SpelledRunLemmas
 pub mod RespellLemmas
+pub mod RunChainLemmas

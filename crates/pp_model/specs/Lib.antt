@@ -33,3 +33,4 @@ pub mod RunStates
 pub mod BlockLaws
 pub use Rattle.pp_lexer.specs.Spelling
 pub mod RespellLaws
+pub mod RunChains

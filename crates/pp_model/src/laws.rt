@@ -9,6 +9,7 @@ ghost use Rattle.pp_model.specs.NoLineName.{ShowsNoLineName, AloneShowsNoLineNam
 ghost use Rattle.pp_model.specs.Reading.{argument_reading, line_reading};
 ghost use Rattle.pp_model.specs.Reads.{source_reading};
 ghost use Rattle.pp_model.specs.RespellLaws.{RunsAreReadAfresh};
+ghost use Rattle.pp_model.specs.RunChains.{ChainsAreRuns};
 ghost use Rattle.pp_model.specs.RunLaws.{OneEvaluation, OneCondition, OneLineNumber, OneStep, OneReplies, OneRun, RedefinitionIsChecked};
 ghost use Rattle.pp_model.specs.RunStates.{RunKeepsMarksApart, RunShowsNoLineName, EndStays, RunEndsForGood};
 ghost use Rattle.std.specs.Prelude.{ℕ};
@@ -98,6 +99,11 @@ pub fn one_source_reading()
 pub fn one_run()
     ensures replies { (level : ℕ) → OneReplies (answers_at level) }
     ensures run { OneRun }
+{}
+
+/// Calls that follow one another from the start of a source, each in the state behind the one before, are a run.
+pub fn chains()
+    ensures { (level : ℕ) → ChainsAreRuns (answers_at level) }
 {}
 
 /// No macro is open twice: in no state of a run does the list hold two end marks of one name.

@@ -2,20 +2,23 @@
 //! do nothing.
 
 ghost use Rattle.std.specs.Prelude.{ℕ};
-ghost use Rattle.pp_lexer.specs.ItemLaws.{TokensLieWithin, ItemsAreFinite};
+ghost use Rattle.pp_lexer.specs.ItemLaws.{TokensLieWithin, TokensHaveLines, ItemsAreFinite};
 ghost use Rattle.pp_lexer.specs.PhaseLaws.{PairsCountOnce, LinesCountNewlines, SourcesNeverFall};
 ghost use Rattle.pp_model.specs.BlockLaws.{OneBranch, NoneBehindTaken, DeadTextGivesNothing};
 ghost use Rattle.pp_model.specs.Emitting.{answers_at};
-ghost use Rattle.pp_model.specs.RunLaws.{RedefinitionIsChecked};
+ghost use Rattle.pp_model.specs.RespellLaws.{RunsAreReadAfresh};
+ghost use Rattle.pp_model.specs.RunChains.{ChainsAreRuns};
+ghost use Rattle.pp_model.specs.RunLaws.{OneReplies, OneRun, RedefinitionIsChecked};
 ghost use Rattle.pp_model.specs.RunStates.{RunKeepsMarksApart, RunShowsNoLineName, EndStays, RunEndsForGood};
 ghost use Rattle.pp_rs.specs.LiveBranch.{RunHasLiveBranches};
 
 use crate::lexer;
 
-/// Each token of a source starts at or before its end, and ends within the source. A source has at
-/// most one item for each byte, and one more.
+/// Each token of a source starts at or before its end, and ends within the source. Its line is at least 1 and
+/// at most one more than the source has bytes. A source has at most one item for each byte, and one more.
 pub fn places()
     ensures within { TokensLieWithin }
+    ensures lines { TokensHaveLines }
     ensures finite { ItemsAreFinite }
 {
     lexer::laws::places()
@@ -76,4 +79,23 @@ pub fn dead_text()
     ensures { DeadTextGivesNothing }
 {
     pp_model::laws::dead_text()
+}
+
+/// Where all tokens that a run gives are plain, the text that spells them with single spaces gives the same values, and then
+/// the end.
+pub fn respell()
+    ensures { (level : ℕ) → RunsAreReadAfresh (answers_at level) }
+{
+    pp_model::laws::respell()
+}
+
+/// Calls that follow one another from the start of a source, each in the state behind the one before, are a run. Equal sources
+/// and calls have equal replies, up to and with the first error item.
+pub fn runs()
+    ensures chains { (level : ℕ) → ChainsAreRuns (answers_at level) }
+    ensures replies { (level : ℕ) → OneReplies (answers_at level) }
+    ensures run { OneRun }
+{
+    pp_model::laws::chains();
+    pp_model::laws::one_run()
 }
