@@ -11,10 +11,6 @@ abbrev pub behind_tokens : List Token → Result Gathered Fault → Result Gathe
 behind_tokens tokens (Ok rest) = Ok (record rest { tokens = tokens ++ rest.tokens })
 behind_tokens tokens (Err fault) = Err fault
 
-pub behind_tokens-none : (rest : Result Gathered Fault) → behind_tokens [] rest ≡ rest
-behind_tokens-none (Ok rest) = refl
-behind_tokens-none (Err fault) = refl
-
 pub behind_tokens-before : (tokens : List Token) (token : Token) (rest : Result Gathered Fault) → behind_tokens tokens (before token rest) ≡ behind_tokens (tokens ++ token ∷ []) rest
 behind_tokens-before tokens token (Ok rest) = rw append_assoc refl
 behind_tokens-before tokens token (Err fault) = refl

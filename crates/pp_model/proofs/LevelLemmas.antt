@@ -6,7 +6,7 @@ use Rattle.pp_lexer.specs.declared.token.Token.{Token}
 use Rattle.pp_model.specs.Reading.{Reading, argument_reading, reading_of}
 use Rattle.pp_model.specs.Calls.{Fault, Site, misfit}
 use Rattle.pp_model.specs.Emitting.{Alones, none, first_failed, more, EachOrRefused, answers_at_limit, answers_below, Alone, answers_at}
-use Rattle.pp_model.specs.ExpansionLaws.{OneReads, OneAnswer, OneCall, OneItem, OneList, OneArgument, OneEach}
+use Rattle.pp_model.specs.ExpansionLaws.{OneReads, OneAnswer, OneCall, OneItem, OneArgument, OneEach}
 use Rattle.pp_model.proofs.TakingLemmas.{argument_reads_one}
 use Rattle.pp_model.proofs.CallsLemmas.{one_call}
 use Rattle.pp_model.proofs.EmittingLemmas.{one_item, one_list}
@@ -51,6 +51,3 @@ one_call_at I one level = one_call I one (answers_at level) (one_answer level)
 
 pub one_item_at : {R : Type 0} (I : Reading R) → OneReads I → (level : ℕ) → OneItem I (answers_at level)
 one_item_at I one level = one_item I one (answers_at level) (one_answer level)
-
-pub one_list_at : {R : Type 0} (I : Reading R) → OneReads I → (level : ℕ) → OneList I (answers_at level)
-one_list_at I one level = one_list I one (answers_at level) (one_answer level)

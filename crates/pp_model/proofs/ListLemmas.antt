@@ -1,5 +1,5 @@
 -- The splice list read and built one entry after another.
-use Rattle.std.proofs.Common.{◌≡◌, ℕ, suc, ◌<◌, ◌+◌, ◌∷◌, List, Option, None, Some, length, drop, get_or, refl, sym, ap, unwrap_or, add-one}
+use Rattle.std.proofs.Common.{◌≡◌, ℕ, suc, ◌<◌, ◌+◌, ◌∷◌, List, Option, None, Some, length, drop, get_or, sym, ap, add-one}
 use Rattle.std.proofs.Math.Seq.{drop-cons}
 
 -- the item at a place, and what stands behind it
@@ -10,7 +10,3 @@ drop-item xs i x h e = rw (add-one, drop-cons xs i x) (ap (λ y. y ∷ drop (suc
 abbrev pub rest_or : Option ℕ → Option ℕ → Option ℕ
 rest_or (Some line) before = Some line
 rest_or None before = before
-
-pub rest_or-mark : (r : Option ℕ) (n : ℕ) (before : Option ℕ) → rest_or (Some (unwrap_or r n)) before ≡ rest_or r (Some n)
-rest_or-mark None n before = refl
-rest_or-mark (Some line) n before = refl
