@@ -4,7 +4,7 @@ use Rattle.pp_model.specs.Reading.{Expander}
 use Rattle.pp_model.specs.Calls.{Answers}
 use Rattle.pp_model.specs.SourceReader.{SourceReader}
 use Rattle.pp_model.specs.Run.{Call, next, Runs, done, added, refused, given, failed}
-use Rattle.pp_model.specs.RunChains.{AnswersIn, adds, refuses, gives, Chain, none, one_more, ChainsAreRuns}
+use Rattle.pp_model.specs.RunChains.{by_rules, AnswersIn, adds, refuses, gives, Chain, none, one_more, ChainsAreRuns}
 use Rattle.pp_model.specs.declared.call.Reply.{Reply}
 use Rattle.pp_model.specs.declared.call.Reply.TheVariants as reply
 use Rattle.pp_model.specs.declared.outcome.Outcome.TheVariants as outcome
@@ -15,7 +15,7 @@ module _ (A : Answers) where
   run_of e calls same_calls replies same_replies c r run = subst (λ (rs : List Reply). Runs A e calls rs) (sym r) (subst (λ (cs : List Call). Runs A e cs same_replies) (sym c) run)
 
   -- one call before a run
-  call_before : (e f : Expander SourceReader) (call : Call) (answer : Reply) (later : List Call) (rest : List Reply) → AnswersIn A e call answer f → Runs A f later rest → Runs A e (call ∷ later) (answer ∷ rest)
+  call_before : (e f : Expander SourceReader) (call : Call) (answer : Reply) (later : List Call) (rest : List Reply) → AnswersIn (by_rules A) e call answer f → Runs A f later rest → Runs A e (call ∷ later) (answer ∷ rest)
   call_before e f call answer later rest (adds name content tokens c1 a1 e1 f1 is c a p) run =
       run_of e (call ∷ later) _ (answer ∷ rest) _ (ap (λ x. x ∷ later) c) (ap (λ x. x ∷ rest) a)
       (added name content tokens e later rest (reply.Added ∷ rest) is (subst (λ (x : Expander SourceReader). Runs A x later rest) p run) refl)
@@ -26,7 +26,7 @@ module _ (A : Answers) where
       run_of e (call ∷ later) _ (answer ∷ rest) _ (ap (λ x. x ∷ later) c) (ap (λ x. x ∷ rest) a) (given o e f later rest (reply.Given o ∷ rest) item plain run refl)
 
   -- calls that follow one another before a run
-  chain_before : (e f : Expander SourceReader) (calls later : List Call) (replies rest : List Reply) → Chain A e calls replies f → Runs A f later rest → Runs A e (calls ++ later) (replies ++ rest)
+  chain_before : (e f : Expander SourceReader) (calls later : List Call) (replies rest : List Reply) → Chain (by_rules A) e calls replies f → Runs A f later rest → Runs A e (calls ++ later) (replies ++ rest)
   chain_before e f calls later replies rest (none e1 f1 c1 r1 c r p) run =
       run_of e (calls ++ later) later (replies ++ rest) rest (ap (λ x. x ++ later) c) (ap (λ x. x ++ rest) r) (subst (λ (x : Expander SourceReader). Runs A x later rest) p run)
   chain_before e f calls later replies rest (one_more e1 m f1 before c1 call answered r1 answer chain one c r) run =

@@ -68,3 +68,5 @@ pub mod BranchesReadLemmas
 pub mod KnownBehindLemmas
 pub mod BranchActsLemmas
 pub mod LiveBranchLemmas
+pub mod PlainActsLemmas
+pub mod ForGoodLemmas

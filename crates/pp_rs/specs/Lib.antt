@@ -33,3 +33,4 @@ pub mod Adding
 pub mod SettingContent
 pub mod Comes
 pub mod Collecting
+pub mod ForGood

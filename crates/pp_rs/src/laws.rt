@@ -10,6 +10,7 @@ ghost use Rattle.pp_model.specs.RespellLaws.{RunsAreReadAfresh};
 ghost use Rattle.pp_model.specs.RunChains.{ChainsAreRuns};
 ghost use Rattle.pp_model.specs.RunLaws.{OneReplies, OneRun, RedefinitionIsChecked};
 ghost use Rattle.pp_model.specs.RunStates.{RunKeepsMarksApart, RunShowsNoLineName, EndStays, RunEndsForGood};
+ghost use Rattle.pp_rs.specs.ForGood.{IsGivenForGood};
 ghost use Rattle.pp_rs.specs.LiveBranch.{RunHasLiveBranches};
 
 use crate::lexer;
@@ -99,3 +100,9 @@ pub fn runs()
     pp_model::laws::chains();
     pp_model::laws::one_run()
 }
+
+/// What comes without an error as far as the directives act comes by all rules: such calls of `add_define` and `next` have the
+/// replies of the definitions, with all directives, macros and calls.
+pub fn given_for_good()
+    ensures { IsGivenForGood }
+{}
