@@ -2,21 +2,12 @@
 use Rattle.std.proofs.Common.{◌≡◌, ◌∙◌, List, [], ◌∷◌, ◌++◌, refl, ap, sym, subst, append-nil}
 use Rattle.pp_model.specs.Calls.{Fault}
 use Rattle.pp_model.specs.declared.outcome.Outcome.TheVariants as outcome
+use Rattle.pp_rs.specs.Comes.{State, Comes, Gives, nothing, first}
 use Rattle.pp_rs.specs.declared.token.Token.{Token}
 use Rattle.pp_rs.proofs.SoFarLemmas.{one_item_so_far}
-use Rattle.pp_print.specs.SourceRuns.{State, Comes, Gives, nothing, first, last_outcome, AreFirstFrom, IsRunFrom}
+use Rattle.pp_print.specs.SourceRuns.{last_outcome, AreFirstFrom, EndsFrom}
 use Rattle.pp_print.specs.declared.ends.RunEnd.{RunEnd}
 use Rattle.pp_print.specs.declared.ends.RunEnd.TheVariants.{Done, Stopped}
-
-pub gives_nothing : (e : State) → Gives e [] e
-gives_nothing e = nothing [] e e refl refl
-
--- one more token
-pub gives_more : (tokens : List Token) (token : Token) (e f g : State) → Gives e tokens f → Comes f (outcome.Token token) g → Gives e (tokens ++ (token ∷ [])) g
-gives_more tokens token e f g (nothing ts e1 f1 p q) comes =
-    first token [] (tokens ++ (token ∷ [])) e g g (subst (λ s. Comes s (outcome.Token token) g) q comes) (gives_nothing g) (ap (λ ts. ts ++ (token ∷ [])) p)
-gives_more tokens token e f g (first t rest ts e1 m f1 c more p) comes =
-    first t (rest ++ (token ∷ [])) (tokens ++ (token ∷ [])) e m g c (gives_more rest token m f g more comes) (ap (λ ts. ts ++ (token ∷ [])) p)
 
 -- a token is no end
 not_last : (t : Token) (end : RunEnd) → outcome.Token t ≡ last_outcome end → ⊥
@@ -53,14 +44,14 @@ none_left more end other f g x y (first t rest ts f1 m g1 c given p) ends others
     absurd (not_last t end (one_item_so_far (outcome.Token t) (last_outcome end) f m x c ends).0)
 
 -- a state has one run
-pub one_run_from : (e : State) (tokens others : List Token) (end other : RunEnd) → IsRunFrom e tokens end → IsRunFrom e others other → (tokens ≡ others) × (end ≡ other)
+pub one_run_from : (e : State) (tokens others : List Token) (end other : RunEnd) → EndsFrom e tokens end → EndsFrom e others other → (tokens ≡ others) × (end ≡ other)
 one_run_from e tokens others end other a b =
-    let left = gives_rest tokens others other e a.last b.last b.behind a.gives b.gives b.ends in
-    let none = none_left left.0 end other a.last b.last a.behind b.behind left.2 a.ends b.ends in
+    let left = gives_rest tokens others other e a.before b.before b.behind a.gives b.gives b.ends in
+    let none = none_left left.0 end other a.before b.before a.behind b.behind left.2 a.ends b.ends in
     (sym (left.1 ∙ ap (λ more. tokens ++ more) none.0 ∙ append-nil tokens), none.1)
 
 -- which the tokens that come first begin
-pub first_tokens_from : (e : State) (tokens all : List Token) (end : RunEnd) → AreFirstFrom e tokens → IsRunFrom e all end → (more : List Token) × (all ≡ tokens ++ more)
+pub first_tokens_from : (e : State) (tokens all : List Token) (end : RunEnd) → AreFirstFrom e tokens → EndsFrom e all end → (more : List Token) × (all ≡ tokens ++ more)
 first_tokens_from e tokens all end a b =
-    let left = gives_rest tokens all end e a.behind b.last b.behind a.gives b.gives b.ends in
+    let left = gives_rest tokens all end e a.behind b.before b.behind a.gives b.gives b.ends in
     (left.0, left.1)

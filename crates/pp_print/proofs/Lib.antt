@@ -6,6 +6,8 @@ pub mod OrdinaryLemmas
 pub mod OutputLemmas
 pub mod DirectiveLemmas
 pub mod GivesLemmas
+pub mod AddsLemmas
 pub mod NextLemmas
 pub mod RunLemmas
+pub mod SourceRunLemmas
 pub mod CutLemmas

@@ -3,10 +3,10 @@ use Rattle.std.proofs.Common.{◌≡◌, ◌≢◌, Bool, true, false, Some, Non
 use Rattle.std.specs.Prelude.{MatchBool}
 use Rattle.pp_model.specs.Calls.{Fault}
 use Rattle.pp_model.specs.declared.outcome.Outcome.TheVariants as outcome
+use Rattle.pp_rs.specs.Comes.{State, Comes}
 use Rattle.pp_rs.specs.Preprocessing.{Preprocessing, Stands, IsGivenItem, IsNextItem}
 use Rattle.pp_rs.specs.declared.token.PreprocessorError.TheVariants.{OutOfMemory}
 use Rattle.pp_rs.specs.declared.token.Token.{Token}
-use Rattle.pp_print.specs.SourceRuns.{State, Comes}
 
 unspent : (spent : Bool) (A B : Type 0) → spent ≡ false → MatchBool spent A B → B
 unspent true A B e h = cc

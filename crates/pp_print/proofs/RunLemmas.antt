@@ -3,14 +3,15 @@ use Rattle.std.proofs.Common.{◌≡◌, ℕ, List, [], ◌∷◌, ◌++◌, Opt
 use Rattle.std.specs.Io.KnownBytes.{Appends}
 use Rattle.std.proofs.lemmas.Grind.{flat_map-append}
 use Rattle.pp_model.specs.declared.outcome.Outcome.TheVariants as outcome
+use Rattle.pp_rs.specs.Comes.{State, Comes, Gives}
 use Rattle.pp_rs.specs.Preprocessing.{Preprocessing, Stands}
 use Rattle.pp_rs.specs.declared.token.Token.{Token}
+use Rattle.pp_rs.proofs.ComesLemmas.{gives_nothing, gives_more}
 use Rattle.pp_print.specs.Output.{output_lines, written_lines, output}
 use Rattle.pp_print.specs.Printing.{begun_line, line_behind, ended_lines, lines_from}
 use Rattle.pp_print.specs.Runs.{IsPrinted, IsBegun}
-use Rattle.pp_print.specs.SourceRuns.{State, Comes, Gives, last_outcome, AreFirstFrom, IsRunFrom}
+use Rattle.pp_print.specs.SourceRuns.{last_outcome, AreFirstFrom, EndsFrom}
 use Rattle.pp_print.specs.declared.ends.RunEnd.{RunEnd}
-use Rattle.pp_print.proofs.GivesLemmas.{gives_nothing, gives_more}
 use Rattle.pp_print.proofs.OutputLemmas.{output_lines-from}
 use Rattle.pp_print.proofs.WriteLemmas.{appends_nothing, appends_more}
 
@@ -62,10 +63,10 @@ module _ (start : State) (items : Preprocessing) (line old mid new : Option (Lis
       rw whole (appends_lines old mid new p.done (begun_line line) p.written w)
 
   -- at the end, or an error, all before it is printed
-  pub printing_ends : (end : RunEnd) (behind : State) → Comes p.state (last_outcome end) behind → Appends mid new (written_lines (begun_line line)) → IsPrinted (IsRunFrom start) end old new
+  pub printing_ends : (end : RunEnd) (behind : State) → Comes p.state (last_outcome end) behind → Appends mid new (written_lines (begun_line line)) → IsPrinted (EndsFrom start) end old new
   printing_ends end behind comes w = record {
     tokens = p.tokens;
-    run = record { last = p.state; gives = p.given; behind = behind; ends = comes };
+    run = record { before = p.state; gives = p.given; behind = behind; ends = comes };
     written = whole_output w;
   }
 

@@ -5,5 +5,6 @@ pub mod Output
 pub mod Printing
 pub mod SourceRuns
 pub mod Runs
+pub mod Defining
 pub mod OutputLaws
 pub mod RunLaws

@@ -1,6 +1,7 @@
 -- How far printing has come. No contract of a public call cites this.
 use Rattle.std.specs.Prelude.{ℕ, if◌then◌else◌, List, [], ◌∷◌, ◌++◌, Option, Some, None}
 use Rattle.std.specs.Str.{encode_utf8_all}
+use Rattle.pp_rs.specs.Comes.{State}
 use Rattle.pp_rs.specs.Preprocessing.{Preprocessing, Stands}
 use Rattle.pp_rs.specs.declared.token.Token.{Token}
 use Rattle.pp_rs.specs.declared.token.TokenValue.{TokenValue}
@@ -8,7 +9,7 @@ use Rattle.pp_rs.specs.Spelling.{spelling}
 use Rattle.pp_rs.specs.TokenValue.{is_ordinary}
 use Rattle.pp_print.specs.Output.{directive_text}
 use Rattle.pp_print.specs.Runs.{IsPrinted, IsBegun}
-use Rattle.pp_print.specs.SourceRuns.{State, AreFirstFrom, IsRunFrom}
+use Rattle.pp_print.specs.SourceRuns.{AreFirstFrom, EndsFrom}
 use Rattle.pp_print.specs.declared.ends.RunEnd.{RunEnd}
 
 -- a line with one more word: the first one, or one behind a space
@@ -36,7 +37,7 @@ lines_from line (t ∷ ts) = ended_lines line t.value ++ lines_from (line_behind
 
 -- of the run from each state that the items stand for
 abbrev pub ArePrinted : Preprocessing → RunEnd → Option (List ℕ) → Option (List ℕ) → Type 0
-ArePrinted items end old new = (state : State) → Stands items state → IsPrinted (IsRunFrom state) end old new
+ArePrinted items end old new = (state : State) → Stands items state → IsPrinted (EndsFrom state) end old new
 
 abbrev pub AreBegun : Preprocessing → Option (List ℕ) → Option (List ℕ) → Type 0
 AreBegun items old new = (state : State) → Stands items state → IsBegun (AreFirstFrom state) old new

@@ -1,9 +1,10 @@
 -- What the end of a run says of its source and of its output
-use Rattle.std.specs.Prelude.{◌≡◌, ◌≢◌, ℕ, ◌-◌, ◌^◌, ◌<◌, ◌≤◌, List, ◌++◌, length, Option, Result, Ok, Err, IsUtf8, ⊤}
+use Rattle.std.specs.Prelude.{◌≡◌, ◌≢◌, ℕ, ◌-◌, ◌^◌, ◌<◌, ◌≤◌, ◌⊎◌, List, ◌++◌, length, Option, Result, Ok, Err, IsOk, IsErr, IsUtf8, ⊤}
 use Rattle.std.specs.Io.KnownBytes.{Appends}
 use Rattle.pp_rs.specs.declared.token.PreprocessorError.TheVariants.{OutOfMemory as WantOfMemory}
 use Rattle.pp_rs.specs.declared.token.Token.{Token}
 use Rattle.pp_print.specs.Output.{output_lines, written_lines, output}
+use Rattle.pp_print.specs.SourceRuns.{Definition, tokens_of}
 use Rattle.pp_print.specs.declared.ends.RunEnd.{RunEnd}
 use Rattle.pp_print.specs.declared.ends.RunEnd.TheVariants.{Done, Stopped}
 use Rattle.pp_print.specs.declared.ends.RunFault.{RunFault}
@@ -13,6 +14,15 @@ use Rattle.pp_print.specs.declared.ends.RunFault.TheVariants.{ReadFailed, TooLon
 pub record IsSource (bytes : List ℕ) : Type 0 where
   pub short : length bytes < 2 ^ 32 - 1
   pub text : IsUtf8 bytes
+
+-- a definition that can be added
+pub record IsAccepted (definition : Definition) : Type 0 where
+  pub short : length definition.1.now < 2 ^ 32 - 1
+  pub tokens : IsOk (tokens_of definition)
+
+-- a definition whose content is too long, or holds an error or a number sign
+abbrev pub IsRefused : Definition → Type 0
+IsRefused definition = (2 ^ 32 - 1 ≤ length definition.1.now) ⊎ IsErr (tokens_of definition)
 
 -- a run that gets beyond its source was given one, and one that refuses it has the cause
 abbrev pub FitsSource : Result RunEnd RunFault → List ℕ → Type 0

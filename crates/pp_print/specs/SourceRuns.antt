@@ -1,30 +1,32 @@
--- The run of a source: which tokens come of it, and how it ends. Only this file says so.
-use Rattle.std.specs.Prelude.{◌≡◌, ℕ, List, [], ◌∷◌}
-use Rattle.pp_model.specs.Emitting.{Emits, answers_at, expansion_limit}
-use Rattle.pp_model.specs.Reading.{Expander}
-use Rattle.pp_model.specs.Run.{items_of, start}
-use Rattle.pp_model.specs.SourceReader.{SourceReader}
+-- The run of a source: which tokens come of it behind the definitions that were added, and how it ends. Only this file says so.
+use Rattle.std.specs.Prelude.{◌≡◌, ℕ, List, [], ◌∷◌, Result, Ok}
+use Rattle.std.specs.Borrow.{Bor}
+use Rattle.std.specs.Str.{chars}
+use Rattle.pp_model.specs.Calls.{Fault}
+use Rattle.pp_model.specs.Run.{items_of, start, content_tokens, with_added}
 use Rattle.pp_model.specs.declared.outcome.Outcome.{Outcome}
 use Rattle.pp_model.specs.declared.outcome.Outcome.TheVariants as outcome
-use Rattle.pp_rs.specs.SoFar.{reading_so_far}
+use Rattle.pp_rs.specs.Comes.{State, Gives, IsRunFrom}
 use Rattle.pp_rs.specs.declared.token.Token.{Token}
 use Rattle.pp_print.specs.declared.ends.RunEnd.{RunEnd}
 use Rattle.pp_print.specs.declared.ends.RunEnd.TheVariants.{Done, Stopped}
 
-abbrev pub State : Type 0
-State = Expander SourceReader
+-- a name and its content, both as UTF-8
+abbrev pub Definition : Type 0
+Definition = Bor (List ℕ) × Bor (List ℕ)
+
+-- the tokens of a definition's content, or the first error or number sign in it
+abbrev pub tokens_of : Definition → Result (List Token) Fault
+tokens_of definition = content_tokens (items_of definition.1.now)
 
 abbrev pub start_of : List ℕ → State
 start_of source = start (items_of source)
 
--- this comes next in the state, and the other is behind it
-abbrev pub Comes : State → Outcome → State → Type 0
-Comes state outcome behind = Emits reading_so_far (answers_at expansion_limit) state outcome behind
-
--- these tokens come next, one after another
-pub data Gives : State → List Token → State → Type 0 where
-  nothing : (tokens : List Token) (state behind : State) → tokens ≡ [] → behind ≡ state → Gives state tokens behind
-  first : (token : Token) (rest tokens : List Token) (state next behind : State) → Comes state (outcome.Token token) next → Gives next rest behind → tokens ≡ token ∷ rest → Gives state tokens behind
+-- definitions that are added in order, each to the state behind the one before it, make one state another
+pub data Adds : State → List Definition → State → Type 0 where
+  none : (state : State) (definitions : List Definition) (behind : State) → definitions ≡ [] → behind ≡ state → Adds state definitions behind
+  first : (definition : Definition) (tokens : List Token) (rest : List Definition) (state : State) (definitions : List Definition) (behind : State)
+      → tokens_of definition ≡ Ok tokens → Adds (with_added (chars definition.0.now) tokens state) rest behind → definitions ≡ definition ∷ rest → Adds state definitions behind
 
 -- what comes at the end
 abbrev pub last_outcome : RunEnd → Outcome
@@ -37,16 +39,17 @@ pub record AreFirstFrom (state : State) (tokens : List Token) : Type 0 where
   pub gives : Gives state tokens behind
 
 -- from this state these tokens come, and then this end
-pub record IsRunFrom (state : State) (tokens : List Token) (end : RunEnd) : Type 0 where
-  pub last : State
-  pub gives : Gives state tokens last
-  pub behind : State
-  pub ends : Comes last (last_outcome end) behind
+abbrev pub EndsFrom : State → List Token → RunEnd → Type 0
+EndsFrom state tokens end = IsRunFrom state tokens (last_outcome end)
 
--- these tokens come first of a source
-abbrev pub AreFirstOf : List ℕ → List Token → Type 0
-AreFirstOf source = AreFirstFrom (start_of source)
+-- these tokens come first of a source, where these definitions were added
+pub record AreFirstOf (source : List ℕ) (definitions : List Definition) (tokens : List Token) : Type 0 where
+  pub state : State
+  pub adds : Adds (start_of source) definitions state
+  pub first : AreFirstFrom state tokens
 
--- the run of a source gives these tokens, and then comes to this end
-abbrev pub IsRunOf : List ℕ → List Token → RunEnd → Type 0
-IsRunOf source = IsRunFrom (start_of source)
+-- the run of a source, where these definitions were added, gives these tokens, and then comes to this end
+pub record IsRunOf (source : List ℕ) (definitions : List Definition) (tokens : List Token) (end : RunEnd) : Type 0 where
+  pub state : State
+  pub adds : Adds (start_of source) definitions state
+  pub run : EndsFrom state tokens end

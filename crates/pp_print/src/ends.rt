@@ -28,8 +28,8 @@ pub enum RunFault {
     TooLong,
     /// The source isn't UTF-8. Nothing was written.
     NotUtf8,
-    /// A definition was refused for another cause than want of memory, or a word of the command line
-    /// has no `=`. Nothing was written.
+    /// The content of a definition has 2^32 - 1 bytes or more, or was refused for another cause than want
+    /// of memory, or a word of the command line has no `=`. Nothing was written.
     BadWord,
     /// A write failed. Nothing is said of how much went out.
     WriteFailed,

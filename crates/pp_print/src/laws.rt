@@ -1,5 +1,5 @@
 //! Laws of what is printed, over the definitions alone: each function's contract states one, for every
-//! list of tokens and every source. The bodies do nothing.
+//! list of tokens, and for every source and its definitions. The bodies do nothing.
 
 ghost use Rattle.pp_print.specs.OutputLaws.{LinesAreTheCut, HeldTokensAreSpelledAlike};
 ghost use Rattle.pp_print.specs.RunLaws.{OneRun, FirstTokens};
@@ -15,8 +15,8 @@ pub fn held_tokens()
     ensures { HeldTokensAreSpelledAlike }
 {}
 
-/// A source has no other run than one, and so no other output. The tokens that come first of it are the first tokens
-/// of its run.
+/// A source, where definitions were added, has no other run than one, and so no other output. The tokens that come
+/// first of it are the first tokens of its run.
 pub fn runs()
     ensures one { OneRun }
     ensures first { FirstTokens }

@@ -1,13 +1,14 @@
 //! The program `pp_print` but for its `main`: preprocesses a source and prints what comes of it.
 #![tactic(auto)]
 
-ghost use Rattle.std.specs.Prelude.{◌≡◌, ◌<◌, ◌↔◌, ◌⊎◌, true, false, length, OnOk, IfOk, IfErr, IfSome, IsErrOf};
-ghost use Rattle.pp_print.specs.Runs.{FitsSource, IsBeforeOutput, IsStoppedBySource, IsPrinted, IsBegun};
+ghost use Rattle.std.specs.Prelude.{◌≡◌, ◌↔◌, ◌⊎◌, true, false, All, Any, OnOk, IfOk, IfErr, IfSome, IsErrOf};
+ghost use Rattle.pp_print.specs.Runs.{FitsSource, IsAccepted, IsRefused, IsBeforeOutput, IsStoppedBySource, IsPrinted, IsBegun};
 ghost use Rattle.pp_print.specs.SourceRuns.{AreFirstOf, IsRunOf};
 
 use pp_rs::pp::Preprocessor;
 use std::alloc::Global;
 
+mod definitions;
 mod devices;
 mod ends;
 mod input;
@@ -31,7 +32,6 @@ pub use words::split_word;
 /// Faults come in this order: [`RunFault::ReadFailed`], [`RunFault::TooLong`], [`RunFault::NotUtf8`],
 /// [`RunFault::BadWord`], all before anything is written, then [`RunFault::WriteFailed`].
 /// [`RunFault::OutOfMemory`] comes wherever memory is refused, and whole lines have been written then.
-/// Every definition is refused for now.
 pub fn run<R: Source, W: Sink>(
     alloc: Global,
     defs: &[(&str, &str)],
@@ -41,26 +41,28 @@ pub fn run<R: Source, W: Sink>(
     requires reader { R.failed reader.old ≡ false }
     requires writer { W.failed writer.old ≡ false }
     ensures source { IfSome (R.remaining reader.old) (FitsSource result) }
-    ensures defined { OnOk result (length defs.now ≡ 0) }
-    ensures bad_word { IsErrOf result RunFault.BadWord → 0 < length defs.now }
     ensures stopped { IfOk result IsStoppedBySource }
+
+    // A run that gets to its output has added all definitions, and one that refuses them has the cause.
+    ensures defined { OnOk result (All IsAccepted defs.now) }
+    ensures defined_first { IsErrOf result RunFault.WriteFailed → All IsAccepted defs.now }
+    ensures bad_word { IsErrOf result RunFault.BadWord → Any IsRefused defs.now }
 
     // The devices fail where the run says so, and before the output nothing is written.
     ensures read_failed { IsErrOf result RunFault.ReadFailed ↔ (R.failed reader.new ≡ true) }
     ensures write_failed { IsErrOf result RunFault.WriteFailed ↔ (W.failed writer.new ≡ true) }
     ensures unwritten { IfErr result (λ fault. IsBeforeOutput fault → writer.new ≡ writer.old) }
 
-    // What was written is the output of the source's run or, where memory was refused, nothing or the
-    // first lines of that output.
+    // What was written is the output of the run of the source behind the definitions or, where memory was
+    // refused, nothing or the first lines of that output.
     ensures printed { IfOk result (λ end. IfSome (R.remaining reader.old) (λ source.
-        IsPrinted (IsRunOf source) end (W.contents writer.old) (W.contents writer.new))) }
+        IsPrinted (IsRunOf source defs.now) end (W.contents writer.old) (W.contents writer.new))) }
     ensures begun { IsErrOf result RunFault.OutOfMemory → IfSome (R.remaining reader.old) (λ source.
-        (writer.new ≡ writer.old) ⊎ IsBegun (AreFirstOf source) (W.contents writer.old) (W.contents writer.new)) }
+        (writer.new ≡ writer.old) ⊎ IsBegun (AreFirstOf source defs.now) (W.contents writer.old) (W.contents writer.new)) }
 {
     let source = input::read_source(alloc, reader)?;
     let text = source.as_str();
-    if !defs.is_empty() {
-        return Err(RunFault::BadWord);
-    }
-    output::print_items(alloc, Preprocessor::new(alloc, text), writer)
+    let mut items = Preprocessor::new(alloc, text);
+    definitions::add_definitions(&mut items, defs)?;
+    output::print_items(alloc, items, writer)
 }

@@ -207,7 +207,7 @@ fn expect_refused(
 
 #[test]
 fn refuses_before_it_writes(rt: HostRuntime) {
-    let defs = [("A", "7")];
+    let defs = [("A", "1 #")];
     for reads in 0..7 {
         expect_refused(&rt, b"a = b;", 1, reads, &defs, RunFault::ReadFailed);
     }
@@ -216,6 +216,19 @@ fn refuses_before_it_writes(rt: HostRuntime) {
     expect_refused(&rt, b"\xff", 1, 1, &defs, RunFault::ReadFailed);
     expect_refused(&rt, b"\xff", 1, 2, &defs, RunFault::NotUtf8);
     expect_refused(&rt, b"a\xc3", 1, 3, &[], RunFault::NotUtf8);
+}
+
+#[test]
+fn refuses_definitions(rt: HostRuntime) {
+    for content in ["#", "1\n# 2", "08", "@"] {
+        for defs in [
+            [("A", content), ("B", "1")],
+            [("B", "1"), ("A", content)],
+            [("A", content), ("A", "1")],
+        ] {
+            expect_refused(&rt, b"a = b;", 100, 2, &defs, RunFault::BadWord);
+        }
+    }
 }
 
 #[test]
@@ -273,12 +286,17 @@ fn stops_at_an_error(rt: HostRuntime) {
     assert_eq!(rt; writer.taken.as_slice(), b"a b c\n".as_slice());
 }
 
-// A whole run over the source, and what it prints.
-fn expect_printed(rt: &(impl Abort + AllocGlobal), source: &[u8], printed: &[u8]) {
+// A whole run over the source and the definitions, and what it prints.
+fn expect_printed(
+    rt: &(impl Abort + AllocGlobal),
+    source: &[u8],
+    defs: &[(&str, &str)],
+    printed: &[u8],
+) {
     let mut reader = FakeSource::new(source, 20000, 100);
     let mut writer = FakeSink::new(rt.alloc(), printed.len());
     assert_eq!(rt;
-        run(rt.alloc(), &[], &mut reader, &mut writer),
+        run(rt.alloc(), defs, &mut reader, &mut writer),
         Ok(RunEnd::Done)
     );
     assert_eq!(rt; writer.taken.as_slice(), printed);
@@ -286,12 +304,52 @@ fn expect_printed(rt: &(impl Abort + AllocGlobal), source: &[u8], printed: &[u8]
 
 #[test]
 fn prints_what_macros_stand_for(rt: HostRuntime) {
-    expect_printed(&rt, b"#define A 1\nA", b"1\n");
+    expect_printed(&rt, b"#define A 1\nA", &[], b"1\n");
     expect_printed(
         &rt,
         b"#define A B + A\n#define B 2\nA;\n#undef B\nA;",
+        &[],
         b"2 + A ; B + A ;\n",
     );
+}
+
+#[test]
+fn prints_what_definitions_stand_for(rt: HostRuntime) {
+    expect_printed(&rt, b"A", &[("A", "7")], b"7\n");
+    expect_printed(&rt, b"a A b", &[("A", "")], b"a b\n");
+    // The later of two counts.
+    expect_printed(
+        &rt,
+        b"A",
+        &[("A", "7"), ("A", "8\n+ B"), ("B", "9")],
+        b"8 + 9\n",
+    );
+    // A name that is no identifier is never met.
+    expect_printed(
+        &rt,
+        b"A b",
+        &[("", "1"), ("A b", "2"), ("1", "3")],
+        b"A b\n",
+    );
+    // A source may say the same, and take back what was defined.
+    expect_printed(&rt, b"#define A 7\nA\n#undef A\nA", &[("A", "7")], b"7 A\n");
+}
+
+#[test]
+fn stops_at_another_meaning_of_a_definition(rt: HostRuntime) {
+    let mut reader = FakeSource::new(b"A\n#define A 8\nA", 20000, 100);
+    let mut writer = FakeSink::new(rt.alloc(), 100);
+    let end = run(rt.alloc(), &[("A", "7")], &mut reader, &mut writer);
+    let stopped = RunEnd::Stopped {
+        error: PreprocessorError::DefineRedefined,
+        location: Location {
+            start: 10,
+            end: 11,
+            line: 2,
+        },
+    };
+    assert_eq!(rt; end, Ok(stopped));
+    assert_eq!(rt; writer.taken.as_slice(), b"7\n".as_slice());
 }
 
 #[test]

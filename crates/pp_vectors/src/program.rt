@@ -2,10 +2,11 @@
 
 ghost use Rattle.std.specs.Prelude.{◌≡◌, None, false};
 
-use pp_print::{DeviceFailed, RunEnd, RunFault, Sink, Source, run};
+use pp_print::{DeviceFailed, RunEnd, RunFault, Sink, Source, message, run, status};
 use pp_rs::token::{Location, PreprocessorError};
 use std::alloc::Global;
 use std::process::Abort;
+use std::test::Fail;
 
 // Bytes that come at most `step` at a time, where after `reads` reads each further one fails.
 #[derive(Drop)]
@@ -97,13 +98,14 @@ impl Sink for FakeSink {
 fn expect_output(
     rt: &(impl Abort + AllocGlobal),
     source: &str,
+    defs: &[(&str, &str)],
     step: usize,
     output: &str,
     end: &Result<RunEnd, RunFault>,
 ) {
     let mut reader = FakeSource::new(source.as_bytes(), step, 1000);
     let mut writer = FakeSink::new(rt.alloc(), step, 1000);
-    let came = run(rt.alloc(), &[], &mut reader, &mut writer);
+    let came = run(rt.alloc(), defs, &mut reader, &mut writer);
     assert_eq!(rt; &came, end, "at {source} by {step}");
     assert_eq!(rt;
         writer.taken.as_slice(),
@@ -124,25 +126,55 @@ fn stopped(error: PreprocessorError, start: u32, end: u32, line: u32) -> Result<
 #[test]
 fn prints_up_to_the_first_error(rt: HostRuntime) {
     for step in [1, 3, 20000] {
-        expect_output(&rt, "", step, "", &Ok(RunEnd::Done));
-        expect_output(&rt, "// note", step, "", &Ok(RunEnd::Done));
+        expect_output(&rt, "", &[], step, "", &Ok(RunEnd::Done));
+        expect_output(&rt, "// note", &[], step, "", &Ok(RunEnd::Done));
         let done = Ok(RunEnd::Done);
-        expect_output(&rt, "a = b+1; // note", step, "a = b + 1 ;\n", &done);
-        expect_output(&rt, "a\n\nb\n", step, "a b\n", &done);
+        expect_output(&rt, "a = b+1; // note", &[], step, "a = b + 1 ;\n", &done);
+        expect_output(&rt, "a\n\nb\n", &[], step, "a b\n", &done);
         let hash = stopped(PreprocessorError::UnexpectedHash, 2, 3, 1);
-        expect_output(&rt, "a # b", step, "a\n", &hash);
+        expect_output(&rt, "a # b", &[], step, "a\n", &hash);
         let character = stopped(PreprocessorError::UnexpectedCharacter, 0, 0, 1);
-        expect_output(&rt, "@ x", step, "", &character);
-        expect_output(&rt, "#define A B +\nA\nA C", step, "B + B + C\n", &done);
+        expect_output(&rt, "@ x", &[], step, "", &character);
+        expect_output(
+            &rt,
+            "#define A B +\nA\nA C",
+            &[],
+            step,
+            "B + B + C\n",
+            &done,
+        );
         expect_output(
             &rt,
             "#version 300 es\nx",
+            &[],
             step,
             "#version 300 es\nx\n",
             &done,
         );
         let directive = stopped(PreprocessorError::ErrorDirective, 3, 8, 2);
-        expect_output(&rt, "x\n#error A", step, "x\n", &directive);
+        expect_output(&rt, "x\n#error A", &[], step, "x\n", &directive);
+    }
+}
+
+#[test]
+fn prints_what_definitions_stand_for(rt: HostRuntime) {
+    for step in [1, 3, 20000] {
+        let done = Ok(RunEnd::Done);
+        expect_output(&rt, "A", &[("A", "7")], step, "7\n", &done);
+        let both = [("A", "7"), ("A", "B + 1")];
+        expect_output(&rt, "A;\nA B", &both, step, "B + 1 ; B + 1 B\n", &done);
+        let unmet = [("a b", "7"), ("", "8"), ("+", "9")];
+        expect_output(&rt, "a b + c", &unmet, step, "a b + c\n", &done);
+        expect_output(&rt, "#undef A\nA", &[("A", "7")], step, "A\n", &done);
+        let redefined = stopped(PreprocessorError::DefineRedefined, 10, 11, 2);
+        expect_output(
+            &rt,
+            "A\n#define A 8\nA",
+            &[("A", "7")],
+            step,
+            "7\n",
+            &redefined,
+        );
     }
 }
 
@@ -182,4 +214,37 @@ fn writes_nothing_of_what_is_no_source(rt: HostRuntime) {
     let end = run(rt.alloc(), &[], &mut reader, &mut writer);
     assert_eq!(rt; end, Err(RunFault::NotUtf8));
     assert!(rt; writer.taken.is_empty());
+}
+
+// What a run with these definitions says and answers, where nothing may be written.
+fn expect_bad_word(rt: &(impl Abort + AllocGlobal), defs: &[(&str, &str)]) -> Result<(), Fail> {
+    let mut reader = FakeSource::new(b"a = A;", 1, 1000);
+    let mut writer = FakeSink::new(rt.alloc(), 1, 1000);
+    let end = run(rt.alloc(), defs, &mut reader, &mut writer);
+    assert_eq!(rt; end, Err(RunFault::BadWord));
+    assert_eq!(rt; status(&end), 2);
+    let said = message(rt.alloc(), &end)?;
+    assert_eq!(rt; said.as_str(), "pp_print: bad word");
+    assert!(rt; writer.taken.is_empty());
+    Ok(())
+}
+
+#[test]
+fn writes_nothing_behind_a_bad_word(rt: HostRuntime) -> Result<(), Fail> {
+    expect_bad_word(&rt, &[("A", "1 #")])?;
+    expect_bad_word(&rt, &[("A", "1"), ("B", "@")])?;
+    expect_bad_word(&rt, &[("A", "1\n#"), ("A", "1")])?;
+    expect_bad_word(&rt, &[("a b", "99999999999")])
+}
+
+#[test]
+fn tells_a_redefinition(rt: HostRuntime) -> Result<(), Fail> {
+    let mut reader = FakeSource::new(b"#define A 8\nA", 1, 1000);
+    let mut writer = FakeSink::new(rt.alloc(), 1, 1000);
+    let end = run(rt.alloc(), &[("A", "7")], &mut reader, &mut writer);
+    assert_eq!(rt; status(&end), 1);
+    let said = message(rt.alloc(), &end)?;
+    assert_eq!(rt; said.as_str(), "error DefineRedefined 8 9");
+    assert!(rt; writer.taken.is_empty());
+    Ok(())
 }

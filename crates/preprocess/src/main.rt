@@ -1,5 +1,6 @@
 //! Preprocesses the GLSL source on its standard input and prints what comes of it on its standard
-//! output. Each word of its command line is a definition `NAME=CONTENT`.
+//! output. Each word of its command line is a definition `NAME=CONTENT`, and of two of one name the later
+//! counts.
 #![tactic(auto)]
 
 use pp_print::{OverRead, OverWrite, RunEnd, RunFault, message, run, split_word, status};

@@ -1,9 +1,8 @@
-use Rattle.pp_print.specs.SourceRuns.{start_of}
-use Rattle.pp_print.proofs.GivesLemmas.{one_run_from, first_tokens_from}
+use Rattle.pp_print.proofs.SourceRunLemmas.{one_run_of, first_tokens_of}
 use Rattle.pp_print.proofs.laws.runs.Goals as goal
 
 pub returns-clause-one : goal.returns-clause-one
-returns-clause-one c = λ source. one_run_from (start_of source)
+returns-clause-one c = one_run_of
 
 pub returns-clause-first : goal.returns-clause-first
-returns-clause-first c = λ source. first_tokens_from (start_of source)
+returns-clause-first c = first_tokens_of

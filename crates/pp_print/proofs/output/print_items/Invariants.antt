@@ -1,7 +1,7 @@
 use Rattle.std.proofs.Common.{◌≡◌, false, string_bytes}
 use Rattle.std.specs.Option.{option_map}
+use Rattle.pp_rs.specs.Comes.{State}
 use Rattle.pp_rs.specs.Preprocessing.{Stands}
-use Rattle.pp_print.specs.SourceRuns.{State}
 use Rattle.pp_print.proofs.RunLemmas.{IsPrinting}
 use Rattle.pp_print.proofs.output.print_items.Given as goal
 

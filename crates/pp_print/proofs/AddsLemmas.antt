@@ -1,0 +1,58 @@
+-- What becomes of a preprocessor, where definitions are added to it one after another
+use Rattle.std.proofs.Common.{◌≡◌, ◌<◌, ◌-◌, ◌^◌, ℕ, List, [], ◌∷◌, ◌++◌, ◌+◌, length, take, get_or, Result, Ok, refl, ap, sym, subst, ◌∙◌}
+use Rattle.std.specs.Str.{chars}
+use Rattle.std.proofs.lemmas.List.{take_more}
+use Rattle.std.proofs.lemmas.List.Elements.{All-nil, All-cons, All-push, All-head}
+use Rattle.pp_model.specs.Calls.{Fault}
+use Rattle.pp_model.specs.Run.{with_added}
+use Rattle.pp_rs.specs.Adding.{IsAdded, refused, faulty, added}
+use Rattle.pp_rs.specs.Comes.{State}
+use Rattle.pp_rs.specs.Preprocessing.{Preprocessing}
+use Rattle.pp_rs.specs.Source.{Source}
+use Rattle.pp_print.specs.Defining.{AreAdded}
+use Rattle.pp_print.specs.Runs.{IsAccepted}
+use Rattle.pp_print.specs.SourceRuns.{Definition, Adds, none, first}
+
+adds_none : (e : State) → Adds e [] e
+adds_none e = none e [] e refl refl
+
+-- further definitions
+adds_all : (ds others : List Definition) (e f g : State) → Adds e ds f → Adds f others g → Adds e (ds ++ others) g
+adds_all ds others e f g (none e1 ds1 f1 p q) adds = subst (λ these. Adds e (these ++ others) g) (sym p) (subst (λ s. Adds s others g) q adds)
+adds_all ds others e f g (first d tokens rest e1 ds1 f1 has more p) adds =
+    first d tokens (rest ++ others) e (ds ++ others) g has (adds_all rest others (with_added (chars d.0.now) tokens e) f g more adds) (ap (λ these. these ++ others) p)
+
+-- a definition that a call answers with no error is added
+pub added_one : (d : Definition) (old new : Preprocessing) (answer : Result (Unit {0}) Fault) (done : Unit {0}) → answer ≡ Ok done → length d.1.now < 2 ^ 32 - 1 → IsAdded old d.0.now d.1.now answer new → AreAdded old (d ∷ []) new
+added_one d old new answer done e short (refused given same) = cc
+added_one d old new answer done e short (faulty fault has given same) = cc
+added_one d old new answer done e short (added tokens has given h) =
+    let behind = λ (state : State). with_added (chars d.0.now) tokens state in
+    record {
+      accepted = All-cons IsAccepted d [] (record { short = short; tokens = rw has refl }) (All-nil IsAccepted);
+      stands = λ state stands. (behind state, first d tokens [] state (d ∷ []) (behind state) has (adds_none (behind state)) refl, h.stands state stands);
+      others = h.others ∙ ap (λ (source : Source). record old { source = source }) h.source.others;
+    }
+
+-- none are added before the first
+pub added_none : (p : Preprocessing) → AreAdded p [] p
+added_none p = record {
+  accepted = All-nil IsAccepted;
+  stands = λ state stands. (state, adds_none state, stands);
+  others = refl;
+}
+
+-- one more behind others
+added_more : (ds : List Definition) (d : Definition) (old mid new : Preprocessing) → AreAdded old ds mid → AreAdded mid (d ∷ []) new → AreAdded old (ds ++ (d ∷ [])) new
+added_more ds d old mid new a b = record {
+  accepted = All-push IsAccepted ds d a.accepted (All-head IsAccepted d [] b.accepted);
+  stands = λ state stands.
+      let before = a.stands state stands in
+      let behind = b.stands before.0 before.2 in
+      (behind.0, adds_all ds (d ∷ []) state before.0 behind.0 before.1 behind.1, behind.2);
+  others = b.others ∙ ap (λ (p : Preprocessing). record p { source = record p.source { definitions = new.source.definitions } }) a.others;
+}
+
+-- and so one after another of a list
+pub added_next : (ds : List Definition) (i : ℕ) (other : Definition) (old mid new : Preprocessing) → i < length ds → AreAdded old (take i ds) mid → AreAdded mid (get_or ds i other ∷ []) new → AreAdded old (take (i + 1) ds) new
+added_next ds i other old mid new within a b = rw (take_more ds i other within) (added_more (take i ds) (get_or ds i other) old mid new a b)

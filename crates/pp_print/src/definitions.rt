@@ -1,0 +1,40 @@
+//! Adding the definitions of the command line.
+
+ghost use Rattle.std.specs.Prelude.{All, Any, [], ◌∷◌, OnOk, IfErr};
+ghost use Rattle.pp_print.specs.Defining.{AreAdded, IsAddingFault};
+ghost use Rattle.pp_print.specs.Runs.{IsRefused};
+
+use super::ends::RunFault;
+use pp_rs::pp::Preprocessor;
+use pp_rs::token::PreprocessorError;
+
+// The length from which on a content is too long.
+const LIMIT: usize = 4294967295;
+
+/// Adds the definitions in order, each a name and its content. Gives up at the first whose content is too
+/// long, or is refused.
+pub fn add_definitions(items: &mut Preprocessor<'_>, defs: &[(&str, &str)]) -> Result<(), RunFault>
+    ensures added { OnOk result (AreAdded items.old defs.now items.new) }
+    ensures err { IfErr result (λ fault. IsAddingFault fault (Any IsRefused defs.now)) }
+{
+    for definition in defs {
+        add_definition(items, definition)?;
+    }
+    Ok(())
+}
+
+// Adds one definition.
+fn add_definition(items: &mut Preprocessor<'_>, definition: &(&str, &str)) -> Result<(), RunFault>
+    ensures added { OnOk result (AreAdded items.old (definition.now ∷ []) items.new) }
+    ensures err { IfErr result (λ fault. IsAddingFault fault (IsRefused definition.now)) }
+{
+    let (name, content) = *definition;
+    if content.len() >= LIMIT {
+        return Err(RunFault::BadWord);
+    }
+    match items.add_define(name, content) {
+        Ok(()) => Ok(()),
+        Err((PreprocessorError::OutOfMemory, _)) => Err(RunFault::OutOfMemory),
+        Err(_) => Err(RunFault::BadWord),
+    }
+}
