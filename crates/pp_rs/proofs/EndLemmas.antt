@@ -30,7 +30,7 @@ use Rattle.pp_rs.specs.Source.{Source, DefinesOver, HasEffect, IsRefusedStep, Ma
 use Rattle.pp_rs.specs.Turns.{as_pause, frame_move, Moves, taken_in, opens, OpensOrGives, FollowsTaken, Follows, Turns}
 use Rattle.pp_rs.specs.Work.{digit_base, most_reads, most_names, work_left}
 use Rattle.pp_rs.specs.declared.pp.step.StepExit.TheVariants.{Finished}
-use Rattle.pp_rs.proofs.SourceSimulates.{item_there}
+use Rattle.pp_rs.proofs.ItemThereLemmas.{item_there}
 use Rattle.pp_rs.proofs.StandsBehindLemmas.{no_blocks_kept}
 
 abbrev is_end_effect : Effect → Bool

@@ -28,6 +28,7 @@ pub mod FrameLemmas
 pub mod OpenMacroLemmas
 pub mod Walk
 pub mod UnspentLemmas
+pub mod ItemThereLemmas
 pub mod EndLemmas
 pub mod NextLemmas
 pub mod InnerBlocksLemmas
@@ -59,6 +60,16 @@ pub mod StandsBehindLemmas
 pub mod AddingLemmas
 pub mod ComesLemmas
 pub mod CollectingLemmas
+pub mod StepHereLemmas
+pub mod StandsQuietLemmas
+pub mod StandsLineLemmas
+pub mod StandsBlockLemmas
+pub mod EndSimulates
+pub mod BlockSimulates
+pub mod DefineSimulates
+pub mod ItemSimulates
+pub mod LiveSimulates
+pub mod DeadSimulates
 pub mod SourceSimulates
 pub mod LastLemmas
 pub mod ReaderInvariantLemmas

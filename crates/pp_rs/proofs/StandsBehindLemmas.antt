@@ -4,7 +4,7 @@ use Rattle.std.proofs.lemmas.List.{drop-drop}
 use Rattle.std.specs.List.{slice_get}
 use Rattle.pp_lexer.specs.Lexed.{Seen}
 use Rattle.pp_model.specs.Definitions.{Definitions}
-use Rattle.pp_model.specs.Blocks.{Truths, open_blocks, block_lines, blocks_at, is_live}
+use Rattle.pp_model.specs.Blocks.{Truths, open_blocks, block_lines, blocks_at, innermost, is_live}
 use Rattle.pp_model.specs.SourceReader.{SourceReader}
 use Rattle.pp_model.specs.Acts.{behind_word}
 use Rattle.pp_model.specs.declared.block.BlockLine.{BlockLine}
@@ -13,7 +13,7 @@ use Rattle.pp_rs.specs.Lined.{AreLined}
 use Rattle.pp_rs.specs.OpenBlocks.{OpenBlock, last_block, outer_blocks, is_live_in, StandForBlocks, AreBefore}
 use Rattle.pp_rs.specs.Source.{Source}
 use Rattle.pp_rs.specs.Stands.{AreObjectLike, StandsForReader}
-use Rattle.pp_rs.proofs.BlockStackLemmas.{Innermost, stands_innermost, none_stand, live_outside, live_inside}
+use Rattle.pp_rs.proofs.BlockStackLemmas.{Innermost, innermost_last, stands_innermost, none_stand, live_outside, live_inside}
 use Rattle.pp_rs.proofs.LastLemmas.{last_split}
 use Rattle.pp_rs.proofs.LinedLemmas.{lined_behind}
 use Rattle.pp_rs.proofs.LinesBeforeLemmas.{AreLinesBefore, AddsLines, lines_here, lines_further}
@@ -26,30 +26,35 @@ some_last first (next ∷ blocks) e = some_last next blocks e
 one_less : (first : OpenBlock) (blocks : List OpenBlock) → length (first ∷ blocks) - 1 ≡ length blocks
 one_less first blocks = omega arith
 
--- the blocks are the outer ones and the last
-pub blocks_split : (blocks : List OpenBlock) (kept : OpenBlock) → last_block blocks ≡ Some kept → blocks ≡ outer_blocks blocks ++ kept ∷ []
-blocks_split = last_split
-
 -- there are none without a last
 pub no_blocks_kept : (blocks : List OpenBlock) → last_block blocks ≡ None → blocks ≡ []
 no_blocks_kept [] e = refl
 no_blocks_kept (first ∷ blocks) e = absurd (some_last first blocks (ap (slice_get (first ∷ blocks)) (sym (one_less first blocks)) ∙ e))
 
 module _ (old : Source) (r : SourceReader) (s : StandsForReader old r) where
+  stand_as : (kept : List OpenBlock) → old.blocks ≡ kept → StandForBlocks r.items r.truths kept (blocks_at r.items r.position)
+  stand_as kept e = subst (λ (bs : List OpenBlock). StandForBlocks r.items r.truths bs (blocks_at r.items r.position)) e s.blocks
+
+  -- the outer blocks of the source and its last one stand for those of the reader
+  pub split_here : (kept : OpenBlock) → last_block old.blocks ≡ Some kept → StandForBlocks r.items r.truths (outer_blocks old.blocks ++ kept ∷ []) (blocks_at r.items r.position)
+  split_here kept e = stand_as (outer_blocks old.blocks ++ kept ∷ []) (last_split old.blocks kept e)
+
   -- the innermost block of the source, where one is kept
   pub block_here : (kept : OpenBlock) → last_block old.blocks ≡ Some kept → Innermost r.items r.truths (outer_blocks old.blocks) kept (blocks_at r.items r.position)
-  block_here kept e = stands_innermost r.items r.truths (outer_blocks old.blocks) kept (blocks_at r.items r.position)
-      (subst (λ (bs : List OpenBlock). StandForBlocks r.items r.truths bs (blocks_at r.items r.position)) (blocks_split old.blocks kept e) s.blocks)
+  block_here kept e = stands_innermost r.items r.truths (outer_blocks old.blocks) kept (blocks_at r.items r.position) (split_here kept e)
+
+  -- the innermost block of the reader is the one that it stands for
+  pub innermost_here : (kept : OpenBlock) (e : last_block old.blocks ≡ Some kept) → innermost (blocks_at r.items r.position) ≡ Some (block_here kept e).block
+  innermost_here kept e =
+      let i = block_here kept e in
+      ap innermost i.split ∙ innermost_last i.before i.block
 
   pub none_here : last_block old.blocks ≡ None → blocks_at r.items r.position ≡ []
-  none_here e = none_stand r.items r.truths (blocks_at r.items r.position)
-      (subst (λ (bs : List OpenBlock). StandForBlocks r.items r.truths bs (blocks_at r.items r.position)) (no_blocks_kept old.blocks e) s.blocks)
+  none_here e = none_stand r.items r.truths (blocks_at r.items r.position) (stand_as [] (no_blocks_kept old.blocks e))
 
   live_with : (last : Option OpenBlock) → last_block old.blocks ≡ last → is_live r.items r.truths r.position ≡ is_live_in last
-  live_with None e = live_outside r.items r.truths r.position
-      (subst (λ (bs : List OpenBlock). StandForBlocks r.items r.truths bs (blocks_at r.items r.position)) (no_blocks_kept old.blocks e) s.blocks)
-  live_with (Some kept) e = live_inside r.items r.truths r.position (outer_blocks old.blocks) kept
-      (subst (λ (bs : List OpenBlock). StandForBlocks r.items r.truths bs (blocks_at r.items r.position)) (blocks_split old.blocks kept e) s.blocks)
+  live_with None e = live_outside r.items r.truths r.position (stand_as [] (no_blocks_kept old.blocks e))
+  live_with (Some kept) e = live_inside r.items r.truths r.position (outer_blocks old.blocks) kept (split_here kept e)
 
   -- the text there is live where the innermost block says so
   pub live_now : is_live r.items r.truths r.position ≡ is_live_in (last_block old.blocks)

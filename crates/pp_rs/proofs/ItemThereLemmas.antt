@@ -1,0 +1,43 @@
+-- The end is seen where no item is left, and nowhere else.
+use Rattle.std.proofs.Common.{◌≡◌, Bool, true, false, List, [], ◌∷◌, refl, Option, Some, None}
+use Rattle.std.specs.Prelude.{Result, Ok, Err}
+use Rattle.pp_lexer.specs.Lexed.{Seen}
+use Rattle.pp_lexer.specs.Items.{Lexeme}
+use Rattle.pp_lexer.specs.declared.lexer.item.Token.{Token as LexerToken}
+use Rattle.pp_lexer.specs.declared.lexer.item.TokenValue.{TokenValue as LexerTokenValue}
+use Rattle.pp_lexer.specs.declared.lexer.item.TokenValue.TheVariants.{Hash, NewLine, Ident as LexerIdent, Integer as LexerInteger, Float as LexerFloat, Punct as LexerPunct}
+use Rattle.pp_lexer.specs.declared.token.Location.{Location}
+use Rattle.pp_model.specs.Names.{Name}
+use Rattle.pp_model.specs.Conversions.{identifier_of}
+use Rattle.pp_model.specs.Calls.{Fault}
+use Rattle.pp_model.specs.Lines.{first_token}
+use Rattle.pp_model.specs.Sights.{sight_of, item_sight, token_sight, directive_sight, named_directive}
+use Rattle.pp_model.specs.declared.sight.Sight.TheVariants as sight
+
+word_there : (token : LexerToken) (name : Option Name) → named_directive token name ≡ sight.End → ⊥
+word_there token (Some name) e = cc
+word_there token None e = cc
+
+directive_there : (first : Result LexerToken Fault) → directive_sight first ≡ sight.End → ⊥
+directive_there (Ok token) e = word_there token (identifier_of token.value) e
+directive_there (Err fault) e = cc
+
+token_there : (location : Location) (value : LexerTokenValue) (blank at_start : Bool) (rest : List Seen)
+    → token_sight (record { value = value; location = location; leading_whitespace = blank; start_of_line = at_start }) rest ≡ sight.End → ⊥
+token_there location Hash blank true rest e = directive_there (first_token location rest) e
+token_there location Hash blank false rest e = cc
+token_there location NewLine blank at_start rest e = cc
+token_there location (LexerIdent name) blank at_start rest e = cc
+token_there location (LexerInteger i) blank at_start rest e = cc
+token_there location (LexerFloat f) blank at_start rest e = cc
+token_there location (LexerPunct p) blank at_start rest e = cc
+
+-- where an item stands in front, it is not the end that is seen
+pub item_there : (item : Lexeme) (rest : List Seen) → item_sight item rest ≡ sight.End → ⊥
+item_there (Err fault) rest e = cc
+item_there (Ok token) rest e = token_there token.location token.value token.leading_whitespace token.start_of_line rest e
+
+-- where the end is seen, no item is left
+pub none_left : (rest : List Seen) → sight_of rest ≡ sight.End → rest ≡ []
+none_left [] e = refl
+none_left (s ∷ rest) e = absurd (item_there s.item rest e)
