@@ -6,9 +6,9 @@ use pp_rs::pp::{Preprocessor, PreprocessorItem, preprocess_all};
 use std::alloc::{AllocError, Global};
 use std::test::Fail;
 
-// A preprocessor of a short source.
-fn start<'a>(alloc: Global, source: &'a str) -> Result<Preprocessor<'a>, Fail> {
-    if source.len() >= 1000 {
+/// A preprocessor of a source of fewer than a million bytes.
+pub fn start<'a>(alloc: Global, source: &'a str) -> Result<Preprocessor<'a>, Fail> {
+    if source.len() >= 1_000_000 {
         return Err(Fail::from("a long source"));
     }
     Ok(Preprocessor::new(alloc, source))
@@ -47,12 +47,18 @@ fn shown(alloc: Global, items: &[PreprocessorItem]) -> Result<String, AllocError
     joined(alloc, &parts)
 }
 
-// All items that are left.
-fn rest(alloc: Global, pp: &mut Preprocessor<'_>) -> Result<String, Fail> {
+/// All items that are left.
+pub fn all_items(alloc: Global, pp: &mut Preprocessor<'_>) -> Result<Vec<PreprocessorItem>, Fail> {
     match preprocess_all(alloc, pp) {
-        Ok(items) => Ok(shown(alloc, &items)?),
+        Ok(items) => Ok(items),
         Err(_) => Err(Fail::from("memory")),
     }
+}
+
+/// All items that are left, as the tables show them.
+pub fn rest(alloc: Global, pp: &mut Preprocessor<'_>) -> Result<String, Fail> {
+    let items = all_items(alloc, pp)?;
+    Ok(shown(alloc, &items)?)
 }
 
 #[test]

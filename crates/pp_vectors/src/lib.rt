@@ -6,6 +6,8 @@ mod added;
 #[cfg(test)]
 mod deep_blocks;
 #[cfg(test)]
+mod hostile;
+#[cfg(test)]
 mod lexer_items;
 #[cfg(test)]
 mod lexer_tokens;
