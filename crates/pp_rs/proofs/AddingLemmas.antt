@@ -1,20 +1,25 @@
 -- What a definition that is added makes of a preprocessor.
-use Rattle.std.proofs.Common.{◌≡◌, ◌∙◌, ℕ, List, Some, Ok, Err, refl, ap, sym, subst}
+use Rattle.std.proofs.Common.{◌≡◌, ◌∙◌, ℕ, Bool, true, false, if◌then◌else◌, List, [], ◌∷◌, Option, Some, None, Ok, Err, IsSome, refl, ap, sym, subst}
 use Rattle.std.specs.Str.{chars}
 use Rattle.pp_lexer.specs.PreprocessorError.{out_of_memory}
 use Rattle.pp_lexer.specs.declared.token.Token.{Token}
-use Rattle.pp_model.specs.Names.{Name}
+use Rattle.pp_model.specs.Names.{Name, is_same_name}
 use Rattle.pp_model.specs.Definitions.{Definitions, object_like, changed}
 use Rattle.pp_model.specs.Reading.{Expander}
 use Rattle.pp_model.specs.Run.{items_of, content_tokens, adding, with_added}
 use Rattle.pp_model.specs.SourceReader.{SourceReader}
 use Rattle.pp_rs.specs.Adding.{IsSetIn, IsAdded, refused, faulty, added}
-use Rattle.pp_rs.specs.Defined.{Defined, IsChanged}
-use Rattle.pp_rs.specs.Frames.{Layer}
-use Rattle.pp_rs.specs.Item.{Fault}
+use Rattle.pp_rs.specs.Defined.{Defined, IsChanged, meaning_of}
+use Rattle.pp_rs.specs.Fit.{EndIsLast, IsFit}
+use Rattle.pp_rs.specs.Frames.{Layer, names_of}
+use Rattle.pp_rs.specs.Item.{Fault, Step}
+use Rattle.pp_rs.specs.Left.{AreDefinedAbove}
+use Rattle.pp_rs.specs.Machine.{Machine}
 use Rattle.pp_rs.specs.Preprocessing.{Preprocessing}
+use Rattle.pp_rs.specs.Reader.{of_source}
 use Rattle.pp_rs.specs.Source.{Source}
-use Rattle.pp_rs.specs.Stands.{StandsForReader, StandsFor}
+use Rattle.pp_rs.specs.declared.pp.step.StepExit.TheVariants.{Error, Continue, Finished}
+use Rattle.pp_rs.specs.Stands.{StandsForReader, StandsForHeld, StandsFor}
 use Rattle.pp_rs.proofs.ChangedLemmas.{changed_object_like, some_object_like}
 
 module _ (name : Name) (tokens : List Token) (old new : Source) (h : IsSetIn name tokens old new) where
@@ -37,13 +42,51 @@ module _ (name : Name) (tokens : List Token) (old new : Source) (h : IsSetIn nam
     off_line = s.off_line;
   }
 
+  held_added : (o : Option (Step Token)) (r : SourceReader) → StandsForHeld o old r → StandsForHeld o new (adding name tokens r)
+  held_added None r s = subst (λ (source : Source). StandsForReader source (adding name tokens r)) (sym h.others) (reader_added new.definitions h.definitions r s)
+  held_added (Some (Ok token)) r s = subst (λ (source : Source). StandsForReader source (adding name tokens r)) (sym h.others) (reader_added new.definitions h.definitions r s)
+  held_added (Some (Err Finished)) r s = subst (λ (source : Source). StandsForReader source (adding name tokens r)) (sym h.others) (reader_added new.definitions h.definitions r s)
+  held_added (Some (Err Continue)) r s = s
+  held_added (Some (Err (Error fault))) r s = tt
+
   -- each state is now one in which the definition was added
-  pub stands_added : (frames : List Layer) (e : Expander SourceReader) → StandsFor frames old e → StandsFor frames new (with_added name tokens e)
-  stands_added frames e s = record {
+  pub stands_added : (m : Machine) (e : Expander SourceReader) → StandsFor m old e → StandsFor m new (with_added name tokens e)
+  stands_added m e s = record {
     held = s.held;
     list = s.list;
-    reader = subst (λ (source : Source). StandsForReader source (adding name tokens e.reader)) (sym h.others) (reader_added new.definitions h.definitions e.reader s.reader);
+    reader = held_added m.held e.reader s.reader;
     hidden = s.hidden;
+  }
+
+  -- what was defined still is
+  defined_added : (x : Name) → IsSome (meaning_of old.definitions x) → IsSome (meaning_of new.definitions x)
+  defined_added x some = subst (λ (d : Definitions). IsSome (d x)) (sym h.definitions.meaning) (go (is_same_name x name))
+    where
+      go : (b : Bool) → IsSome (if b then Some (object_like tokens) else meaning_of old.definitions x)
+      go true = refl
+      go false = some
+
+  above_added : (names : List Name) → AreDefinedAbove old.definitions names → AreDefinedAbove new.definitions names
+  above_added [] d = tt
+  above_added (x ∷ []) d = tt
+  above_added (x ∷ y ∷ names) d = (defined_added x d.0, above_added (y ∷ names) d.1)
+
+  -- the expander may go on
+  last_added : (o : Option (Step Token)) (frames : List Layer) → EndIsLast o frames (of_source old) → EndIsLast o frames (of_source new)
+  last_added o frames last = subst (λ (source : Source). EndIsLast o frames (of_source source)) (sym h.others) (same o last)
+    where
+      same : (o : Option (Step Token)) → EndIsLast o frames (of_source old) → EndIsLast o frames (of_source (record old { definitions = new.definitions }))
+      same None last = tt
+      same (Some (Ok token)) last = tt
+      same (Some (Err Continue)) last = tt
+      same (Some (Err Finished)) last = last
+      same (Some (Err (Error fault))) last = tt
+
+  pub fit_added : (m : Machine) → IsFit m old → IsFit m new
+  fit_added m fit = record {
+    unspent = ap (λ (source : Source). source.spent) h.others ∙ fit.unspent;
+    sound = record { apart = fit.sound.apart; defined = above_added (names_of m.frames) fit.sound.defined };
+    last = last_added m.held m.frames fit.last;
   }
 
 -- what a call answers, by what was made of the source
@@ -52,7 +95,7 @@ module _ (old : Preprocessing) (name content : List ℕ) (new : Source) where
   added_now tokens e h = added tokens e refl (record {
     source = h;
     others = refl;
-    stands = λ state stands. stands_added (chars name) tokens old.source new h old.frames state stands;
+    stands = λ state stands. stands_added (chars name) tokens old.source new h old.machine state stands;
   })
 
   pub faulty_now : (fault : Fault) → content_tokens (items_of content) ≡ Err fault → new ≡ old.source → IsAdded old name content (Err fault) (record old { source = new })

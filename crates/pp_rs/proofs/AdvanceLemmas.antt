@@ -56,7 +56,7 @@ body_steps_least parameters [] = omega arith
 body_steps_least parameters (token ∷ rest) = omega (arith, token_steps_least (parameter_of parameters token.value), body_steps_least parameters rest)
 
 -- a body is among those that are defined
-body_within : (definitions : List Defined) (name : Name) (definition : Definition) → meaning_of definitions name ≡ Some definition → length definition.body ≤ body_tokens definitions
+pub body_within : (definitions : List Defined) (name : Name) (definition : Definition) → meaning_of definitions name ≡ Some definition → length definition.body ≤ body_tokens definitions
 body_within [] name definition e = absurd (let bad : None ≡ Some definition = e in cc)
 body_within (d ∷ ds) name definition e = go (is_same_name name d.name) refl (body_within ds name definition)
   where

@@ -32,7 +32,7 @@ tokens_least (Ok token) later n h = go (is_newline token.value) (conversion toke
     go false (Ok first) (Err fault) h = tt
     go false (Ok first) (Ok tokens) h = omega arith
 
-line_tokens_least : (rest : List Seen) → IfOk (line_tokens rest) (λ tokens. length tokens ≤ line_length rest)
+pub line_tokens_least : (rest : List Seen) → IfOk (line_tokens rest) (λ tokens. length tokens ≤ line_length rest)
 line_tokens_least [] = omega arith
 line_tokens_least (s ∷ rest) = tokens_least s.item (line_tokens rest) (line_length rest) (line_tokens_least rest)
 

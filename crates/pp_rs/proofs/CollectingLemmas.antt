@@ -3,13 +3,15 @@ use Rattle.std.proofs.Common.{◌≡◌, ◌∙◌, ◌<◌, ◌⊎◌, inl, inr
 use Rattle.std.specs.Prelude.{Ok, Err, MatchBool}
 use Rattle.std.proofs.lemmas.List.Elements.{All-nil, All-push}
 use Rattle.pp_lexer.specs.declared.token.Token.{Token}
+use Rattle.pp_model.specs.Emitting.{expansion_limit}
 use Rattle.pp_model.specs.declared.outcome.Outcome.TheVariants as outcome
 use Rattle.pp_rs.specs.Collecting.{tokens_before_error, first_error, error_or_end, AreItemsFrom, AreItemsOf, StandsBehindItems, IsGivenUp}
 use Rattle.pp_rs.specs.Comes.{State, IsRunFrom}
 use Rattle.pp_rs.specs.Held.{ItemHoldsOrdinary}
 use Rattle.pp_rs.specs.Item.{Fault, Item}
 use Rattle.pp_rs.specs.Preprocessing.{Preprocessing, Stands, most_items, is_refusal, IsRefusedItem, IsGivenItem, IsNextItem}
-use Rattle.pp_rs.specs.Work.{work_left}
+use Rattle.pp_rs.specs.Left.{work_of}
+use Rattle.pp_rs.specs.Reader.{of_source}
 use Rattle.pp_rs.proofs.ComesLemmas.{gives_nothing, gives_more}
 
 -- behind an error nothing changes
@@ -151,7 +153,7 @@ module _ (old : Preprocessing) (items : List Item) (now new : Preprocessing) (g 
   gathered_all = items_by old.spent refl
 
   ended_by : (spent : Bool) → now.spent ≡ spent → MatchBool spent (◌≡◌ {A = Option Item} None None × (new ≡ now)) (IsRefusedItem now None new ⊎ IsGivenItem now None new) → most_items new ≡ 0
-  ended_by true e h = ap most_items h.1 ∙ ap (λ spent. if spent then 0 else work_left now.frames now.source) e
+  ended_by true e h = ap most_items h.1 ∙ ap (λ spent. if spent then 0 else work_of expansion_limit now.machine (of_source now.source)) e
   ended_by false e (inl refused) = let bad = refused.item in cc
   ended_by false e (inr given) = given.less_left
 

@@ -1,7 +1,6 @@
 -- Behind the end nothing is left.
-use Rattle.std.proofs.Common.{◌≡◌, ◌∙◌, ◌⊎◌, inl, inr, ℕ, Bool, true, false, if◌then◌else◌, List, [], ◌∷◌, length, drop, refl, ap, sym, subst, Option, Some, None, arith}
-use Rattle.std.specs.Prelude.{Result, Ok, Err, MatchBool, ◌*◌, ◌-◌, ◌^◌}
-use native.Mathlib.Nat.{zero-mul}
+use Rattle.std.proofs.Common.{◌≡◌, ◌∙◌, ◌⊎◌, inl, inr, ℕ, Bool, true, false, if◌then◌else◌, List, [], ◌∷◌, drop, refl, ap, sym, Option, Some, None}
+use Rattle.std.specs.Prelude.{Result, Ok, Err, MatchBool}
 use Rattle.pp_lexer.specs.Lexed.{Seen}
 use Rattle.pp_lexer.specs.declared.token.Location.{Location}
 use Rattle.pp_lexer.specs.declared.token.PreprocessorError.TheVariants.{MoreThanOneElse}
@@ -14,21 +13,15 @@ use Rattle.pp_model.specs.Sights.{sight_of}
 use Rattle.pp_model.specs.declared.definition.Named.{Named}
 use Rattle.pp_model.specs.declared.directive.Directive.{Directive}
 use Rattle.pp_model.specs.declared.directive.Directive.TheVariants as d
-use Rattle.pp_model.specs.declared.outcome.Outcome.{Outcome}
-use Rattle.pp_model.specs.declared.outcome.Outcome.TheVariants as outcome
 use Rattle.pp_model.specs.declared.sight.Sight.{Sight}
 use Rattle.pp_model.specs.declared.sight.Sight.TheVariants as sight
 use Rattle.pp_rs.specs.Item.{Step}
 use Rattle.pp_rs.specs.Defined.{meaning_of}
-use Rattle.pp_rs.specs.Frames.{Layer, Advance, advance}
-use Rattle.pp_rs.specs.Reader.{Reader, of_source}
 use Rattle.pp_rs.specs.SoFar.{directive_fault}
 use Rattle.pp_rs.specs.OpenBlocks.{OpenBlock, last_block, is_live_in, block_parted}
 use Rattle.pp_rs.specs.DirectiveItems.{version, extension, pragma, line_entries}
 use Rattle.pp_rs.specs.SourceMoves.{Effect, gives, gives_item, fails, ends, passes, defines, undefines, opens_where, opens_unread, parts, closes, unfinished, Note, Move, line_move, skip_by, skip_move, else_effect, endif_move, live_move, dead_move, acting_move, unless_refused, move_at, move_of}
 use Rattle.pp_rs.specs.Source.{Source, DefinesOver, HasEffect, IsRefusedStep, Makes}
-use Rattle.pp_rs.specs.Turns.{as_pause, frame_move, Moves, taken_in, opens, OpensOrGives, FollowsTaken, Follows, Turns}
-use Rattle.pp_rs.specs.Work.{digit_base, most_reads, most_names, work_left}
 use Rattle.pp_rs.specs.declared.pp.step.StepExit.TheVariants.{Finished}
 use Rattle.pp_rs.proofs.ItemThereLemmas.{item_there}
 use Rattle.pp_rs.proofs.StandsBehindLemmas.{no_blocks_kept}
@@ -114,7 +107,7 @@ defines_on named None taken note old new h = let e = h.0 in cc
 defines_on named (Some before) taken note old new (inl h) = let e = h.1 in cc
 defines_on named (Some before) taken note old new (inr h) = let e = h.1 in cc
 
-finished_ends : (effect : Effect) (taken : ℕ) (note : Note) (old new : Source) → HasEffect effect taken note old (Err Finished) new → is_end_effect effect ≡ true
+pub finished_ends : (effect : Effect) (taken : ℕ) (note : Note) (old new : Source) → HasEffect effect taken note old (Err Finished) new → is_end_effect effect ≡ true
 finished_ends (gives token) taken note old new h = let e = h.0 in cc
 finished_ends (gives_item item word) taken note old new h = let e = h.0 in cc
 finished_ends (fails fault) taken note old new h = let e = h.0 in cc
@@ -145,49 +138,7 @@ makes_end (s ∷ rest) old new e h =
     let off : is_end_effect (move_of old.blocks (s ∷ rest)).effect ≡ true = finished_ends (move_of old.blocks (s ∷ rest)).effect (move_of old.blocks (s ∷ rest)).taken (move_of old.blocks (s ∷ rest)).note old new h in
     absurd (let bad : false ≡ true = sym on ∙ off in cc)
 
-source_end : (old new : Source) (spent : Bool) → old.spent ≡ spent → spent ≡ false → MatchBool spent ((◌≡◌ {A = Step Token} (Err Finished) (Err Finished)) × (new ≡ old)) (IsRefusedStep old (Err Finished) ⊎ Makes (move_of old.blocks old.rest) old (Err Finished) new) → HasNothing new
+pub source_end : (old new : Source) (spent : Bool) → old.spent ≡ spent → spent ≡ false → MatchBool spent ((◌≡◌ {A = Step Token} (Err Finished) (Err Finished)) × (new ≡ old)) (IsRefusedStep old (Err Finished) ⊎ Makes (move_of old.blocks old.rest) old (Err Finished) new) → HasNothing new
 source_end old new true e f h = cc
 source_end old new false e f (inl h) = let bad = h.fault in cc
 source_end old new false e f (inr h) = makes_end old.rest old new refl h
-
-frames_pause : (fs : List Layer) (o : Option Advance) → (frame_move fs o).gives ≡ Err Finished → ⊥
-frames_pause fs (Some a) e = given a.gives e
-  where
-    given : (t : Option Token) → as_pause t ≡ Err Finished → ⊥
-    given (Some token) e = cc
-    given None e = cc
-frames_pause fs None e = cc
-
-moves_end : (frames between : List Layer) (old new : Source) → old.spent ≡ false → Moves frames (of_source old) (Err Finished) between (of_source new) → (between ≡ []) × HasNothing new
-moves_end [] between old new unspent h = (h.0, source_end old new old.spent refl unspent h.1)
-moves_end (f ∷ fs) between old new unspent (stays, inl h) = absurd (frames_pause fs (advance f) (sym h.0))
-moves_end (f ∷ fs) between old new unspent (stays, inr h) = cc
-
-opens_on : (macro : Option (List ℕ × Definition)) (token : Token) (frames after : List Layer) → OpensOrGives macro token frames (Err Finished) after → ⊥
-opens_on None token frames after h = let e = h.0 in cc
-opens_on (Some (name, definition)) token frames after h = let e = h.0 in cc
-
-taken_on : (taken : Outcome) (frames : List Layer) (reader : Reader) (after : List Layer) → FollowsTaken taken frames reader (Err Finished) after → ⊥
-taken_on (outcome.Token token) frames reader after h = opens_on (opens frames reader token) token frames after h
-taken_on (outcome.Fault fault) frames reader after h = let e = h.0 in cc
-taken_on outcome.End frames reader after h = h
-
--- the end follows only of the end, and keeps the frames
-before_end_is_end : (moved : Step Token) (frames after : List Layer) (reader : Reader) → Follows moved frames reader (Err Finished) after → (moved ≡ Err Finished) × (after ≡ frames)
-before_end_is_end (Ok token) frames after reader (inl h) = absurd (taken_on (taken_in frames reader token) frames reader after h)
-before_end_is_end (Ok token) frames after reader (inr h) = cc
-before_end_is_end (Err exit) frames after reader h = (sym h.0, h.1)
-
--- where the expander is at its end, no macro is open, no item is left and no block is open
-pub turns_end : (frames after : List Layer) (old new : Source) → old.spent ≡ false → Turns frames (of_source old) (Err Finished) after (of_source new) → (after ≡ []) × (new.rest ≡ []) × (new.blocks ≡ [])
-turns_end frames after old new unspent turn =
-    let f = before_end_is_end turn.moved turn.frames_then after (of_source new) turn.follows in
-    let m = moves_end frames turn.frames_then old new unspent (subst (λ (x : Step Token). Moves frames (of_source old) x turn.frames_then (of_source new)) f.0 turn.moves) in
-    (f.1 ∙ m.0, m.1.0, m.1.1)
-
--- so nothing is left to do
-pub end_is_no_work : (source : Source) → source.rest ≡ [] → source.blocks ≡ [] → work_left [] source ≡ 0
-unfolding work_left
-end_is_no_work source e f =
-    let none : most_reads source ≡ 0 = omega (arith, ap length e, ap length f) in
-    ap (λ n. n * digit_base [] source ^ (most_names source - 0)) none ∙ zero-mul (digit_base [] source ^ (most_names source - 0))

@@ -1,62 +1,106 @@
--- A step that isn't the end had something left to read.
-use Rattle.std.proofs.Common.{◌≡◌, ◌≢◌, ◌⊎◌, inl, inr, ℕ, ◌*◌, ◌-◌, ◌^◌, ◌<◌, length, ◌≤◌, arith, mul-le-mul, false, Bool, List, [], ◌∷◌, refl, ◌∙◌}
-use Rattle.std.specs.Prelude.{Ok, Err}
-use Rattle.std.proofs.Math.Nat.{one-le-pow}
+-- A turn that isn't the end had something left to read.
+use Rattle.std.proofs.Common.{◌≡◌, ◌≢◌, ◌⊎◌, ◌∙◌, inl, inr, ℕ, ◌<◌, length, arith, true, false, Bool, List, [], ◌∷◌, refl, ap, sym, subst, Option, Some, None}
+use Rattle.std.specs.Prelude.{Err}
 use Rattle.pp_lexer.specs.Lexed.{Seen}
 use Rattle.pp_lexer.specs.declared.token.Token.{Token}
-use Rattle.pp_rs.specs.Item.{Step}
+use Rattle.pp_rs.specs.CallTurns.{TakesSomething}
 use Rattle.pp_rs.specs.Defined.{Defined}
 use Rattle.pp_rs.specs.Frames.{Layer}
+use Rattle.pp_rs.specs.Item.{Step}
+use Rattle.pp_rs.specs.Left.{work_of, regions, regions_of, most_open, most_bodies, holding_step}
+use Rattle.pp_rs.specs.Machine.{Machine, StepsTaking, held, moved, taken_as}
 use Rattle.pp_rs.specs.OpenBlocks.{OpenBlock}
-use Rattle.pp_rs.specs.Preprocessing.{SomethingLeft}
-use Rattle.pp_rs.specs.Reader.{Reader, of_source}
+use Rattle.pp_rs.specs.Preprocessing.{HoldsMore, SomethingLeft}
+use Rattle.pp_rs.specs.Reach.{total, work_in, frame_steps}
+use Rattle.pp_rs.specs.Reader.{Reader, of_source, of_list, Reads}
 use Rattle.pp_rs.specs.Source.{Source, StepsSource}
-use Rattle.pp_rs.specs.Turns.{Follows, Turns}
-use Rattle.pp_rs.specs.Work.{digit_base, most_reads, most_names, number_of, work_left}
-use Rattle.pp_rs.proofs.AdvanceLemmas.{some_steps_left}
+use Rattle.pp_rs.specs.Turns.{Moves}
+use Rattle.pp_rs.specs.Work.{is_end, most_reads}
 use Rattle.pp_rs.specs.declared.pp.step.StepExit.TheVariants.{Finished}
+use Rattle.pp_rs.proofs.AdvanceLemmas.{some_steps_left}
+use Rattle.pp_rs.proofs.ReachLemmas.{through_up}
+use Rattle.pp_rs.proofs.SpendLemmas.{total_one_more}
 
 -- a source with nothing left is at its end
 empty_source : (definitions : List Defined) (has_text has_directive : Bool) (new : Source) (step : Step Token) → StepsSource (record { rest = []; definitions = definitions; blocks = []; spent = false; has_text = has_text; has_directive = has_directive }) step new → step ≡ Err Finished
 empty_source definitions has_text has_directive new step (inl h) = absurd (h.some_left refl)
 empty_source definitions has_text has_directive new step (inr h) = h.0
 
--- what follows of the end is the end
-behind_end_is_end : (moved step : Step Token) (frames after : List Layer) (reader : Reader) → moved ≡ Err Finished → Follows moved frames reader step after → step ≡ Err Finished
-behind_end_is_end (Ok token) step frames after reader e h = cc
-behind_end_is_end (Err exit) step frames after reader e h = h.0 ∙ e
+read_before : (rest : List Seen) (definitions : List Defined) (blocks : List OpenBlock) (has_text has_directive : Bool) (s : Reader) (step : Step Token)
+    → Reads (of_source (record { rest = rest; definitions = definitions; blocks = blocks; spent = false; has_text = has_text; has_directive = has_directive })) step s → (step ≡ Err Finished → ⊥) → (rest ≢ []) ⊎ (blocks ≢ [])
+read_before (x ∷ rest) definitions blocks has_text has_directive s step h goes = inl (λ e. cc)
+read_before [] definitions (block ∷ blocks) has_text has_directive s step h goes = inr (λ e. cc)
+read_before [] definitions [] has_text has_directive (of_source new) step h goes = absurd (goes (empty_source definitions has_text has_directive new step h))
+read_before [] definitions [] has_text has_directive (of_list new) step h goes = absurd h
 
--- a step that isn't the end had a frame, an item, or an open block
-pub left_before : (frames after : List Layer) (rest : List Seen) (definitions : List Defined) (blocks : List OpenBlock) (has_text has_directive : Bool) (new : Source) (step : Step Token)
-    → Turns frames (of_source (record { rest = rest; definitions = definitions; blocks = blocks; spent = false; has_text = has_text; has_directive = has_directive })) step after (of_source new) → (step ≡ Err Finished → ⊥) → (frames ≢ []) ⊎ (rest ≢ []) ⊎ (blocks ≢ [])
-left_before (f ∷ fs) after rest definitions blocks has_text has_directive new step turn goes = inl (λ e. cc)
-left_before [] after (s ∷ rest) definitions blocks has_text has_directive new step turn goes = inr (inl (λ e. cc))
-left_before [] after [] definitions (block ∷ blocks) has_text has_directive new step turn goes = inr (inr (λ e. cc))
-left_before [] after [] definitions [] has_text has_directive new step turn goes =
-    absurd (goes (behind_end_is_end turn.moved step turn.frames_then after (of_source new) (empty_source definitions has_text has_directive new turn.moved turn.moves.1) turn.follows))
+left_in_source : (old : Source) (s : Reader) (step : Step Token) → old.spent ≡ false → Reads (of_source old) step s → (step ≡ Err Finished → ⊥) → (old.rest ≢ []) ⊎ (old.blocks ≢ [])
+left_in_source old s step unspent h goes =
+    read_before old.rest old.definitions old.blocks old.has_text old.has_directive s step (subst (λ (b : Bool). Reads (of_source (record { rest = old.rest; definitions = old.definitions; blocks = old.blocks; spent = b; has_text = old.has_text; has_directive = old.has_directive })) step s) unspent h) goes
 
-number_some : (base items : ℕ) (frames : List Layer) → (frames ≢ []) ⊎ (0 < items) → 0 < number_of base items frames
-number_some base items [] (inl left) = absurd (left refl)
-number_some base items [] (inr left) = left
-number_some base items (f ∷ fs) left = omega (arith, some_steps_left f)
+reads_more : (frames : List Layer) (old : Source) → (old.rest ≢ []) ⊎ (old.blocks ≢ []) → (frames ≢ []) ⊎ (old.rest ≢ []) ⊎ (old.blocks ≢ [])
+reads_more frames old (inl h) = inr (inl h)
+reads_more frames old (inr h) = inr (inr h)
 
-product_some : (m n : ℕ) → 1 ≤ m → 1 ≤ n → 1 ≤ m * n
-product_some m n h k = mul-le-mul h k
+moved_left : (frames after : List Layer) (old : Source) (s : Reader) (step : Step Token) → old.spent ≡ false → Moves frames (of_source old) step after s → (step ≡ Err Finished → ⊥) → (frames ≢ []) ⊎ (old.rest ≢ []) ⊎ (old.blocks ≢ [])
+moved_left (f ∷ fs) after old s step unspent moves goes = inl (λ e. cc)
+moved_left [] after old s step unspent moves goes = reads_more [] old (left_in_source old s step unspent moves.1 goes)
+
+taking_left : (m n : Machine) (old : Source) (s : Reader) (step : Step Token) → old.spent ≡ false → StepsTaking m (of_source old) step n s → is_end step ≡ false → SomethingLeft m old
+taking_left m n old s step unspent (held step1 m1 n1 r1 s1 is at same) goes = inl (subst HoldsMore (sym is) goes)
+taking_left m n old s step unspent (moved move step1 m1 n1 r1 s1 free moves is none) goes =
+    more (moved_left m.frames n.frames old s move unspent moves (λ e. absurd (ends e)))
+  where
+    ends : move ≡ Err Finished → ⊥
+    ends e = let bad : is_end step ≡ true = ap is_end (is ∙ ap (λ (x : Step Token). taken_as x n.frames s) e) in cc
+
+    more : (m.frames ≢ []) ⊎ (old.rest ≢ []) ⊎ (old.blocks ≢ []) → SomethingLeft m old
+    more (inl h) = inr (inl h)
+    more (inr (inl h)) = inr (inr (inl h))
+    more (inr (inr h)) = inr (inr (inr h))
+
+-- where something was taken, something was left
+pub some_left : (m : Machine) (old : Source) → old.spent ≡ false → TakesSomething m (of_source old) → SomethingLeft m old
+some_left m old unspent h = taking_left m h.behind old h.reader h.step unspent h.takes h.goes
 
 some_there : {A : Type 0} (items : List A) → items ≢ [] → 0 < length items
 some_there [] left = absurd (left refl)
 some_there (x ∷ items) left = omega arith
 
-reads_some : (frames : List Layer) (source : Source) → SomethingLeft frames source → (frames ≢ []) ⊎ (0 < most_reads source)
-reads_some frames source (inl left) = inl left
-reads_some frames source (inr (inl left)) = inr (omega (arith, some_there source.rest left))
-reads_some frames source (inr (inr left)) = inr (omega (arith, some_there source.blocks left))
+frames_some : (frames : List Layer) (reads : ℕ) → (frames ≢ []) ⊎ (0 < reads) → 0 < total (regions_of frames reads)
+frames_some [] reads (inl left) = absurd (left refl)
+frames_some [] reads (inr left) = omega arith
+frames_some (f ∷ fs) reads left = omega (arith, some_steps_left f)
+
+holding_some : (o : Option (Step Token)) (xs : List ℕ) → HoldsMore o → 0 < total (holding_step o xs)
+holding_some None xs h = absurd h
+holding_some (Some step) xs h = rw h (omega (arith, total_one_more xs))
+
+holding_more : (o : Option (Step Token)) (xs : List ℕ) → 0 < total xs → 0 < total (holding_step o xs)
+holding_more None xs h = h
+holding_more (Some step) xs h = go (is_end step) refl
+  where
+    go : (b : Bool) → is_end step ≡ b → 0 < total (holding_step (Some step) xs)
+    go true e = rw e h
+    go false e = rw e (omega (arith, total_one_more xs))
+
+regions_some : (m : Machine) (source : Source) → SomethingLeft m source → 0 < total (regions m (of_source source))
+regions_some m source (inl h) = holding_some m.held (regions_of m.frames (most_reads source)) h
+regions_some m source (inr (inl h)) = holding_more m.held (regions_of m.frames (most_reads source)) (frames_some m.frames (most_reads source) (inl h))
+regions_some m source (inr (inr (inl h))) = holding_more m.held (regions_of m.frames (most_reads source)) (frames_some m.frames (most_reads source) (inr (omega (arith, some_there source.rest h))))
+regions_some m source (inr (inr (inr h))) = holding_more m.held (regions_of m.frames (most_reads source)) (frames_some m.frames (most_reads source) (inr (omega (arith, some_there source.blocks h))))
 
 -- where something is left, there is something to do
-pub left_is_work : (frames : List Layer) (source : Source) → SomethingLeft frames source → 0 < work_left frames source
-unfolding work_left
-left_is_work frames source left =
-    let base = digit_base frames source in
-    product_some (number_of base (most_reads source) frames) (base ^ (most_names source - length frames))
-    (number_some base (most_reads source) frames (reads_some frames source left))
-    (one-le-pow (most_names source - length frames) base (omega arith))
+pub left_is_work : (levels : ℕ) (m : Machine) (source : Source) → SomethingLeft m source → 0 < work_of levels m (of_source source)
+left_is_work levels m source left =
+    let r = of_source source in
+    let xs = regions m r in
+    let up = through_up (frame_steps (most_bodies r) (most_open r) levels) (most_open r) xs (total xs) in
+    omega (arith, up, regions_some m source left)
+
+-- where nothing is left, there is nothing to do
+pub no_work : (levels : ℕ) (m : Machine) (source : Source) → m.held ≡ None → m.frames ≡ [] → source.rest ≡ [] → source.blocks ≡ [] → work_of levels m (of_source source) ≡ 0
+no_work levels m source free closed e f =
+    let r = of_source source in
+    let reads : most_reads source ≡ 0 = omega (arith, ap length e, ap length f) in
+    let xs : regions m r ≡ 0 ∷ [] = ap (λ (o : Option (Step Token)). holding_step o (regions_of m.frames (most_reads source))) free ∙ ap (λ (fs : List Layer). regions_of fs (most_reads source)) closed ∙ ap (λ (k : ℕ). k ∷ []) reads in
+    ap (work_in (frame_steps (most_bodies r) (most_open r) levels) (most_open r)) xs

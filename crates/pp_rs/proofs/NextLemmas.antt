@@ -1,110 +1,123 @@
 -- What the loop of `next` has reached, and what its answers are to the state that it began in.
-use Rattle.std.proofs.Common.{◌≡◌, ◌∙◌, ◌<◌, ◌≤◌, ◌⊎◌, inl, inr, Bool, true, false, if◌then◌else◌, List, refl, ap, sym, subst, Option, Some, None, arith}
-use Rattle.std.specs.Prelude.{Ok, Err, MatchBool, not}
+use Rattle.std.proofs.Common.{◌≡◌, ◌<◌, ◌≤◌, ◌⊎◌, inl, inr, Bool, true, false, if◌then◌else◌, refl, sym, subst, Option, Some, None, arith}
+use Rattle.std.specs.Prelude.{Ok, Err, MatchBool}
 use Rattle.pp_lexer.specs.PreprocessorError.{out_of_memory}
 use Rattle.pp_lexer.specs.declared.token.Token.{Token}
 use Rattle.pp_model.specs.Emitting.{answers_at, expansion_limit}
 use Rattle.pp_model.specs.Calls.{Fault}
 use Rattle.pp_model.specs.Reading.{Expander}
 use Rattle.pp_model.specs.SourceReader.{SourceReader}
+use Rattle.pp_rs.specs.Fit.{IsFit}
 use Rattle.pp_rs.specs.Held.{HoldsOrdinary}
 use Rattle.pp_rs.specs.Item.{Item, Step, is_out_of_memory, wants_memory}
-use Rattle.pp_rs.specs.Frames.{Layer}
+use Rattle.pp_rs.specs.Left.{work_of}
+use Rattle.pp_rs.specs.Machine.{Machine}
 use Rattle.pp_rs.specs.Reader.{of_source}
 use Rattle.pp_rs.specs.Source.{Source}
+use Rattle.pp_rs.specs.SourceTurns.{TurnsSource, StepsOver}
 use Rattle.pp_rs.specs.Stands.{StandsFor}
-use Rattle.pp_rs.specs.Turns.{Turns}
-use Rattle.pp_rs.specs.Work.{AreSound, work_left}
 use Rattle.pp_rs.specs.Preprocessing.{Preprocessing, Stands, SomethingLeft, most_items, IsRefusedItem, IsGivenItem, IsNextItem}
 use Rattle.pp_rs.specs.declared.pp.step.StepExit.TheVariants.{Error, Continue, Finished}
-use Rattle.pp_rs.proofs.ExpanderLemmas.{turn_leads}
 use Rattle.pp_rs.proofs.Leads.{LeadsFrom, Leads, leads_then}
-use Rattle.pp_rs.proofs.EndLemmas.{turns_end, end_is_no_work}
-use Rattle.pp_rs.proofs.LeftLemmas.{left_before, left_is_work}
-use Rattle.pp_rs.proofs.SourceSimulates.{source_simulates}
-use Rattle.pp_rs.proofs.TurnLemmas.{turns_sound}
-use Rattle.pp_rs.proofs.UnspentLemmas.{turns_unspent}
-use Rattle.pp_rs.proofs.WorkLemmas.{turns_fall}
+use Rattle.pp_rs.proofs.LeftLemmas.{some_left, left_is_work, no_work}
+use Rattle.pp_rs.proofs.SourceTurnLemmas.{turned_source, source_fits, source_lowers, source_ends, source_some, source_turn_leads}
 
 -- a state from which the same comes next as from the first
-pub record Reached (frames : List Layer) (source : Source) (frames_now : List Layer) (source_now : Source) : Type 0 where
-  pub unspent : source_now.spent ≡ false
-  pub sound : AreSound frames_now source_now
-  pub leads : Leads (answers_at expansion_limit) frames source (Err Continue) frames_now source_now
-  pub left : SomethingLeft frames_now source_now → SomethingLeft frames source
-  pub less : work_left frames_now source_now ≤ work_left frames source
+pub record Reached (machine : Machine) (source : Source) (machine_now : Machine) (source_now : Source) : Type 0 where
+  pub fit : IsFit machine_now source_now
+  pub leads : Leads (answers_at expansion_limit) machine source (Err Continue) machine_now source_now
+  pub left : SomethingLeft machine_now source_now → SomethingLeft machine source
+  pub less : work_of expansion_limit machine_now (of_source source_now) ≤ work_of expansion_limit machine (of_source source)
 
-left_now : (frames after : List Layer) (old new : Source) (step : Step Token) → old.spent ≡ false → Turns frames (of_source old) step after (of_source new) → (step ≡ Err Finished → ⊥) → SomethingLeft frames old
-left_now frames after old new step unspent turn goes =
-    left_before frames after old.rest old.definitions old.blocks old.has_text old.has_directive new step (subst (λ (b : Bool). Turns frames (of_source (record { rest = old.rest; definitions = old.definitions; blocks = old.blocks; spent = b; has_text = old.has_text; has_directive = old.has_directive })) step after (of_source new)) unspent turn) goes
+-- the state that it begins in
+pub reached_first : (machine now : Machine) (source source_now : Source) → now ≡ machine → source_now ≡ source → IsFit now source_now → Reached machine source now source_now
+reached_first machine now source source_now e f fit = rw (e, f) (record {
+  fit = rw (e, f) at fit;
+  leads = record { from = λ s stands. (s, stands, λ o g emits. emits) };
+  left = λ left. left;
+  less = omega arith;
+})
 
-module _ (frames now after : List Layer) (source source_now source_after : Source) (r : Reached frames source now source_now) where
+module _ (machine now after : Machine) (source source_now source_after : Source) (r : Reached machine source now source_now) where
+  abbrev pub Over : Step Token → Type 0
+  Over step = StepsOver expansion_limit now source_now step after source_after
+
+  turned : (step : Step Token) → Over step → wants_memory step ≡ false → TurnsSource expansion_limit now source_now step after source_after
+  turned step h told = turned_source expansion_limit now after source_now source_after step h told
+
+  falls : (step : Step Token) → Over step → wants_memory step ≡ false → (step ≡ Err Finished → ⊥) → work_of expansion_limit after (of_source source_after) < work_of expansion_limit now (of_source source_now)
+  falls step h told goes = source_lowers expansion_limit now source_now source_after r.fit step after (turned step h told) told goes
+
+  fits : (step : Step Token) → Over step → wants_memory step ≡ false → IsFit after source_after
+  fits step h told = source_fits expansion_limit now source_now source_after r.fit step after (turned step h told) told
+
+  -- where a turn isn't the end, something was left at first
+  left_now : (step : Step Token) → Over step → (step ≡ Err Finished → ⊥) → SomethingLeft machine source
+  left_now step (inl h) goes = r.left (some_left now source_now r.fit.unspent (source_some expansion_limit now after source_now source_after step h goes))
+  left_now step (inr h) goes = r.left (some_left now source_now r.fit.unspent h.some)
+
+  leads_last : (step : Step Token) → Over step → wants_memory step ≡ false → Leads (answers_at expansion_limit) machine source step after source_after
+  leads_last step h told =
+      leads_then (answers_at expansion_limit) machine now after source source_now source_after step r.leads (source_turn_leads expansion_limit now after source_now source_after step r.fit (turned step h told) told)
+
   -- a pause
-  pub reached_more : Turns now (of_source source_now) (Err Continue) after (of_source source_after) → Reached frames source after source_after
-  reached_more turn =
-      let falls : work_left after source_after < work_left now source_now = turns_fall now after source_now source_after (Err Continue) r.sound turn refl in
+  pub reached_more : Over (Err Continue) → Reached machine source after source_after
+  reached_more h =
+      let less = falls (Err Continue) h refl (λ e. cc) in
       record {
-        unspent = turns_unspent now after source_now source_after (Err Continue) r.unspent turn refl;
-        sound = turns_sound now after source_now source_after (Err Continue) r.sound turn refl;
-        leads = leads_then (answers_at expansion_limit) frames now after source source_now source_after (Err Continue) r.leads (turn_leads (answers_at expansion_limit) source_simulates now after source_now source_after (Err Continue) turn refl);
-        left = λ left. r.left (left_now now after source_now source_after (Err Continue) r.unspent turn (λ e. cc));
-        less = omega (arith, falls, r.less);
+        fit = fits (Err Continue) h refl;
+        leads = leads_last (Err Continue) h refl;
+        left = λ left. left_now (Err Continue) h (λ e. cc);
+        less = omega (arith, less, r.less);
       }
 
-  pub falls_more : Turns now (of_source source_now) (Err Continue) after (of_source source_after) → work_left after source_after < work_left now source_now
-  falls_more turn = turns_fall now after source_now source_after (Err Continue) r.sound turn refl
+  pub falls_more : Over (Err Continue) → work_of expansion_limit after (of_source source_after) < work_of expansion_limit now (of_source source_now)
+  falls_more h = falls (Err Continue) h refl (λ e. cc)
 
-  leads_last : (step : Step Token) → Turns now (of_source source_now) step after (of_source source_after) → wants_memory step ≡ false → Leads (answers_at expansion_limit) frames source step after source_after
-  leads_last step turn told =
-      leads_then (answers_at expansion_limit) frames now after source source_now source_after step r.leads (turn_leads (answers_at expansion_limit) source_simulates now after source_now source_after step turn told)
+  -- what holds behind a token, behind the end and behind a fault
+  pub token_fits : (token : Token) → Over (Ok token) → IsFit after source_after
+  token_fits token h = fits (Ok token) h refl
 
-  unspent_last : (step : Step Token) → Turns now (of_source source_now) step after (of_source source_after) → wants_memory step ≡ false → (source_after.spent ≡ false) × AreSound after source_after
-  unspent_last step turn told = (turns_unspent now after source_now source_after step r.unspent turn told, turns_sound now after source_now source_after step r.sound turn told)
+  pub end_fits : Over (Err Finished) → IsFit after source_after
+  end_fits h = fits (Err Finished) h refl
 
-  -- what is left is sound behind a token, behind the end and behind a fault of the source
-  pub token_sound_last : (token : Token) → Turns now (of_source source_now) (Ok token) after (of_source source_after) → (source_after.spent ≡ false) × AreSound after source_after
-  token_sound_last token turn = unspent_last (Ok token) turn refl
-
-  pub end_sound_last : Turns now (of_source source_now) (Err Finished) after (of_source source_after) → (source_after.spent ≡ false) × AreSound after source_after
-  end_sound_last turn = unspent_last (Err Finished) turn refl
-
-  pub fault_sound_last : (fault : Fault) → Turns now (of_source source_now) (Err (Error fault)) after (of_source source_after) → is_out_of_memory fault.0 ≡ false → (source_after.spent ≡ false) × AreSound after source_after
-  fault_sound_last fault turn told = unspent_last (Err (Error fault)) turn told
+  pub fault_fits : (fault : Fault) → Over (Err (Error fault)) → is_out_of_memory fault.0 ≡ false → IsFit after source_after
+  fault_fits fault h told = fits (Err (Error fault)) h told
 
   -- the answers from a state that isn't spent
-  module _ (old : Preprocessing) (fresh : old.spent ≡ false) (starts : old.frames ≡ frames) (begins : old.source ≡ source) where
-    stands_first : (e : Expander SourceReader) → Stands old e → StandsFor frames source e
-    stands_first e stands = subst (λ (s : Source). StandsFor frames s e) begins (subst (λ (fs : List Layer). StandsFor fs old.source e) starts stands)
+  module _ (old : Preprocessing) (fresh : old.spent ≡ false) (starts : old.machine ≡ machine) (begins : old.source ≡ source) where
+    stands_first : (e : Expander SourceReader) → Stands old e → StandsFor machine source e
+    stands_first e stands = subst (λ (s : Source). StandsFor machine s e) begins (subst (λ (m : Machine). StandsFor m old.source e) starts stands)
 
-    most_first : most_items old ≡ work_left frames source
+    most_first : most_items old ≡ work_of expansion_limit machine (of_source source)
     most_first = rw (fresh, starts, begins) refl
 
     as_next : (answer : Option Item) (new : Preprocessing) → IsRefusedItem old answer new ⊎ IsGivenItem old answer new → IsNextItem old answer new
     as_next answer new h = subst (λ (b : Bool). MatchBool b ((answer ≡ None) × (new ≡ old)) (IsRefusedItem old answer new ⊎ IsGivenItem old answer new)) (sym fresh) h
 
-    pub next_token : (token : Token) (spent : Bool) → spent ≡ false → Turns now (of_source source_now) (Ok token) after (of_source source_after) → HoldsOrdinary token.value
-        → IsNextItem old (Some (Ok token)) (record { frames = after; source = source_after; spent = spent })
+    pub next_token : (token : Token) (spent : Bool) → spent ≡ false → Over (Ok token) → HoldsOrdinary token.value
+        → IsNextItem old (Some (Ok token)) (record { machine = after; source = source_after; spent = spent })
     next_token token true fresh_now turn holds = cc
     next_token token false fresh_now turn holds =
-        let falls : work_left after source_after < work_left now source_now = turns_fall now after source_now source_after (Ok token) r.sound turn refl in
-        as_next (Some (Ok token)) (record { frames = after; source = source_after; spent = false }) (inr (record {
+        let lower = falls (Ok token) turn refl (λ e. cc) in
+        as_next (Some (Ok token)) (record { machine = after; source = source_after; spent = false }) (inr (record {
           item = λ e stands.
               let leads : LeadsFrom (answers_at expansion_limit) e (Ok token) after source_after = (leads_last (Ok token) turn refl).from e (stands_first e stands) in
               record { after = leads.0; emits = leads.1; goes_on = leads.2 };
           holds = holds;
-          less_left = omega (arith, falls, r.less, most_first);
+          less_left = omega (arith, lower, r.less, most_first);
           spent = refl;
         }))
 
-    end_last : Turns now (of_source source_now) (Err Finished) after (of_source source_after) → most_items (record { frames = after; source = source_after; spent = false }) ≡ 0
+    end_last : Over (Err Finished) → most_items (record { machine = after; source = source_after; spent = false }) ≡ 0
     end_last turn =
-        let e = turns_end now after source_now source_after r.unspent turn in
-        ap (λ (fs : List Layer). work_left fs source_after) e.0 ∙ end_is_no_work source_after e.1 e.2
+        let e = source_ends expansion_limit now source_now source_after r.fit after (turned (Err Finished) turn refl) in
+        no_work expansion_limit after source_after e.0 e.1 e.2 e.3
 
-    pub next_end : (spent : Bool) → spent ≡ false → Turns now (of_source source_now) (Err Finished) after (of_source source_after) → IsNextItem old None (record { frames = after; source = source_after; spent = spent })
+    pub next_end : (spent : Bool) → spent ≡ false → Over (Err Finished) → IsNextItem old None (record { machine = after; source = source_after; spent = spent })
     next_end true fresh_now turn = cc
     next_end false fresh_now turn =
-        as_next None (record { frames = after; source = source_after; spent = false }) (inr (record {
+        as_next None (record { machine = after; source = source_after; spent = false }) (inr (record {
           item = λ e stands.
               let leads : LeadsFrom (answers_at expansion_limit) e (Err Finished) after source_after = (leads_last (Err Finished) turn refl).from e (stands_first e stands) in
               record { after = leads.0; emits = leads.1; goes_on = leads.2 };
@@ -113,48 +126,47 @@ module _ (frames now after : List Layer) (source source_now source_after : Sourc
           spent = refl;
         }))
 
-    next_fault : (fault : Fault) → Turns now (of_source source_now) (Err (Error fault)) after (of_source source_after) → is_out_of_memory fault.0 ≡ false
-        → IsNextItem old (Some (Err fault)) (record { frames = after; source = source_after; spent = false })
+    next_fault : (fault : Fault) → Over (Err (Error fault)) → is_out_of_memory fault.0 ≡ false
+        → IsNextItem old (Some (Err fault)) (record { machine = after; source = source_after; spent = false })
     next_fault fault turn told =
-        let goes = ap (λ b. not b) told in
-        let falls : work_left after source_after < work_left now source_now = turns_fall now after source_now source_after (Err (Error fault)) r.sound turn goes in
-        as_next (Some (Err fault)) (record { frames = after; source = source_after; spent = false }) (inr (record {
+        let lower = falls (Err (Error fault)) turn told (λ e. cc) in
+        as_next (Some (Err fault)) (record { machine = after; source = source_after; spent = false }) (inr (record {
           item = λ e stands.
               let leads : LeadsFrom (answers_at expansion_limit) e (Err (Error fault)) after source_after = (leads_last (Err (Error fault)) turn told).from e (stands_first e stands) in
               record { after = leads.0; emits = leads.1; goes_on = tt };
           holds = tt;
-          less_left = omega (arith, falls, r.less, most_first);
+          less_left = omega (arith, lower, r.less, most_first);
           spent = sym told;
         }))
 
-    next_refusal : (fault : Fault) → Turns now (of_source source_now) (Err (Error fault)) after (of_source source_after) → IsNextItem old (Some (Err out_of_memory)) (record { frames = after; source = source_after; spent = true })
+    next_refusal : (fault : Fault) → Over (Err (Error fault)) → IsNextItem old (Some (Err out_of_memory)) (record { machine = after; source = source_after; spent = true })
     next_refusal fault turn =
-        let left : SomethingLeft frames source = r.left (left_now now after source_now source_after (Err (Error fault)) r.unspent turn (λ e. cc)) in
-        as_next (Some (Err out_of_memory)) (record { frames = after; source = source_after; spent = true }) (inl (record {
-          some_left = subst (λ (s : Source). SomethingLeft old.frames s) (sym begins) (subst (λ (fs : List Layer). SomethingLeft fs source) (sym starts) left);
+        let left : SomethingLeft machine source = left_now (Err (Error fault)) turn (λ e. cc) in
+        as_next (Some (Err out_of_memory)) (record { machine = after; source = source_after; spent = true }) (inl (record {
+          some_left = subst (λ (s : Source). SomethingLeft old.machine s) (sym begins) (subst (λ (m : Machine). SomethingLeft m source) (sym starts) left);
           item = refl;
           spent = refl;
         }))
 
-    pub next_error : (fault : Fault) (want : Bool) → is_out_of_memory fault.0 ≡ want → Turns now (of_source source_now) (Err (Error fault)) after (of_source source_after)
-        → IsNextItem old (Some (Err (if want then out_of_memory else fault))) (record { frames = after; source = source_after; spent = want })
+    pub next_error : (fault : Fault) (want : Bool) → is_out_of_memory fault.0 ≡ want → Over (Err (Error fault))
+        → IsNextItem old (Some (Err (if want then out_of_memory else fault))) (record { machine = after; source = source_after; spent = want })
     next_error fault true e turn = next_refusal fault turn
     next_error fault false e turn = next_fault fault turn e
 
     -- behind a token or an error fewer items come
-    pub less_behind_token : (token : Token) (spent : Bool) → spent ≡ false → Turns now (of_source source_now) (Ok token) after (of_source source_after) → most_items (record { frames = after; source = source_after; spent = spent }) < most_items old
+    pub less_behind_token : (token : Token) (spent : Bool) → spent ≡ false → Over (Ok token) → most_items (record { machine = after; source = source_after; spent = spent }) < most_items old
     less_behind_token token true fresh_now turn = cc
     less_behind_token token false fresh_now turn =
-        let falls : work_left after source_after < work_left now source_now = turns_fall now after source_now source_after (Ok token) r.sound turn refl in
-        omega (arith, falls, r.less, most_first)
+        let lower = falls (Ok token) turn refl (λ e. cc) in
+        omega (arith, lower, r.less, most_first)
 
-    less_behind_fault : (fault : Fault) (want : Bool) → is_out_of_memory fault.0 ≡ want → Turns now (of_source source_now) (Err (Error fault)) after (of_source source_after) → most_items (record { frames = after; source = source_after; spent = want }) < most_items old
+    less_behind_fault : (fault : Fault) (want : Bool) → is_out_of_memory fault.0 ≡ want → Over (Err (Error fault)) → most_items (record { machine = after; source = source_after; spent = want }) < most_items old
     less_behind_fault fault true e turn =
-        let left : SomethingLeft frames source = r.left (left_now now after source_now source_after (Err (Error fault)) r.unspent turn (λ e. cc)) in
-        omega (arith, left_is_work frames source left, most_first)
+        let left : SomethingLeft machine source = left_now (Err (Error fault)) turn (λ e. cc) in
+        omega (arith, left_is_work expansion_limit machine source left, most_first)
     less_behind_fault fault false e turn =
-        let falls : work_left after source_after < work_left now source_now = turns_fall now after source_now source_after (Err (Error fault)) r.sound turn (ap (λ b. not b) e) in
-        omega (arith, falls, r.less, most_first)
+        let lower = falls (Err (Error fault)) turn e (λ e. cc) in
+        omega (arith, lower, r.less, most_first)
 
-    pub less_behind_error : (fault : Fault) → Turns now (of_source source_now) (Err (Error fault)) after (of_source source_after) → most_items (record { frames = after; source = source_after; spent = is_out_of_memory fault.0 }) < most_items old
+    pub less_behind_error : (fault : Fault) → Over (Err (Error fault)) → most_items (record { machine = after; source = source_after; spent = is_out_of_memory fault.0 }) < most_items old
     less_behind_error fault turn = less_behind_fault fault (is_out_of_memory fault.0) refl turn

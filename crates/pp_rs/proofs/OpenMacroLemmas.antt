@@ -30,6 +30,16 @@ is_in-names name [] = refl
 is_in-names name (f ∷ fs) =
     rw (reverse-append (f ∷ []) fs, names_at_end name (reverse fs) f) (ap (λ rest. is_same_name name f.name || rest) (is_in-names name fs))
 
+names_of-append : (fs gs : List Layer) → names_of (fs ++ gs) ≡ names_of fs ++ names_of gs
+names_of-append [] gs = refl
+names_of-append (f ∷ fs) gs = ap (λ names. f.name ∷ names) (names_of-append fs gs)
+
+-- the names of the macros, the innermost first
+pub names_of-reverse : (fs : List Layer) → names_of (reverse fs) ≡ reverse (names_of fs)
+names_of-reverse [] = refl
+names_of-reverse (f ∷ fs) =
+    ap names_of (reverse-append (f ∷ []) fs) ∙ names_of-append (reverse fs) (f ∷ []) ∙ ap (λ names. names ++ f.name ∷ []) (names_of-reverse fs) ∙ sym (reverse-append (f.name ∷ []) (names_of fs))
+
 -- the outermost frame is the first that was opened
 outermost_at_end : (fs : List Layer) (f : Layer) → outermost_frame_line (fs ++ f ∷ []) ≡ Some f.line
 outermost_at_end [] f = refl

@@ -6,8 +6,6 @@ use Rattle.pp_model.specs.Names.{Name, is_same_name, is_in}
 use Rattle.pp_rs.specs.Defined.{Defined, meaning_of}
 use Rattle.pp_model.specs.ApartMarks.{AreApart}
 use Rattle.pp_rs.specs.Frames.{Layer, names_of}
-use Rattle.pp_rs.specs.Source.{Source}
-use Rattle.pp_rs.specs.Work.{AreSound}
 
 -- the names that are not this one
 abbrev without : Name → List Name → List Name
@@ -89,14 +87,6 @@ apart_names_few (d ∷ ds) names h g =
     let few : length (without d.name names) ≤ length ds = apart_names_few ds (without d.name names) (apart_without d.name names h) (defined_without d ds names g) in
     omega (arith, length_without d.name names h)
 
-length_names : (frames : List Layer) → length (names_of frames) ≡ length frames
+pub length_names : (frames : List Layer) → length (names_of frames) ≡ length frames
 length_names [] = refl
 length_names (f ∷ fs) = ap suc (length_names fs)
-
--- open macros are at most as many as the names that are defined
-pub sound_frames_few : (frames : List Layer) (source : Source) → AreSound frames source → length frames ≤ length source.definitions
-sound_frames_few frames source sound = omega (arith, length_names frames, apart_names_few source.definitions (names_of frames) sound.apart sound.defined)
-
--- where no macro is open, all is sound
-pub nothing_is_open : (source : Source) → AreSound [] source
-nothing_is_open source = record { apart = tt; defined = λ k x low. absurd (omega arith) }

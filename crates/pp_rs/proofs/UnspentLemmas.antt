@@ -1,18 +1,14 @@
 -- A reader is spent only behind a refusal of memory.
-use Rattle.std.proofs.Common.{◌≡◌, ◌∙◌, inl, inr, true, false, List, [], ◌∷◌, ap, refl, ℕ, Bool, ◌⊎◌, Option, Some, None}
+use Rattle.std.proofs.Common.{◌≡◌, ◌∙◌, inl, inr, true, false, ap, ℕ, Bool, ◌⊎◌, Option, Some, None}
 use Rattle.std.specs.Prelude.{Err, MatchBool}
 use Rattle.pp_lexer.specs.declared.token.Token.{Token}
 use Rattle.pp_model.specs.Definitions.{Definition}
 use Rattle.pp_model.specs.declared.definition.Named.{Named}
 use Rattle.pp_rs.specs.Item.{Step, wants_memory}
 use Rattle.pp_rs.specs.Defined.{meaning_of}
-use Rattle.pp_rs.specs.Frames.{Layer}
-use Rattle.pp_rs.specs.Reader.{of_source}
 use Rattle.pp_rs.specs.Source.{Source, DefinesOver, HasEffect, IsRefusedStep, Makes}
 use Rattle.pp_rs.specs.SourceMoves.{Effect, gives, gives_item, fails, ends, passes, defines, undefines, opens_where, opens_unread, parts, closes, unfinished, Note, move_of}
-use Rattle.pp_rs.specs.Turns.{Moves, Turns}
 use Rattle.pp_rs.specs.declared.pp.step.StepExit.TheVariants.{Finished}
-use Rattle.pp_rs.proofs.TurnLemmas.{moved_wants}
 
 module _ (old new : Source) (step : Step Token) (unspent : old.spent ≡ false) where
   defines_unspent : (named : Named) (before : Option Definition) (taken : ℕ) (note : Note) → DefinesOver named before taken note old step new → new.spent ≡ false
@@ -34,20 +30,9 @@ module _ (old new : Source) (step : Step Token) (unspent : old.spent ≡ false) 
   effect_unspent closes taken note h = h.1.spent
   effect_unspent (unfinished word) taken note h = h.1.spent
 
-  steps_unspent : (spent : Bool) → old.spent ≡ spent → wants_memory step ≡ false → MatchBool spent ((step ≡ Err Finished) × (new ≡ old)) (IsRefusedStep old step ⊎ Makes (move_of old.blocks old.rest) old step new) → new.spent ≡ false
+  pub steps_unspent : (spent : Bool) → old.spent ≡ spent → wants_memory step ≡ false → MatchBool spent ((step ≡ Err Finished) × (new ≡ old)) (IsRefusedStep old step ⊎ Makes (move_of old.blocks old.rest) old step new) → new.spent ≡ false
   steps_unspent true e told h = cc
   steps_unspent false e told (inl h) =
       let bad : true ≡ false = rw h.fault at told in
       cc
   steps_unspent false e told (inr h) = effect_unspent (move_of old.blocks old.rest).effect (move_of old.blocks old.rest).taken (move_of old.blocks old.rest).note h
-
-moves_unspent : (frames between : List Layer) (old new : Source) (moved : Step Token) → old.spent ≡ false → wants_memory moved ≡ false → Moves frames (of_source old) moved between (of_source new) → new.spent ≡ false
-moves_unspent [] between old new moved unspent told h = steps_unspent old new moved unspent old.spent refl told h.1
-moves_unspent (f ∷ fs) between old new moved unspent told h =
-    let same : new ≡ old = cc (h.0) in
-    ap (λ (s : Source). s.spent) same ∙ unspent
-
--- behind a step that isn't refused memory the source can go on
-pub turns_unspent : (frames after : List Layer) (old new : Source) (step : Step Token) → old.spent ≡ false → Turns frames (of_source old) step after (of_source new) → wants_memory step ≡ false → new.spent ≡ false
-turns_unspent frames after old new step unspent turn told =
-    moves_unspent frames turn.frames_then old new turn.moved unspent (moved_wants turn.moved step turn.frames_then after (of_source new) turn.follows told) turn.moves

@@ -25,7 +25,7 @@ pub use denote.Steps.{nothing, heard, peeks}
 pub use denote.Triple.Call.{calls_at}
 pub use denote.Triple.Clauses.{lasts}
 pub use denote.Triple.Spec.{triple_of}
-pub use denote.Triple.Walked.{Stays, stay_ref, Goes-ref, ends_at}
+pub use denote.Triple.Walked.{Stays, says, stay_ref, Goes-ref, ends_at}
 pub use denote.Triple.Table.{framed}
 pub use borrow.Pointer.Hide.{hide_mut}
 pub use denote.Laws.{Is, shows}

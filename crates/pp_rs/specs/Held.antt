@@ -1,7 +1,8 @@
 -- What a directive item holds: the tokens of its line, which are ordinary (GLSL ES 3.20, section 3.4).
-use Rattle.std.specs.Prelude.{Bool, true, false, IsTrue, All, Option, Some, None, Ok, Err, ⊤}
+use Rattle.std.specs.Prelude.{Bool, true, false, IsTrue, List, All, Option, Some, None, Ok, Err, ⊤}
 use Rattle.pp_lexer.specs.Entry.{Leaf, ident, integer, float, punct, version, extension, pragma}
 use Rattle.pp_lexer.specs.Preorder.{inner}
+use Rattle.pp_lexer.specs.declared.token.Token.{Token}
 use Rattle.pp_lexer.specs.declared.token.TokenValue.{TokenValue}
 use Rattle.pp_rs.specs.Item.{Item}
 
@@ -18,6 +19,9 @@ is_ordinary_leaf pragma = false
 -- the tokens that the value holds are ordinary
 abbrev pub HoldsOrdinary : TokenValue → Type 0
 HoldsOrdinary value = All (λ entry. IsTrue (is_ordinary_leaf entry.leaf)) (inner value)
+
+abbrev pub AllHoldOrdinary : List Token → Type 0
+AllHoldOrdinary tokens = All (λ token. HoldsOrdinary token.value) tokens
 
 abbrev pub ItemHoldsOrdinary : Item → Type 0
 ItemHoldsOrdinary (Ok token) = HoldsOrdinary token.value

@@ -34,3 +34,14 @@ pub mod SettingContent
 pub mod Comes
 pub mod Collecting
 pub mod ForGood
+pub mod Reach
+pub mod Machine
+pub mod Left
+pub mod Calling
+pub mod CallTurns
+pub mod CallNesting
+pub mod Seeking
+pub mod Finishing
+pub mod SourceTurns
+pub mod Fit
+pub mod ParameterReading

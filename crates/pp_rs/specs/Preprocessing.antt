@@ -1,6 +1,7 @@
 -- What a preprocessor keeps, and one call of `next` (docs/RULES.md, "Runs").
 use Rattle.std.specs.Prelude.{◌≡◌, ◌≢◌, ◌<◌, ◌⊎◌, Bool, true, false, if◌then◌else◌, ℕ, List, [], Option, Some, None, Ok, Err, MatchBool, ⊤}
 use Rattle.pp_lexer.specs.PreprocessorError.{out_of_memory}
+use Rattle.pp_lexer.specs.declared.token.Token.{Token}
 use Rattle.pp_model.specs.Emitting.{Emits, answers_at, expansion_limit}
 use Rattle.pp_model.specs.Reading.{Expander}
 use Rattle.pp_model.specs.Run.{items_of}
@@ -8,30 +9,32 @@ use Rattle.pp_model.specs.SourceReader.{SourceReader}
 use Rattle.pp_model.specs.declared.outcome.Outcome.{Outcome}
 use Rattle.pp_model.specs.declared.outcome.Outcome.TheVariants as outcome
 use Rattle.pp_rs.specs.Held.{AnswerHoldsOrdinary}
-use Rattle.pp_rs.specs.Item.{Item, is_out_of_memory}
+use Rattle.pp_rs.specs.Item.{Item, Step, is_out_of_memory}
+use Rattle.pp_rs.specs.Left.{work_of}
+use Rattle.pp_rs.specs.Machine.{Machine}
+use Rattle.pp_rs.specs.Reader.{of_source}
 use Rattle.pp_rs.specs.SoFar.{reading_so_far}
 use Rattle.pp_rs.specs.Source.{Source}
-use Rattle.pp_rs.specs.Frames.{Layer}
 use Rattle.pp_rs.specs.Stands.{StandsFor}
-use Rattle.pp_rs.specs.Work.{work_left}
+use Rattle.pp_rs.specs.Work.{is_end}
 
--- the macros that are open, the source behind them, and whether memory was refused
+-- the macros that are open with what is held, the source behind them, and whether memory was refused
 pub record Preprocessing : Type 0 where
-  pub frames : List Layer
+  pub machine : Machine
   pub source : Source
   pub spent : Bool
 
 -- a preprocessor at the start of a source
 abbrev pub start_of : List ℕ → Preprocessing
-start_of text = record { frames = []; source = record { rest = items_of text; definitions = []; blocks = []; spent = false; has_text = false; has_directive = false }; spent = false }
+start_of text = record { machine = record { held = None; frames = [] }; source = record { rest = items_of text; definitions = []; blocks = []; spent = false; has_text = false; has_directive = false }; spent = false }
 
 -- a state of a run that it stands for
 abbrev pub Stands : Preprocessing → Expander SourceReader → Type 0
-Stands p state = StandsFor p.frames p.source state
+Stands p state = StandsFor p.machine p.source state
 
 -- no more items come than this
 abbrev pub most_items : Preprocessing → ℕ
-most_items p = if p.spent then 0 else work_left p.frames p.source
+most_items p = if p.spent then 0 else work_of expansion_limit p.machine (of_source p.source)
 
 -- the answer is that memory was refused
 abbrev pub is_refusal : Option Item → Bool
@@ -60,13 +63,18 @@ abbrev pub IsLessLeft : Option Item → Preprocessing → Preprocessing → Type
 IsLessLeft (Some item) old new = most_items new < most_items old
 IsLessLeft None old new = most_items new ≡ 0
 
--- a macro is open, or an item is left to read, or an open block to be told
-abbrev pub SomethingLeft : List Layer → Source → Type 0
-SomethingLeft frames source = (frames ≢ []) ⊎ (source.rest ≢ []) ⊎ (source.blocks ≢ [])
+-- something is held that isn't the end
+abbrev pub HoldsMore : Option (Step Token) → Type 0
+HoldsMore None = ⊥
+HoldsMore (Some step) = is_end step ≡ false
+
+-- something is held, or a macro is open, or an item is left to read, or an open block to be told
+abbrev pub SomethingLeft : Machine → Source → Type 0
+SomethingLeft machine source = HoldsMore machine.held ⊎ (machine.frames ≢ []) ⊎ (source.rest ≢ []) ⊎ (source.blocks ≢ [])
 
 -- memory for an item to come was refused
 pub record IsRefusedItem (old : Preprocessing) (answer : Option Item) (new : Preprocessing) : Type 0 where
-  pub some_left : SomethingLeft old.frames old.source
+  pub some_left : SomethingLeft old.machine old.source
   pub item : answer ≡ Some (Err out_of_memory)
   pub spent : new.spent ≡ true
 

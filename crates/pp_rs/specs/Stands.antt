@@ -1,16 +1,20 @@
 -- The state of a run that a preprocessor stands for. It keeps less: neither what was read, nor the list into which its frames are spliced.
-use Rattle.std.specs.Prelude.{◌≡◌, ◌≢◌, pos, ◌≤◌, true, false, ◌||◌, List, [], ◌++◌, length, take, drop, Some, None}
+use Rattle.std.specs.Prelude.{◌≡◌, ◌≢◌, pos, ◌≤◌, true, false, ◌||◌, List, [], ◌++◌, length, take, drop, Option, Some, Err, option_map, ⊤}
 use Rattle.pp_lexer.specs.Lexed.{Seen}
+use Rattle.pp_lexer.specs.declared.token.Token.{Token}
 use Rattle.pp_model.specs.Names.{Name}
 use Rattle.pp_model.specs.Definitions.{Definition}
 use Rattle.pp_model.specs.Reading.{Expander}
 use Rattle.pp_model.specs.Blocks.{block_lines, blocks_at}
 use Rattle.pp_model.specs.SourceReader.{SourceReader, has_directive, is_on_directive_line, has_live_text_before}
 use Rattle.pp_rs.specs.Defined.{Defined, meaning_of}
-use Rattle.pp_rs.specs.Frames.{Layer, flat}
+use Rattle.pp_rs.specs.Frames.{flat}
+use Rattle.pp_rs.specs.Item.{Step}
 use Rattle.pp_rs.specs.Lined.{AreLined}
+use Rattle.pp_rs.specs.Machine.{Machine, outcome_of_step}
 use Rattle.pp_rs.specs.OpenBlocks.{last_block, is_live_in, StandForBlocks, AreBefore}
 use Rattle.pp_rs.specs.Source.{Source}
+use Rattle.pp_rs.specs.declared.pp.step.StepExit.TheVariants.{Error, Continue}
 
 -- no name stands for a macro with parameters: none can be defined so far
 abbrev pub AreObjectLike : List Defined → Type 0
@@ -36,9 +40,15 @@ pub record StandsForReader (source : Source) (reader : SourceReader) : Type 0 wh
   pub directives : (behind : List Seen) → has_directive (take reader.position reader.items ++ behind) ≡ (has_directive (take reader.position reader.items) || has_directive behind)
   pub off_line : is_live_in (last_block source.blocks) ≡ true → source.rest ≢ [] → is_on_directive_line reader.items reader.position ≡ false
 
+-- what is held comes next; behind a fault that is held nothing is said of the reader, and a pause is never held
+abbrev pub StandsForHeld : Option (Step Token) → Source → SourceReader → Type 0
+StandsForHeld (Some (Err (Error fault))) source reader = ⊤
+StandsForHeld (Some (Err Continue)) source reader = ⊥
+StandsForHeld _ source reader = StandsForReader source reader
+
 -- an expander over it: the frames are its splice list
-pub record StandsFor (frames : List Layer) (source : Source) (state : Expander SourceReader) : Type 0 where
-  pub held : state.held ≡ None
-  pub list : state.list ≡ flat frames
-  pub reader : StandsForReader source state.reader
+pub record StandsFor (machine : Machine) (source : Source) (state : Expander SourceReader) : Type 0 where
+  pub held : state.held ≡ option_map outcome_of_step machine.held
+  pub list : state.list ≡ flat machine.frames
+  pub reader : StandsForHeld machine.held source state.reader
   pub hidden : state.hidden ≡ []

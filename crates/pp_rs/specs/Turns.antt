@@ -1,4 +1,4 @@
--- One step of the expander over a reader: the frame rules, and what follows of the token that they give (docs/RULES.md,
+-- One step of the frames, or of the reader behind them, and what a token that is taken becomes and opens (docs/RULES.md,
 -- Expansion 1 to 4 and 10).
 use Rattle.std.specs.Prelude.{◌≡◌, if◌then◌else◌, List, [], ◌∷◌, Option, Some, None, Ok, Err, ◌⊎◌, unwrap_or}
 use Rattle.pp_lexer.specs.PreprocessorError.{out_of_memory}
@@ -11,7 +11,7 @@ use Rattle.pp_model.specs.Taking.{line_number}
 use Rattle.pp_model.specs.declared.outcome.Outcome.{Outcome}
 use Rattle.pp_model.specs.declared.outcome.Outcome.TheVariants as outcome
 use Rattle.pp_rs.specs.Item.{Step}
-use Rattle.pp_rs.specs.Frames.{Layer, layer, Advance, advance, names_of, outermost_frame_line}
+use Rattle.pp_rs.specs.Frames.{Layer, Advance, advance, names_of, outermost_frame_line}
 use Rattle.pp_rs.specs.Reader.{Reader, Reads, visible, shown_line}
 use Rattle.pp_rs.specs.declared.pp.step.StepExit.TheVariants.{Error, Continue}
 
@@ -51,25 +51,3 @@ opens_value frames reader _ = None
 -- the macro that a token opens: its name is defined, and open in no frame
 abbrev pub opens : List Layer → Reader → Token → Option (Name × Definition)
 opens frames reader token = opens_value frames reader token.value
-
--- a token opens its macro, or is given
-abbrev pub OpensOrGives : Option (Name × Definition) → Token → List Layer → Step Token → List Layer → Type 0
-OpensOrGives None token old step new = (step ≡ Ok token) × (new ≡ old)
-OpensOrGives (Some (name, definition)) token old step new = (step ≡ Err Continue) × (new ≡ layer name token.location.line definition [] ∷ old)
-
-abbrev pub FollowsTaken : Outcome → List Layer → Reader → Step Token → List Layer → Type 0
-FollowsTaken (outcome.Token token) old reader step new = OpensOrGives (opens old reader token) token old step new
-FollowsTaken (outcome.Fault fault) old reader step new = (step ≡ Err (Error fault)) × (new ≡ old)
-FollowsTaken outcome.End old reader step new = ⊥
-
--- what follows of one step of the frames or the reader, unless memory is refused
-abbrev pub Follows : Step Token → List Layer → Reader → Step Token → List Layer → Type 0
-Follows (Ok token) old reader step new = FollowsTaken (taken_in old reader token) old reader step new ⊎ (step ≡ Err (Error out_of_memory))
-Follows (Err exit) old reader step new = (step ≡ Err exit) × (new ≡ old)
-
--- one step of the expander
-pub record Turns (frames : List Layer) (old : Reader) (step : Step Token) (after : List Layer) (new : Reader) : Type 0 where
-  pub moved : Step Token
-  pub frames_then : List Layer
-  pub moves : Moves frames old moved frames_then new
-  pub follows : Follows moved frames_then new step after

@@ -1,7 +1,9 @@
 //! Directives and tokens: from the lexer's tokens to those of the preprocessed source.
 
 mod all_items;
+mod arguments;
 mod blocks;
+mod calls;
 mod content;
 mod convert;
 mod define;
@@ -11,10 +13,14 @@ mod expander;
 mod frames;
 mod halt;
 mod lines;
+mod list_lexer;
+mod list_step;
+mod parameters;
 mod preprocessor;
 mod preprocessor_step;
 mod reader;
 mod source_lexer;
+mod source_turn;
 mod spelling;
 mod step;
 mod words;

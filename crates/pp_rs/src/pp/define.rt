@@ -1,6 +1,6 @@
 //! Macros.
 
-ghost use Rattle.std.specs.Prelude.{◌≡◌, ◌↔◌, IsTrue, All};
+ghost use Rattle.std.specs.Prelude.{◌≡◌, ◌↔◌, true, IsTrue, All};
 ghost use Rattle.pp_lexer.specs.TokenValue.{is_ordinary};
 ghost use Rattle.pp_lexer.specs.Spelling.{values_of};
 ghost use Rattle.pp_model.specs.Definitions.{IsSameDefinition, object_like};
@@ -55,6 +55,25 @@ impl Define {
             parameters: Vec::new(alloc),
             body,
         }
+    }
+
+    /// A macro with these parameters.
+    pub fn function_like(parameters: Vec<Text>, body: Vec<Token>) -> Define
+        requires { All (λ token. IsTrue (is_ordinary token.value)) body.items }
+        ensures { result ≡ record { function_like = true; parameters = parameters.items; body = body.items } }
+    {
+        Define {
+            function_like: true,
+            parameters,
+            body,
+        }
+    }
+
+    /// Whether the macro has parameters in parentheses.
+    pub fn is_function_like(&self) -> bool
+        ensures { result ≡ self.now.function_like }
+    {
+        self.function_like
     }
 
     /// The names of the parameters.

@@ -86,6 +86,13 @@ impl<'a> DirectiveProcessor<'a> {
         self.definitions.find(name)
     }
 
+    /// What is defined.
+    pub fn definitions(&self) -> &Definitions
+        ensures { result.now ≡ self.now.definitions }
+    {
+        &self.definitions
+    }
+
     /// Lets the name stand for the tokens of a content of fewer than 2^32 - 1 bytes from now on, whatever it stood for.
     /// Where that is refused, nothing changes.
     pub fn set_content(&mut self, name: &str, content: &str) -> Result<(), Halt>

@@ -1,6 +1,6 @@
 //! The expander: open macros over a reader.
 
-ghost use Rattle.std.specs.Prelude.{◌≡◌, ◌⊎◌, ◌∷◌, [], IfOk, MatchResult, Ok, Err, option_map, pos, false};
+ghost use Rattle.std.specs.Prelude.{◌≡◌, ◌⊎◌, ◌∷◌, [], IfOk, OnOk, MatchResult, Ok, Err, option_map, pos, false};
 ghost use Rattle.std.specs.List.{list_any};
 ghost use Rattle.pp_lexer.specs.PreprocessorError.{out_of_memory};
 ghost use Rattle.pp_lexer.specs.declared.token.PreprocessorError.TheVariants.{LineOverflow};
@@ -9,11 +9,11 @@ ghost use Rattle.pp_model.specs.Names.{is_in, is_identifier, is_same_name, line_
 ghost use Rattle.pp_model.specs.declared.outcome.Outcome.TheVariants as outcome;
 ghost use Rattle.pp_rs.specs.Frames.{layer, names_of, outermost_frame_line};
 ghost use Rattle.pp_rs.specs.Held.{HoldsOrdinary};
-ghost use Rattle.pp_rs.specs.Turns.{Moves, taken_in, opens_value, opens, OpensOrGives, Turns};
+ghost use Rattle.pp_rs.specs.Turns.{Moves, taken_in, opens_value};
 ghost use Rattle.pp_rs.specs.declared.pp.step.StepExit.TheVariants.{Error, Continue};
 
 use crate::pp::define::Define;
-use crate::pp::frames::Frame;
+use crate::pp::frames::{Frame, TokenList};
 use crate::pp::reader::MeLexer;
 use crate::pp::step::{Step, StepExit};
 use crate::pp::words::is_spelled;
@@ -99,7 +99,7 @@ impl MacroProcessor {
 
     // One step of the innermost frame, or of the reader where no macro is open. A frame at its
     // end is closed.
-    fn advance(&mut self, lexer: &mut dyn MeLexer) -> Step<Token>
+    pub fn advance(&mut self, lexer: &mut dyn MeLexer) -> Step<Token>
         ensures moves { Moves self.old (reader lexer.old) result self.new (reader lexer.new) }
         ensures holds { IfOk result (λ token. HoldsOrdinary token.value) }
     {
@@ -116,7 +116,7 @@ impl MacroProcessor {
     }
 
     // A token that is taken: `__LINE__` becomes a number at once.
-    fn take_in(&self, lexer: &dyn MeLexer, token: Token) -> Step<Token>
+    pub fn take_in(&self, lexer: &dyn MeLexer, token: Token) -> Step<Token>
         requires { HoldsOrdinary token.value }
         ensures taken { MatchResult result (λ taken. taken_in self.now (reader lexer.now) token ≡ outcome.Token taken) (λ exit. (exit ≡ Error (LineOverflow, token.location)) × (taken_in self.now (reader lexer.now) token ≡ outcome.Fault (LineOverflow, token.location))) }
         ensures holds { IfOk result (λ token. HoldsOrdinary token.value) }
@@ -131,7 +131,11 @@ impl MacroProcessor {
     }
 
     // What the name stands for, unless its macro is open.
-    fn find_macro(&self, lexer: &dyn MeLexer, name: &Text) -> Result<Option<Rc<Define>>, AllocError>
+    pub fn find_macro(
+        &self,
+        lexer: &dyn MeLexer,
+        name: &Text,
+    ) -> Result<Option<Rc<Define>>, AllocError>
         ensures { IfOk result (λ found. option_map (λ define. (name.now, define.value)) found ≡ opens_value self.now (reader lexer.now) (value.Ident name.now)) }
     {
         if self.is_open(name) {
@@ -143,56 +147,30 @@ impl MacroProcessor {
         }
     }
 
-    // Opens the macro of this name, which stands on the line.
-    fn open(&mut self, name: Text, line: u32, define: Rc<Define>) -> Step<Token>
-        ensures { ((result ≡ Err Continue) × (self.new ≡ layer name line define.value [] ∷ self.old)) ⊎ (result ≡ Err (Error out_of_memory)) }
+    /// The names of the macros that are open, the innermost first.
+    pub fn names(&self, alloc: Global) -> Result<Vec<Text>, AllocError>
+        ensures { IfOk result (λ names. names.items ≡ names_of self.now) }
     {
-        let frame = Frame::new(name, line, define, Vec::new(self.alloc));
-        match self.frames.push(frame) {
-            Ok(()) => Err(StepExit::Continue),
-            Err(_) => Err(StepExit::Error(out_of_memory())),
+        let mut names = Vec::new(alloc);
+        for frame in &self.frames {
+            names.push(frame.name().try_clone(alloc)?)?;
         }
+        names.reverse();
+        Ok(names)
     }
 
-    // A name that is taken opens its macro, or is given.
-    fn follow_name(&mut self, lexer: &dyn MeLexer, name: Text, location: Location) -> Step<Token>
-        ensures follows { OpensOrGives (opens_value self.old (reader lexer.now) (value.Ident name)) (record { value = value.Ident name; location = location }) self.old result self.new ⊎ (result ≡ Err (Error out_of_memory)) }
-        ensures holds { IfOk result (λ token. HoldsOrdinary token.value) }
+    /// Opens the macro of this name, which stands on the line, with these arguments.
+    pub fn open(
+        &mut self,
+        name: Text,
+        line: u32,
+        define: Rc<Define>,
+        arguments: Vec<TokenList>,
+    ) -> Result<(), AllocError>
+        ensures { OnOk result (self.new ≡ layer name line define.value arguments.items ∷ self.old) }
     {
-        match self.find_macro(lexer, &name) {
-            Ok(Some(define)) => self.open(name, location.line, define),
-            Ok(None) => Ok(Token {
-                value: TokenValue::Ident(name),
-                location,
-            }),
-            Err(_) => {
-                drop(name);
-                Err(StepExit::Error(out_of_memory()))
-            }
-        }
-    }
-
-    // A token that is taken opens its macro, or is given.
-    fn follow(&mut self, lexer: &dyn MeLexer, token: Token) -> Step<Token>
-        requires { HoldsOrdinary token.value }
-        ensures follows { OpensOrGives (opens self.old (reader lexer.now) token) token self.old result self.new ⊎ (result ≡ Err (Error out_of_memory)) }
-        ensures holds { IfOk result (λ token. HoldsOrdinary token.value) }
-    {
-        let location = token.location;
-        match token.value {
-            TokenValue::Ident(name) => self.follow_name(lexer, name, location),
-            value => Ok(Token { value, location }),
-        }
-    }
-
-    /// One step: the next token of the innermost frame, or of the reader, is taken. `__LINE__`
-    /// becomes a number, and a name that is defined and not open opens its macro.
-    pub fn step(&mut self, lexer: &mut dyn MeLexer) -> Step<Token>
-        ensures turns { Turns self.old (reader lexer.old) result self.new (reader lexer.new) }
-        ensures holds { IfOk result (λ token. HoldsOrdinary token.value) }
-    {
-        let token = self.advance(lexer)?;
-        let token = self.take_in(&*lexer, token)?;
-        self.follow(&*lexer, token)
+        let frame = Frame::new(name, line, define, arguments);
+        self.frames.push(frame)?;
+        Ok(())
     }
 }

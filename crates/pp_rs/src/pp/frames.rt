@@ -2,10 +2,10 @@
 
 ghost use Rattle.std.specs.Prelude.{◌≡◌, ◌⊎◌, ◌<◌, ◌^◌, IfOk, IfSome, IsTrue, All, MatchOption, Some, None, Ok, Err, option_map, slice_get, position};
 ghost use Rattle.pp_lexer.specs.PreprocessorError.{out_of_memory};
-ghost use Rattle.pp_lexer.specs.TokenValue.{is_ordinary};
 ghost use Rattle.pp_model.specs.Names.{is_same_name};
 ghost use Rattle.pp_model.specs.SpliceList.{parameter_of};
 ghost use Rattle.pp_rs.specs.Frames.{layer, argument_at, advance};
+ghost use Rattle.pp_rs.specs.Held.{HoldsOrdinary, AllHoldOrdinary};
 ghost use Rattle.pp_rs.specs.Turns.{as_pause};
 ghost use Rattle.pp_rs.specs.declared.pp.step.StepExit.TheVariants.{Error};
 
@@ -16,28 +16,28 @@ use std::alloc::Global;
 use std::marker::Model;
 use std::rc::Rc;
 
-/// Ordinary tokens, as an argument of a call.
+/// Tokens that an argument of a call comes to. A directive item among them holds ordinary tokens.
 #[derive(Drop)]
 pub struct TokenList {
     items: Vec<Token>,
 }
 
 impl Model for TokenList {
-    ghost use Rattle.std.specs.Prelude.{All, IsTrue, List};
-    ghost use Rattle.pp_lexer.specs.TokenValue.{is_ordinary};
+    ghost use Rattle.std.specs.Prelude.{List};
     ghost use Rattle.pp_lexer.specs.declared.token.Token.{Token};
+    ghost use Rattle.pp_rs.specs.Held.{AllHoldOrdinary};
 
     ghost Value = { List Token };
 
     ghost view = { λ list. list.items.items };
 
-    ghost invariant = { λ list. All (λ token. IsTrue (is_ordinary token.value)) list.items.items };
+    ghost invariant = { λ list. AllHoldOrdinary list.items.items };
 }
 
 impl TokenList {
     /// The list of these tokens.
     pub fn new(items: Vec<Token>) -> TokenList
-        requires { All (λ token. IsTrue (is_ordinary token.value)) items.items }
+        requires { AllHoldOrdinary items.items }
         ensures { result ≡ items.items }
     {
         TokenList { items }
@@ -46,7 +46,7 @@ impl TokenList {
     /// The tokens.
     pub fn as_slice(&self) -> &[Token]
         ensures is { result.now ≡ self.now }
-        ensures ordinary { All (λ token. IsTrue (is_ordinary token.value)) result.now }
+        ensures holds { AllHoldOrdinary result.now }
     {
         &self.items
     }
@@ -97,12 +97,12 @@ fn parameter_of(parameters: &[Text], value: &TokenValue) -> Option<usize>
     }
 }
 
-// The token at the position.
-fn token_at(tokens: &[Token], position: usize) -> Option<&Token>
-    requires { All (λ token. IsTrue (is_ordinary token.value)) tokens.now }
+/// The token at the position.
+pub fn token_at(tokens: &[Token], position: usize) -> Option<&Token>
+    requires { AllHoldOrdinary tokens.now }
     ensures token { option_map (λ token. token.now) result ≡ slice_get tokens.now position }
     ensures small { IfSome result (λ _. position < 2 ^ 63) }
-    ensures ordinary { IfSome result (λ token. IsTrue (is_ordinary token.now.value)) }
+    ensures holds { IfSome result (λ token. HoldsOrdinary token.now.value) }
 {
     tokens.get(position)
 }
@@ -111,7 +111,7 @@ fn token_at(tokens: &[Token], position: usize) -> Option<&Token>
 fn argument_token(arguments: &[TokenList], index: usize, position: usize) -> Option<&Token>
     ensures token { option_map (λ token. token.now) result ≡ slice_get (argument_at arguments.now index) position }
     ensures small { IfSome result (λ _. position < 2 ^ 63) }
-    ensures ordinary { IfSome result (λ token. IsTrue (is_ordinary token.now.value)) }
+    ensures holds { IfSome result (λ token. HoldsOrdinary token.now.value) }
 {
     match arguments.get(index) {
         Some(argument) => token_at(argument.as_slice(), position),
@@ -119,8 +119,8 @@ fn argument_token(arguments: &[TokenList], index: usize, position: usize) -> Opt
     }
 }
 
-// A copy of a token as what a step gives.
-fn give(alloc: Global, token: &Token) -> Step<Token>
+/// A copy of a token as what a step gives.
+pub fn give(alloc: Global, token: &Token) -> Step<Token>
     ensures { (result ≡ Err (Error out_of_memory)) ⊎ (result ≡ Ok token.now) }
 {
     token.clone(alloc).map_err(StepExit::Error)
@@ -160,7 +160,7 @@ impl Frame {
     /// of an argument are pauses.
     pub fn advance(&mut self, alloc: Global) -> Option<Step<Token>>
         ensures step { (result ≡ Some (Err (Error out_of_memory))) ⊎ MatchOption (advance self.old) (result ≡ None) (λ step. (result ≡ Some (as_pause step.gives)) × (self.new ≡ step.after)) }
-        ensures ordinary { IfSome result (λ step. IfOk step (λ token. IsTrue (is_ordinary token.value))) }
+        ensures holds { IfSome result (λ step. IfOk step (λ token. HoldsOrdinary token.value)) }
     {
         if let Some(index) = self.expanding {
             let Some(token) = argument_token(&self.arguments, index, self.argument_position) else {

@@ -4,16 +4,18 @@ ghost use Rattle.std.specs.Prelude.{◌≡◌, ◌≢◌, [], false, Some, Ok, I
 ghost use Rattle.pp_lexer.specs.Lexed.{comments_before};
 ghost use Rattle.pp_lexer.specs.TokenValue.{is_ordinary};
 ghost use Rattle.pp_model.specs.Conversions as conversions;
-ghost use Rattle.pp_model.specs.DefineLines.{is_attached_paren};
+ghost use Rattle.pp_model.specs.DefineLines.{is_attached_paren, definition_at, defined_on};
 ghost use Rattle.pp_model.specs.Lines.{first_token, first_name, ended_line, only_name, line_length, comments_before_end};
 ghost use Rattle.pp_rs.specs.DirectiveItems.{line_entries};
 ghost use Rattle.pp_rs.specs.Held.{is_ordinary_leaf};
 ghost use Rattle.pp_rs.specs.LineReading as spec;
+ghost use Rattle.pp_rs.specs.ParameterReading.{function_at};
 
 use crate::lexer;
 use crate::pp::convert::convert_lexer_token;
 use crate::pp::define::Define;
 use crate::pp::halt::Halt;
+use crate::pp::parameters::parameters;
 use crate::pp::source_lexer::SourceLexer;
 use crate::token::{Location, PreprocessorError, Punct, Text, Token, TokenValue, Tokens};
 use std::alloc::Global;
@@ -31,8 +33,8 @@ pub fn first_token(word: Location, lexer: &mut SourceLexer<'_>) -> Result<lexer:
     }
 }
 
-// The fault of a token that stands where it is not wanted.
-fn refused_token(token: lexer::Token) -> (PreprocessorError, Location)
+/// The fault of a token that stands where it is not wanted.
+pub fn refused_token(token: lexer::Token) -> (PreprocessorError, Location)
     ensures { result ≡ conversions.refused_token token }
 {
     let location = token.location;
@@ -266,5 +268,56 @@ pub fn define_line(
         name,
         location,
         define: Define::object_like(alloc, body),
+    })
+}
+
+// The definition behind a macro's name and the `(` that stands directly behind that.
+fn function_behind(
+    alloc: Global,
+    word: Location,
+    lexer: &mut SourceLexer<'_>,
+) -> Result<Define, Halt>
+    requires { lexer.old.spent ≡ false }
+    ensures is { spec.Meets (λ d. d) result (function_at word lexer.old.rest) }
+    ensures takes { spec.TakesItems (line_length lexer.old.rest) lexer.old result lexer.new }
+{
+    let names = parameters(alloc, word, lexer)?;
+    let first = next_line_token(lexer)?;
+    let body = line_tokens_from(alloc, first, lexer)?;
+    Ok(Define::function_like(names, body))
+}
+
+// The definition behind a macro's name.
+fn definition(alloc: Global, word: Location, lexer: &mut SourceLexer<'_>) -> Result<Define, Halt>
+    requires { lexer.old.spent ≡ false }
+    ensures is { spec.Meets (λ d. d) result (definition_at word lexer.old.rest) }
+    ensures takes { spec.TakesItems (line_length lexer.old.rest) lexer.old result lexer.new }
+{
+    match lexer.next_token()? {
+        Some(token) if is_attached_paren(&token) => function_behind(alloc, word, lexer),
+        token => {
+            let first = line_token(token)?;
+            let body = line_tokens_from(alloc, first, lexer)?;
+            Ok(Define::object_like(alloc, body))
+        }
+    }
+}
+
+/// What a `#define` line says, behind its word.
+pub fn whole_define_line(
+    alloc: Global,
+    word: Location,
+    lexer: &mut SourceLexer<'_>,
+) -> Result<DefineLine, Halt>
+    requires { lexer.old.spent ≡ false }
+    ensures is { spec.Meets spec.named result (defined_on word lexer.old.rest) }
+    ensures takes { spec.TakesItems (line_length lexer.old.rest) lexer.old result lexer.new }
+{
+    let PlacedName { name, location } = first_name(word, lexer)?;
+    let define = definition(alloc, word, lexer)?;
+    Ok(DefineLine {
+        name,
+        location,
+        define,
     })
 }

@@ -8,10 +8,10 @@ ghost use Rattle.pp_rs.specs.Adding.{IsAdded};
 ghost use Rattle.pp_rs.specs.Item.{is_out_of_memory};
 ghost use Rattle.pp_rs.specs.Preprocessing.{IsNextItem, Stands, most_items, start_of};
 
+use crate::pp::calls::Caller;
 use crate::pp::directives::DirectiveProcessor;
-use crate::pp::expander::MacroProcessor;
 use crate::pp::halt::Halt;
-use crate::pp::preprocessor_step::step_source;
+use crate::pp::source_turn::turn_source;
 use crate::pp::step::{StepExit, is_out_of_memory};
 use crate::token::{Location, PreprocessorError, Token, out_of_memory};
 use std::alloc::Global;
@@ -25,21 +25,22 @@ pub type PreprocessorItem = Result<Token, (PreprocessorError, Location)>;
 /// It goes on behind each error but `OutOfMemory`, after which it gives `None` for good.
 #[derive(Drop)]
 pub struct Preprocessor<'a> {
-    processor: MacroProcessor,
+    alloc: Global,
+    caller: Caller,
     source: DirectiveProcessor<'a>,
     spent: bool,
 }
 
 impl<'a> Model for Preprocessor<'a> {
     ghost use Rattle.std.specs.Prelude.{◌≡◌, false};
+    ghost use Rattle.pp_rs.specs.Fit.{IsFit};
     ghost use Rattle.pp_rs.specs.Preprocessing.{Preprocessing};
-    ghost use Rattle.pp_rs.specs.Work.{AreSound};
 
     ghost Value = { Preprocessing };
 
-    ghost view = { λ p. record { frames = p.processor; source = p.source; spent = p.spent } };
+    ghost view = { λ p. record { machine = p.caller; source = p.source; spent = p.spent } };
 
-    ghost invariant = { λ p. p.spent ≡ false → (p.source.spent ≡ false) × AreSound p.processor p.source };
+    ghost invariant = { λ p. p.spent ≡ false → IsFit p.caller p.source };
 }
 
 // The error, where want of memory has the one place that it is told with.
@@ -63,7 +64,8 @@ impl<'a> Preprocessor<'a> {
         ensures stands { Stands result (start (items_of input.now)) }
     {
         Preprocessor {
-            processor: MacroProcessor::new(alloc),
+            alloc,
+            caller: Caller::new(alloc),
             source: DirectiveProcessor::new(alloc, input),
             spent: false,
         }
@@ -106,7 +108,7 @@ impl<'a> Iterator for Preprocessor<'a> {
             return None;
         }
         loop {
-            match step_source(&mut self.processor, &mut self.source) {
+            match turn_source(self.alloc, &mut self.caller, &mut self.source) {
                 Ok(token) => return Some(Ok(token)),
                 Err(StepExit::Error(error)) => {
                     self.spent = is_out_of_memory(&error.0);

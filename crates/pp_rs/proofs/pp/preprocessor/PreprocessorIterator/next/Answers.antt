@@ -1,7 +1,13 @@
 use Rattle.std.proofs.Common.{◌≡◌, ◌∙◌, refl, ap, sym, false}
 use Rattle.pp_rs.specs.Item.{is_out_of_memory}
-use Rattle.pp_rs.proofs.NextLemmas.{reached_more, falls_more, token_sound_last, end_sound_last, fault_sound_last, next_token, next_end, next_error, less_behind_token, less_behind_error}
+use Rattle.pp_rs.proofs.NextLemmas.{reached_first, reached_more, falls_more, token_fits, end_fits, fault_fits, next_token, next_end, next_error, less_behind_token, less_behind_error}
 use Rattle.pp_rs.proofs.pp.preprocessor.PreprocessorIterator.next.Goals as goal
+
+pub loop-token-init : goal.loop-token-init
+loop-token-init c = record {
+  unspent = c.if-self.false;
+  reached = reached_first _ _ _ _ (ap (λ p. p.machine) c.self.view_is) (ap (λ p. p.source) c.self.view_is) (c.self.invariant c.if-self.false);
+}
 
 pub loop-token-smaller : goal.loop-token-smaller
 loop-token-smaller c = falls_more _ _ _ _ _ _ c.loop-token.invariant.reached (rw c.in-Err-Continue.field-0-is at c.in-Err-Continue.ensures.turns)
@@ -13,13 +19,13 @@ loop-token-preserved c = record {
 }
 
 pub invariant_of-self : goal.invariant_of-self
-invariant_of-self c = λ e. token_sound_last _ _ _ _ _ _ c.loop-token.invariant.reached c.in-Ok.token c.in-Ok.ensures.turns
+invariant_of-self c = λ e. token_fits _ _ _ _ _ _ c.loop-token.invariant.reached c.in-Ok.token c.in-Ok.ensures.turns
 
 pub invariant_of-self-in-Err-Finished : goal.invariant_of-self-in-Err-Finished
-invariant_of-self-in-Err-Finished c = λ e. end_sound_last _ _ _ _ _ _ c.loop-token.invariant.reached (rw c.in-Err-Finished.field-0-is at c.in-Err-Finished.ensures.turns)
+invariant_of-self-in-Err-Finished c = λ e. end_fits _ _ _ _ _ _ c.loop-token.invariant.reached (rw c.in-Err-Finished.field-0-is at c.in-Err-Finished.ensures.turns)
 
 pub invariant_of-self-in-Err-Error : goal.invariant_of-self-in-Err-Error
-invariant_of-self-in-Err-Error c = λ e. fault_sound_last _ _ _ _ _ _ c.loop-token.invariant.reached c.in-Err-Error.error (rw c.in-Err-Error.field-0-is at c.in-Err-Error.ensures.turns) (sym c.is_out_of_memory-self-inside.ensures ∙ e)
+invariant_of-self-in-Err-Error c = λ e. fault_fits _ _ _ _ _ _ c.loop-token.invariant.reached c.in-Err-Error.error (rw c.in-Err-Error.field-0-is at c.in-Err-Error.ensures.turns) (sym c.is_out_of_memory-self-inside.ensures ∙ e)
 
 pub returns-in-Ok-clause-steps : goal.returns-in-Ok-clause-steps
 returns-in-Ok-clause-steps c =

@@ -1,5 +1,7 @@
 use Rattle.std.proofs.Common.{◌≡◌, false}
-use Rattle.pp_rs.specs.Work.{work_left}
+use Rattle.pp_model.specs.Emitting.{expansion_limit}
+use Rattle.pp_rs.specs.Left.{work_of}
+use Rattle.pp_rs.specs.Reader.{of_source}
 use Rattle.pp_rs.proofs.NextLemmas.{Reached}
 use Rattle.pp_rs.proofs.pp.preprocessor.PreprocessorIterator.next.Given as goal
 
@@ -7,8 +9,8 @@ use Rattle.pp_rs.proofs.pp.preprocessor.PreprocessorIterator.next.Given as goal
 abbrev pub invariant-loop-token : goal.invariant-loop-token
 invariant-loop-token l = record {
   unspent : l.self-inside.spent ≡ false;
-  reached : Reached l.fn.self.frames l.fn.self.source l.self-inside.processor l.self-inside.source;
+  reached : Reached l.fn.self.machine l.fn.self.source l.self-inside.caller l.self-inside.source;
 }
 
 abbrev pub decreases-loop-token : goal.decreases-loop-token
-decreases-loop-token l = work_left l.self-inside.processor l.self-inside.source
+decreases-loop-token l = work_of expansion_limit l.self-inside.caller (of_source l.self-inside.source)

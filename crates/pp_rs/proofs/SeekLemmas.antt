@@ -1,0 +1,77 @@
+-- The search behind a name, as the code makes it.
+use Rattle.std.proofs.Common.{◌≡◌, ◌∙◌, ◌⊎◌, inl, inr, refl, sym, ap, subst, Option, Some, None, true, false, [], ◌∷◌}
+use Rattle.std.specs.Prelude.{Result, Ok, Err}
+use Rattle.pp_lexer.specs.declared.token.Location.{Location}
+use Rattle.pp_lexer.specs.declared.token.Token.{Token}
+use Rattle.pp_model.specs.Calls.{Gathered}
+use Rattle.pp_rs.specs.CallTurns.{Seeks, alone, called, no_call, refused, gathered, paren_of, is_refusal}
+use Rattle.pp_rs.specs.Item.{Step}
+use Rattle.pp_rs.specs.Calling.{PendingCall}
+use Rattle.pp_rs.specs.CallTurns as turn
+use Rattle.pp_rs.specs.CallTurns.{TurnsOrRefuses}
+use Rattle.pp_rs.specs.Seeking as e
+use Rattle.pp_rs.specs.Seeking.{Enters, FollowsToken}
+use Rattle.pp_rs.specs.Turns.{opens, opens_value}
+use Rattle.pp_rs.specs.Halting.{exit_of}
+use Rattle.pp_lexer.specs.declared.token.TokenValue.{TokenValue}
+use Rattle.pp_lexer.specs.declared.token.TokenValue.TheVariants.{Ident}
+use Rattle.pp_rs.specs.Frames.{layer}
+use Rattle.pp_model.specs.Names.{Name}
+use Rattle.pp_model.specs.Definitions.{Definition}
+use Rattle.pp_lexer.specs.PreprocessorError.{out_of_memory}
+use Rattle.pp_rs.specs.declared.pp.calls.Taken.{Taken}
+use Rattle.pp_rs.specs.declared.pp.calls.Taken.TheVariants as taken
+use Rattle.pp_rs.specs.declared.pp.step.StepExit.{StepExit}
+use Rattle.pp_rs.specs.declared.pp.step.StepExit.TheVariants.{Error, Continue}
+use Rattle.pp_rs.specs.Machine.{Machine, StepsTaking, TakesNext, GathersNext, Satisfies}
+use Rattle.pp_rs.specs.Reader.{Reader}
+use Rattle.pp_rs.specs.Seeking.{FindsNothing, FindsBy}
+use Rattle.pp_rs.specs.declared.pp.calls.Found.{Found}
+use Rattle.pp_rs.specs.declared.pp.halt.Halt.{Halt}
+use Rattle.pp_rs.specs.declared.pp.halt.Halt.TheVariants as halt
+
+pub finds_nothing : (m n p : Machine) (r s : Reader) (next : Step Token) → TakesNext m r next n s → is_refusal next ≡ false → paren_of next ≡ None → p ≡ record n { held = Some next } → FindsNothing m r p s
+finds_nothing m n p r s next takes told none is = record { next = next; before = n; seeks = alone next m n r s (no_call next) takes none told refl; holds = is }
+
+pub finds_whole : (m n p : Machine) (r s t : Reader) (next : Step Token) (paren : Location) (g : Gathered) → TakesNext m r next n s → paren_of next ≡ Some paren → GathersNext 0 paren n s (Ok g) p t → Seeks m r (gathered paren g) p t
+finds_whole m n p r s t next paren g takes at gathers = called next paren m n p r s t (Ok g) (gathered paren g) takes at gathers refl
+
+pub finds_fault : (m n p : Machine) (r s t : Reader) (next : Step Token) (paren : Location) (h : Halt) (result : Result Found Halt) → TakesNext m r next n s → paren_of next ≡ Some paren → Satisfies {A = Gathered} (Err h) (λ g. GathersNext 0 paren n s g p t) → result ≡ Err h → FindsBy m r result p t
+finds_fault m n p r s t next paren (halt.Fault fault) result takes at gathers is = subst (λ (x : Result Found Halt). FindsBy m r x p t) (sym is) (called next paren m n p r s t (Err fault) (refused fault) takes at gathers refl)
+finds_fault m n p r s t next paren halt.OutOfMemory result takes at gathers is = subst (λ (x : Result Found Halt). FindsBy m r x p t) (sym is) tt
+
+abbrev Refused : Step Taken → Type 0
+Refused step = step ≡ Err (Error out_of_memory)
+
+-- behind a name: no call, a call, or its fault
+module _ (token : Token) (name : Name) (definition : Definition) (m n : Machine) (r s : Reader) (function : definition.function_like ≡ true) where
+  pub enters_nothing : FindsNothing m r n s → Enters token name definition m r (Ok (taken.Token token)) n s
+  enters_nothing h = e.called (no_call h.next) (Ok (taken.Token token)) m h.before n r s function h.seeks (refl, h.holds)
+
+  pub enters_whole : (paren : Location) (g : Gathered) (c : PendingCall) → Seeks m r (gathered paren g) n s → c ≡ record { name = name; definition = definition; paren = paren; closing = g.closing; tokens = g.tokens } → Enters token name definition m r (Ok (taken.Call c)) n s
+  enters_whole paren g c h is = e.called (gathered paren g) (Ok (taken.Call c)) m n n r s function h (ap (λ (x : PendingCall). Ok (taken.Call x)) is, refl)
+
+  pub enters_halt : (h : Halt) (step : Step Taken) → FindsBy m r (Err h) n s → step ≡ Err (exit_of h) → Enters token name definition m r step n s ⊎ Refused step
+  enters_halt (halt.Fault fault) step h is = inl (e.called (refused fault) step m n n r s function h (is, refl))
+  enters_halt halt.OutOfMemory step h is = inr is
+
+pub follows_plain : (o : Option (Name × Definition)) (token : Token) (name : Name) (definition : Definition) (m n : Machine) (r : Reader) (step : Step Taken) → o ≡ Some (name, definition) → definition.function_like ≡ false
+    → ((step ≡ Err Continue) × (n ≡ record m { frames = layer name token.location.line definition [] ∷ m.frames })) ⊎ Refused step → FollowsToken o token m r step n r ⊎ Refused step
+follows_plain o token name definition m n r step is plain (inl h) = inl (rw is (e.plain step m n r r plain h.0 h.1 refl))
+follows_plain o token name definition m n r step is plain (inr h) = inr h
+
+-- a token whose value is a name
+pub follows_named : (m n : Machine) (r s : Reader) (token : Token) (given name : Name) (step : Step Taken) → token.value ≡ Ident name → given ≡ name
+    → FollowsToken (opens_value m.frames r (Ident given)) (record { value = Ident given; location = token.location }) m r step n s ⊎ Refused step → FollowsToken (opens m.frames r token) token m r step n s ⊎ Refused step
+follows_named m n r s token given name step is same h =
+    subst (λ (v : TokenValue). FollowsToken (opens_value m.frames r v) (record { value = v; location = token.location }) m r step n s ⊎ Refused step) (ap (λ (x : Name). Ident x) same ∙ sym is) h
+
+-- a turn, by what is taken
+pub turns_token : (m n p : Machine) (r s t : Reader) (token : Token) (step : Step Taken) → StepsTaking m r (Ok token) n s → (o : Option (Name × Definition)) → opens n.frames s token ≡ o → FollowsToken o token n s step p t ⊎ Refused step → TurnsOrRefuses m r step p t
+turns_token m n p r s t token step steps o is (inr h) = inr (record { some = record { step = Ok token; behind = n; reader = s; takes = steps; goes = refl }; fault = h })
+turns_token m n p r s t token step steps None is (inl (gives, same, stays)) = inl (rw (same, stays) (turn.gives token step m n r s steps is gives))
+turns_token m n p r s t token step steps (Some (name, definition)) is (inl (e.plain step1 m1 n1 r1 s1 plain pauses at stays)) = inl (rw stays (turn.object token name definition step m n p r s steps is plain pauses at))
+turns_token m n p r s t token step steps (Some (name, definition)) is (inl (e.called c step1 m1 q n1 r1 s1 function seeks finds)) = inl (turn.seeks token name definition c step m n q p r s t steps is function seeks finds)
+
+pub turns_exit : (m n : Machine) (r s : Reader) (exit : StepExit) → StepsTaking m r (Err exit) n s → TurnsOrRefuses m r (Err exit) n s
+turns_exit m n r s exit steps = inl (turn.passes exit (Err exit) m n r s steps refl)

@@ -1,0 +1,83 @@
+use Rattle.std.proofs.Common.{◌≡◌, refl, subst, arith, ◌∙◌, sym, ap, false, [], ◌++◌}
+use Rattle.std.specs.Prelude.{Ok, Err, None}
+use Rattle.pp_model.specs.Calls.{Fault, arguments_of, misfit}
+use Rattle.pp_rs.specs.Frames.{names_of}
+use Rattle.std.proofs.lemmas.Result.{err_from_is_err_and}
+use Rattle.pp_model.specs.Emitting.{Alone, list_before}
+use Rattle.pp_model.proofs.CollectLemmas.{behind_lists-before, behind_items-end, each_at-failed, each_at-more, each_at-end}
+use Rattle.pp_rs.specs.Defined.{meaning_of}
+use Rattle.pp_rs.specs.Item.{is_out_of_memory}
+use Rattle.pp_rs.specs.declared.pp.step.StepExit.TheVariants.{Error}
+use Rattle.std.proofs.lemmas.List.Elements.{All-push, All-nil}
+use Rattle.pp_lexer.specs.declared.token.Token.{Token}
+use Rattle.pp_rs.specs.Held.{HoldsOrdinary}
+use Rattle.pp_rs.proofs.AnswerLemmas.{satisfies_exit, fault_of, finish_fault, opens_frame, short_more, short_list}
+use Rattle.pp_rs.proofs.ListLeadsLemmas.{reached_start, reached_token, token_less, reached_pause, pause_less, reached_end, reached_fault, reached_call_fault, call_less, reached_call, turned}
+use Rattle.pp_rs.proofs.pp.arguments.+answers.Goals as goal
+
+pub expand_argument-items-init : goal.expand_argument-items-init
+expand_argument-items-init t c = record { reached = reached_start _ _ _ _ _ _ _ c.new-caller.ensures c.argument-lexer.ensures c.new-items.ensures.items; holds = rw c.new-items.ensures.items (All-nil (λ (t : Token). HoldsOrdinary t.value)) }
+
+pub expand_argument-items-smaller-in-Continue-1 : goal.expand_argument-items-smaller-in-Continue-1
+expand_argument-items-smaller-in-Continue-1 t c = token_less _ _ _ _ _ _ _ c.items.invariant.reached _ _ c.in-Ok-Token.token (turned _ _ _ _ _ (rw c.in-Ok-Token.field-0-is at c.in-Ok-Token.ensures.turns) refl)
+
+pub expand_argument-items-preserved-in-Continue-1 : goal.expand_argument-items-preserved-in-Continue-1
+expand_argument-items-preserved-in-Continue-1 t c = record { reached = reached_token _ _ _ _ _ _ _ c.items.invariant.reached _ _ c.in-Ok-Token.token _ (turned _ _ _ _ _ (rw c.in-Ok-Token.field-0-is at c.in-Ok-Token.ensures.turns) refl) c.in_ok-push-in-Ok-Token.ensures.items; holds = rw c.in_ok-push-in-Ok-Token.ensures.items (All-push (λ (t : Token). HoldsOrdinary t.value) _ _ c.items.invariant.holds (rw c.in-Ok-Token.field-0-is at c.in-Ok-Token.ensures.holds)) }
+
+pub expand_argument-items-smaller-in-Continue-branch-2 : goal.expand_argument-items-smaller-in-Continue-branch-2
+expand_argument-items-smaller-in-Continue-branch-2 t c = call_less _ _ _ _ _ _ _ c.items.invariant.reached _ _ c.in-Ok-Call.call (turned _ _ _ _ _ (rw c.in-Ok-Call.field-0-is at c.in-Ok-Call.ensures.turns) refl) _ c.in_ok-finish_call-in-Ok-Call.ensures
+
+pub expand_argument-items-preserved-in-Continue-branch-2 : goal.expand_argument-items-preserved-in-Continue-branch-2
+expand_argument-items-preserved-in-Continue-branch-2 t c = record { reached = reached_call _ _ _ _ _ _ _ c.items.invariant.reached _ _ c.in-Ok-Call.call (turned _ _ _ _ _ (rw c.in-Ok-Call.field-0-is at c.in-Ok-Call.ensures.turns) refl) _ c.in_ok-finish_call-in-Ok-Call.ensures; holds = c.items.invariant.holds }
+
+pub expand_argument-items-smaller : goal.expand_argument-items-smaller
+expand_argument-items-smaller t c = pause_less _ _ _ _ _ _ _ c.items.invariant.reached _ _ (turned _ _ _ _ _ (rw c.in-Err-Continue.field-0-is at c.in-Err-Continue.ensures.turns) refl)
+
+pub expand_argument-items-preserved : goal.expand_argument-items-preserved
+expand_argument-items-preserved t c = record { reached = reached_pause _ _ _ _ _ _ _ c.items.invariant.reached _ _ (turned _ _ _ _ _ (rw c.in-Err-Continue.field-0-is at c.in-Err-Continue.ensures.turns) refl); holds = c.items.invariant.holds }
+
+pub expand_argument-returns-in-Err-Finished-clause-alone : goal.expand_argument-returns-in-Err-Finished-clause-alone
+expand_argument-returns-in-Err-Finished-clause-alone t c = rw c.new.ensures (reached_end _ _ _ _ _ _ _ c.items.invariant.reached _ _ (turned _ _ _ _ _ (rw c.in-Err-Finished.field-0-is at c.in-Err-Finished.ensures.turns) refl))
+
+pub expand_argument-returns-in-Err-Error-clause-alone : goal.expand_argument-returns-in-Err-Error-clause-alone
+expand_argument-returns-in-Err-Error-clause-alone t c =
+    let heard = sym c.is_out_of_memory.ensures ∙ c.if-is_out_of_memory.false in
+    let told : is_out_of_memory c.in-Err-Error.fault.0 ≡ false = ap (λ f. is_out_of_memory f.0) (sym c.in-Err-Error.fault-is) ∙ heard in
+    subst (λ (f : Fault). Alone c.args.levels c.args.tokens.now (meaning_of c.args.definitions.now) c.args.hidden.now (Err f)) (sym c.in-Err-Error.fault-is) (reached_fault _ _ _ _ _ _ _ c.items.invariant.reached _ _ c.in-Err-Error.fault (turned _ _ _ _ (Err (Error c.in-Err-Error.fault)) (rw c.in-Err-Error.field-0-is at c.in-Err-Error.ensures.turns) told) told)
+
+pub expand_argument-returns-in_err-finish_call-in-Ok-Call-clause-alone : goal.expand_argument-returns-in_err-finish_call-in-Ok-Call-clause-alone
+expand_argument-returns-in_err-finish_call-in-Ok-Call-clause-alone t c =
+    let e = err_from_is_err_and c.from_residual-in_err-finish_call-in-Ok-Call.result c.from_residual-in_err-finish_call-in-Ok-Call.ensures.1 in
+    satisfies_exit _ c.in_err-finish_call-in-Ok-Call.field-0.0 _ (e.1 ∙ ap Err e.2)
+    (λ fault is. reached_call_fault _ _ _ _ _ _ _ c.items.invariant.reached _ _ c.in-Ok-Call.call fault (turned _ _ _ _ _ (rw c.in-Ok-Call.field-0-is at c.in-Ok-Call.ensures.turns) refl) (finish_fault c.args.levels c.args.definitions.now c.args.hidden.now c.in-Ok-Call.call c.step_list.new.caller c.finish_call.new.caller c.in_err-finish_call-in-Ok-Call.field-0.0 fault is c.in_err-finish_call-in-Ok-Call.ensures))
+
+pub expand_arguments-returns-in_err-list-clause-each : goal.expand_arguments-returns-in_err-list-clause-each
+expand_arguments-returns-in_err-list-clause-each t c =
+    let e = err_from_is_err_and c.from_residual.result c.from_residual.ensures.1 in
+    satisfies_exit _ c.in_err-list.field-0.0 _ (e.1 ∙ ap Err e.2)
+    (λ fault is. c.loop-argument.invariant.goes_on (Err fault) (each_at-failed (Alone c.args.levels) (meaning_of c.args.definitions.now) c.args.hidden.now c.args.arguments.now c.loop-argument.argument-index c.argument-item.result c.as_slice.result.now fault (rw c.as_slice-argument-items.ensures at c.loop-argument-test.true) (rw c.as_slice-argument-items.ensures at c.argument-item.is) (c.as_slice.ensures.is) (fault_of c.in_err-list.field-0.0 fault _ is c.in_err-list.ensures.alone)))
+
+pub expand_arguments-loop-argument-preserved : goal.expand_arguments-loop-argument-preserved
+expand_arguments-loop-argument-preserved t c = record {
+  goes_on = λ out h.
+      rw (c.in_ok-push.ensures.items, ← behind_lists-before c.loop-argument.expanded.items c.in_ok-list.list out)
+      (c.loop-argument.invariant.goes_on (list_before c.in_ok-list.list out) (each_at-more (Alone c.args.levels) (meaning_of c.args.definitions.now) c.args.hidden.now c.args.arguments.now c.loop-argument.argument-index c.argument-item.result c.as_slice.result.now c.in_ok-list.list out (rw c.as_slice-argument-items.ensures at c.loop-argument-test.true) (rw c.as_slice-argument-items.ensures at c.argument-item.is) (c.as_slice.ensures.is) c.in_ok-list.ensures.alone h));
+  short = λ n all. short_more _ c.loop-argument.expanded.items _ c.in_ok-list.list (c.loop-argument.invariant.short n all) (short_list c.args.levels c.args.definitions.now c.args.arguments.now c.loop-argument.argument-index n c.argument-item.result c.as_slice.result.now c.in_ok-list.list (rw c.as_slice-argument-items.ensures at c.loop-argument-test.true) (rw c.as_slice-argument-items.ensures at c.argument-item.is) c.as_slice.ensures.is all c.in_ok-list.ensures.least) c.in_ok-push.ensures.items;
+}
+
+pub expand_arguments-returns-clause-each : goal.expand_arguments-returns-clause-each
+expand_arguments-returns-clause-each t c = rw (c.new.ensures, ← behind_items-end c.loop-argument.expanded.items)
+    (c.loop-argument.invariant.goes_on (Ok []) (each_at-end (Alone c.args.levels) (meaning_of c.args.definitions.now) c.args.hidden.now c.args.arguments.now c.loop-argument.argument-index (rw c.as_slice-argument-items.ensures at c.loop-argument-test.false)))
+
+pub expand_arguments-returns-clause-least : goal.expand_arguments-returns-clause-least
+expand_arguments-returns-clause-least t c = λ n all. rw c.new.ensures (c.loop-argument.invariant.short n all)
+
+pub finish_call-returns : goal.finish_call-returns
+finish_call-returns t c =
+    let around : c.deref.result.now ≡ names_of c.args.caller.now.frames ++ c.args.hidden.now = c.deref.ensures.value ∙ c.in_ok-around.ensures in
+    let cut : c.in_ok-arguments.arguments ≡ arguments_of c.args.call.tokens = c.in_ok-arguments.ensures ∙ ap arguments_of c.tokens.ensures.is in
+    let fits : misfit c.args.call.definition.parameters (arguments_of c.args.call.tokens) ≡ None =
+    let known : misfit c.define.result.now.parameters c.in_ok-arguments.arguments ≡ None = sym c.misfit.ensures ∙ c.in-None.is in
+    rw (c.define.ensures, cut) at known in
+    opens_frame c.args.levels c.args.definitions.now (names_of c.args.caller.now.frames ++ c.args.hidden.now) c.args.call c.args.caller.now c.open_call.new.self c.in_ok-expanded.expanded
+    (λ e. omega (arith, e, c.if-levels-eq0.false)) fits (rw (around, cut) at c.in_ok-expanded.ensures.each) (rw cut at c.in_ok-expanded.ensures.least) c.in_ok-open_call.ensures

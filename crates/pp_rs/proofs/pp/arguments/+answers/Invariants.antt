@@ -1,0 +1,36 @@
+use Rattle.std.proofs.Common.{◌+◌, ◌*◌, ◌≤◌, List, drop, length, ℕ, All}
+use Rattle.std.specs.Prelude.{Result}
+use Rattle.pp_lexer.specs.declared.token.Token.{Token}
+use Rattle.pp_model.specs.Calls.{Fault}
+use Rattle.pp_model.specs.Emitting.{Each, Alone}
+use Rattle.pp_model.proofs.CollectLemmas.{behind_items}
+use Rattle.pp_rs.specs.Defined.{meaning_of}
+use Rattle.pp_rs.specs.Held.{AllHoldOrdinary}
+use Rattle.pp_rs.specs.Left.{work_of, most_alone}
+use Rattle.pp_rs.specs.Reader.{of_list}
+use Rattle.pp_rs.proofs.ListLeadsLemmas.{Reached}
+use Rattle.pp_rs.proofs.pp.arguments.+answers.Given as goal
+
+abbrev pub decreases-finish_call : goal.decreases-finish_call
+decreases-finish_call l = 3 * l.levels
+
+abbrev pub decreases-expand_argument : goal.decreases-expand_argument
+decreases-expand_argument l = 3 * l.levels + 1
+
+abbrev pub decreases-expand_arguments : goal.decreases-expand_arguments
+decreases-expand_arguments l = 3 * l.levels + 2
+
+abbrev pub invariant-expand_argument-items : goal.invariant-expand_argument-items
+invariant-expand_argument-items l = record {
+  reached : Reached l.levels l.definitions l.hidden l.tokens l.caller l.lexer l.items.items;
+  holds : AllHoldOrdinary l.items.items;
+}
+
+abbrev pub decreases-expand_argument-items : goal.decreases-expand_argument-items
+decreases-expand_argument-items l = work_of l.levels l.caller (of_list l.lexer)
+
+abbrev pub invariant-expand_arguments-loop-argument : goal.invariant-expand_arguments-loop-argument
+invariant-expand_arguments-loop-argument l = record {
+  goes_on : (out : Result (List (List Token)) Fault) → Each (Alone l.levels) (meaning_of l.definitions) l.hidden (drop l.argument-index l.arguments) out → Each (Alone l.levels) (meaning_of l.definitions) l.hidden l.arguments (behind_items l.expanded.items out);
+  short : (n : ℕ) → All (λ (a : List Token). length a ≤ n) l.arguments → All (λ (a : List Token). length a ≤ most_alone l.levels l.definitions n) l.expanded.items;
+}

@@ -1,0 +1,14 @@
+use Rattle.std.proofs.Common.{◌≡◌, false, ◌≤◌, length}
+use Rattle.pp_model.specs.DefineLines.{parameters, behind_parameter}
+use Rattle.pp_rs.proofs.pp.parameters.parameters.Given as goal
+
+-- what goes on behind these parameters is the whole
+abbrev pub invariant-parameters : goal.invariant-parameters
+invariant-parameters l = record {
+  whole : parameters l.fn.word l.fn.lexer.rest ≡ behind_parameter l.fn.word l.names.items l.lexer.rest;
+  fewer : length l.lexer.rest ≤ length l.fn.lexer.rest;
+  unspent : l.lexer.spent ≡ false;
+}
+
+abbrev pub decreases-parameters : goal.decreases-parameters
+decreases-parameters l = length l.lexer.rest

@@ -1,0 +1,14 @@
+-- A call whose `)` has been taken, and whose arguments are still to be expanded (docs/RULES.md, Expansion 6).
+use Rattle.std.specs.Prelude.{List}
+use Rattle.pp_lexer.specs.declared.token.Location.{Location}
+use Rattle.pp_lexer.specs.declared.token.Token.{Token}
+use Rattle.pp_model.specs.Names.{Name}
+use Rattle.pp_model.specs.Definitions.{Definition}
+
+-- the macro's name and what it stood for, where its parentheses stand, and what stands between them
+pub record PendingCall : Type 0 where
+  pub name : Name
+  pub definition : Definition
+  pub paren : Location
+  pub closing : Location
+  pub tokens : List Token

@@ -1,0 +1,187 @@
+//! Arguments of calls, each expanded alone.
+
+ghost use Rattle.std.specs.Prelude.{◌≡◌, ◌&&◌, ◌==◌, ◌≤◌, ◌⊎◌, ◌∷◌, ◌++◌, ◌-◌, ◌<◌, ◌^◌, [], IfOk, OnOk, OnErr, All, length, Ok, Err};
+ghost use Rattle.pp_lexer.specs.PreprocessorError.{out_of_memory};
+ghost use Rattle.pp_model.specs.Calls.{arguments_of, misfit, is_one_empty, is_comma, nesting_behind};
+ghost use Rattle.pp_model.specs.Emitting.{Alone, Each};
+ghost use Rattle.pp_rs.specs.CallTurns.{TurnsTo};
+ghost use Rattle.pp_rs.specs.Defined.{meaning_of};
+ghost use Rattle.pp_rs.specs.Finishing.{Finishes, IsShort, AreShort};
+ghost use Rattle.pp_rs.specs.Frames.{layer, names_of};
+ghost use Rattle.pp_rs.specs.Held.{AllHoldOrdinary};
+ghost use Rattle.pp_rs.specs.Left.{most_alone};
+ghost use Rattle.pp_rs.specs.Machine.{Satisfies};
+ghost use Rattle.pp_rs.specs.Reader.{of_list};
+ghost use Rattle.pp_rs.specs.declared.pp.step.StepExit.TheVariants.{Error};
+
+use crate::pp::calls::{Call, Caller, ExpandedArguments, Taken, is_left_paren, is_right_paren};
+use crate::pp::define::Define;
+use crate::pp::definitions::Definitions;
+use crate::pp::frames::TokenList;
+use crate::pp::halt::Halt;
+use crate::pp::list_lexer::ListLexer;
+use crate::pp::list_step::step_list;
+use crate::pp::step::{Step, StepExit, is_out_of_memory};
+use crate::token::{Location, PreprocessorError, Punct, Text, Token, TokenValue};
+use std::alloc::{AllocError, Global};
+use std::rc::Rc;
+
+// Whether it is a comma.
+fn is_comma(value: &TokenValue) -> bool
+    ensures { result ≡ is_comma value.now }
+{
+    matches!(value, TokenValue::Punct(Punct::Comma))
+}
+
+// Whether it is a comma outside inner parentheses.
+fn ends_argument(depth: usize, value: &TokenValue) -> bool
+    ensures { result ≡ (is_comma value.now && (depth == 0)) }
+{
+    is_comma(value) && depth == 0
+}
+
+// How many parentheses are open behind a token, where so many are open before it.
+fn nesting_behind(depth: usize, value: &TokenValue) -> usize
+    requires { depth < 2 ^ 63 }
+    ensures { result ≡ nesting_behind depth value.now }
+{
+    if is_left_paren(value) {
+        depth + 1
+    } else if is_right_paren(value) {
+        depth.saturating_sub(1)
+    } else {
+        depth
+    }
+}
+
+// The tokens of a call cut at the commas that stand outside inner parentheses.
+fn arguments_of(alloc: Global, tokens: &[Token]) -> Result<ExpandedArguments, AllocError>
+    requires { AllHoldOrdinary tokens.now }
+    ensures { IfOk result (λ arguments. arguments ≡ arguments_of tokens.now) }
+{
+    let mut pieces = Vec::new(alloc);
+    let mut piece = Vec::new(alloc);
+    let mut depth: usize = 0;
+    for token in tokens {
+        if ends_argument(depth, &token.value) {
+            pieces.push(TokenList::new(piece))?;
+            piece = Vec::new(alloc);
+            continue;
+        }
+        depth = nesting_behind(depth, &token.value);
+        let Ok(copy) = token.clone(alloc) else {
+            return Err(AllocError);
+        };
+        piece.push(copy)?;
+    }
+    pieces.push(TokenList::new(piece))?;
+    Ok(ExpandedArguments::new(pieces))
+}
+
+// Whether there is one list, without a token.
+fn is_one_empty(arguments: &[TokenList]) -> bool
+    ensures { result ≡ is_one_empty arguments.now }
+{
+    match arguments {
+        [only] => only.as_slice().is_empty(),
+        _ => false,
+    }
+}
+
+// What is wrong with the number of arguments.
+fn misfit(define: &Define, arguments: &ExpandedArguments) -> Option<PreprocessorError>
+    ensures { result ≡ misfit define.now.parameters arguments.now }
+{
+    let wanted = define.parameters().len();
+    let given = arguments.as_slice().len();
+    if wanted == 0 && is_one_empty(arguments.as_slice()) {
+        None
+    } else if wanted < given {
+        Some(PreprocessorError::TooManyDefineArguments)
+    } else if given < wanted {
+        Some(PreprocessorError::TooFewDefineArguments)
+    } else {
+        None
+    }
+}
+
+/// Expands the arguments of a call, and opens its frame.
+#[cycle(answers)]
+pub fn finish_call(
+    alloc: Global,
+    caller: &mut Caller,
+    call: Call,
+    definitions: &Definitions,
+    hidden: &[Text],
+    levels: u32,
+) -> Result<(), Halt>
+    ensures { Finishes levels definitions.now hidden.now call caller.old result caller.new }
+{
+    let arguments = arguments_of(alloc, call.tokens())?;
+    match misfit(call.define(), &arguments) {
+        Some(error) => return Err(Halt::Fault((error, call.paren()))),
+        None => {}
+    }
+    if levels == 0 {
+        return Err(Halt::Fault((PreprocessorError::RecursionLimitReached, call.paren())));
+    }
+    let around = caller.masked(hidden)?;
+    let expanded = expand_arguments(alloc, &arguments, definitions, &around, levels - 1)?;
+    caller.open_call(call, expanded)?;
+    Ok(())
+}
+
+// The arguments, each expanded alone, or the first fault.
+#[cycle(answers)]
+fn expand_arguments(
+    alloc: Global,
+    arguments: &ExpandedArguments,
+    definitions: &Definitions,
+    hidden: &[Text],
+    levels: u32,
+) -> Result<ExpandedArguments, Halt>
+    ensures each { Satisfies result (λ out. Each (Alone levels) (meaning_of definitions.now) hidden.now arguments.now out) }
+    ensures least { IfOk result (λ outs. AreShort levels definitions.now arguments.now outs) }
+{
+    let mut expanded = Vec::new(alloc);
+    for argument in arguments.as_slice() {
+        let list = expand_argument(alloc, argument.as_slice(), definitions, hidden, levels)?;
+        expanded.push(list)?;
+    }
+    Ok(ExpandedArguments::new(expanded))
+}
+
+// What a list of tokens comes to alone.
+#[cycle(answers)]
+fn expand_argument(
+    alloc: Global,
+    tokens: &[Token],
+    definitions: &Definitions,
+    hidden: &[Text],
+    levels: u32,
+) -> Result<TokenList, Halt>
+    requires { AllHoldOrdinary tokens.now }
+    ensures alone { Satisfies result (λ out. Alone levels tokens.now (meaning_of definitions.now) hidden.now out) }
+    ensures least { IfOk result (λ out. IsShort levels definitions.now (length tokens.now) out) }
+{
+    let mut lexer = ListLexer::argument(alloc, tokens, definitions, hidden);
+    let mut caller = Caller::new(alloc);
+    let mut items = Vec::new(alloc);
+    'items: loop {
+        match step_list(&mut caller, &mut lexer) {
+            Ok(Taken::Token(token)) => items.push(token)?,
+            Ok(Taken::Call(call)) => {
+                finish_call(alloc, &mut caller, call, definitions, hidden, levels)?
+            }
+            Err(StepExit::Continue) => {}
+            Err(StepExit::Finished) => return Ok(TokenList::new(items)),
+            Err(StepExit::Error(fault)) => {
+                if is_out_of_memory(&fault.0) {
+                    drop(fault);
+                    return Err(Halt::OutOfMemory);
+                }
+                return Err(Halt::Fault(fault));
+            }
+        }
+    }
+}

@@ -1,0 +1,49 @@
+//! One turn over the reader of a source.
+
+ghost use Rattle.std.specs.Prelude.{◌≡◌, IfOk};
+ghost use Rattle.pp_model.specs.Emitting.{expansion_limit};
+ghost use Rattle.pp_rs.specs.Held.{HoldsOrdinary};
+ghost use Rattle.pp_rs.specs.SourceTurns.{StepsOver};
+
+use crate::pp::EXPANSION_LIMIT;
+use crate::pp::arguments::finish_call;
+use crate::pp::calls::{Caller, Taken};
+use crate::pp::directives::DirectiveProcessor;
+use crate::pp::preprocessor_step::step_source;
+use crate::pp::step::{Step, StepExit};
+use crate::token::Token;
+use std::alloc::Global;
+
+// The limit, as a number that proofs do not look into.
+#[tactic(auto, unfolding(pp_model::specs::Emitting::expansion_limit))]
+fn expansion_limit() -> u32
+    ensures { result ≡ expansion_limit }
+{
+    EXPANSION_LIMIT
+}
+
+/// One step of the expander over a source, behind which a call is finished at once.
+pub fn turn_source(
+    alloc: Global,
+    caller: &mut Caller,
+    source: &mut DirectiveProcessor<'_>,
+) -> Step<Token>
+    ensures turns { StepsOver expansion_limit caller.old source.old result caller.new source.new }
+    ensures holds { IfOk result (λ token. HoldsOrdinary token.value) }
+{
+    match step_source(caller, source)? {
+        Taken::Token(token) => Ok(token),
+        Taken::Call(call) => {
+            let hidden = [];
+            finish_call(
+                alloc,
+                caller,
+                call,
+                source.definitions(),
+                &hidden,
+                expansion_limit(),
+            )?;
+            Err(StepExit::Continue)
+        }
+    }
+}
