@@ -8,7 +8,7 @@ use Rattle.pp_rs.specs.Item.{Step}
 use Rattle.pp_rs.specs.Defined.{Defined}
 use Rattle.pp_rs.specs.Frames.{Layer}
 use Rattle.pp_rs.specs.OpenBlocks.{OpenBlock}
-use Rattle.pp_rs.specs.Preprocessing.{SomethingLeft}
+use Rattle.pp_rs.specs.Kept.{SomethingLeft}
 use Rattle.pp_rs.specs.Reader.{Reader, of_source}
 use Rattle.pp_rs.specs.Source.{Source, StepsSource}
 use Rattle.pp_rs.specs.Turns.{Follows, Turns}
@@ -60,3 +60,13 @@ left_is_work frames source left =
     product_some (number_of base (most_reads source) frames) (base ^ (most_names source - length frames))
     (number_some base (most_reads source) frames (reads_some frames source left))
     (one-le-pow (most_names source - length frames) base (omega arith))
+
+none_of : {A : Type 0} (items : List A) → (items ≢ [] → ⊥) → items ≡ []
+none_of [] left = refl
+none_of (x ∷ items) left = absurd (left (λ e. cc))
+
+-- where nothing is to do, nothing is left
+pub no_work_left : (frames : List Layer) (source : Source) → work_left frames source ≡ 0 → (frames ≡ []) × (source.rest ≡ []) × (source.blocks ≡ [])
+no_work_left frames source e =
+    let nothing : SomethingLeft frames source → ⊥ = λ left. omega (arith, left_is_work frames source left, e) in
+    (none_of frames (λ left. nothing (inl left)), none_of source.rest (λ left. nothing (inr (inl left))), none_of source.blocks (λ left. nothing (inr (inr left))))

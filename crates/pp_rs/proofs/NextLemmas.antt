@@ -14,8 +14,9 @@ use Rattle.pp_rs.specs.Reader.{of_source}
 use Rattle.pp_rs.specs.Source.{Source}
 use Rattle.pp_rs.specs.Stands.{StandsFor}
 use Rattle.pp_rs.specs.Turns.{Turns}
-use Rattle.pp_rs.specs.Work.{AreSound, work_left}
-use Rattle.pp_rs.specs.Preprocessing.{Preprocessing, Stands, SomethingLeft, most_items, IsRefusedItem, IsGivenItem, IsNextItem}
+use Rattle.pp_rs.specs.Work.{AreSound, work_left, goes_on}
+use Rattle.pp_rs.specs.Kept.{Preprocessing, Stands, is_spent, most_items, SomethingLeft}
+use Rattle.pp_rs.specs.Preprocessing.{IsLessLeft, IsRefusedItem, IsGivenItem, IsNextItem}
 use Rattle.pp_rs.specs.declared.pp.step.StepExit.TheVariants.{Error, Continue, Finished}
 use Rattle.pp_rs.proofs.ExpanderLemmas.{turn_leads}
 use Rattle.pp_rs.proofs.Leads.{LeadsFrom, Leads, leads_then}
@@ -74,87 +75,88 @@ module _ (frames now after : List Layer) (source source_now source_after : Sourc
   -- the answers from a state that isn't spent
   module _ (old : Preprocessing) (fresh : old.spent ≡ false) (starts : old.frames ≡ frames) (begins : old.source ≡ source) where
     stands_first : (e : Expander SourceReader) → Stands old e → StandsFor frames source e
+    unfolding Stands
     stands_first e stands = subst (λ (s : Source). StandsFor frames s e) begins (subst (λ (fs : List Layer). StandsFor fs old.source e) starts stands)
 
     most_first : most_items old ≡ work_left frames source
+    unfolding most_items
     most_first = rw (fresh, starts, begins) refl
 
-    as_next : (answer : Option Item) (new : Preprocessing) → IsRefusedItem old answer new ⊎ IsGivenItem old answer new → IsNextItem old answer new
-    as_next answer new h = subst (λ (b : Bool). MatchBool b ((answer ≡ None) × (new ≡ old)) (IsRefusedItem old answer new ⊎ IsGivenItem old answer new)) (sym fresh) h
+    as_next : (answer : Option Item) (new : Preprocessing) → IsRefusedItem answer new ⊎ IsGivenItem old answer new → IsLessLeft answer old new → IsNextItem old answer new
+    unfolding is_spent
+    as_next answer new h less = record {
+      gives = subst (λ (b : Bool). MatchBool b ((answer ≡ None) × (new ≡ old)) (IsRefusedItem answer new ⊎ IsGivenItem old answer new)) (sym fresh) h;
+      less_left = less;
+    }
+
+    -- less is left behind a token or a fault
+    less_last : (step : Step Token) → Turns now (of_source source_now) step after (of_source source_after) → goes_on step ≡ true → most_items (record { frames = after; source = source_after; spent = false }) < most_items old
+    unfolding most_items
+    less_last step turn goes =
+        let falls : work_left after source_after < work_left now source_now = turns_fall now after source_now source_after step r.sound turn goes in
+        omega (arith, falls, r.less, most_first)
 
     pub next_token : (token : Token) (spent : Bool) → spent ≡ false → Turns now (of_source source_now) (Ok token) after (of_source source_after) → HoldsOrdinary token.value
         → IsNextItem old (Some (Ok token)) (record { frames = after; source = source_after; spent = spent })
+    unfolding Stands is_spent
     next_token token true fresh_now turn holds = cc
     next_token token false fresh_now turn holds =
-        let falls : work_left after source_after < work_left now source_now = turns_fall now after source_now source_after (Ok token) r.sound turn refl in
         as_next (Some (Ok token)) (record { frames = after; source = source_after; spent = false }) (inr (record {
           item = λ e stands.
               let leads : LeadsFrom (answers_at expansion_limit) e (Ok token) after source_after = (leads_last (Ok token) turn refl).from e (stands_first e stands) in
               record { after = leads.0; emits = leads.1; goes_on = leads.2 };
+          no_refusal = refl;
           holds = holds;
-          less_left = omega (arith, falls, r.less, most_first);
           spent = refl;
-        }))
+        })) (less_last (Ok token) turn refl)
 
     end_last : Turns now (of_source source_now) (Err Finished) after (of_source source_after) → most_items (record { frames = after; source = source_after; spent = false }) ≡ 0
+    unfolding most_items
     end_last turn =
         let e = turns_end now after source_now source_after r.unspent turn in
         ap (λ (fs : List Layer). work_left fs source_after) e.0 ∙ end_is_no_work source_after e.1 e.2
 
     pub next_end : (spent : Bool) → spent ≡ false → Turns now (of_source source_now) (Err Finished) after (of_source source_after) → IsNextItem old None (record { frames = after; source = source_after; spent = spent })
+    unfolding Stands is_spent
     next_end true fresh_now turn = cc
     next_end false fresh_now turn =
         as_next None (record { frames = after; source = source_after; spent = false }) (inr (record {
           item = λ e stands.
               let leads : LeadsFrom (answers_at expansion_limit) e (Err Finished) after source_after = (leads_last (Err Finished) turn refl).from e (stands_first e stands) in
               record { after = leads.0; emits = leads.1; goes_on = leads.2 };
+          no_refusal = refl;
           holds = tt;
-          less_left = end_last turn;
           spent = refl;
-        }))
+        })) (end_last turn)
 
     next_fault : (fault : Fault) → Turns now (of_source source_now) (Err (Error fault)) after (of_source source_after) → is_out_of_memory fault.0 ≡ false
         → IsNextItem old (Some (Err fault)) (record { frames = after; source = source_after; spent = false })
+    unfolding is_spent
     next_fault fault turn told =
-        let goes = ap (λ b. not b) told in
-        let falls : work_left after source_after < work_left now source_now = turns_fall now after source_now source_after (Err (Error fault)) r.sound turn goes in
         as_next (Some (Err fault)) (record { frames = after; source = source_after; spent = false }) (inr (record {
           item = λ e stands.
               let leads : LeadsFrom (answers_at expansion_limit) e (Err (Error fault)) after source_after = (leads_last (Err (Error fault)) turn told).from e (stands_first e stands) in
               record { after = leads.0; emits = leads.1; goes_on = tt };
+          no_refusal = told;
           holds = tt;
-          less_left = omega (arith, falls, r.less, most_first);
-          spent = sym told;
-        }))
+          spent = refl;
+        })) (less_last (Err (Error fault)) turn (ap (λ b. not b) told))
 
     next_refusal : (fault : Fault) → Turns now (of_source source_now) (Err (Error fault)) after (of_source source_after) → IsNextItem old (Some (Err out_of_memory)) (record { frames = after; source = source_after; spent = true })
+    unfolding is_spent most_items
     next_refusal fault turn =
         let left : SomethingLeft frames source = r.left (left_now now after source_now source_after (Err (Error fault)) r.unspent turn (λ e. cc)) in
-        as_next (Some (Err out_of_memory)) (record { frames = after; source = source_after; spent = true }) (inl (record {
-          some_left = subst (λ (s : Source). SomethingLeft old.frames s) (sym begins) (subst (λ (fs : List Layer). SomethingLeft fs source) (sym starts) left);
-          item = refl;
-          spent = refl;
-        }))
+        as_next (Some (Err out_of_memory)) (record { frames = after; source = source_after; spent = true }) (inl (record { item = refl; spent = refl })) (omega (arith, left_is_work frames source left, most_first))
 
     pub next_error : (fault : Fault) (want : Bool) → is_out_of_memory fault.0 ≡ want → Turns now (of_source source_now) (Err (Error fault)) after (of_source source_after)
         → IsNextItem old (Some (Err (if want then out_of_memory else fault))) (record { frames = after; source = source_after; spent = want })
     next_error fault true e turn = next_refusal fault turn
     next_error fault false e turn = next_fault fault turn e
 
-    -- behind a token or an error fewer items come
-    pub less_behind_token : (token : Token) (spent : Bool) → spent ≡ false → Turns now (of_source source_now) (Ok token) after (of_source source_after) → most_items (record { frames = after; source = source_after; spent = spent }) < most_items old
-    less_behind_token token true fresh_now turn = cc
-    less_behind_token token false fresh_now turn =
-        let falls : work_left after source_after < work_left now source_now = turns_fall now after source_now source_after (Ok token) r.sound turn refl in
-        omega (arith, falls, r.less, most_first)
-
-    less_behind_fault : (fault : Fault) (want : Bool) → is_out_of_memory fault.0 ≡ want → Turns now (of_source source_now) (Err (Error fault)) after (of_source source_after) → most_items (record { frames = after; source = source_after; spent = want }) < most_items old
-    less_behind_fault fault true e turn =
-        let left : SomethingLeft frames source = r.left (left_now now after source_now source_after (Err (Error fault)) r.unspent turn (λ e. cc)) in
-        omega (arith, left_is_work frames source left, most_first)
-    less_behind_fault fault false e turn =
-        let falls : work_left after source_after < work_left now source_now = turns_fall now after source_now source_after (Err (Error fault)) r.sound turn (ap (λ b. not b) e) in
-        omega (arith, falls, r.less, most_first)
-
-    pub less_behind_error : (fault : Fault) → Turns now (of_source source_now) (Err (Error fault)) after (of_source source_after) → most_items (record { frames = after; source = source_after; spent = is_out_of_memory fault.0 }) < most_items old
-    less_behind_error fault turn = less_behind_fault fault (is_out_of_memory fault.0) refl turn
+-- once memory was refused
+pub next_none : (old : Preprocessing) → old.spent ≡ true → IsNextItem old None old
+unfolding is_spent most_items
+next_none old spent = record {
+  gives = subst (λ (b : Bool). MatchBool b (◌≡◌ {A = Option Item} None None × (old ≡ old)) (IsRefusedItem None old ⊎ IsGivenItem old None old)) (sym spent) (refl, refl);
+  less_left = rw spent refl;
+}

@@ -2,6 +2,7 @@
 
 mod all_items;
 mod blocks;
+mod calls;
 mod content;
 mod convert;
 mod define;
@@ -20,6 +21,7 @@ mod step;
 mod words;
 
 pub use all_items::preprocess_all;
+pub use calls::replies;
 pub use convert::{convert_lexer_token, convert_lexer_token_to_step};
 pub use preprocessor::{Preprocessor, PreprocessorItem};
 pub use spelling::spell_tokens;

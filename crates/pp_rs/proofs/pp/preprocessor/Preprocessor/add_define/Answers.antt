@@ -1,4 +1,4 @@
-use Rattle.pp_rs.specs.Preprocessing.{Preprocessing}
+use Rattle.pp_rs.specs.Kept.{Preprocessing}
 use Rattle.pp_rs.proofs.AddingLemmas.{added_now, faulty_now, refused_now}
 use Rattle.pp_rs.proofs.pp.preprocessor.Preprocessor.add_define.Goals.{in-Ok, in-Err-Fault, in-Err-OutOfMemory}
 use Rattle.pp_rs.proofs.pp.preprocessor.Preprocessor.add_define.Goals as goal
