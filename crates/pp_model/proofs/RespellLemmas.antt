@@ -31,7 +31,7 @@ use Rattle.pp_model.specs.Lines.{◌>>=◌}
 use Rattle.pp_model.specs.Reading.{Expander}
 use Rattle.pp_model.specs.Reads.{source_reading}
 use Rattle.pp_model.specs.RespellLaws.{IsText, HasText, token_of, given_token, given_tokens, IsReadAfresh, RunsAreReadAfresh, calls_for, replies_with}
-use Rattle.pp_model.specs.Run.{Call, add_define, next, items_of, content_from, content_tokens, start, with_added, Runs, done, added, refused, given, failed}
+use Rattle.pp_model.specs.Run.{by_rules, Call, add_define, next, items_of, content_from, content_tokens, start, with_added, Runs, done, added, refused, given, failed}
 use Rattle.pp_model.specs.RunStates.{gives_line_name}
 use Rattle.pp_model.specs.SourceReader.{SourceReader}
 use Rattle.pp_model.specs.declared.call.Reply.{Reply}
@@ -151,7 +151,7 @@ module _ (level : ℕ) where
   added_good content tokens t e = subst (λ (r : Result (List Token) Fault). IfOk r (Each IsGood)) e (content_good (items_of content) (text_good content t))
 
   -- each token that a run gives is good
-  given_are_good : (e : Expander SourceReader) (calls : List Call) (replies : List Reply) → Runs (answers_at level) e calls replies → All HasText calls → HoldsOf IsGood IsLine K e → Each IsGood (given_tokens replies)
+  given_are_good : (e : Expander SourceReader) (calls : List Call) (replies : List Reply) → Runs (by_rules (answers_at level)) e calls replies → All HasText calls → HoldsOf IsGood IsLine K e → Each IsGood (given_tokens replies)
   given_are_good e calls replies (done e1 r1 p) texts h = subst (λ (rs : List Reply). Each IsGood (given_tokens rs)) (sym p) tt
   given_are_good e calls replies (added name content tokens e1 more rest r1 is runs p) texts h =
       let body = added_good content tokens (All-head HasText (add_define name content) more texts) is in
@@ -164,7 +164,7 @@ module _ (level : ℕ) where
       subst (λ (rs : List Reply). Each IsGood (given_tokens rs)) (sym p) (given_good o (given_tokens rest) after.0 (given_are_good f more rest runs (All-tail HasText next more texts) after.1))
   given_are_good e calls replies (failed fault e1 f more r1 item p) texts h = subst (λ (rs : List Reply). Each IsGood (given_tokens rs)) (sym p) tt
 
-  run_is_good : (text : List ℕ) (calls : List Call) (replies : List Reply) → IsText text → All HasText calls → Runs (answers_at level) (start (items_of text)) calls replies → Each IsGood (given_tokens replies)
+  run_is_good : (text : List ℕ) (calls : List Call) (replies : List Reply) → IsText text → All HasText calls → Runs (by_rules (answers_at level)) (start (items_of text)) calls replies → Each IsGood (given_tokens replies)
   run_is_good text calls replies t texts runs =
       given_are_good (start (items_of text)) calls replies runs texts (record { held = tt; list = tt; reader = (text_good text t, λ name definition defined. cc) })
 
@@ -231,7 +231,7 @@ module _ (level : ℕ) where
       record {
         tokens = g.tokens;
         same = g.same;
-        run = subst (λ (x : Expander SourceReader). Runs (answers_at level) x (calls_for g.tokens) (replies_with g.tokens)) (sym (starts_there items none)) g.run;
+        run = subst (λ (x : Expander SourceReader). Runs (by_rules (answers_at level)) x (calls_for g.tokens) (replies_with g.tokens)) (sym (starts_there items none)) g.run;
       }
 
   -- The text that spells the plain tokens of a run gives their values again.

@@ -5,7 +5,7 @@ use Rattle.std.proofs.lemmas.List.Elements.{All-nil, All-cons}
 use Rattle.pp_model.specs.Calls.{Answers}
 use Rattle.pp_model.specs.Reading.{Expander}
 use Rattle.pp_model.specs.SourceReader.{SourceReader}
-use Rattle.pp_model.specs.Run.{Call, start, with_added, Runs, done, added, refused, given, failed}
+use Rattle.pp_model.specs.Run.{by_rules, Call, start, with_added, Runs, done, added, refused, given, failed}
 use Rattle.pp_model.specs.RunStates.{LeadsTo, nowhere, adding, giving, EndStays, gives_item, RunEndsForGood}
 use Rattle.pp_model.specs.declared.call.Reply.{Reply}
 use Rattle.pp_model.specs.declared.call.Reply.TheVariants as reply
@@ -54,7 +54,7 @@ module _ (A : Answers) where
       (item_when_over A o g h item (stays_over f g more over)).0
 
   -- where nothing is left no reply is an item
-  no_item_when_over : (e : Expander SourceReader) (calls : List Call) (replies : List Reply) → Runs A e calls replies → IsOver e → All IsNoItem replies
+  no_item_when_over : (e : Expander SourceReader) (calls : List Call) (replies : List Reply) → Runs (by_rules A) e calls replies → IsOver e → All IsNoItem replies
   no_item_when_over e calls replies (done e1 r1 p) over = rw p (All-nil IsNoItem)
   no_item_when_over e calls replies (added name content tokens e1 later rest r1 h more p) over =
       rw p (All-cons IsNoItem reply.Added rest refl (no_item_when_over (with_added _ tokens e) later rest more (over_with_added _ tokens e over)))
@@ -68,7 +68,7 @@ module _ (A : Answers) where
       cc
 
   -- so behind the end none is
-  no_item_behind : (e : Expander SourceReader) (calls : List Call) (replies former later : List Reply) → Runs A e calls replies → HoldsLastEnd e → replies ≡ former ++ (reply.Given outcome.End ∷ later) → All IsNoItem later
+  no_item_behind : (e : Expander SourceReader) (calls : List Call) (replies former later : List Reply) → Runs (by_rules A) e calls replies → HoldsLastEnd e → replies ≡ former ++ (reply.Given outcome.End ∷ later) → All IsNoItem later
   no_item_behind e calls replies former later (done e1 r1 p) last is = absurd (goes_not_on former later (reply.Given outcome.End) (sym p ∙ is))
   no_item_behind e calls replies [] later (added name content tokens e1 cs rest r1 h more p) last is = cc
   no_item_behind e calls replies (first ∷ former) later (added name content tokens e1 cs rest r1 h more p) last is =

@@ -1,11 +1,14 @@
 -- Equal sources and calls have equal replies.
-use Rattle.std.proofs.Common.{◌≡◌, ◌∙◌, ℕ, true, false, sym}
+use Rattle.std.proofs.Common.{◌≡◌, ◌∙◌, ℕ, List, true, false, sym}
 use Rattle.pp_model.specs.Calls.{Fault, Answers}
 use Rattle.pp_model.specs.Emitting.{answers_at, expansion_limit}
+use Rattle.pp_model.specs.Reading.{Expander}
 use Rattle.pp_model.specs.Reads.{source_reading}
-use Rattle.pp_model.specs.Run.{items_of, start, with_added, is_fault, Runs, done, added, refused, given, failed}
-use Rattle.pp_model.specs.ExpansionLaws.{OneAnswer, OneItem}
+use Rattle.pp_model.specs.SourceReader.{SourceReader}
+use Rattle.pp_model.specs.Run.{Comings, by_rules, Call, items_of, start, with_added, is_fault, Runs, done, added, refused, given, failed}
+use Rattle.pp_model.specs.ExpansionLaws.{OneAnswer}
 use Rattle.pp_model.specs.RunLaws.{OneReplies, OneRun}
+use Rattle.pp_model.specs.declared.call.Reply.{Reply}
 use Rattle.pp_model.specs.declared.outcome.Outcome.{Outcome}
 use Rattle.pp_model.specs.declared.outcome.Outcome.TheVariants as outcome
 use Rattle.pp_model.proofs.EmittingLemmas.{one_item}
@@ -16,32 +19,33 @@ use Rattle.pp_model.proofs.ReadsLemmas.{source_reads_one}
 not_faulty : (o : Outcome) (fault : Fault) → o ≡ outcome.Fault fault → is_fault o ≡ false → true ≡ false
 not_faulty o fault same h = rw same at h
 
-module _ (A : Answers) (single : OneAnswer A) where
-  -- a state has one next item
-  one_next : OneItem (source_reading A) A
-  one_next = one_item (source_reading A) (source_reads_one A single) A single
-
-  pub one_replies : OneReplies A
-  one_replies e calls x y (done e1 x1 p) (done e2 y1 q) = p ∙ sym q
-  one_replies e calls x y (added n c t e1 cs r x1 h a p) (added m d u e2 ds s y1 k b q) =
+module _ (C : Comings) (one_next : (o w : Outcome) (e f g : Expander SourceReader) → C e o f → C e w g → (o ≡ w) × (f ≡ g)) where
+  -- where a state has one next item, equal calls have equal replies
+  pub one_replies_of : (e : Expander SourceReader) (calls : List Call) (x y : List Reply) → Runs C e calls x → Runs C e calls y → x ≡ y
+  one_replies_of e calls x y (done e1 x1 p) (done e2 y1 q) = p ∙ sym q
+  one_replies_of e calls x y (added n c t e1 cs r x1 h a p) (added m d u e2 ds s y1 k b q) =
       let tokens : t ≡ u = cc in
-      let there : Runs A (with_added _ t e) cs s = rw tokens b in
-      p ∙ rw (one_replies (with_added _ t e) cs r s a there) (sym q)
-  one_replies e calls x y (added n c t e1 cs r x1 h a p) (refused m d i e2 ds s y1 k b q) = cc
-  one_replies e calls x y (refused n c i e1 cs r x1 h a p) (added m d u e2 ds s y1 k b q) = cc
-  one_replies e calls x y (refused n c i e1 cs r x1 h a p) (refused m d j e2 ds s y1 k b q) =
+      let there : Runs C (with_added _ t e) cs s = rw tokens b in
+      p ∙ rw (one_replies_of (with_added _ t e) cs r s a there) (sym q)
+  one_replies_of e calls x y (added n c t e1 cs r x1 h a p) (refused m d i e2 ds s y1 k b q) = cc
+  one_replies_of e calls x y (refused n c i e1 cs r x1 h a p) (added m d u e2 ds s y1 k b q) = cc
+  one_replies_of e calls x y (refused n c i e1 cs r x1 h a p) (refused m d j e2 ds s y1 k b q) =
       let fault : i ≡ j = cc in
-      p ∙ rw (fault, one_replies e cs r s a b) (sym q)
-  one_replies e calls x y (given o e1 f cs r x1 a h i p) (given w e2 g ds s y1 b k j q) =
+      p ∙ rw (fault, one_replies_of e cs r s a b) (sym q)
+  one_replies_of e calls x y (given o e1 f cs r x1 a h i p) (given w e2 g ds s y1 b k j q) =
       let same = one_next o w e f g a b in
-      let there : Runs A f cs s = rw same.1 j in
-      p ∙ rw (same.0, one_replies f cs r s i there) (sym q)
-  one_replies e calls x y (given o e1 f cs r x1 a h i p) (failed d e2 g ds y1 b q) = let bad = not_faulty o d (one_next o (outcome.Fault d) e f g a b).0 h in cc
-  one_replies e calls x y (failed c e1 f cs x1 a p) (given w e2 g ds s y1 b k j q) = let bad = not_faulty w c (one_next w (outcome.Fault c) e g f b a).0 k in cc
-  one_replies e calls x y (failed c e1 f cs x1 a p) (failed d e2 g ds y1 b q) =
+      let there : Runs C f cs s = rw same.1 j in
+      p ∙ rw (same.0, one_replies_of f cs r s i there) (sym q)
+  one_replies_of e calls x y (given o e1 f cs r x1 a h i p) (failed d e2 g ds y1 b q) = let bad = not_faulty o d (one_next o (outcome.Fault d) e f g a b).0 h in cc
+  one_replies_of e calls x y (failed c e1 f cs x1 a p) (given w e2 g ds s y1 b k j q) = let bad = not_faulty w c (one_next w (outcome.Fault c) e g f b a).0 k in cc
+  one_replies_of e calls x y (failed c e1 f cs x1 a p) (failed d e2 g ds y1 b q) =
       let same = (one_next (outcome.Fault c) (outcome.Fault d) e f g a b).0 in
       let fault : c ≡ d = cc in
       p ∙ rw fault (sym q)
+
+-- by the definitions it has one
+one_replies : (A : Answers) → OneAnswer A → OneReplies A
+one_replies A single = one_replies_of (by_rules A) (one_item (source_reading A) (source_reads_one A single) A single)
 
 pub one_replies_at : (level : ℕ) → OneReplies (answers_at level)
 one_replies_at level = one_replies (answers_at level) (one_answer level)

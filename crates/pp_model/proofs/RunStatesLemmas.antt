@@ -6,7 +6,7 @@ use Rattle.pp_model.specs.Calls.{Answers}
 use Rattle.pp_model.specs.Reading.{Expander}
 use Rattle.pp_model.specs.SourceReader.{SourceReader}
 use Rattle.pp_model.specs.Reads.{source_reading}
-use Rattle.pp_model.specs.Run.{Call, start, with_added, Runs, done, added, refused, given, failed}
+use Rattle.pp_model.specs.Run.{by_rules, Call, start, with_added, Runs, done, added, refused, given, failed}
 use Rattle.pp_model.specs.ApartMarks.{HasApartMarks}
 use Rattle.pp_model.specs.NoLineName.{HoldsNoLineName}
 use Rattle.pp_model.specs.RunStates.{LeadsTo, nowhere, adding, giving, RunKeepsMarksApart, gives_line_name, RunShowsNoLineName}
@@ -30,7 +30,7 @@ module _ (A : Answers) where
   pub run_keeps_marks_apart : RunKeepsMarksApart A
   run_keeps_marks_apart source e reached = keeps_apart (start source) e reached tt
 
-  replies_show_none : (e : Expander SourceReader) (calls : List Call) (replies : List Reply) → Runs A e calls replies → HoldsNoLineName e → All IsNoLineName replies
+  replies_show_none : (e : Expander SourceReader) (calls : List Call) (replies : List Reply) → Runs (by_rules A) e calls replies → HoldsNoLineName e → All IsNoLineName replies
   replies_show_none e calls replies (done e1 r1 p) none = rw p (All-nil IsNoLineName)
   replies_show_none e calls replies (added name content tokens e1 later rest r1 h more p) none =
       rw p (All-cons IsNoLineName reply.Added rest refl (replies_show_none (with_added _ tokens e) later rest more none))

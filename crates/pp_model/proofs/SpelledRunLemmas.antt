@@ -28,7 +28,7 @@ use Rattle.pp_model.specs.Taking.{line_number, Takes, read, taken_token, read_ou
 use Rattle.pp_model.specs.Calls.{Answers}
 use Rattle.pp_model.specs.Emitting.{Emits, itself}
 use Rattle.pp_model.specs.Reads.{Steps, passes, gives, Reads, here, later, source_reading, shown_line}
-use Rattle.pp_model.specs.Run.{start, Runs, done, given}
+use Rattle.pp_model.specs.Run.{by_rules, start, Runs, done, given}
 use Rattle.pp_model.specs.RespellLaws.{calls_for, replies_with}
 use Rattle.pp_model.specs.declared.call.Reply.TheVariants as reply
 use Rattle.pp_model.specs.declared.outcome.Outcome.{Outcome}
@@ -150,7 +150,7 @@ module _ (A : Answers) (items : List Seen) (all : Each IsNoHash items) where
   pub record GivesFrom (position : ℕ) (values : List TokenValue) : Type 0 where
     pub tokens : List Token
     pub same : values_of tokens ≡ values
-    pub run : Runs A (state_at items position) (calls_for tokens) (replies_with tokens)
+    pub run : Runs (by_rules A) (state_at items position) (calls_for tokens) (replies_with tokens)
 
   ends_run : (position behind : ℕ) → Reads A (reader_at items position) outcome.End (reader_at items behind) → GivesFrom position []
   ends_run position behind r = record {

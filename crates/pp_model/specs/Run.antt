@@ -66,14 +66,22 @@ is_fault (outcome.Fault fault) = true
 is_fault (outcome.Token token) = false
 is_fault outcome.End = false
 
--- What the calls answer, up to and with the first error item: behind that nothing is said.
-pub data Runs (A : Answers) : Expander SourceReader → List Call → List Reply → Type 0 where
-  done : (e : Expander SourceReader) (replies : List Reply) → replies ≡ [] → Runs A e [] replies
-  added : (name content : List ℕ) (tokens : List Token) (e : Expander SourceReader) (calls : List Call) (rest replies : List Reply) → content_tokens (items_of content) ≡ Ok tokens → Runs A (with_added (chars name) tokens e) calls rest → replies ≡ reply.Added ∷ rest → Runs A e (add_define name content ∷ calls) replies
-  refused : (name content : List ℕ) (fault : Fault) (e : Expander SourceReader) (calls : List Call) (rest replies : List Reply) → content_tokens (items_of content) ≡ Err fault → Runs A e calls rest → replies ≡ reply.Refused fault ∷ rest → Runs A e (add_define name content ∷ calls) replies
-  given : (o : Outcome) (e f : Expander SourceReader) (calls : List Call) (rest replies : List Reply) → Emits (source_reading A) A e o f → is_fault o ≡ false → Runs A f calls rest → replies ≡ reply.Given o ∷ rest → Runs A e (next ∷ calls) replies
-  failed : (fault : Fault) (e f : Expander SourceReader) (calls : List Call) (replies : List Reply) → Emits (source_reading A) A e (outcome.Fault fault) f → replies ≡ reply.Given (outcome.Fault fault) ∷ [] → Runs A e (next ∷ calls) replies
+-- what comes next in a state, and the state behind it
+abbrev pub Comings : Type 1
+Comings = Expander SourceReader → Outcome → Expander SourceReader → Type 0
+
+-- what comes next by the definitions, where calls come to this
+abbrev pub by_rules : Answers → Comings
+by_rules A = Emits (source_reading A) A
+
+-- What the calls answer, where this comes next, up to and with the first error item: behind that nothing is said.
+pub data Runs (C : Comings) : Expander SourceReader → List Call → List Reply → Type 0 where
+  done : (e : Expander SourceReader) (replies : List Reply) → replies ≡ [] → Runs C e [] replies
+  added : (name content : List ℕ) (tokens : List Token) (e : Expander SourceReader) (calls : List Call) (rest replies : List Reply) → content_tokens (items_of content) ≡ Ok tokens → Runs C (with_added (chars name) tokens e) calls rest → replies ≡ reply.Added ∷ rest → Runs C e (add_define name content ∷ calls) replies
+  refused : (name content : List ℕ) (fault : Fault) (e : Expander SourceReader) (calls : List Call) (rest replies : List Reply) → content_tokens (items_of content) ≡ Err fault → Runs C e calls rest → replies ≡ reply.Refused fault ∷ rest → Runs C e (add_define name content ∷ calls) replies
+  given : (o : Outcome) (e f : Expander SourceReader) (calls : List Call) (rest replies : List Reply) → C e o f → is_fault o ≡ false → Runs C f calls rest → replies ≡ reply.Given o ∷ rest → Runs C e (next ∷ calls) replies
+  failed : (fault : Fault) (e f : Expander SourceReader) (calls : List Call) (replies : List Reply) → C e (outcome.Fault fault) f → replies ≡ reply.Given (outcome.Fault fault) ∷ [] → Runs C e (next ∷ calls) replies
 
 -- the run of a source: arguments may be read inside each other up to the limit
 abbrev pub IsRun : List ℕ → List Call → List Reply → Type 0
-IsRun text calls replies = Runs (answers_at expansion_limit) (start (items_of text)) calls replies
+IsRun text calls replies = Runs (by_rules (answers_at expansion_limit)) (start (items_of text)) calls replies

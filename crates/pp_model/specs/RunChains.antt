@@ -8,19 +8,11 @@ use Rattle.pp_model.specs.Calls.{Fault, Answers}
 use Rattle.pp_model.specs.Emitting.{Emits}
 use Rattle.pp_model.specs.SourceReader.{SourceReader}
 use Rattle.pp_model.specs.Reads.{source_reading}
-use Rattle.pp_model.specs.Run.{Call, add_define, next, items_of, content_tokens, with_added, is_fault, start, Runs}
+use Rattle.pp_model.specs.Run.{Comings, by_rules, Call, add_define, next, items_of, content_tokens, with_added, is_fault, start, Runs}
 use Rattle.pp_model.specs.declared.call.Reply.{Reply}
 use Rattle.pp_model.specs.declared.call.Reply.TheVariants as reply
 use Rattle.pp_model.specs.declared.outcome.Outcome.{Outcome}
 use Rattle.pp_model.specs.declared.outcome.Outcome.TheVariants as outcome
-
--- what comes next in a state, and the state behind it
-abbrev pub Comings : Type 1
-Comings = Expander SourceReader → Outcome → Expander SourceReader → Type 0
-
--- what comes next by the definitions, where calls come to this
-abbrev pub by_rules : Answers → Comings
-by_rules A = Emits (source_reading A) A
 
 -- one call in a state, what it answers, and the state behind it; of the state behind an error item nothing is said
 pub data AnswersIn (C : Comings) : Expander SourceReader → Call → Reply → Expander SourceReader → Type 0 where
@@ -35,6 +27,6 @@ pub data Chain (C : Comings) : Expander SourceReader → List Call → List Repl
 
 -- Calls that follow one another from the start of a source are a run, and so they are with an error item that comes behind them.
 pub record ChainsAreRuns (A : Answers) : Type 0 where
-  pub whole : (source : List Seen) (calls : List Call) (replies : List Reply) (f : Expander SourceReader) → Chain (by_rules A) (start source) calls replies f → Runs A (start source) calls replies
+  pub whole : (source : List Seen) (calls : List Call) (replies : List Reply) (f : Expander SourceReader) → Chain (by_rules A) (start source) calls replies f → Runs (by_rules A) (start source) calls replies
   pub to_error : (source : List Seen) (calls : List Call) (replies : List Reply) (f g : Expander SourceReader) (fault : Fault) → Chain (by_rules A) (start source) calls replies f → Emits (source_reading A) A f (outcome.Fault fault) g
-      → Runs A (start source) (calls ++ next ∷ []) (replies ++ reply.Given (outcome.Fault fault) ∷ [])
+      → Runs (by_rules A) (start source) (calls ++ next ∷ []) (replies ++ reply.Given (outcome.Fault fault) ∷ [])

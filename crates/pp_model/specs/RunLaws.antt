@@ -15,7 +15,7 @@ use Rattle.pp_model.specs.LineValues.{IsCondition, Numbers, IsLineNumber}
 use Rattle.pp_model.specs.SourceReader.{SourceReader}
 use Rattle.pp_model.specs.Acts.{act}
 use Rattle.pp_model.specs.Reads.{Steps}
-use Rattle.pp_model.specs.Run.{Call, Runs, IsRun}
+use Rattle.pp_model.specs.Run.{by_rules, Call, Runs, IsRun}
 use Rattle.pp_model.specs.declared.call.Reply.{Reply}
 use Rattle.pp_model.specs.declared.definition.Named.{Named}
 use Rattle.pp_model.specs.declared.outcome.Outcome.{Outcome}
@@ -44,7 +44,7 @@ OneStep A = (r : SourceReader) (x y : Option Outcome) (s t : SourceReader) → S
 
 -- From one state of a source, equal calls have equal replies.
 abbrev pub OneReplies : Answers → Type 0
-OneReplies A = (e : Expander SourceReader) (calls : List Call) (x y : List Reply) → Runs A e calls x → Runs A e calls y → x ≡ y
+OneReplies A = (e : Expander SourceReader) (calls : List Call) (x y : List Reply) → Runs (by_rules A) e calls x → Runs (by_rules A) e calls y → x ≡ y
 
 -- Equal texts and calls have equal replies.
 abbrev pub OneRun : Type 0

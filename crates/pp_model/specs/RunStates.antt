@@ -9,7 +9,7 @@ use Rattle.pp_model.specs.Calls.{Answers}
 use Rattle.pp_model.specs.Emitting.{Emits}
 use Rattle.pp_model.specs.SourceReader.{SourceReader}
 use Rattle.pp_model.specs.Reads.{source_reading}
-use Rattle.pp_model.specs.Run.{Call, start, with_added, Runs}
+use Rattle.pp_model.specs.Run.{by_rules, Call, start, with_added, Runs}
 use Rattle.pp_model.specs.ApartMarks.{HasApartMarks}
 use Rattle.pp_model.specs.NoLineName.{is_line_name}
 use Rattle.pp_model.specs.declared.call.Reply.{Reply}
@@ -40,7 +40,7 @@ gives_line_name reply.Added = false
 
 -- No reply of a run is the identifier `__LINE__`.
 abbrev pub RunShowsNoLineName : Answers → Type 0
-RunShowsNoLineName A = (source : List Seen) (calls : List Call) (replies : List Reply) → Runs A (start source) calls replies → All (λ given. gives_line_name given ≡ false) replies
+RunShowsNoLineName A = (source : List Seen) (calls : List Call) (replies : List Reply) → Runs (by_rules A) (start source) calls replies → All (λ given. gives_line_name given ≡ false) replies
 
 -- Behind an end that was given nothing is left, whatever is added.
 abbrev pub EndStays : Answers → Type 0
@@ -56,4 +56,4 @@ gives_item reply.Added = false
 
 -- Behind the end, wherever it stands among the replies of a run, no reply is an item.
 abbrev pub RunEndsForGood : Answers → Type 0
-RunEndsForGood A = (source : List Seen) (calls : List Call) (former later : List Reply) → Runs A (start source) calls (former ++ (reply.Given outcome.End ∷ later)) → All (λ given. gives_item given ≡ false) later
+RunEndsForGood A = (source : List Seen) (calls : List Call) (former later : List Reply) → Runs (by_rules A) (start source) calls (former ++ (reply.Given outcome.End ∷ later)) → All (λ given. gives_item given ≡ false) later

@@ -177,7 +177,7 @@ fn replies(
     budget: &mut Budget,
 ) -> Result<Vec<Reply>, Stop>
     requires { All HasRoom calls.now }
-    ensures { IfOk result (λ replies. spec.Runs (answers_at expansion_limit) (seen source_state expander.old) (map call_of calls.now) replies.items) }
+    ensures { IfOk result (λ replies. spec.Runs (spec.by_rules (answers_at expansion_limit)) (seen source_state expander.old) (map call_of calls.now) replies.items) }
 {
     let Some((call, others)) = calls.split_first() else {
         return Ok(Vec::new(alloc));

@@ -7,8 +7,7 @@ use Rattle.pp_model.specs.Calls.{Fault}
 use Rattle.pp_model.specs.Run.{with_added}
 use Rattle.pp_rs.specs.Adding.{IsAdded, refused, faulty, added}
 use Rattle.pp_rs.specs.Comes.{State}
-use Rattle.pp_rs.specs.Preprocessing.{Preprocessing}
-use Rattle.pp_rs.specs.Source.{Source}
+use Rattle.pp_rs.specs.Kept.{Preprocessing}
 use Rattle.pp_print.specs.Defining.{AreAdded}
 use Rattle.pp_print.specs.Runs.{IsAccepted}
 use Rattle.pp_print.specs.SourceRuns.{Definition, Adds, none, first}
@@ -31,7 +30,7 @@ added_one d old new answer done e short (added tokens has given h) =
     record {
       accepted = All-cons IsAccepted d [] (record { short = short; tokens = rw has refl }) (All-nil IsAccepted);
       stands = λ state stands. (behind state, first d tokens [] state (d ∷ []) (behind state) has (adds_none (behind state)) refl, h.stands state stands);
-      others = h.others ∙ ap (λ (source : Source). record old { source = source }) h.source.others;
+      spent = h.spent;
     }
 
 -- none are added before the first
@@ -39,7 +38,7 @@ pub added_none : (p : Preprocessing) → AreAdded p [] p
 added_none p = record {
   accepted = All-nil IsAccepted;
   stands = λ state stands. (state, adds_none state, stands);
-  others = refl;
+  spent = refl;
 }
 
 -- one more behind others
@@ -50,7 +49,7 @@ added_more ds d old mid new a b = record {
       let before = a.stands state stands in
       let behind = b.stands before.0 before.2 in
       (behind.0, adds_all ds (d ∷ []) state before.0 behind.0 before.1 behind.1, behind.2);
-  others = b.others ∙ ap (λ (p : Preprocessing). record p { source = record p.source { definitions = new.source.definitions } }) a.others;
+  spent = b.spent ∙ a.spent;
 }
 
 -- and so one after another of a list

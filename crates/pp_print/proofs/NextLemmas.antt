@@ -4,7 +4,8 @@ use Rattle.std.specs.Prelude.{MatchBool}
 use Rattle.pp_model.specs.Calls.{Fault}
 use Rattle.pp_model.specs.declared.outcome.Outcome.TheVariants as outcome
 use Rattle.pp_rs.specs.Comes.{State, Comes}
-use Rattle.pp_rs.specs.Preprocessing.{Preprocessing, Stands, IsGivenItem, IsNextItem}
+use Rattle.pp_rs.specs.Kept.{Preprocessing, Stands, is_spent}
+use Rattle.pp_rs.specs.Preprocessing.{IsGivenItem, IsNextItem}
 use Rattle.pp_rs.specs.declared.token.PreprocessorError.TheVariants.{OutOfMemory}
 use Rattle.pp_rs.specs.declared.token.Token.{Token}
 
@@ -12,22 +13,22 @@ unspent : (spent : Bool) (A B : Type 0) → spent ≡ false → MatchBool spent 
 unspent true A B e h = cc
 unspent false A B e h = h
 
-module _ (old new : Preprocessing) (ready : old.spent ≡ false) where
+module _ (old new : Preprocessing) (ready : is_spent old ≡ false) where
   -- a token is given, and is no want of memory
   given_token : (t : Token) → IsNextItem old (Some (Ok t)) new → IsGivenItem old (Some (Ok t)) new
-  given_token t h = elim (unspent old.spent _ _ ready h) [ inl refused ↦ let e = refused.item in cc | inr given ↦ given ]
+  given_token t h = elim (unspent (is_spent old) _ _ ready h.gives) [ inl refused ↦ let e = refused.item in cc | inr given ↦ given ]
 
   -- it came next, and the preprocessor stands for the state behind it
   pub next_token : (t : Token) → IsNextItem old (Some (Ok t)) new → (state : State) → Stands old state → (behind : State) × Comes state (outcome.Token t) behind × Stands new behind
   next_token t h state stands = let item = (given_token t h).item state stands in (item.after, item.emits, item.goes_on)
 
-  pub token_keeps_ready : (t : Token) → IsNextItem old (Some (Ok t)) new → new.spent ≡ false
+  pub token_keeps_ready : (t : Token) → IsNextItem old (Some (Ok t)) new → is_spent new ≡ false
   token_keeps_ready t h = (given_token t h).spent
 
   -- an error came next, unless it is want of memory
   pub next_error : (fault : Fault) → IsNextItem old (Some (Err fault)) new → fault.0 ≢ OutOfMemory → (state : State) → Stands old state → (behind : State) × Comes state (outcome.Fault fault) behind
-  next_error fault h wanted state stands = elim (unspent old.spent _ _ ready h) [ inl refused ↦ absurd (wanted (let e = refused.item in cc)) | inr given ↦ let item = given.item state stands in (item.after, item.emits) ]
+  next_error fault h wanted state stands = elim (unspent (is_spent old) _ _ ready h.gives) [ inl refused ↦ absurd (wanted (let e = refused.item in cc)) | inr given ↦ let item = given.item state stands in (item.after, item.emits) ]
 
   -- the end came next
   pub next_none : IsNextItem old None new → (state : State) → Stands old state → (behind : State) × Comes state outcome.End behind
-  next_none h state stands = elim (unspent old.spent _ _ ready h) [ inl refused ↦ let e = refused.item in cc | inr given ↦ let item = given.item state stands in (item.after, item.emits) ]
+  next_none h state stands = elim (unspent (is_spent old) _ _ ready h.gives) [ inl refused ↦ let e = refused.item in cc | inr given ↦ let item = given.item state stands in (item.after, item.emits) ]

@@ -4,7 +4,7 @@ use Rattle.std.specs.Io.KnownBytes.{Appends}
 use Rattle.std.proofs.lemmas.Grind.{flat_map-append}
 use Rattle.pp_model.specs.declared.outcome.Outcome.TheVariants as outcome
 use Rattle.pp_rs.specs.Comes.{State, Comes, Gives}
-use Rattle.pp_rs.specs.Preprocessing.{Preprocessing, Stands}
+use Rattle.pp_rs.specs.Kept.{Preprocessing, Stands}
 use Rattle.pp_rs.specs.declared.token.Token.{Token}
 use Rattle.pp_rs.proofs.ComesLemmas.{gives_nothing, gives_more}
 use Rattle.pp_print.specs.Output.{output_lines, written_lines, output}

@@ -5,7 +5,7 @@ use Rattle.std.proofs.lemmas.Option.{IfSome_then}
 use Rattle.std.proofs.lemmas.Result.{IfOk-weaker}
 use Rattle.pp_model.specs.Run.{with_added}
 use Rattle.pp_rs.specs.Comes.{State}
-use Rattle.pp_rs.specs.Preprocessing.{Preprocessing, Stands}
+use Rattle.pp_rs.specs.Kept.{Preprocessing, Stands}
 use Rattle.pp_rs.specs.declared.token.Token.{Token}
 use Rattle.pp_print.specs.Defining.{AreAdded}
 use Rattle.pp_print.specs.Printing.{ArePrinted, AreBegun}

@@ -1,18 +1,17 @@
 -- What becomes of a preprocessor that definitions are added to. No contract of a public call cites this.
 use Rattle.std.specs.Prelude.{◌≡◌, List, All, ⊤}
 use Rattle.pp_rs.specs.Comes.{State}
-use Rattle.pp_rs.specs.Preprocessing.{Preprocessing, Stands}
+use Rattle.pp_rs.specs.Kept.{Preprocessing, Stands, is_spent}
 use Rattle.pp_print.specs.Runs.{IsAccepted}
 use Rattle.pp_print.specs.SourceRuns.{Definition, Adds}
 use Rattle.pp_print.specs.declared.ends.RunFault.{RunFault}
 use Rattle.pp_print.specs.declared.ends.RunFault.TheVariants.{BadWord, OutOfMemory}
 
--- All definitions are accepted. Each state that the preprocessor stood for is now one in which they were added. Only the names that are
--- defined change.
+-- All definitions are accepted. Each state that the preprocessor stood for is now one in which they were added.
 pub record AreAdded (old : Preprocessing) (definitions : List Definition) (new : Preprocessing) : Type 0 where
   pub accepted : All IsAccepted definitions
   pub stands : (state : State) → Stands old state → (behind : State) × Adds state definitions behind × Stands new behind
-  pub others : new ≡ record old { source = record old.source { definitions = new.source.definitions } }
+  pub spent : is_spent new ≡ is_spent old
 
 -- a fault of a definition has a cause, and comes else where memory is refused
 abbrev pub IsAddingFault : RunFault → Type 0 → Type 0

@@ -2,7 +2,7 @@
 use Rattle.std.specs.Prelude.{ℕ, if◌then◌else◌, List, [], ◌∷◌, ◌++◌, Option, Some, None}
 use Rattle.std.specs.Str.{encode_utf8_all}
 use Rattle.pp_rs.specs.Comes.{State}
-use Rattle.pp_rs.specs.Preprocessing.{Preprocessing, Stands}
+use Rattle.pp_rs.specs.Kept.{Preprocessing, Stands}
 use Rattle.pp_rs.specs.declared.token.Token.{Token}
 use Rattle.pp_rs.specs.declared.token.TokenValue.{TokenValue}
 use Rattle.pp_rs.specs.Spelling.{spelling}

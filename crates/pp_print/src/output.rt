@@ -5,6 +5,7 @@ ghost use Rattle.std.specs.Option.{option_map};
 ghost use Rattle.std.specs.Str.{chars, encode_utf8_all};
 ghost use Rattle.std.specs.Io.KnownBytes.{Appends};
 ghost use Rattle.pp_rs.specs.TokenValue.{is_ordinary};
+ghost use Rattle.pp_rs.specs.Kept.{is_spent};
 ghost use Rattle.pp_rs.specs.Held.{HoldsOrdinary, is_ordinary_leaf};
 ghost use Rattle.pp_rs.specs.Spelling.{spelled_text, values_of};
 ghost use Rattle.pp_print.specs.Input.{IsDeviceFault};
@@ -27,7 +28,7 @@ pub fn print_items<W: Sink>(
     writer: &mut W,
 ) -> Result<RunEnd, RunFault>
     requires ready { W.failed writer.old ≡ false }
-    requires unspent { items.spent ≡ false }
+    requires unspent { is_spent items ≡ false }
     ensures printed { IfOk result (λ end. ArePrinted items.entry end (W.contents writer.old) (W.contents writer.new)) }
     ensures begun { IsErrOf result RunFault.OutOfMemory → AreBegun items.entry (W.contents writer.old) (W.contents writer.new) }
     ensures stopped { IfOk result IsStoppedBySource }

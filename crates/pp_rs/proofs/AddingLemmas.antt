@@ -1,5 +1,5 @@
 -- What a definition that is added makes of a preprocessor.
-use Rattle.std.proofs.Common.{◌≡◌, ◌∙◌, ℕ, Bool, true, false, if◌then◌else◌, List, [], ◌∷◌, Option, Some, None, Ok, Err, IsSome, refl, ap, sym, subst}
+use Rattle.std.proofs.Common.{◌≡◌, ◌∙◌, ℕ, ◌+◌, Bool, true, false, if◌then◌else◌, List, [], ◌∷◌, length, Option, Some, None, Ok, Err, IsSome, refl, ap, sym, subst}
 use Rattle.std.specs.Str.{chars}
 use Rattle.pp_lexer.specs.PreprocessorError.{out_of_memory}
 use Rattle.pp_lexer.specs.declared.token.Token.{Token}
@@ -8,19 +8,22 @@ use Rattle.pp_model.specs.Definitions.{Definitions, object_like, changed}
 use Rattle.pp_model.specs.Reading.{Expander}
 use Rattle.pp_model.specs.Run.{items_of, content_tokens, adding, with_added}
 use Rattle.pp_model.specs.SourceReader.{SourceReader}
-use Rattle.pp_rs.specs.Adding.{IsSetIn, IsAdded, refused, faulty, added}
+use Rattle.pp_model.specs.Emitting.{expansion_limit}
+use Rattle.pp_rs.specs.Adding.{IsAdded, refused, faulty, added}
 use Rattle.pp_rs.specs.Defined.{Defined, IsChanged, meaning_of}
 use Rattle.pp_rs.specs.Fit.{EndIsLast, IsFit}
 use Rattle.pp_rs.specs.Frames.{Layer, names_of}
 use Rattle.pp_rs.specs.Item.{Fault, Step}
-use Rattle.pp_rs.specs.Left.{AreDefinedAbove}
+use Rattle.pp_rs.specs.Kept.{Preprocessing, Stands, is_spent, most_items}
+use Rattle.pp_rs.specs.Left.{AreDefinedAbove, work_of}
 use Rattle.pp_rs.specs.Machine.{Machine}
-use Rattle.pp_rs.specs.Preprocessing.{Preprocessing}
 use Rattle.pp_rs.specs.Reader.{of_source}
+use Rattle.pp_rs.specs.SettingContent.{IsSetIn}
 use Rattle.pp_rs.specs.Source.{Source}
-use Rattle.pp_rs.specs.declared.pp.step.StepExit.TheVariants.{Error, Continue, Finished}
 use Rattle.pp_rs.specs.Stands.{StandsForReader, StandsForHeld, StandsFor}
+use Rattle.pp_rs.specs.declared.pp.step.StepExit.TheVariants.{Error, Continue, Finished}
 use Rattle.pp_rs.proofs.ChangedLemmas.{changed_object_like, some_object_like}
+use Rattle.pp_rs.proofs.LeftLemmas.{no_more_work}
 
 module _ (name : Name) (tokens : List Token) (old new : Source) (h : IsSetIn name tokens old new) where
   reader_added : (definitions : List Defined) → IsChanged name (Some (object_like tokens)) old.definitions definitions → (r : SourceReader) → StandsForReader old r → StandsForReader (record old { definitions = definitions }) (adding name tokens r)
@@ -89,13 +92,19 @@ module _ (name : Name) (tokens : List Token) (old new : Source) (h : IsSetIn nam
     last = last_added m.held m.frames fit.last;
   }
 
+  -- where nothing was left, nothing is
+  pub none_left_added : (m : Machine) (spent : Bool) → (if spent then 0 else work_of expansion_limit m (of_source old)) ≡ 0 → (if spent then 0 else work_of expansion_limit m (of_source new)) ≡ 0
+  none_left_added m true e = refl
+  none_left_added m false e = no_more_work expansion_limit m old new (ap (λ (s : Source). length s.rest + length s.blocks) h.others) e
+
 -- what a call answers, by what was made of the source
 module _ (old : Preprocessing) (name content : List ℕ) (new : Source) where
   pub added_now : (tokens : List Token) → content_tokens (items_of content) ≡ Ok tokens → IsSetIn (chars name) tokens old.source new → IsAdded old name content (Ok tt) (record old { source = new })
+  unfolding Stands is_spent most_items
   added_now tokens e h = added tokens e refl (record {
-    source = h;
-    others = refl;
     stands = λ state stands. stands_added (chars name) tokens old.source new h old.machine state stands;
+      spent = refl;
+      ended = λ none. none_left_added (chars name) tokens old.source new h old.machine old.spent none;
   })
 
   pub faulty_now : (fault : Fault) → content_tokens (items_of content) ≡ Err fault → new ≡ old.source → IsAdded old name content (Err fault) (record old { source = new })

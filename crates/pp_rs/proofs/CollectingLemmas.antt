@@ -1,5 +1,5 @@
 -- The items of a preprocessor, gathered one after another.
-use Rattle.std.proofs.Common.{◌≡◌, ◌∙◌, ◌<◌, ◌⊎◌, inl, inr, Bool, true, false, if◌then◌else◌, List, [], ◌∷◌, ◌++◌, refl, ap, sym, subst, Option, Some, None, All}
+use Rattle.std.proofs.Common.{◌≡◌, ◌∙◌, ◌⊎◌, inl, inr, Bool, true, false, List, [], ◌∷◌, ◌++◌, refl, ap, sym, subst, Option, Some, None, All}
 use Rattle.std.specs.Prelude.{Ok, Err, MatchBool}
 use Rattle.std.proofs.lemmas.List.Elements.{All-nil, All-push}
 use Rattle.pp_lexer.specs.declared.token.Token.{Token}
@@ -9,9 +9,8 @@ use Rattle.pp_rs.specs.Collecting.{tokens_before_error, first_error, error_or_en
 use Rattle.pp_rs.specs.Comes.{State, IsRunFrom}
 use Rattle.pp_rs.specs.Held.{ItemHoldsOrdinary}
 use Rattle.pp_rs.specs.Item.{Fault, Item}
-use Rattle.pp_rs.specs.Preprocessing.{Preprocessing, Stands, most_items, is_refusal, IsRefusedItem, IsGivenItem, IsNextItem}
-use Rattle.pp_rs.specs.Left.{work_of}
-use Rattle.pp_rs.specs.Reader.{of_source}
+use Rattle.pp_rs.specs.Kept.{Preprocessing, Stands, is_spent}
+use Rattle.pp_rs.specs.Preprocessing.{is_refusal, IsRefusedItem, IsGivenItem, IsNextItem}
 use Rattle.pp_rs.proofs.ComesLemmas.{gives_nothing, gives_more}
 
 -- behind an error nothing changes
@@ -79,9 +78,9 @@ module _ (state : State) (items : List Item) (now new : Preprocessing) where
 
 -- the items that were gathered, and the preprocessor behind them
 pub record Gathered (old : Preprocessing) (items : List Item) (now : Preprocessing) : Type 0 where
-  pub spent : now.spent ≡ old.spent
-  pub none : old.spent ≡ true → items ≡ []
-  pub stands : old.spent ≡ false → (state : State) → Stands old state → StandsBehindItems state items (first_error items) now
+  pub spent : is_spent now ≡ is_spent old
+  pub none : is_spent old ≡ true → items ≡ []
+  pub stands : is_spent old ≡ false → (state : State) → Stands old state → StandsBehindItems state items (first_error items) now
   pub holds : All ItemHoldsOrdinary items
 
 pub gathered_none : (old : Preprocessing) (items : List Item) → items ≡ [] → Gathered old items old
@@ -98,64 +97,50 @@ ready_for true item A B h = let bad = h.0 in cc
 ready_for false item A B h = (refl, h)
 
 module _ (now new : Preprocessing) (item : Item) (next : IsNextItem now (Some item) new) where
-  ready : (now.spent ≡ false) × (IsRefusedItem now (Some item) new ⊎ IsGivenItem now (Some item) new)
-  ready = ready_for now.spent item (new ≡ now) (IsRefusedItem now (Some item) new ⊎ IsGivenItem now (Some item) new) next
+  ready : (is_spent now ≡ false) × (IsRefusedItem (Some item) new ⊎ IsGivenItem now (Some item) new)
+  ready = ready_for (is_spent now) item (new ≡ now) (IsRefusedItem (Some item) new ⊎ IsGivenItem now (Some item) new) next.gives
 
-  given_by : IsRefusedItem now (Some item) new ⊎ IsGivenItem now (Some item) new → is_refusal (Some item) ≡ false → IsGivenItem now (Some item) new
+  given_by : IsRefusedItem (Some item) new ⊎ IsGivenItem now (Some item) new → is_refusal (Some item) ≡ false → IsGivenItem now (Some item) new
   given_by (inl refused) told = let bad : is_refusal (Some item) ≡ true = ap is_refusal refused.item in cc
   given_by (inr given) told = given
-
-  -- fewer items come behind it
-  pub fewer_more : is_refusal (Some item) ≡ false → most_items new < most_items now
-  fewer_more told = (given_by ready.1 told).less_left
 
   pub gathered_more : (old : Preprocessing) (items more : List Item) → Gathered old items now → is_refusal (Some item) ≡ false → more ≡ items ++ item ∷ [] → Gathered old more new
   gathered_more old items more g told e =
       let given = given_by ready.1 told in
-      let fresh : old.spent ≡ false = sym g.spent ∙ ready.0 in
+      let fresh : is_spent old ≡ false = sym g.spent ∙ ready.0 in
       record {
-        spent = given.spent ∙ told ∙ sym fresh;
+        spent = given.spent ∙ sym fresh;
         none = λ spent. let bad : true ≡ false = sym spent ∙ fresh in cc;
         stands = λ start state stands. rw e (item_more state items now new item (first_error items) refl (g.stands start state stands) given);
         holds = rw e (All-push ItemHoldsOrdinary items item g.holds given.holds);
       }
 
-  spent_by : IsRefusedItem now (Some item) new ⊎ IsGivenItem now (Some item) new → is_refusal (Some item) ≡ true → new.spent ≡ true
+  spent_by : IsRefusedItem (Some item) new ⊎ IsGivenItem now (Some item) new → is_refusal (Some item) ≡ true → is_spent new ≡ true
   spent_by (inl refused) told = refused.spent
-  spent_by (inr given) told = given.spent ∙ told
+  spent_by (inr given) told = let bad : true ≡ false = sym told ∙ given.no_refusal in cc
 
   -- memory for an item was refused
   pub refused_now : (old : Preprocessing) → is_refusal (Some item) ≡ true → IsGivenUp old new
-  refused_now old told =
-      let spent : new.spent ≡ true = spent_by ready.1 told in
-      inl (record { spent = spent; ended = rw spent refl })
+  refused_now old told = inl (spent_by ready.1 told)
 
 -- memory for the list was refused
-given_up_by : (spent : Bool) (old : Preprocessing) (items : List Item) (now : Preprocessing) → Gathered old items now → now.spent ≡ spent → IsGivenUp old now
-given_up_by true old items now g e = inl (record { spent = e; ended = rw e refl })
+given_up_by : (spent : Bool) (old : Preprocessing) (items : List Item) (now : Preprocessing) → Gathered old items now → is_spent now ≡ spent → IsGivenUp old now
+given_up_by true old items now g e = inl e
 given_up_by false old items now g e = inr (record { items = items; stands = g.stands (sym g.spent ∙ e); spent = e })
 
 pub given_up_now : (old : Preprocessing) (items : List Item) (now : Preprocessing) → Gathered old items now → IsGivenUp old now
-given_up_now old items now g = given_up_by now.spent old items now g refl
+given_up_now old items now g = given_up_by (is_spent now) old items now g refl
 
 module _ (old : Preprocessing) (items : List Item) (now new : Preprocessing) (g : Gathered old items now) (next : IsNextItem now None new) where
-  end_given : (spent : Bool) → now.spent ≡ spent → MatchBool spent (◌≡◌ {A = Option Item} None None × (new ≡ now)) (IsRefusedItem now None new ⊎ IsGivenItem now None new) → spent ≡ false → IsGivenItem now None new
-  end_given true e h ready = cc
-  end_given false e (inl refused) ready = let bad = refused.item in cc
-  end_given false e (inr given) ready = given
+  end_given : (spent : Bool) → MatchBool spent (◌≡◌ {A = Option Item} None None × (new ≡ now)) (IsRefusedItem None new ⊎ IsGivenItem now None new) → spent ≡ false → IsGivenItem now None new
+  end_given true h ready = cc
+  end_given false (inl refused) ready = let bad = refused.item in cc
+  end_given false (inr given) ready = given
 
-  items_by : (spent : Bool) → old.spent ≡ spent → MatchBool spent (items ≡ []) ((state : State) → Stands old state → AreItemsFrom state items)
+  items_by : (spent : Bool) → is_spent old ≡ spent → MatchBool spent (items ≡ []) ((state : State) → Stands old state → AreItemsFrom state items)
   items_by true e = g.none e
-  items_by false e = λ state stands. items_end state items now new (first_error items) refl (g.stands e state stands) (end_given now.spent refl next (g.spent ∙ e))
+  items_by false e = λ state stands. items_end state items now new (first_error items) refl (g.stands e state stands) (end_given (is_spent now) next.gives (g.spent ∙ e))
 
   -- all items were gathered
   pub gathered_all : AreItemsOf old items
-  gathered_all = items_by old.spent refl
-
-  ended_by : (spent : Bool) → now.spent ≡ spent → MatchBool spent (◌≡◌ {A = Option Item} None None × (new ≡ now)) (IsRefusedItem now None new ⊎ IsGivenItem now None new) → most_items new ≡ 0
-  ended_by true e h = ap most_items h.1 ∙ ap (λ spent. if spent then 0 else work_of expansion_limit now.machine (of_source now.source)) e
-  ended_by false e (inl refused) = let bad = refused.item in cc
-  ended_by false e (inr given) = given.less_left
-
-  pub gathered_end : most_items new ≡ 0
-  gathered_end = ended_by now.spent refl next
+  gathered_all = items_by (is_spent old) refl

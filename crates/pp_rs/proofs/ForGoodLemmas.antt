@@ -1,7 +1,8 @@
 -- Where no error comes, the rules that act so far come to what all rules come to.
 use Rattle.std.proofs.Common.{◌≡◌, ◌∙◌, ℕ, Bool, true, false, if◌then◌else◌, List, [], refl, ap, sym, subst, Option, Some, None}
-use Rattle.std.specs.Prelude.{◌||◌}
+use Rattle.std.specs.Prelude.{◌||◌, All}
 use Rattle.std.specs.Str.{chars}
+use Rattle.std.proofs.lemmas.List.Elements.{All-head, All-tail}
 use Rattle.pp_lexer.specs.declared.token.Token.{Token}
 use Rattle.pp_lexer.specs.declared.token.TokenValue.{TokenValue}
 use Rattle.pp_lexer.specs.declared.token.TokenValue.TheVariants.{Ident, Integer, Float, Punct, Version, Extension, Pragma}
@@ -11,15 +12,18 @@ use Rattle.pp_model.specs.Reading.{Reading, Opening, opening_by, opening_of, ope
 use Rattle.pp_model.specs.Taking.{read_outcome, Takes, held, listed, read}
 use Rattle.pp_model.specs.Emitting.{opened, itself, object, name_alone, call_refused, call, answers_at, expansion_limit}
 use Rattle.pp_model.specs.Reads.{shown_line, Reads, here, later, source_reading}
-use Rattle.pp_model.specs.Run.{Call, is_fault, start}
-use Rattle.pp_model.specs.RunChains.{by_rules, AnswersIn, adds, refuses, gives, Chain, none, one_more}
+use Rattle.pp_model.specs.Run.{by_rules, Call, is_fault, items_of, start, with_added, Runs, done, added, refused as refused_call, given, failed}
+use Rattle.pp_model.specs.SeenSource.{ends_run}
 use Rattle.pp_model.specs.SourceReader.{SourceReader}
 use Rattle.pp_model.specs.declared.call.Reply.{Reply}
+use Rattle.pp_model.specs.declared.call.Reply.TheVariants as reply
 use Rattle.pp_model.specs.declared.outcome.Outcome.{Outcome}
 use Rattle.pp_model.specs.declared.outcome.Outcome.TheVariants as outcome
+use Rattle.pp_model.proofs.RunLemmas.{one_replies_of}
 use Rattle.pp_rs.specs.Comes.{State, Comes}
-use Rattle.pp_rs.specs.ForGood.{IsGivenForGood}
+use Rattle.pp_rs.specs.ForGood.{IsGivenForGood, OneRunSoFar}
 use Rattle.pp_rs.specs.SoFar.{acts, refused, ReadsSoFar, here as here_so_far, later as later_so_far, reading_so_far}
+use Rattle.pp_rs.proofs.SoFarLemmas.{one_item_so_far}
 use Rattle.pp_rs.proofs.PlainActsLemmas.{HaveNoParameters, changed_have_none, step_has_none}
 
 -- all rules, and what reading a source comes to by them
@@ -103,24 +107,35 @@ comes_for_good e f o (name_alone x y o1 m e1 g g1 f1 t is k c p q) fine plain = 
 comes_for_good e f o (call_refused x o1 fault m e1 g f1 t is k c p) fine plain = no_call g x m is k (takes_for_good x e g t (opens_no_fault g x m is) plain).1
 comes_for_good e f o (call x o1 arguments line m e1 g g1 f1 t is k c i) fine plain = no_call g x m is k (takes_for_good x e g t (opens_no_fault g x m is) plain).1
 
-answers_for_good : (e f : State) (one : Call) (answer : Reply) → AnswersIn Comes e one answer f → IsPlain e → AnswersIn (by_rules (answers_at expansion_limit)) e one answer f × IsPlain f
-answers_for_good e f one answer (adds name content tokens c a e1 f1 is cp an q) plain =
-    let new = λ (definition : Definition) (same : Some (object_like tokens) ≡ Some definition). (let is : object_like tokens ≡ definition = cc in subst (λ (x : Definition). x.function_like ≡ false) is refl) in (
-      adds name content tokens one answer e f is cp an q,
-      subst IsPlain (sym q) (record { none_held = plain.none_held; none_defined = changed_have_none e.reader.definitions (chars name) (Some (object_like tokens)) plain.none_defined new }),
-    )
-answers_for_good e f one answer (refuses name content fault c a e1 f1 is cp an q) plain = (refuses name content fault one answer e f is cp an q, subst IsPlain (sym q) plain)
-answers_for_good e f one answer (gives o c a e1 f1 item fine cp an) plain =
-    let behind = comes_for_good e f o item fine plain in
-    (gives o one answer e f behind.0 fine cp an, behind.1)
+-- nor does a definition that is added have parameters
+plain_with_added : (name : Name) (tokens : List Token) (e : State) → IsPlain e → IsPlain (with_added name tokens e)
+plain_with_added name tokens e plain =
+    let new = λ (definition : Definition) (same : Some (object_like tokens) ≡ Some definition). (let is : object_like tokens ≡ definition = cc in subst (λ (x : Definition). x.function_like ≡ false) is refl) in
+    record { none_held = plain.none_held; none_defined = changed_have_none e.reader.definitions name (Some (object_like tokens)) plain.none_defined new }
 
-chain_for_good : (e f : State) (calls : List Call) (replies : List Reply) → Chain Comes e calls replies f → IsPlain e → Chain (by_rules (answers_at expansion_limit)) e calls replies f × IsPlain f
-chain_for_good e f calls replies (none e1 f1 c1 r1 c r p) plain = (none e f calls replies c r p, subst IsPlain (sym p) plain)
-chain_for_good e f calls replies (one_more e1 g f1 before c1 one answered r1 answer chain step c r) plain =
-    let earlier = chain_for_good e g before answered chain plain in
-    let last = answers_for_good g f one answer step earlier.1 in
-    (one_more e g f before calls one answered replies answer earlier.0 last.0 c r, last.1)
+abbrev IsNoErrorItem : Reply → Type 0
+IsNoErrorItem answer = ends_run answer ≡ false
 
--- calls that come to no error item come to the same by all rules
+runs_for_good : (e : State) (calls : List Call) (replies : List Reply) → Runs Comes e calls replies → All IsNoErrorItem replies → IsPlain e → Runs (by_rules (answers_at expansion_limit)) e calls replies
+runs_for_good e calls replies (done e1 r1 p) fine plain = done e replies p
+runs_for_good e calls replies (added name content tokens e1 others rest r1 has more p) fine plain =
+    let behind : All IsNoErrorItem rest = All-tail IsNoErrorItem reply.Added rest (rw p at fine) in
+    added name content tokens e others rest replies has (runs_for_good (with_added (chars name) tokens e) others rest more behind (plain_with_added (chars name) tokens e plain)) p
+runs_for_good e calls replies (refused_call name content fault e1 others rest r1 has more p) fine plain =
+    let behind : All IsNoErrorItem rest = All-tail IsNoErrorItem (reply.Refused fault) rest (rw p at fine) in
+    refused_call name content fault e others rest replies has (runs_for_good e others rest more behind plain) p
+runs_for_good e calls replies (given o e1 f others rest r1 item told more p) fine plain =
+    let behind : All IsNoErrorItem rest = All-tail IsNoErrorItem (reply.Given o) rest (rw p at fine) in
+    let next = comes_for_good e f o item told plain in
+    given o e f others rest replies next.0 told (runs_for_good f others rest more behind next.1) p
+runs_for_good e calls replies (failed fault e1 f others r1 item p) fine plain =
+    let bad : true ≡ false = All-head IsNoErrorItem (reply.Given (outcome.Fault fault)) [] (rw p at fine) in
+    cc
+
+-- replies without an error item come by all rules
 pub given_for_good : IsGivenForGood
-given_for_good source calls replies state chain = (chain_for_good (start source) state calls replies chain (record { none_held = refl; none_defined = λ name definition e. cc })).0
+given_for_good text calls replies run fine = runs_for_good (start (items_of text)) calls replies run fine (record { none_held = refl; none_defined = λ name definition e. cc })
+
+-- equal texts and calls have equal replies
+pub one_run_so_far : OneRunSoFar
+one_run_so_far text calls x y a b = one_replies_of Comes one_item_so_far (start (items_of text)) calls x y a b

@@ -1,6 +1,7 @@
 -- A turn that isn't the end had something left to read.
 use Rattle.std.proofs.Common.{◌≡◌, ◌≢◌, ◌⊎◌, ◌∙◌, inl, inr, ℕ, ◌<◌, length, arith, true, false, Bool, List, [], ◌∷◌, refl, ap, sym, subst, Option, Some, None}
-use Rattle.std.specs.Prelude.{Err}
+use Rattle.std.specs.Prelude.{Err, ◌-◌}
+use Rattle.std.specs.Fn.{iterate}
 use Rattle.pp_lexer.specs.Lexed.{Seen}
 use Rattle.pp_lexer.specs.declared.token.Token.{Token}
 use Rattle.pp_rs.specs.CallTurns.{TakesSomething}
@@ -10,8 +11,7 @@ use Rattle.pp_rs.specs.Item.{Step}
 use Rattle.pp_rs.specs.Left.{work_of, regions, regions_of, most_open, most_bodies, holding_step}
 use Rattle.pp_rs.specs.Machine.{Machine, StepsTaking, held, moved, taken_as}
 use Rattle.pp_rs.specs.OpenBlocks.{OpenBlock}
-use Rattle.pp_rs.specs.Preprocessing.{HoldsMore, SomethingLeft}
-use Rattle.pp_rs.specs.Reach.{total, work_in, frame_steps}
+use Rattle.pp_rs.specs.Reach.{grown, through, total, work_in, frame_steps}
 use Rattle.pp_rs.specs.Reader.{Reader, of_source, of_list, Reads}
 use Rattle.pp_rs.specs.Source.{Source, StepsSource}
 use Rattle.pp_rs.specs.Turns.{Moves}
@@ -20,6 +20,15 @@ use Rattle.pp_rs.specs.declared.pp.step.StepExit.TheVariants.{Finished}
 use Rattle.pp_rs.proofs.AdvanceLemmas.{some_steps_left}
 use Rattle.pp_rs.proofs.ReachLemmas.{through_up}
 use Rattle.pp_rs.proofs.SpendLemmas.{total_one_more}
+
+-- something is held that isn't the end
+abbrev pub HoldsMore : Option (Step Token) → Type 0
+HoldsMore None = ⊥
+HoldsMore (Some step) = is_end step ≡ false
+
+-- something is held, or a macro is open, or an item is left to read, or an open block to be told
+abbrev pub SomethingLeft : Machine → Source → Type 0
+SomethingLeft machine source = HoldsMore machine.held ⊎ (machine.frames ≢ []) ⊎ (source.rest ≢ []) ⊎ (source.blocks ≢ [])
 
 -- a source with nothing left is at its end
 empty_source : (definitions : List Defined) (has_text has_directive : Bool) (new : Source) (step : Step Token) → StepsSource (record { rest = []; definitions = definitions; blocks = []; spent = false; has_text = has_text; has_directive = has_directive }) step new → step ≡ Err Finished
@@ -104,3 +113,24 @@ no_work levels m source free closed e f =
     let reads : most_reads source ≡ 0 = omega (arith, ap length e, ap length f) in
     let xs : regions m r ≡ 0 ∷ [] = ap (λ (o : Option (Step Token)). holding_step o (regions_of m.frames (most_reads source))) free ∙ ap (λ (fs : List Layer). regions_of fs (most_reads source)) closed ∙ ap (λ (k : ℕ). k ∷ []) reads in
     ap (work_in (frame_steps (most_bodies r) (most_open r) levels) (most_open r)) xs
+
+-- no step is more work
+through_none : (frame : ℕ → ℕ) (names : ℕ) (xs : List ℕ) → total xs ≡ 0 → through frame names xs 0 ≡ 0
+through_none frame names [] e = refl
+through_none frame names (s ∷ rest) e =
+    let none : s ≡ 0 = omega arith in
+    let none_behind : total rest ≡ 0 = omega arith in
+    subst (λ (k : ℕ). through frame names rest (iterate (grown frame (names - length rest)) k 0) ≡ 0) (sym none) (through_none frame names rest none_behind)
+
+no_steps : (frame : ℕ → ℕ) (names : ℕ) (xs : List ℕ) → total xs ≡ 0 → work_in frame names xs ≡ 0
+no_steps frame names xs e = subst (λ (k : ℕ). through frame names xs k ≡ 0) (sym e) (through_none frame names xs e)
+
+-- where there is nothing to do, there is nothing to do either in a source of which as much is left
+pub no_more_work : (levels : ℕ) (m : Machine) (old new : Source) → most_reads new ≡ most_reads old → work_of levels m (of_source old) ≡ 0 → work_of levels m (of_source new) ≡ 0
+no_more_work levels m old new same e =
+    let r = of_source old in
+    let s = of_source new in
+    let up = through_up (frame_steps (most_bodies r) (most_open r) levels) (most_open r) (regions m r) (total (regions m r)) in
+    let none : total (regions m r) ≡ 0 = omega (arith, up, e) in
+    let regions_same : regions m s ≡ regions m r = ap (λ (k : ℕ). holding_step m.held (regions_of m.frames k)) same in
+    no_steps (frame_steps (most_bodies s) (most_open s) levels) (most_open s) (regions m s) (ap total regions_same ∙ none)

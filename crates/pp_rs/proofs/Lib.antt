@@ -51,6 +51,7 @@ pub mod DirectivePlaceLemmas
 pub mod DirectiveBeforeLemmas
 pub mod TextBeforeLemmas
 pub mod RememberedLemmas
+pub mod RepliesLemmas
 pub mod StandsBehindLemmas
 pub mod AddingLemmas
 pub mod ComesLemmas

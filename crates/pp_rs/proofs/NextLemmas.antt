@@ -16,10 +16,11 @@ use Rattle.pp_rs.specs.Reader.{of_source}
 use Rattle.pp_rs.specs.Source.{Source}
 use Rattle.pp_rs.specs.SourceTurns.{TurnsSource, StepsOver}
 use Rattle.pp_rs.specs.Stands.{StandsFor}
-use Rattle.pp_rs.specs.Preprocessing.{Preprocessing, Stands, SomethingLeft, most_items, IsRefusedItem, IsGivenItem, IsNextItem}
+use Rattle.pp_rs.specs.Kept.{Preprocessing, Stands, is_spent, most_items}
+use Rattle.pp_rs.specs.Preprocessing.{IsLessLeft, IsRefusedItem, IsGivenItem, IsNextItem}
 use Rattle.pp_rs.specs.declared.pp.step.StepExit.TheVariants.{Error, Continue, Finished}
 use Rattle.pp_rs.proofs.Leads.{LeadsFrom, Leads, leads_then}
-use Rattle.pp_rs.proofs.LeftLemmas.{some_left, left_is_work, no_work}
+use Rattle.pp_rs.proofs.LeftLemmas.{SomethingLeft, some_left, left_is_work, no_work}
 use Rattle.pp_rs.proofs.SourceTurnLemmas.{turned_source, source_fits, source_lowers, source_ends, source_some, source_turn_leads}
 
 -- a state from which the same comes next as from the first
@@ -87,86 +88,88 @@ module _ (machine now after : Machine) (source source_now source_after : Source)
   -- the answers from a state that isn't spent
   module _ (old : Preprocessing) (fresh : old.spent ≡ false) (starts : old.machine ≡ machine) (begins : old.source ≡ source) where
     stands_first : (e : Expander SourceReader) → Stands old e → StandsFor machine source e
+    unfolding Stands
     stands_first e stands = subst (λ (s : Source). StandsFor machine s e) begins (subst (λ (m : Machine). StandsFor m old.source e) starts stands)
 
     most_first : most_items old ≡ work_of expansion_limit machine (of_source source)
+    unfolding most_items
     most_first = rw (fresh, starts, begins) refl
 
-    as_next : (answer : Option Item) (new : Preprocessing) → IsRefusedItem old answer new ⊎ IsGivenItem old answer new → IsNextItem old answer new
-    as_next answer new h = subst (λ (b : Bool). MatchBool b ((answer ≡ None) × (new ≡ old)) (IsRefusedItem old answer new ⊎ IsGivenItem old answer new)) (sym fresh) h
+    as_next : (answer : Option Item) (new : Preprocessing) → IsRefusedItem answer new ⊎ IsGivenItem old answer new → IsLessLeft answer old new → IsNextItem old answer new
+    unfolding is_spent
+    as_next answer new h less = record {
+      gives = subst (λ (b : Bool). MatchBool b ((answer ≡ None) × (new ≡ old)) (IsRefusedItem answer new ⊎ IsGivenItem old answer new)) (sym fresh) h;
+      less_left = less;
+    }
+
+    -- less is left behind a token or a fault
+    less_last : (step : Step Token) → Over step → wants_memory step ≡ false → (step ≡ Err Finished → ⊥) → most_items (record { machine = after; source = source_after; spent = false }) < most_items old
+    unfolding most_items
+    less_last step turn told goes =
+        let lower = falls step turn told goes in
+        omega (arith, lower, r.less, most_first)
 
     pub next_token : (token : Token) (spent : Bool) → spent ≡ false → Over (Ok token) → HoldsOrdinary token.value
         → IsNextItem old (Some (Ok token)) (record { machine = after; source = source_after; spent = spent })
+    unfolding Stands is_spent
     next_token token true fresh_now turn holds = cc
     next_token token false fresh_now turn holds =
-        let lower = falls (Ok token) turn refl (λ e. cc) in
         as_next (Some (Ok token)) (record { machine = after; source = source_after; spent = false }) (inr (record {
           item = λ e stands.
               let leads : LeadsFrom (answers_at expansion_limit) e (Ok token) after source_after = (leads_last (Ok token) turn refl).from e (stands_first e stands) in
               record { after = leads.0; emits = leads.1; goes_on = leads.2 };
+          no_refusal = refl;
           holds = holds;
-          less_left = omega (arith, lower, r.less, most_first);
           spent = refl;
-        }))
+        })) (less_last (Ok token) turn refl (λ e. cc))
 
     end_last : Over (Err Finished) → most_items (record { machine = after; source = source_after; spent = false }) ≡ 0
+    unfolding most_items
     end_last turn =
         let e = source_ends expansion_limit now source_now source_after r.fit after (turned (Err Finished) turn refl) in
         no_work expansion_limit after source_after e.0 e.1 e.2 e.3
 
     pub next_end : (spent : Bool) → spent ≡ false → Over (Err Finished) → IsNextItem old None (record { machine = after; source = source_after; spent = spent })
+    unfolding Stands is_spent
     next_end true fresh_now turn = cc
     next_end false fresh_now turn =
         as_next None (record { machine = after; source = source_after; spent = false }) (inr (record {
           item = λ e stands.
               let leads : LeadsFrom (answers_at expansion_limit) e (Err Finished) after source_after = (leads_last (Err Finished) turn refl).from e (stands_first e stands) in
               record { after = leads.0; emits = leads.1; goes_on = leads.2 };
+          no_refusal = refl;
           holds = tt;
-          less_left = end_last turn;
           spent = refl;
-        }))
+        })) (end_last turn)
 
     next_fault : (fault : Fault) → Over (Err (Error fault)) → is_out_of_memory fault.0 ≡ false
         → IsNextItem old (Some (Err fault)) (record { machine = after; source = source_after; spent = false })
+    unfolding is_spent
     next_fault fault turn told =
-        let lower = falls (Err (Error fault)) turn told (λ e. cc) in
         as_next (Some (Err fault)) (record { machine = after; source = source_after; spent = false }) (inr (record {
           item = λ e stands.
               let leads : LeadsFrom (answers_at expansion_limit) e (Err (Error fault)) after source_after = (leads_last (Err (Error fault)) turn told).from e (stands_first e stands) in
               record { after = leads.0; emits = leads.1; goes_on = tt };
+          no_refusal = told;
           holds = tt;
-          less_left = omega (arith, lower, r.less, most_first);
-          spent = sym told;
-        }))
+          spent = refl;
+        })) (less_last (Err (Error fault)) turn told (λ e. cc))
 
     next_refusal : (fault : Fault) → Over (Err (Error fault)) → IsNextItem old (Some (Err out_of_memory)) (record { machine = after; source = source_after; spent = true })
+    unfolding is_spent most_items
     next_refusal fault turn =
         let left : SomethingLeft machine source = left_now (Err (Error fault)) turn (λ e. cc) in
-        as_next (Some (Err out_of_memory)) (record { machine = after; source = source_after; spent = true }) (inl (record {
-          some_left = subst (λ (s : Source). SomethingLeft old.machine s) (sym begins) (subst (λ (m : Machine). SomethingLeft m source) (sym starts) left);
-          item = refl;
-          spent = refl;
-        }))
+        as_next (Some (Err out_of_memory)) (record { machine = after; source = source_after; spent = true }) (inl (record { item = refl; spent = refl })) (omega (arith, left_is_work expansion_limit machine source left, most_first))
 
     pub next_error : (fault : Fault) (want : Bool) → is_out_of_memory fault.0 ≡ want → Over (Err (Error fault))
         → IsNextItem old (Some (Err (if want then out_of_memory else fault))) (record { machine = after; source = source_after; spent = want })
     next_error fault true e turn = next_refusal fault turn
     next_error fault false e turn = next_fault fault turn e
 
-    -- behind a token or an error fewer items come
-    pub less_behind_token : (token : Token) (spent : Bool) → spent ≡ false → Over (Ok token) → most_items (record { machine = after; source = source_after; spent = spent }) < most_items old
-    less_behind_token token true fresh_now turn = cc
-    less_behind_token token false fresh_now turn =
-        let lower = falls (Ok token) turn refl (λ e. cc) in
-        omega (arith, lower, r.less, most_first)
-
-    less_behind_fault : (fault : Fault) (want : Bool) → is_out_of_memory fault.0 ≡ want → Over (Err (Error fault)) → most_items (record { machine = after; source = source_after; spent = want }) < most_items old
-    less_behind_fault fault true e turn =
-        let left : SomethingLeft machine source = left_now (Err (Error fault)) turn (λ e. cc) in
-        omega (arith, left_is_work expansion_limit machine source left, most_first)
-    less_behind_fault fault false e turn =
-        let lower = falls (Err (Error fault)) turn e (λ e. cc) in
-        omega (arith, lower, r.less, most_first)
-
-    pub less_behind_error : (fault : Fault) → Over (Err (Error fault)) → most_items (record { machine = after; source = source_after; spent = is_out_of_memory fault.0 }) < most_items old
-    less_behind_error fault turn = less_behind_fault fault (is_out_of_memory fault.0) refl turn
+-- once memory was refused
+pub next_none : (old : Preprocessing) → old.spent ≡ true → IsNextItem old None old
+unfolding is_spent most_items
+next_none old spent = record {
+  gives = subst (λ (b : Bool). MatchBool b (◌≡◌ {A = Option Item} None None × (old ≡ old)) (IsRefusedItem None old ⊎ IsGivenItem old None old)) (sym spent) (refl, refl);
+  less_left = rw spent refl;
+}

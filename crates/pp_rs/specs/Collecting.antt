@@ -5,7 +5,7 @@ use Rattle.pp_model.specs.declared.outcome.Outcome.{Outcome}
 use Rattle.pp_model.specs.declared.outcome.Outcome.TheVariants as outcome
 use Rattle.pp_rs.specs.Comes.{State, Gives, IsRunFrom}
 use Rattle.pp_rs.specs.Item.{Fault, Item}
-use Rattle.pp_rs.specs.Preprocessing.{Preprocessing, Stands, most_items}
+use Rattle.pp_rs.specs.Kept.{Preprocessing, Stands, is_spent}
 
 -- the tokens before the first error item
 abbrev pub tokens_before_error : List Item → List Token
@@ -31,7 +31,7 @@ AreItemsFrom state items = IsRunFrom state (tokens_before_error items) (error_or
 
 -- all items, or none where memory was refused before
 abbrev pub AreItemsOf : Preprocessing → List Item → Type 0
-AreItemsOf old items = MatchBool old.spent (items ≡ []) ((state : State) → Stands old state → AreItemsFrom state items)
+AreItemsOf old items = MatchBool (is_spent old) (items ≡ []) ((state : State) → Stands old state → AreItemsFrom state items)
 
 -- these tokens come from the state, and the preprocessor stands for the state behind them
 pub record StandsBehind (state : State) (tokens : List Token) (new : Preprocessing) : Type 0 where
@@ -44,17 +44,12 @@ abbrev pub StandsBehindItems : State → List Item → Option Fault → Preproce
 StandsBehindItems state items None new = StandsBehind state (tokens_before_error items) new
 StandsBehindItems state items (Some fault) new = IsRunFrom state (tokens_before_error items) (outcome.Fault fault)
 
--- memory for an item was refused, now or before: `next` gives nothing for good
-pub record IsOver (new : Preprocessing) : Type 0 where
-  pub spent : new.spent ≡ true
-  pub ended : most_items new ≡ 0
-
 -- these items were given up, and the preprocessor goes on behind them
 pub record GoesOnBehind (old new : Preprocessing) : Type 0 where
   pub items : List Item
   pub stands : (state : State) → Stands old state → StandsBehindItems state items (first_error items) new
-  pub spent : new.spent ≡ false
+  pub spent : is_spent new ≡ false
 
--- memory was refused: for an item, or for the list of them
+-- memory was refused: for an item, now or before, and then nothing comes for good; or for the list of them
 abbrev pub IsGivenUp : Preprocessing → Preprocessing → Type 0
-IsGivenUp old new = IsOver new ⊎ GoesOnBehind old new
+IsGivenUp old new = (is_spent new ≡ true) ⊎ GoesOnBehind old new

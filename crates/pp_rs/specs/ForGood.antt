@@ -1,12 +1,15 @@
--- What is given without an error as far as the directives act is given for good: all of the definitions say the same.
-use Rattle.std.specs.Prelude.{List}
-use Rattle.pp_lexer.specs.Lexed.{Seen}
-use Rattle.pp_model.specs.Emitting.{answers_at, expansion_limit}
-use Rattle.pp_model.specs.Run.{Call, start}
-use Rattle.pp_model.specs.RunChains.{by_rules, Chain}
+-- Runs as far as the directives act: equal calls have equal replies, and what comes without an error is given for good, as all of the
+-- definitions say the same.
+use Rattle.std.specs.Prelude.{◌≡◌, ℕ, false, List, All}
+use Rattle.pp_model.specs.Run.{Call, IsRun}
+use Rattle.pp_model.specs.SeenSource.{ends_run}
 use Rattle.pp_model.specs.declared.call.Reply.{Reply}
-use Rattle.pp_rs.specs.Comes.{State, Comes}
+use Rattle.pp_rs.specs.Comes.{IsRunSoFar}
 
--- calls that follow one another from the start of a source, and come to no error item, are such calls by all rules
+-- the replies of a run with no error item among them are those by all rules
 abbrev pub IsGivenForGood : Type 0
-IsGivenForGood = (source : List Seen) (calls : List Call) (replies : List Reply) (state : State) → Chain Comes (start source) calls replies state → Chain (by_rules (answers_at expansion_limit)) (start source) calls replies state
+IsGivenForGood = (text : List ℕ) (calls : List Call) (replies : List Reply) → IsRunSoFar text calls replies → All (λ answer. ends_run answer ≡ false) replies → IsRun text calls replies
+
+-- equal texts and calls have equal replies
+abbrev pub OneRunSoFar : Type 0
+OneRunSoFar = (text : List ℕ) (calls : List Call) (x y : List Reply) → IsRunSoFar text calls x → IsRunSoFar text calls y → x ≡ y

@@ -11,6 +11,7 @@ pub use Rattle.pp_lexer.specs.PhaseLaws
 pub use Rattle.pp_lexer.specs.ItemLaws
 pub mod Item
 pub mod Held
+pub mod Kept
 pub mod Preprocessing
 pub mod Defined
 pub mod SoFar
@@ -33,6 +34,7 @@ pub mod Adding
 pub mod SettingContent
 pub mod Comes
 pub mod Collecting
+pub mod Answering
 pub mod ForGood
 pub mod Reach
 pub mod Machine

@@ -8,7 +8,7 @@ use crate::shown::{item, joined, reply};
 use pp_model::call::{Call, Reply};
 use pp_model::outcome::Outcome;
 use pp_model::run::run;
-use pp_rs::pp::Preprocessor;
+use pp_rs::pp::{self, Preprocessor};
 use std::alloc::{AllocError, Global};
 
 mod added_definitions;
@@ -48,20 +48,26 @@ fn have_room(calls: &[Call<'_>]) -> bool
     calls.iter().all(|call| has_room(call))
 }
 
-// What the calls of a source answer.
-fn replies(alloc: Global, source: &str, calls: &[Call<'_>]) -> Result<String, AllocError> {
+// The replies as text, up to the end.
+fn shown(alloc: Global, replies: &[Reply]) -> Result<String, AllocError> {
     let mut parts = Vec::new(alloc);
-    if source.len() < 1000 && have_room(calls) {
-        if let Some(replies) = run(alloc, source, calls, STEPS)? {
-            for given in &replies {
-                parts.push(reply(alloc, given)?)?;
-                if matches!(given, Reply::Given(Outcome::End)) {
-                    break;
-                }
-            }
+    for given in replies {
+        parts.push(reply(alloc, given)?)?;
+        if matches!(given, Reply::Given(Outcome::End)) {
+            break;
         }
     }
     joined(alloc, &parts)
+}
+
+// What the calls of a source answer.
+fn replies(alloc: Global, source: &str, calls: &[Call<'_>]) -> Result<String, AllocError> {
+    if source.len() < 1000 && have_room(calls) {
+        if let Some(replies) = run(alloc, source, calls, STEPS)? {
+            return shown(alloc, &replies);
+        }
+    }
+    Ok(String::new(alloc))
 }
 
 // What a source comes to, where it has fewer items than there are calls here.
@@ -84,47 +90,17 @@ fn preprocessed(alloc: Global, source: &str) -> Result<String, AllocError> {
     joined(alloc, &parts)
 }
 
-// What a call of the preprocessor answers. Contents are short, as all are here.
-fn answer(pp: &mut Preprocessor<'_>, call: &Call<'_>) -> Option<Reply> {
-    match call {
-        Call::AddDefine(name, content) if content.len() < 1000 => {
-            Some(match pp.add_define(name, content) {
-                Ok(()) => Reply::Added,
-                Err(fault) => Reply::Refused(fault),
-            })
-        }
-        Call::AddDefine(..) => None,
-        Call::Next => Some(Reply::Given(match pp.next() {
-            Some(Ok(token)) => Outcome::Token(token),
-            Some(Err(fault)) => Outcome::Fault(fault),
-            None => Outcome::End,
-        })),
-    }
-}
-
 // What the calls of a source answer by the preprocessor, up to the end or its first error.
 fn preprocessed_replies(
     alloc: Global,
     source: &str,
     calls: &[Call<'_>],
 ) -> Result<String, AllocError> {
-    let mut parts = Vec::new(alloc);
-    if source.len() < 1000 {
-        let mut pp = Preprocessor::new(alloc, source);
-        for call in calls {
-            let Some(given) = answer(&mut pp, call) else {
-                break;
-            };
-            parts.push(reply(alloc, &given)?)?;
-            if matches!(
-                given,
-                Reply::Given(Outcome::End) | Reply::Given(Outcome::Fault(_))
-            ) {
-                break;
-            }
-        }
+    if source.len() < 1000 && have_room(calls) {
+        let replies = pp::replies(alloc, source, calls)?;
+        return shown(alloc, &replies);
     }
-    joined(alloc, &parts)
+    Ok(String::new(alloc))
 }
 
 // What the calls answer by both, or what each answers where they differ.

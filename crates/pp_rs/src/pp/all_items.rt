@@ -4,7 +4,8 @@ ghost use Rattle.std.specs.Prelude.{◌≡◌, Some, IfOk, OnOk, IfErr, OnErr, A
 ghost use Rattle.pp_lexer.specs.PreprocessorError.{out_of_memory};
 ghost use Rattle.pp_rs.specs.Collecting.{AreItemsOf, IsGivenUp};
 ghost use Rattle.pp_rs.specs.Held.{ItemHoldsOrdinary};
-ghost use Rattle.pp_rs.specs.Preprocessing.{most_items, is_refusal};
+ghost use Rattle.pp_rs.specs.Kept.{most_items};
+ghost use Rattle.pp_rs.specs.Preprocessing.{is_refusal};
 
 use crate::pp::preprocessor::{Preprocessor, PreprocessorItem};
 use crate::token::{Location, PreprocessorError, out_of_memory};

@@ -1,12 +1,13 @@
 //! The items of a preprocessed source.
 
-ghost use Rattle.std.specs.Prelude.{◌≡◌, ◌-◌, ◌^◌, ◌<◌, length, if◌then◌else◌};
+ghost use Rattle.std.specs.Prelude.{◌≡◌, ◌-◌, ◌^◌, ◌<◌, false, length, if◌then◌else◌};
 ghost use Rattle.std.specs.Iterator.{at_most};
 ghost use Rattle.pp_lexer.specs.PreprocessorError.{out_of_memory};
 ghost use Rattle.pp_model.specs.Run.{items_of, start};
 ghost use Rattle.pp_rs.specs.Adding.{IsAdded};
 ghost use Rattle.pp_rs.specs.Item.{is_out_of_memory};
-ghost use Rattle.pp_rs.specs.Preprocessing.{IsNextItem, Stands, most_items, start_of};
+ghost use Rattle.pp_rs.specs.Kept.{Stands, is_spent, most_items};
+ghost use Rattle.pp_rs.specs.Preprocessing.{IsNextItem};
 
 use crate::pp::calls::Caller;
 use crate::pp::directives::DirectiveProcessor;
@@ -34,7 +35,7 @@ pub struct Preprocessor<'a> {
 impl<'a> Model for Preprocessor<'a> {
     ghost use Rattle.std.specs.Prelude.{◌≡◌, false};
     ghost use Rattle.pp_rs.specs.Fit.{IsFit};
-    ghost use Rattle.pp_rs.specs.Preprocessing.{Preprocessing};
+    ghost use Rattle.pp_rs.specs.Kept.{Preprocessing};
 
     ghost Value = { Preprocessing };
 
@@ -60,7 +61,7 @@ impl<'a> Preprocessor<'a> {
     /// Takes no memory and reads nothing yet.
     pub fn new(alloc: Global, input: &'a str) -> Preprocessor<'a>
         requires { length input.now < 2 ^ 32 - 1 }
-        ensures is { result ≡ start_of input.now }
+        ensures unspent { is_spent result ≡ false }
         ensures stands { Stands result (start (items_of input.now)) }
     {
         Preprocessor {

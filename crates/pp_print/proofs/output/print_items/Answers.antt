@@ -1,5 +1,5 @@
 use Rattle.std.proofs.Common.{◌≡◌, ◌∙◌, ap, sym, subst, Err, rules}
-use Rattle.pp_rs.specs.Preprocessing.{Preprocessing, Stands}
+use Rattle.pp_rs.specs.Kept.{Preprocessing, Stands, is_spent}
 use Rattle.pp_print.specs.declared.ends.RunEnd.TheVariants.{Done, Stopped}
 use Rattle.pp_print.specs.declared.ends.RunFault.TheVariants.{OutOfMemory}
 use Rattle.pp_print.proofs.TextLemmas.{same_fault}
@@ -12,7 +12,7 @@ loop-item-init g c =
     let same = c.into_iter-item-iterator.ensures.into_iter_gives in
     record {
       ok = c.requires.ready;
-      unspent = ap (λ items. items.spent) same ∙ c.requires.unspent;
+      unspent = ap is_spent same ∙ c.requires.unspent;
       printing = λ start stands. printing_starts start _ (g.W.Sink.contents c.args.writer.now) (subst (λ (items : Preprocessing). Stands items start) (sym same) stands);
     }
 

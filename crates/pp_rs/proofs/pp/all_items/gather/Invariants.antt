@@ -1,4 +1,4 @@
-use Rattle.pp_rs.specs.Preprocessing.{most_items}
+use Rattle.pp_rs.specs.Kept.{most_items}
 use Rattle.pp_rs.proofs.CollectingLemmas.{Gathered}
 use Rattle.pp_rs.proofs.pp.all_items.gather.Given as goal
 

@@ -1,6 +1,6 @@
 use Rattle.std.proofs.Common.{◌≡◌, ◌∙◌, refl, ap, sym, false}
 use Rattle.pp_rs.specs.Item.{is_out_of_memory}
-use Rattle.pp_rs.proofs.NextLemmas.{reached_first, reached_more, falls_more, token_fits, end_fits, fault_fits, next_token, next_end, next_error, less_behind_token, less_behind_error}
+use Rattle.pp_rs.proofs.NextLemmas.{reached_first, reached_more, falls_more, token_fits, end_fits, fault_fits, next_token, next_end, next_error, next_none}
 use Rattle.pp_rs.proofs.pp.preprocessor.PreprocessorIterator.next.Goals as goal
 
 pub loop-token-init : goal.loop-token-init
@@ -27,6 +27,9 @@ invariant_of-self-in-Err-Finished c = λ e. end_fits _ _ _ _ _ _ c.loop-token.in
 pub invariant_of-self-in-Err-Error : goal.invariant_of-self-in-Err-Error
 invariant_of-self-in-Err-Error c = λ e. fault_fits _ _ _ _ _ _ c.loop-token.invariant.reached c.in-Err-Error.error (rw c.in-Err-Error.field-0-is at c.in-Err-Error.ensures.turns) (sym c.is_out_of_memory-self-inside.ensures ∙ e)
 
+pub returns-then-self-clause-steps : goal.returns-then-self-clause-steps
+returns-then-self-clause-steps c = next_none c.args.self.now (ap (λ p. p.spent) (sym c.self.view_is) ∙ c.if-self.true)
+
 pub returns-in-Ok-clause-steps : goal.returns-in-Ok-clause-steps
 returns-in-Ok-clause-steps c =
     let fresh : c.args.self.now.spent ≡ false = ap (λ p. p.spent) (sym c.self.view_is) ∙ c.if-self.false in
@@ -35,8 +38,8 @@ returns-in-Ok-clause-steps c =
 pub returns-in-Ok-clause-goes : goal.returns-in-Ok-clause-goes
 returns-in-Ok-clause-goes c =
     let fresh : c.args.self.now.spent ≡ false = ap (λ p. p.spent) (sym c.self.view_is) ∙ c.if-self.false in
-    let less = less_behind_token _ _ _ _ _ _ c.loop-token.invariant.reached c.args.self.now fresh refl refl c.in-Ok.token c.loop-token.self-inside.spent c.loop-token.invariant.unspent c.in-Ok.ensures.turns in
-    record { on = λ finite. (tt, tt, less); keeps = tt; rests = λ finite. tt }
+    let next = next_token _ _ _ _ _ _ c.loop-token.invariant.reached c.args.self.now fresh refl refl c.in-Ok.token c.loop-token.self-inside.spent c.loop-token.invariant.unspent c.in-Ok.ensures.turns c.in-Ok.ensures.holds in
+    record { on = λ finite. (tt, tt, next.less_left); keeps = tt; rests = λ finite. tt }
 
 pub returns-in-Err-Finished-clause-steps : goal.returns-in-Err-Finished-clause-steps
 returns-in-Err-Finished-clause-steps c =
@@ -51,5 +54,5 @@ returns-in-Err-Error-clause-steps c =
 pub returns-in-Err-Error-clause-goes : goal.returns-in-Err-Error-clause-goes
 returns-in-Err-Error-clause-goes c =
     let fresh : c.args.self.now.spent ≡ false = ap (λ p. p.spent) (sym c.self.view_is) ∙ c.if-self.false in
-    let less = less_behind_error _ _ _ _ _ _ c.loop-token.invariant.reached c.args.self.now fresh refl refl c.in-Err-Error.error (rw c.in-Err-Error.field-0-is at c.in-Err-Error.ensures.turns) in
-    record { on = λ finite. (tt, tt, rw c.is_out_of_memory-self-inside.ensures less); keeps = tt; rests = λ finite. tt }
+    let next = next_error _ _ _ _ _ _ c.loop-token.invariant.reached c.args.self.now fresh refl refl c.in-Err-Error.error (is_out_of_memory c.in-Err-Error.error.0) refl (rw c.in-Err-Error.field-0-is at c.in-Err-Error.ensures.turns) in
+    record { on = λ finite. (tt, tt, rw c.is_out_of_memory-self-inside.ensures next.less_left); keeps = tt; rests = λ finite. tt }

@@ -1,0 +1,17 @@
+-- How far a list of calls has come. No contract of a public call cites this.
+use Rattle.std.specs.Prelude.{◌≡◌, false}
+use Rattle.pp_model.specs.Calls.{Fault}
+use Rattle.pp_model.specs.Run.{Call, next}
+use Rattle.pp_model.specs.RunChains.{AnswersIn}
+use Rattle.pp_model.specs.SeenSource.{ends_run}
+use Rattle.pp_model.specs.declared.call.Reply.{Reply}
+use Rattle.pp_model.specs.declared.call.Reply.TheVariants as reply
+use Rattle.pp_model.specs.declared.outcome.Outcome.TheVariants as outcome
+use Rattle.pp_rs.specs.Comes.{State, Comes}
+use Rattle.pp_rs.specs.Kept.{Preprocessing, Stands, is_spent}
+
+-- What one call answers in each state that the preprocessor stood for. It stands for the state behind it; of the state behind an error
+-- item nothing is said.
+pub data IsAnswered (old : Preprocessing) (call : Call) (answer : Reply) (new : Preprocessing) : Type 0 where
+  goes_on : ends_run answer ≡ false → is_spent new ≡ false → ((state : State) → Stands old state → (behind : State) × AnswersIn Comes state call answer behind × Stands new behind) → IsAnswered old call answer new
+  ends : (fault : Fault) → answer ≡ reply.Given (outcome.Fault fault) → call ≡ next → ((state : State) → Stands old state → (behind : State) × Comes state (outcome.Fault fault) behind) → IsAnswered old call answer new

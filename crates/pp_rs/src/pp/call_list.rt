@@ -1,0 +1,95 @@
+//! The replies to a list of calls.
+
+ghost use Rattle.std.specs.Prelude.{◌≡◌, ◌-◌, ◌^◌, ◌<◌, false, length, map, All, IfOk};
+ghost use Rattle.pp_model.specs.Run.{add_define, next, call_of, HasRoom};
+ghost use Rattle.pp_model.specs.SeenSource.{ends_run};
+ghost use Rattle.pp_rs.specs.Answering.{IsAnswered};
+ghost use Rattle.pp_rs.specs.Comes.{IsRunSoFar};
+ghost use Rattle.pp_rs.specs.Item.{is_out_of_memory};
+ghost use Rattle.pp_rs.specs.Kept.{is_spent};
+
+use crate::pp::preprocessor::Preprocessor;
+use crate::pp::step::is_out_of_memory;
+use pp_model::call::{Call, Reply};
+use pp_model::outcome::{Fault, Outcome};
+use std::alloc::{AllocError, Global};
+
+// The error, where it isn't that memory was refused.
+fn told(fault: Fault) -> Result<Fault, AllocError>
+    ensures { IfOk result (λ told. (told ≡ fault) × (is_out_of_memory told.0 ≡ false)) }
+{
+    if is_out_of_memory(&fault.0) {
+        return Err(AllocError);
+    }
+    Ok(fault)
+}
+
+// The reply to an `add_define`.
+fn reply_to_definition(
+    pp: &mut Preprocessor<'_>,
+    name: &str,
+    content: &str,
+) -> Result<Reply, AllocError>
+    requires room { length content.now < 2 ^ 32 - 1 }
+    requires unspent { is_spent pp.old ≡ false }
+    ensures { IfOk result (λ reply. IsAnswered pp.old (add_define name.now content.now) reply pp.new) }
+{
+    match pp.add_define(name, content) {
+        Ok(()) => Ok(Reply::Added),
+        Err(fault) => Ok(Reply::Refused(told(fault)?)),
+    }
+}
+
+// The reply to a `next`.
+fn reply_to_next(pp: &mut Preprocessor<'_>) -> Result<Reply, AllocError>
+    requires { is_spent pp.old ≡ false }
+    ensures { IfOk result (λ reply. IsAnswered pp.old next reply pp.new) }
+{
+    match pp.next() {
+        Some(Ok(token)) => Ok(Reply::Given(Outcome::Token(token))),
+        Some(Err(fault)) => Ok(Reply::Given(Outcome::Fault(told(fault)?))),
+        None => Ok(Reply::Given(Outcome::End)),
+    }
+}
+
+// The reply to a call.
+fn reply_to(pp: &mut Preprocessor<'_>, call: &Call<'_>) -> Result<Reply, AllocError>
+    requires room { HasRoom call.now }
+    requires unspent { is_spent pp.old ≡ false }
+    ensures { IfOk result (λ reply. IsAnswered pp.old (call_of call.now) reply pp.new) }
+{
+    match call {
+        Call::AddDefine(name, content) => reply_to_definition(pp, name, content),
+        Call::Next => reply_to_next(pp),
+    }
+}
+
+// Whether the reply is an error item.
+fn ends_run(reply: &Reply) -> bool
+    ensures { result ≡ ends_run reply.now }
+{
+    matches!(reply, Reply::Given(Outcome::Fault(_)))
+}
+
+/// What a preprocessor of the source answers to the calls, one after another, up to and with the first error item. pp-rs
+/// 0.2.1 has no such function.
+///
+/// The source and each added content have fewer than 2^32 - 1 bytes. The one error is that memory was refused, for an answer
+/// or for the list of them, and then nothing is said.
+pub fn replies(alloc: Global, source: &str, calls: &[Call<'_>]) -> Result<Vec<Reply>, AllocError>
+    requires size { length source.now < 2 ^ 32 - 1 }
+    requires contents { All HasRoom calls.now }
+    ensures { IfOk result (λ replies. IsRunSoFar source.now (map call_of calls.now) replies.items) }
+{
+    let mut pp = Preprocessor::new(alloc, source);
+    let mut replies = Vec::new(alloc);
+    for call in calls {
+        let reply = reply_to(&mut pp, call)?;
+        let is_last = ends_run(&reply);
+        replies.push(reply)?;
+        if is_last {
+            return Ok(replies);
+        }
+    }
+    Ok(replies)
+}
