@@ -19,12 +19,11 @@ use Rattle.pp_model.specs.declared.step.Step.TheVariants as step
 use Rattle.pp_rs.specs.Item.{Step}
 use Rattle.pp_rs.specs.Defined.{meaning_of}
 use Rattle.pp_rs.specs.OpenBlocks.{last_block, is_live_in}
-use Rattle.pp_rs.specs.SoFar.{live_fault, acts}
 use Rattle.pp_rs.specs.SourceMoves as moves
 use Rattle.pp_rs.specs.Source.{Source, DefinesOver, Makes}
 use Rattle.pp_rs.specs.Stands.{StandsForReader}
 use Rattle.pp_rs.proofs.Simulates.{Simulates}
-use Rattle.pp_rs.proofs.StepHereLemmas.{whole_line, fault_here, act_here, refused_here, pauses_here, line_simulates}
+use Rattle.pp_rs.proofs.StepHereLemmas.{whole_line, act_here, pauses_here, line_simulates}
 use Rattle.pp_rs.proofs.StandsLineLemmas.{stands_line, line_stays}
 
 defined_now : {old : Source} {r : SourceReader} (s : StandsForReader old r) (name : Name) {found : Option Definition} → meaning_of old.definitions name ≡ found → r.definitions name ≡ found
@@ -41,7 +40,7 @@ module _ {old : Source} {r : SourceReader} (s : StandsForReader old r) (alive : 
         let t = record (behind_line r) { definitions = changed r.definitions named.name (Some named.definition) } in
         rw h.0 (record {
           after = t;
-          steps = acts None r t (fault_here s alive e) (defines named None r t (ap (λ x. x.step) a) (defined_now s named.name known) refl (ap (λ x. defining named x.after) (sym a)));
+          steps = defines named None r t (ap (λ x. x.step) a) (defined_now s named.name known) refl (ap (λ x. defining named x.after) (sym a));
           stands = stands_line s e (changed r.definitions named.name (Some named.definition)) refl h.1
               (ap (λ (m : Definitions). changed m named.name (Some named.definition)) s.definitions ∙ sym h.2.meaning);
         })
@@ -49,31 +48,29 @@ module _ {old : Source} {r : SourceReader} (s : StandsForReader old r) (alive : 
         let a = act_here s alive e ∙ is in
         rw h.1 (record {
           after = behind_line r;
-          steps = acts None r (behind_line r) (fault_here s alive e)
-              (repeats named before None r (behind_line r) (ap (λ x. x.step) a) (defined_now s named.name known) h.0 refl (sym (ap (λ x. x.after) a)));
+          steps = repeats named before None r (behind_line r) (ap (λ x. x.step) a) (defined_now s named.name known) h.0 refl (sym (ap (λ x. x.after) a));
           stands = line_stays s e refl h.2 h.3;
         })
     define_over (Some before) known (inr h) =
         let a = act_here s alive e ∙ is in
         rw h.1 (record {
           after = behind_line r;
-          steps = acts _ r (behind_line r) (fault_here s alive e)
-              (redefines named before _ r (behind_line r) (ap (λ x. x.step) a) (defined_now s named.name known) h.0 refl (sym (ap (λ x. x.after) a)));
+          steps = redefines named before _ r (behind_line r) (ap (λ x. x.step) a) (defined_now s named.name known) h.0 refl (sym (ap (λ x. x.after) a));
         })
 
   -- a `#define` is the reader's step
   pub define_simulates : sight_of old.rest ≡ sight.Directive d.Define word → Makes (moves.live_move_at (last_block old.blocks) (sight.Directive d.Define word) old.rest) old move new
       → Simulates move r new
   define_simulates e h =
-      line_simulates s alive move new e refl (defined_on word) (λ named. record { step = step.Defines named; after = behind_line r }) moves.defines refl
+      line_simulates s alive move new e (defined_on word) (λ named. record { step = step.Defines named; after = behind_line r }) moves.defines refl
       (λ named read is. define_over e named is (meaning_of old.definitions named.name) refl) h
 
   -- an `#undef` is the reader's step
   pub undef_simulates : sight_of old.rest ≡ sight.Directive d.Undef word → Makes (moves.live_move_at (last_block old.blocks) (sight.Directive d.Undef word) old.rest) old move new
       → Simulates move r new
   undef_simulates e h =
-      line_simulates s alive move new e refl (only_name word) (λ name. passed (record (behind_line r) { definitions = changed r.definitions name None })) moves.undefines refl
-      (λ name read is undefined. pauses_here s alive move new e refl is (
+      line_simulates s alive move new e (only_name word) (λ name. passed (record (behind_line r) { definitions = changed r.definitions name None })) moves.undefines refl
+      (λ name read is undefined. pauses_here s alive move new e is (
         undefined.0,
         stands_line s e (changed r.definitions name None) refl undefined.1
             (ap (λ (m : Definitions). changed m name None) s.definitions ∙ sym undefined.2.meaning),

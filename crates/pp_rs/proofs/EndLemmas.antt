@@ -3,12 +3,12 @@ use Rattle.std.proofs.Common.{◌≡◌, ◌∙◌, ◌⊎◌, inl, inr, ℕ, Bo
 use Rattle.std.specs.Prelude.{Result, Ok, Err, MatchBool}
 use Rattle.pp_lexer.specs.Lexed.{Seen}
 use Rattle.pp_lexer.specs.declared.token.Location.{Location}
-use Rattle.pp_lexer.specs.declared.token.PreprocessorError.TheVariants.{MoreThanOneElse}
+use Rattle.pp_lexer.specs.declared.token.PreprocessorError.TheVariants.{ElifAfterElse, MoreThanOneElse}
 use Rattle.pp_lexer.specs.declared.token.Token.{Token}
 use Rattle.pp_model.specs.Calls.{Fault}
 use Rattle.pp_model.specs.Definitions.{Definition}
 use Rattle.pp_model.specs.DefineLines.{defined_on}
-use Rattle.pp_model.specs.Lines.{line_length, line_fault, comments_before_end, ended_line, only_name}
+use Rattle.pp_model.specs.Lines.{line_length, line_fault, comments_before_end, ended_line, only_name, line_tokens}
 use Rattle.pp_model.specs.Sights.{sight_of}
 use Rattle.pp_model.specs.declared.definition.Named.{Named}
 use Rattle.pp_model.specs.declared.directive.Directive.{Directive}
@@ -17,11 +17,10 @@ use Rattle.pp_model.specs.declared.sight.Sight.{Sight}
 use Rattle.pp_model.specs.declared.sight.Sight.TheVariants as sight
 use Rattle.pp_rs.specs.Item.{Step}
 use Rattle.pp_rs.specs.Defined.{meaning_of}
-use Rattle.pp_rs.specs.SoFar.{directive_fault}
-use Rattle.pp_rs.specs.OpenBlocks.{OpenBlock, last_block, is_live_in, block_parted}
+use Rattle.pp_rs.specs.OpenBlocks.{OpenBlock, last_block, is_live_in, block_parted, block_skipped, skips_branches}
 use Rattle.pp_rs.specs.DirectiveItems.{version, extension, pragma, line_entries}
-use Rattle.pp_rs.specs.SourceMoves.{Effect, gives, gives_item, fails, ends, passes, defines, undefines, opens_where, opens_unread, parts, closes, unfinished, Note, Move, line_move, skip_by, skip_move, else_effect, endif_move, live_move, dead_move, acting_move, unless_refused, move_at, move_of}
-use Rattle.pp_rs.specs.Source.{Source, DefinesOver, HasEffect, IsRefusedStep, Makes}
+use Rattle.pp_rs.specs.SourceMoves.{Effect, gives, gives_item, fails, ends, passes, defines, undefines, opens_where, opens_if, opens_unread, parts, parts_if, closes, unfinished, renumbers, Note, Move, failing, line_move, skip_by, skip_move, else_effect, endif_move, elif_move, live_move, dead_move, directive_move, move_at, move_of}
+use Rattle.pp_rs.specs.Source.{Source, DefinesOver, HasEffect, IsRefusedStep, Makes, Decides, holds, faulty, Renumbers, numbers, unnumbered}
 use Rattle.pp_rs.specs.declared.pp.step.StepExit.TheVariants.{Finished}
 use Rattle.pp_rs.proofs.ItemThereLemmas.{item_there}
 use Rattle.pp_rs.proofs.StandsBehindLemmas.{no_blocks_kept}
@@ -56,35 +55,42 @@ endif_goes_on (Some block) word behind =
     either_move_on block.live_around (line_move (ended_line word behind) (λ end. closes) (line_length behind)) (skip_move closes behind)
     (line_goes_on (ended_line word behind) (λ end. closes) (line_length behind) (λ end. refl)) (skip_goes_on (line_fault behind) closes (line_length behind) refl)
 
+elif_goes_on : (block : Option OpenBlock) (word : Location) (behind : List Seen) → is_end_effect (elif_move block word behind).effect ≡ false
+elif_goes_on None word behind = refl
+elif_goes_on (Some block) word behind =
+    either_move_on block.with_else (failing (ElifAfterElse, word)) _ refl
+    (either_move_on (skips_branches block) (skip_move (parts (block_skipped block)) behind) (line_move (line_tokens behind) (parts_if block word) (line_length behind))
+    (skip_goes_on (line_fault behind) (parts (block_skipped block)) (line_length behind) refl) (line_goes_on (line_tokens behind) (parts_if block word) (line_length behind) (λ tokens. refl)))
+
 live_goes_on : (block : Option OpenBlock) (directive : Directive) (word : Location) (behind : List Seen) → is_end_effect (live_move block directive word behind).effect ≡ false
 live_goes_on block d.Define word behind = line_goes_on (defined_on word behind) defines (line_length behind) (λ named. refl)
 live_goes_on block d.Undef word behind = line_goes_on (only_name word behind) undefines (line_length behind) (λ name. refl)
+live_goes_on block d.If word behind = line_goes_on (line_tokens behind) (opens_if word) (line_length behind) (λ tokens. refl)
 live_goes_on block d.Ifdef word behind = line_goes_on (only_name word behind) (opens_where true word) (line_length behind) (λ name. refl)
 live_goes_on block d.Ifndef word behind = line_goes_on (only_name word behind) (opens_where false word) (line_length behind) (λ name. refl)
+live_goes_on block d.Elif word behind = elif_goes_on block word behind
 live_goes_on block d.Else word behind = line_goes_on (ended_line word behind) (λ end. else_effect block word) (line_length behind) (λ end. else_goes_on block word)
 live_goes_on block d.Endif word behind = endif_goes_on block word behind
+live_goes_on block d.Line word behind = line_goes_on (line_tokens behind) (renumbers word) (line_length behind) (λ tokens. refl)
 live_goes_on block d.Version word behind = line_goes_on (line_entries behind) (λ tokens. gives_item (version tokens (comments_before_end behind)) word) (line_length behind) (λ tokens. refl)
 live_goes_on block d.Extension word behind = line_goes_on (line_entries behind) (λ tokens. gives_item (extension tokens) word) (line_length behind) (λ tokens. refl)
 live_goes_on block d.Pragma word behind = line_goes_on (line_entries behind) (λ tokens. gives_item (pragma tokens) word) (line_length behind) (λ tokens. refl)
-live_goes_on block _ word behind = refl
+live_goes_on block d.Error word behind = refl
+live_goes_on block d.Unknown word behind = refl
 
 dead_goes_on : (block : Option OpenBlock) (directive : Directive) (word : Location) (behind : List Seen) → is_end_effect (dead_move block directive word behind).effect ≡ false
 dead_goes_on block d.If word behind = skip_goes_on (line_fault behind) (opens_unread word) (line_length behind) refl
 dead_goes_on block d.Ifdef word behind = skip_goes_on (line_fault behind) (opens_unread word) (line_length behind) refl
 dead_goes_on block d.Ifndef word behind = skip_goes_on (line_fault behind) (opens_unread word) (line_length behind) refl
-dead_goes_on block d.Elif word behind = refl
+dead_goes_on block d.Elif word behind = elif_goes_on block word behind
 dead_goes_on block d.Else word behind = line_goes_on (ended_line word behind) (λ end. else_effect block word) (line_length behind) (λ end. else_goes_on block word)
 dead_goes_on block d.Endif word behind = endif_goes_on block word behind
 dead_goes_on block d.Unknown word behind = refl
 dead_goes_on block _ word behind = skip_goes_on (line_fault behind) passes (line_length behind) refl
 
-acting_goes_on : (live : Bool) (block : Option OpenBlock) (directive : Directive) (word : Location) (behind : List Seen) → is_end_effect (acting_move live block directive word behind).effect ≡ false
-acting_goes_on true block directive word behind = live_goes_on block directive word behind
-acting_goes_on false block directive word behind = dead_goes_on block directive word behind
-
-refused_goes_on : (found : Option Fault) (move : Move) → is_end_effect move.effect ≡ false → is_end_effect (unless_refused found move).effect ≡ false
-refused_goes_on (Some fault) move h = refl
-refused_goes_on None move h = h
+directive_goes_on : (live : Bool) (block : Option OpenBlock) (directive : Directive) (word : Location) (behind : List Seen) → is_end_effect (directive_move live block directive word behind).effect ≡ false
+directive_goes_on true block directive word behind = live_goes_on block directive word behind
+directive_goes_on false block directive word behind = dead_goes_on block directive word behind
 
 -- what stands there is the end only behind all items
 sight_goes_on : (live : Bool) (block : Option OpenBlock) (shown : Sight) (rest : List Seen) → (shown ≡ sight.End → ⊥) → is_end_effect (move_at live block shown rest).effect ≡ false
@@ -94,18 +100,26 @@ sight_goes_on true block (sight.Fault fault) rest h = refl
 sight_goes_on true block (sight.Token token) rest h = refl
 sight_goes_on true block (sight.Hash location) rest h = refl
 sight_goes_on true block (sight.NoWord fault) rest h = refl
-sight_goes_on true block (sight.Directive directive word) rest h = refused_goes_on (directive_fault true directive word (drop 2 rest)) (acting_move true block directive word (drop 2 rest)) (acting_goes_on true block directive word (drop 2 rest))
+sight_goes_on true block (sight.Directive directive word) rest h = directive_goes_on true block directive word (drop 2 rest)
 sight_goes_on false block sight.NewLine rest h = refl
 sight_goes_on false block (sight.Fault fault) rest h = refl
 sight_goes_on false block (sight.Token token) rest h = refl
 sight_goes_on false block (sight.Hash location) rest h = refl
 sight_goes_on false block (sight.NoWord fault) rest h = refl
-sight_goes_on false block (sight.Directive directive word) rest h = refused_goes_on (directive_fault false directive word (drop 2 rest)) (acting_move false block directive word (drop 2 rest)) (acting_goes_on false block directive word (drop 2 rest))
+sight_goes_on false block (sight.Directive directive word) rest h = directive_goes_on false block directive word (drop 2 rest)
 
 defines_on : (named : Named) (before : Option Definition) (taken : ℕ) (note : Note) (old new : Source) → DefinesOver named before taken note old (Err Finished) new → ⊥
 defines_on named None taken note old new h = let e = h.0 in cc
 defines_on named (Some before) taken note old new (inl h) = let e = h.1 in cc
 defines_on named (Some before) taken note old new (inr h) = let e = h.1 in cc
+
+decides_on : (word : Location) (tokens : List Token) (blocks : Bool → List OpenBlock) (taken : ℕ) (note : Note) (old new : Source) → Decides word tokens blocks taken note old (Err Finished) new → ⊥
+decides_on word tokens blocks taken note old new (holds value condition h) = let e = h.0 in cc
+decides_on word tokens blocks taken note old new (faulty fault condition failed left) = cc
+
+renumbers_on : (word : Location) (tokens : List Token) (taken : ℕ) (note : Note) (old new : Source) → Renumbers word tokens taken note old (Err Finished) new → ⊥
+renumbers_on word tokens taken note old new (numbers n number h) = let e = h.0 in cc
+renumbers_on word tokens taken note old new (unnumbered fault number failed left) = cc
 
 pub finished_ends : (effect : Effect) (taken : ℕ) (note : Note) (old new : Source) → HasEffect effect taken note old (Err Finished) new → is_end_effect effect ≡ true
 finished_ends (gives token) taken note old new h = let e = h.0 in cc
@@ -116,10 +130,13 @@ finished_ends passes taken note old new h = let e = h.0 in cc
 finished_ends (defines named) taken note old new h = absurd (defines_on named (meaning_of old.definitions named.name) taken note old new h)
 finished_ends (undefines name) taken note old new h = let e = h.0 in cc
 finished_ends (opens_where wanted word name) taken note old new h = let e = h.0 in cc
+finished_ends (opens_if word tokens) taken note old new h = absurd (decides_on word tokens _ taken note old new h)
 finished_ends (opens_unread word) taken note old new h = let e = h.0 in cc
 finished_ends (parts block) taken note old new h = let e = h.0 in cc
+finished_ends (parts_if block word tokens) taken note old new h = absurd (decides_on word tokens _ taken note old new h)
 finished_ends closes taken note old new h = let e = h.0 in cc
 finished_ends (unfinished word) taken note old new h = let e = h.0 in cc
+finished_ends (renumbers word tokens) taken note old new h = absurd (renumbers_on word tokens taken note old new h)
 
 -- behind the end of a source no item is left, and no open block
 abbrev HasNothing : Source → Type 0

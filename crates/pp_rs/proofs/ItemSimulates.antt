@@ -19,7 +19,6 @@ use Rattle.pp_model.specs.declared.sight.Sight.TheVariants as sight
 use Rattle.pp_rs.specs.Item.{Step}
 use Rattle.pp_rs.specs.DirectiveItems.{DirectiveItem, version, extension, pragma, value_of}
 use Rattle.pp_rs.specs.OpenBlocks.{last_block, is_live_in}
-use Rattle.pp_rs.specs.SoFar.{live_fault}
 use Rattle.pp_rs.specs.SourceMoves as moves
 use Rattle.pp_rs.specs.Source.{Source, Makes}
 use Rattle.pp_rs.specs.Stands.{StandsForReader}
@@ -35,13 +34,13 @@ entries_move (Err fault) effect taken = refl
 
 module _ {old : Source} {r : SourceReader} (s : StandsForReader old r) (alive : is_live_in (last_block old.blocks) ≡ true) (move : Step Token) (new : Source) {word : Location} where
   item_simulates : {directive : Directive} (e : sight_of old.rest ≡ sight.Directive directive word) (item : List Entry → DirectiveItem) (value : List Token → TokenValue) → part_of directive ≡ None
-      → live_fault directive word (drop 2 old.rest) ≡ None → ((tokens : List Token) → value tokens ≡ value_of (item (preorder tokens)) old.has_text old.has_directive)
+      → ((tokens : List Token) → value tokens ≡ value_of (item (preorder tokens)) old.has_text old.has_directive)
       → live_act (sight.Directive directive word) r ≡ line_item value word r → Makes (moves.taking_more 2 (moves.item_move item word (drop 2 old.rest))) old move new → Simulates move r new
-  item_simulates e item value its none same is h =
-      line_simulates s alive move new e none line_tokens (λ tokens. given (record { value = value tokens; location = word }) (behind_line r))
+  item_simulates e item value its same is h =
+      line_simulates s alive move new e line_tokens (λ tokens. given (record { value = value tokens; location = word }) (behind_line r))
       (λ tokens. moves.gives_item (item (preorder tokens)) word) is
       (λ tokens read a shown. rw (shown.0 ∙ ap (λ v. Ok (record { value = v; location = word })) (sym (same tokens)))
-      (record { after = behind_line r; steps = gives_here s alive e none a; stands = line_stays s e its shown.1 shown.2 }))
+      (record { after = behind_line r; steps = gives_here s alive e a; stands = line_stays s e its shown.1 shown.2 }))
       (subst (λ (m : moves.Move). Makes (moves.taking_more 2 m) old move new)
       (entries_move (line_tokens (drop 2 old.rest)) (λ entries. moves.gives_item (item entries) word) (line_length (drop 2 old.rest))) h)
 
@@ -53,16 +52,16 @@ module _ {old : Source} {r : SourceReader} (s : StandsForReader old r) (alive : 
         tokens = preorder tokens;
         is_first_directive = is_first_directive r.items r.truths r.position;
         has_comments_before = comments_before_end (behind_word r);
-      })) refl refl (λ tokens. rw (s.remembers_text, s.remembers_directive, behind_here old r s) refl) refl h
+      })) refl (λ tokens. rw (s.remembers_text, s.remembers_directive, behind_here old r s) refl) refl h
 
   -- an `#extension` is the reader's step
   pub extension_simulates : sight_of old.rest ≡ sight.Directive d.Extension word → Makes (moves.live_move_at (last_block old.blocks) (sight.Directive d.Extension word) old.rest) old move new
       → Simulates move r new
   extension_simulates e h =
       item_simulates e extension (λ tokens. Extension (record { tokens = preorder tokens; has_non_directive_before = has_live_text_before r.items r.truths r.position }))
-      refl refl (λ tokens. rw s.remembers_text refl) refl h
+      refl (λ tokens. rw s.remembers_text refl) refl h
 
   -- a `#pragma` is the reader's step
   pub pragma_simulates : sight_of old.rest ≡ sight.Directive d.Pragma word → Makes (moves.live_move_at (last_block old.blocks) (sight.Directive d.Pragma word) old.rest) old move new
       → Simulates move r new
-  pragma_simulates e h = item_simulates e pragma (λ tokens. Pragma (record { tokens = preorder tokens })) refl refl (λ tokens. refl) refl h
+  pragma_simulates e h = item_simulates e pragma (λ tokens. Pragma (record { tokens = preorder tokens })) refl (λ tokens. refl) refl h

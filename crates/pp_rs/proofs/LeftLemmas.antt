@@ -1,6 +1,6 @@
 -- A turn that isn't the end had something left to read.
 use Rattle.std.proofs.Common.{◌≡◌, ◌≢◌, ◌⊎◌, ◌∙◌, inl, inr, ℕ, ◌<◌, length, arith, true, false, Bool, List, [], ◌∷◌, refl, ap, sym, subst, Option, Some, None}
-use Rattle.std.specs.Prelude.{Err, ◌-◌}
+use Rattle.std.specs.Prelude.{Err, ◌-◌, ℤ}
 use Rattle.std.specs.Fn.{iterate}
 use Rattle.pp_lexer.specs.Lexed.{Seen}
 use Rattle.pp_lexer.specs.declared.token.Token.{Token}
@@ -31,20 +31,20 @@ abbrev pub SomethingLeft : Machine → Source → Type 0
 SomethingLeft machine source = HoldsMore machine.held ⊎ (machine.frames ≢ []) ⊎ (source.rest ≢ []) ⊎ (source.blocks ≢ [])
 
 -- a source with nothing left is at its end
-empty_source : (definitions : List Defined) (has_text has_directive : Bool) (new : Source) (step : Step Token) → StepsSource (record { rest = []; definitions = definitions; blocks = []; spent = false; has_text = has_text; has_directive = has_directive }) step new → step ≡ Err Finished
-empty_source definitions has_text has_directive new step (inl h) = absurd (h.some_left refl)
-empty_source definitions has_text has_directive new step (inr h) = h.0
+empty_source : (definitions : List Defined) (line_offset : ℤ) (has_text has_directive : Bool) (new : Source) (step : Step Token) → StepsSource (record { rest = []; definitions = definitions; blocks = []; line_offset = line_offset; spent = false; has_text = has_text; has_directive = has_directive }) step new → step ≡ Err Finished
+empty_source definitions line_offset has_text has_directive new step (inl h) = absurd (h.some_left refl)
+empty_source definitions line_offset has_text has_directive new step (inr h) = h.0
 
-read_before : (rest : List Seen) (definitions : List Defined) (blocks : List OpenBlock) (has_text has_directive : Bool) (s : Reader) (step : Step Token)
-    → Reads (of_source (record { rest = rest; definitions = definitions; blocks = blocks; spent = false; has_text = has_text; has_directive = has_directive })) step s → (step ≡ Err Finished → ⊥) → (rest ≢ []) ⊎ (blocks ≢ [])
-read_before (x ∷ rest) definitions blocks has_text has_directive s step h goes = inl (λ e. cc)
-read_before [] definitions (block ∷ blocks) has_text has_directive s step h goes = inr (λ e. cc)
-read_before [] definitions [] has_text has_directive (of_source new) step h goes = absurd (goes (empty_source definitions has_text has_directive new step h))
-read_before [] definitions [] has_text has_directive (of_list new) step h goes = absurd h
+read_before : (rest : List Seen) (definitions : List Defined) (blocks : List OpenBlock) (line_offset : ℤ) (has_text has_directive : Bool) (s : Reader) (step : Step Token)
+    → Reads (of_source (record { rest = rest; definitions = definitions; blocks = blocks; line_offset = line_offset; spent = false; has_text = has_text; has_directive = has_directive })) step s → (step ≡ Err Finished → ⊥) → (rest ≢ []) ⊎ (blocks ≢ [])
+read_before (x ∷ rest) definitions blocks line_offset has_text has_directive s step h goes = inl (λ e. cc)
+read_before [] definitions (block ∷ blocks) line_offset has_text has_directive s step h goes = inr (λ e. cc)
+read_before [] definitions [] line_offset has_text has_directive (of_source new) step h goes = absurd (goes (empty_source definitions line_offset has_text has_directive new step h))
+read_before [] definitions [] line_offset has_text has_directive (of_list new) step h goes = absurd h
 
 left_in_source : (old : Source) (s : Reader) (step : Step Token) → old.spent ≡ false → Reads (of_source old) step s → (step ≡ Err Finished → ⊥) → (old.rest ≢ []) ⊎ (old.blocks ≢ [])
 left_in_source old s step unspent h goes =
-    read_before old.rest old.definitions old.blocks old.has_text old.has_directive s step (subst (λ (b : Bool). Reads (of_source (record { rest = old.rest; definitions = old.definitions; blocks = old.blocks; spent = b; has_text = old.has_text; has_directive = old.has_directive })) step s) unspent h) goes
+    read_before old.rest old.definitions old.blocks old.line_offset old.has_text old.has_directive s step (subst (λ (b : Bool). Reads (of_source (record { rest = old.rest; definitions = old.definitions; blocks = old.blocks; line_offset = old.line_offset; spent = b; has_text = old.has_text; has_directive = old.has_directive })) step s) unspent h) goes
 
 reads_more : (frames : List Layer) (old : Source) → (old.rest ≢ []) ⊎ (old.blocks ≢ []) → (frames ≢ []) ⊎ (old.rest ≢ []) ⊎ (old.blocks ≢ [])
 reads_more frames old (inl h) = inr (inl h)

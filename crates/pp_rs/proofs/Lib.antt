@@ -36,7 +36,6 @@ pub mod CutLinesLemmas
 pub mod BlockStackLemmas
 pub mod BlockStepLemmas
 pub mod StartLemmas
-pub mod SoFarLemmas
 pub mod DefineLemmas
 pub mod DefinitionsLemmas
 pub mod LineReadingLemmas
@@ -62,6 +61,8 @@ pub mod StandsLineLemmas
 pub mod StandsBlockLemmas
 pub mod EndSimulates
 pub mod BlockSimulates
+pub mod ConditionSimulates
+pub mod ConditionActsLemmas
 pub mod DefineSimulates
 pub mod ItemSimulates
 pub mod LiveSimulates

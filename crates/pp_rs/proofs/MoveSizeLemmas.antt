@@ -3,17 +3,16 @@ use Rattle.std.proofs.Common.{◌≡◌, ℕ, ◌+◌, ◌≤◌, Bool, true, fa
 use Rattle.pp_lexer.specs.Entry.{Entry}
 use Rattle.pp_lexer.specs.Lexed.{Seen}
 use Rattle.pp_lexer.specs.declared.token.Location.{Location}
-use Rattle.pp_lexer.specs.declared.token.PreprocessorError.TheVariants.{MoreThanOneElse}
+use Rattle.pp_lexer.specs.declared.token.PreprocessorError.TheVariants.{ElifAfterElse, MoreThanOneElse}
 use Rattle.pp_model.specs.Calls.{Fault}
 use Rattle.pp_model.specs.DefineLines.{defined_on}
-use Rattle.pp_model.specs.Lines.{line_length, line_fault, comments_before_end, ended_line, only_name}
+use Rattle.pp_model.specs.Lines.{line_length, line_fault, comments_before_end, ended_line, only_name, line_tokens}
 use Rattle.pp_model.specs.declared.definition.Named.{Named}
 use Rattle.pp_model.specs.declared.directive.Directive.{Directive}
 use Rattle.pp_model.specs.declared.directive.Directive.TheVariants as d
 use Rattle.pp_rs.specs.DirectiveItems.{DirectiveItem, version, extension, pragma, line_entries}
-use Rattle.pp_rs.specs.OpenBlocks.{OpenBlock, block_parted}
-use Rattle.pp_rs.specs.SoFar.{directive_fault}
-use Rattle.pp_rs.specs.SourceMoves.{Effect, gives_item, fails, defines, undefines, opens_where, opens_unread, parts, closes, passes, unfinished, Move, failing, line_move, skip_by, skip_move, else_effect, else_move, endif_move, item_move, live_move, dead_move, acting_move, directive_move, unless_refused}
+use Rattle.pp_rs.specs.OpenBlocks.{OpenBlock, block_parted, block_skipped, skips_branches}
+use Rattle.pp_rs.specs.SourceMoves.{Effect, gives_item, fails, defines, undefines, opens_where, opens_if, opens_unread, parts, parts_if, closes, passes, unfinished, renumbers, Move, failing, line_move, skip_by, skip_move, else_effect, else_move, elif_move, endif_move, item_move, live_move, dead_move, directive_move}
 use Rattle.pp_rs.proofs.BodyLemmas.{line_length_least}
 use Rattle.pp_rs.proofs.DefinedBodyLemmas.{defined_least}
 
@@ -21,8 +20,10 @@ use Rattle.pp_rs.proofs.DefinedBodyLemmas.{defined_least}
 abbrev pub effect_adds : Effect → ℕ
 effect_adds (defines named) = length named.definition.body
 effect_adds (opens_where wanted word name) = 1
+effect_adds (opens_if word tokens) = 1
 effect_adds (opens_unread word) = 1
 effect_adds (parts block) = 1
+effect_adds (parts_if block word tokens) = 1
 effect_adds _ = 0
 
 -- whether it tells, at the end, a block that is open
@@ -70,6 +71,15 @@ module _ (word : Location) (behind : List Seen) where
   else_within : (block : Option OpenBlock) → IsWithin (else_move block word behind) (length behind)
   else_within block = line_within (ended_line word behind) (λ end. else_effect block word) (λ value e. else_small block)
 
+  elif_within : (block : Option OpenBlock) → IsWithin (elif_move block word behind) (length behind)
+  elif_within None = failing_within _ (length behind)
+  elif_within (Some block) = go block.with_else (skips_branches block)
+    where
+      go : (b c : Bool) → IsWithin (if b then failing (ElifAfterElse, word) else if c then skip_move (parts (block_skipped block)) behind else line_move (line_tokens behind) (parts_if block word) (line_length behind)) (length behind)
+      go true c = failing_within _ (length behind)
+      go false true = skip_within (parts (block_skipped block)) (record { untold = refl; adds = omega arith })
+      go false false = line_within (line_tokens behind) (parts_if block word) (λ value is. record { untold = refl; adds = omega arith })
+
   endif_within : (block : Option OpenBlock) → IsWithin (endif_move block word behind) (length behind)
   endif_within None = failing_within _ (length behind)
   endif_within (Some block) = go block.live_around
@@ -88,14 +98,18 @@ module _ (word : Location) (behind : List Seen) where
     live_within : (directive : Directive) → IsWithin (live_move block directive word behind) (length behind)
     live_within d.Define = line_within (defined_on word behind) defines define_small
     live_within d.Undef = line_within (only_name word behind) undefines (λ value is. record { untold = refl; adds = omega arith })
+    live_within d.If = line_within (line_tokens behind) (opens_if word) (λ value is. record { untold = refl; adds = omega arith })
     live_within d.Ifdef = line_within (only_name word behind) (opens_where true word) (λ value is. record { untold = refl; adds = omega arith })
     live_within d.Ifndef = line_within (only_name word behind) (opens_where false word) (λ value is. record { untold = refl; adds = omega arith })
+    live_within d.Elif = elif_within block
     live_within d.Else = else_within block
     live_within d.Endif = endif_within block
+    live_within d.Line = line_within (line_tokens behind) (renumbers word) (λ value is. record { untold = refl; adds = omega arith })
     live_within d.Version = item_within (λ tokens. version tokens (comments_before_end behind))
     live_within d.Extension = item_within extension
     live_within d.Pragma = item_within pragma
-    live_within _ = failing_within _ (length behind)
+    live_within d.Error = failing_within _ (length behind)
+    live_within d.Unknown = failing_within _ (length behind)
 
     unread_within : IsWithin (skip_move (opens_unread word) behind) (length behind)
     unread_within = skip_within (opens_unread word) (record { untold = refl; adds = omega arith })
@@ -104,19 +118,12 @@ module _ (word : Location) (behind : List Seen) where
     dead_within d.If = unread_within
     dead_within d.Ifdef = unread_within
     dead_within d.Ifndef = unread_within
-    dead_within d.Elif = failing_within _ (length behind)
+    dead_within d.Elif = elif_within block
     dead_within d.Else = else_within block
     dead_within d.Endif = endif_within block
     dead_within d.Unknown = record { small = record { untold = refl; adds = omega arith }; taken = omega arith }
     dead_within _ = skip_within passes (record { untold = refl; adds = omega arith })
 
-    acting_within : (live : Bool) (directive : Directive) → IsWithin (acting_move live block directive word behind) (length behind)
-    acting_within true directive = live_within directive
-    acting_within false directive = dead_within directive
-
     pub directive_within : (live : Bool) (directive : Directive) → IsWithin (directive_move live block directive word behind) (length behind)
-    directive_within live directive = go (directive_fault live directive word behind)
-      where
-        go : (o : Option Fault) → IsWithin (unless_refused o (acting_move live block directive word behind)) (length behind)
-        go (Some fault) = failing_within fault (length behind)
-        go None = acting_within live directive
+    directive_within true directive = live_within directive
+    directive_within false directive = dead_within directive

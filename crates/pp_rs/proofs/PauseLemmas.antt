@@ -5,10 +5,8 @@ use Rattle.pp_model.specs.Reading.{Reading, Expander}
 use Rattle.pp_model.specs.Taking.{Takes, held, listed, read}
 use Rattle.pp_model.specs.Calls.{Answers}
 use Rattle.pp_model.specs.Emitting.{Emits, itself, object, name_alone, call_refused, call}
-use Rattle.pp_model.specs.SourceReader.{SourceReader}
 use Rattle.pp_model.specs.declared.outcome.Outcome.{Outcome}
 use Rattle.pp_model.specs.declared.splice.Entry.{Entry}
-use Rattle.pp_rs.specs.SoFar.{StepsSoFar, later, reading_so_far}
 
 -- a pause: what is taken behind it is taken before it
 abbrev pub PausesTo : {R : Type 0} → Reading R → Expander R → Expander R → Type 0
@@ -27,9 +25,3 @@ pub list_pauses : {R : Type 0} (I : Reading R) (e : Expander R) (entries : List 
 list_pauses I e entries free same o h (held o1 f1 h1 is at) = let bad : Some o ≡ None = sym is ∙ free in cc
 list_pauses I e entries free same o h (listed o1 token rest f1 h1 is front becomes at) = listed o token rest e h free (same ∙ front) becomes at
 list_pauses I e entries free same o h (read x o1 r f1 h1 is front reads becomes at) = read x o r e h free (same ∙ front) reads becomes at
-
--- the reader may take a step that gives nothing, where the list holds no token
-pub reader_pauses : (e : Expander SourceReader) (s : SourceReader) → e.held ≡ None → behind_marks e.list ≡ [] → StepsSoFar e.reader None s → PausesTo reading_so_far e (record e { list = []; reader = s })
-reader_pauses e s free empty steps o h (held o1 f1 h1 is at) = let bad : Some o ≡ None = sym is ∙ free in cc
-reader_pauses e s free empty steps o h (listed o1 token rest f1 h1 is front becomes at) = cc
-reader_pauses e s free empty steps o h (read x o1 r f1 h1 is front reads becomes at) = read x o r e h free empty (later x e.reader s r steps reads) becomes at

@@ -6,7 +6,7 @@ use Rattle.std.proofs.lemmas.List.{take_more, take-append-drop, map-append}
 use Rattle.pp_lexer.specs.PreprocessorError.{out_of_memory}
 use Rattle.pp_lexer.specs.declared.token.Token.{Token}
 use Rattle.pp_model.specs.Calls.{Fault}
-use Rattle.pp_model.specs.Run.{Call, call_of, add_define, next, items_of, start, with_added}
+use Rattle.pp_model.specs.Run.{Call, call_of, add_define, next, items_of, start, with_added, IsRun}
 use Rattle.pp_model.specs.RunChains.{adds, refuses, gives, Chain, none, one_more}
 use Rattle.pp_model.specs.SeenSource.{ends_run}
 use Rattle.pp_model.specs.declared.call.Call.{Call as Called}
@@ -16,7 +16,7 @@ use Rattle.pp_model.specs.declared.outcome.Outcome.TheVariants as outcome
 use Rattle.pp_model.proofs.RunChainLemmas.{chain_runs, chain_runs_to_error}
 use Rattle.pp_rs.specs.Adding.{IsAdded, refused, faulty, added}
 use Rattle.pp_rs.specs.Answering.{IsAnswered, goes_on, ends}
-use Rattle.pp_rs.specs.Comes.{State, Comes, IsRunSoFar}
+use Rattle.pp_rs.specs.Comes.{State, Comes}
 use Rattle.pp_rs.specs.Item.{is_out_of_memory}
 use Rattle.pp_rs.specs.Kept.{Preprocessing, Stands, is_spent}
 use Rattle.pp_rs.specs.Preprocessing.{IsNextItem}
@@ -102,12 +102,12 @@ module _ (source : List ℕ) (before : List Call) (call : Call) (given : List Re
   replied_more calls replies (ends fault answers calls_next leads) on cut is = let bad : true ≡ false = sym (ap ends_run answers) ∙ on in cc
 
   -- an error item, whatever calls are left
-  pub replied_last : (calls later : List Call) (replies : List Reply) → IsAnswered now call answer new → ends_run answer ≡ true → calls ≡ before ++ call ∷ later → replies ≡ given ++ answer ∷ [] → IsRunSoFar source calls replies
+  pub replied_last : (calls later : List Call) (replies : List Reply) → IsAnswered now call answer new → ends_run answer ≡ true → calls ≡ before ++ call ∷ later → replies ≡ given ++ answer ∷ [] → IsRun source calls replies
   replied_last calls later replies (goes_on last unspent leads) over cut is = let bad : false ≡ true = sym last ∙ over in cc
   replied_last calls later replies (ends fault answers calls_next leads) over cut is =
       let one = leads r.state r.stands in
       rw (cut, is, answers, calls_next) (chain_runs_to_error Comes (start (items_of source)) r.state one.0 before later given fault r.chain one.1)
 
 -- all of them
-pub replied_all : (source : List ℕ) (calls same : List Call) (replies : List Reply) (now : Preprocessing) → Replied source same replies now → calls ≡ same → IsRunSoFar source calls replies
+pub replied_all : (source : List ℕ) (calls same : List Call) (replies : List Reply) (now : Preprocessing) → Replied source same replies now → calls ≡ same → IsRun source calls replies
 replied_all source calls same replies now r e = rw e (chain_runs Comes (start (items_of source)) r.state same replies r.chain)

@@ -3,11 +3,12 @@ use Rattle.std.proofs.Common.{◌≡◌, false, Option, Some, None}
 use Rattle.std.specs.Prelude.{Ok, Err}
 use Rattle.pp_lexer.specs.declared.token.Token.{Token}
 use Rattle.pp_model.specs.Calls.{Fault}
+use Rattle.pp_model.specs.Emitting.{answers_at, expansion_limit}
+use Rattle.pp_model.specs.Reads.{Steps}
 use Rattle.pp_model.specs.SourceReader.{SourceReader}
 use Rattle.pp_model.specs.declared.outcome.Outcome.{Outcome}
 use Rattle.pp_model.specs.declared.outcome.Outcome.TheVariants as outcome
 use Rattle.pp_rs.specs.Item.{Step, wants_memory}
-use Rattle.pp_rs.specs.SoFar.{StepsSoFar}
 use Rattle.pp_rs.specs.Source.{Source, StepsSource}
 use Rattle.pp_rs.specs.Stands.{StandsForReader}
 use Rattle.pp_rs.specs.declared.pp.step.StepExit.TheVariants.{Error, Continue, Finished}
@@ -15,13 +16,13 @@ use Rattle.pp_rs.specs.declared.pp.step.StepExit.TheVariants.{Error, Continue, F
 -- a step that gives nothing, a token or the end, and the reader behind it
 pub record Simulated (o : Option Outcome) (r : SourceReader) (new : Source) : Type 0 where
   pub after : SourceReader
-  pub steps : StepsSoFar r o after
+  pub steps : Steps (answers_at expansion_limit) r o after
   pub stands : StandsForReader new after
 
 -- a step that gives a fault; of what stands behind it nothing is said
 pub record SimulatedFault (fault : Fault) (r : SourceReader) : Type 0 where
   pub after : SourceReader
-  pub steps : StepsSoFar r (Some (outcome.Fault fault)) after
+  pub steps : Steps (answers_at expansion_limit) r (Some (outcome.Fault fault)) after
 
 abbrev pub Simulates : Step Token → SourceReader → Source → Type 0
 Simulates (Ok token) r new = Simulated (Some (outcome.Token token)) r new

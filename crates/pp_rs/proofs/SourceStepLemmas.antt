@@ -1,6 +1,6 @@
 -- One step of a source, from its first token.
 use Rattle.std.proofs.Common.{◌≡◌, ◌⊎◌, ℕ, ◌+◌, ◌<◌, Bool, true, false, List, [], ◌∷◌, length, drop, Option, Some, None, Result, Ok, Err, inl, inr, refl, sym, ◌∙◌, ap, subst, arith}
-use Rattle.std.specs.Prelude.{MatchBool, if◌then◌else◌}
+use Rattle.std.specs.Prelude.{MatchBool, if◌then◌else◌, ℤ}
 use Rattle.std.proofs.lemmas.Bool.{false_from_ne_true}
 use Rattle.std.proofs.lemmas.List.{drop-drop}
 use Rattle.pp_lexer.specs.Items.{Lexeme}
@@ -49,36 +49,36 @@ hash_sight token rest v s = rw (v, s) refl
 abbrev word_move_by : Bool → Option OpenBlock → Result LexerToken Fault → List Seen → Move
 word_move_by live block first behind = if live then live_word_move block (first >>= λ token. name_or_refused token (identifier_of token.value)) behind else dead_word_move block first behind
 
-module _ (definitions : List Defined) (blocks : List OpenBlock) (has_text has_directive : Bool) (old mid : Lexed) (new : Source) (taken : mid.rest ≡ drop 1 old.rest) (fewer : length mid.rest < length old.rest) where
+module _ (definitions : List Defined) (blocks : List OpenBlock) (line_offset : ℤ) (has_text has_directive : Bool) (old mid : Lexed) (new : Source) (taken : mid.rest ≡ drop 1 old.rest) (fewer : length mid.rest < length old.rest) where
   -- what a move means behind the number sign is a step of the source, or memory was refused
   abbrev StepsBy : Result (Option Token) Halt → Move → Type 0
-  StepsBy result move = IsRefusedStep (source_of old definitions blocks has_text has_directive) (step_of result) ⊎ Makes move (source_of old definitions blocks has_text has_directive) (step_of result) new
+  StepsBy result move = IsRefusedStep (source_of old definitions blocks line_offset has_text has_directive) (step_of result) ⊎ Makes move (source_of old definitions blocks line_offset has_text has_directive) (step_of result) new
 
-  acts_make : (effect : Effect) (more total : ℕ) (note : Note) → total ≡ 1 + more → (result : Result (Option Token) Halt) → Gives (record { effect = effect; taken = more; note = note }) (source_of mid definitions blocks has_text has_directive) result new
+  acts_make : (effect : Effect) (more total : ℕ) (note : Note) → total ≡ 1 + more → (result : Result (Option Token) Halt) → Gives (record { effect = effect; taken = more; note = note }) (source_of mid definitions blocks line_offset has_text has_directive) result new
       → StepsBy result (record { effect = effect; taken = total; note = note })
-  acts_make effect more total note sum (Ok given) h = inr (gives_behind definitions blocks has_text has_directive old mid 1 more total sum taken note effect (Ok given) new h)
-  acts_make effect more total note sum (Err (halt.Fault fault)) h = inr (fault_makes definitions blocks has_text has_directive old mid new fault fewer h.1 effect total note h.0)
+  acts_make effect more total note sum (Ok given) h = inr (gives_behind definitions blocks line_offset has_text has_directive old mid 1 more total sum taken note effect (Ok given) new h)
+  acts_make effect more total note sum (Err (halt.Fault fault)) h = inr (fault_makes definitions blocks line_offset has_text has_directive old mid new fault fewer h.1 effect total note h.0)
   acts_make effect more total note sum (Err halt.OutOfMemory) h = inl (record { some_left = λ e. absurd (omega (arith, ap length e)); fault = refl })
 
   directive_makes : (live : Bool) (block : Option OpenBlock) (name : Name) (word : Location) (result : Result (Option Token) Halt)
-      → Gives (taking_more 1 (directive_move live block (directive_of name) word (drop 1 mid.rest))) (source_of mid definitions blocks has_text has_directive) result new → StepsBy result (taking_more 2 (directive_move live block (directive_of name) word (drop 2 old.rest)))
+      → Gives (taking_more 1 (directive_move live block (directive_of name) word (drop 1 mid.rest))) (source_of mid definitions blocks line_offset has_text has_directive) result new → StepsBy result (taking_more 2 (directive_move live block (directive_of name) word (drop 2 old.rest)))
   directive_makes live block name word result h =
       let move = directive_move live block (directive_of name) word (drop 2 old.rest) in
       let behind : drop 1 mid.rest ≡ drop 2 old.rest = ap (drop 1) taken ∙ drop-drop 1 1 old.rest in
       acts_make move.effect (1 + move.taken) (2 + move.taken) directive_line (omega arith) result
-      (subst (λ (rest : List Seen). Gives (taking_more 1 (directive_move live block (directive_of name) word rest)) (source_of mid definitions blocks has_text has_directive) result new) behind h)
+      (subst (λ (rest : List Seen). Gives (taking_more 1 (directive_move live block (directive_of name) word rest)) (source_of mid definitions blocks line_offset has_text has_directive) result new) behind h)
 
-  live_makes : (block : Option OpenBlock) (token : LexerToken) (name : Option Name) (result : Result (Option Token) Halt) → Gives (live_word_move block (name_or_refused token name) (drop 1 mid.rest)) (source_of mid definitions blocks has_text has_directive) result new
+  live_makes : (block : Option OpenBlock) (token : LexerToken) (name : Option Name) (result : Result (Option Token) Halt) → Gives (live_word_move block (name_or_refused token name) (drop 1 mid.rest)) (source_of mid definitions blocks line_offset has_text has_directive) result new
       → StepsBy result (move_at true block (named_directive token name) old.rest)
   live_makes block token None result h = acts_make (fails (refused_token token)) 0 1 unnoted refl result h
   live_makes block token (Some name) result h = directive_makes true block name token.location result h
 
-  dead_makes : (block : Option OpenBlock) (token : LexerToken) (name : Option Name) (result : Result (Option Token) Halt) → Gives (dead_name_move block token.location name (drop 1 mid.rest)) (source_of mid definitions blocks has_text has_directive) result new
+  dead_makes : (block : Option OpenBlock) (token : LexerToken) (name : Option Name) (result : Result (Option Token) Halt) → Gives (dead_name_move block token.location name (drop 1 mid.rest)) (source_of mid definitions blocks line_offset has_text has_directive) result new
       → StepsBy result (move_at false block (named_directive token name) old.rest)
   dead_makes block token None result h = acts_make passes 1 2 unnoted refl result h
   dead_makes block token (Some name) result h = directive_makes false block name token.location result h
 
-  word_makes : (live : Bool) (block : Option OpenBlock) (first : Result LexerToken Fault) (result : Result (Option Token) Halt) → Gives (word_move_by live block first (drop 1 mid.rest)) (source_of mid definitions blocks has_text has_directive) result new
+  word_makes : (live : Bool) (block : Option OpenBlock) (first : Result LexerToken Fault) (result : Result (Option Token) Halt) → Gives (word_move_by live block first (drop 1 mid.rest)) (source_of mid definitions blocks line_offset has_text has_directive) result new
       → StepsBy result (move_at live block (directive_sight first) old.rest)
   word_makes true block (Ok token) result h = live_makes block token (identifier_of token.value) result h
   word_makes true block (Err fault) result h = acts_make (fails fault) 0 1 unnoted refl result h
@@ -95,7 +95,7 @@ gives_token (Some other) token e f = cc
 gives_token None token e f = cc
 
 -- the lexer gave a token, which is behind the source now
-module _ (definitions : List Defined) (blocks : List OpenBlock) (has_text has_directive : Bool) (old mid : Lexed) (next : Option LexerToken) (token : LexerToken) (is : next ≡ Some token)
+module _ (definitions : List Defined) (blocks : List OpenBlock) (line_offset : ℤ) (has_text has_directive : Bool) (old mid : Lexed) (next : Option LexerToken) (token : LexerToken) (is : next ≡ Some token)
     (spent : old.spent ≡ true → ◌≡◌ {A = Result (Option LexerToken) Halt} (Ok next) (Ok None) × (mid ≡ old)) (gave : old.spent ≡ false → next_token old.rest ≡ Ok next) (took : old.spent ≡ false → HasTaken 1 old mid) where
   unspent : old.spent ≡ false
   unspent = false_from_ne_true old.spent (λ all. gives_token next token is (spent all).0)
@@ -107,13 +107,13 @@ module _ (definitions : List Defined) (blocks : List OpenBlock) (has_text has_di
   shown : sight_of old.rest ≡ token_sight token mid.rest
   shown = token_shown old.rest token gave_token ∙ ap (token_sight token) (sym (took unspent).rest)
 
-  steps_by : (step : Step Token) (new : Source) → IsRefusedStep (source_of old definitions blocks has_text has_directive) step ⊎ Makes (move_at (is_live_in (last_block blocks)) (last_block blocks) (token_sight token mid.rest) old.rest) (source_of old definitions blocks has_text has_directive) step new
-      → StepsSource (source_of old definitions blocks has_text has_directive) step new
-  steps_by step new h = steps_unspent (source_of old definitions blocks has_text has_directive) step new unspent (rw shown h)
+  steps_by : (step : Step Token) (new : Source) → IsRefusedStep (source_of old definitions blocks line_offset has_text has_directive) step ⊎ Makes (move_at (is_live_in (last_block blocks)) (last_block blocks) (token_sight token mid.rest) old.rest) (source_of old definitions blocks line_offset has_text has_directive) step new
+      → StepsSource (source_of old definitions blocks line_offset has_text has_directive) step new
+  steps_by step new h = steps_unspent (source_of old definitions blocks line_offset has_text has_directive) step new unspent (rw shown h)
 
   pub step_directive : (result : Result (Option Token) Halt) (new : Source) → token.value ≡ Hash → token.start_of_line ≡ true
-      → Gives (word_move (is_live_in (last_block blocks)) (last_block blocks) token.location mid.rest) (source_of mid definitions blocks has_text has_directive) result new → StepsSource (source_of old definitions blocks has_text has_directive) (step_of result) new
+      → Gives (word_move (is_live_in (last_block blocks)) (last_block blocks) token.location mid.rest) (source_of mid definitions blocks line_offset has_text has_directive) result new → StepsSource (source_of old definitions blocks line_offset has_text has_directive) (step_of result) new
   step_directive result new v s acts =
       let taken = (took unspent).rest in
-      let made = word_makes definitions blocks has_text has_directive old mid new taken (fewer_behind old.rest mid.rest token gave_token taken) (is_live_in (last_block blocks)) (last_block blocks) (first_token token.location mid.rest) result acts in
+      let made = word_makes definitions blocks line_offset has_text has_directive old mid new taken (fewer_behind old.rest mid.rest token gave_token taken) (is_live_in (last_block blocks)) (last_block blocks) (first_token token.location mid.rest) result acts in
       steps_by (step_of result) new (rw (hash_sight token mid.rest v s) made)

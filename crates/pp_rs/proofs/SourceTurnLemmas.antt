@@ -21,7 +21,7 @@ use Rattle.pp_rs.specs.Item.{Step, wants_memory}
 use Rattle.pp_rs.specs.Left.{work_of, most_alone, most_bodies, most_open, reads_left, regions, regions_of, one_more, holding_step, IsSound}
 use Rattle.pp_rs.specs.Machine.{Machine}
 use Rattle.pp_rs.specs.Reader.{of_source}
-use Rattle.pp_rs.specs.SoFar.{reading_so_far}
+use Rattle.pp_rs.specs.Comes.{source_rules}
 use Rattle.pp_rs.specs.Source.{Source}
 use Rattle.pp_rs.specs.SourceTurns.{FollowsCall, opened, refused, FollowsTurn, TurnsSource, StepsOver}
 use Rattle.pp_rs.specs.Stands.{StandsForReader, StandsForHeld, StandsFor}
@@ -169,30 +169,30 @@ module _ (levels : ℕ) (m : Machine) (old new : Source) (fit : IsFit m old) whe
           exit_same exit e = cc
 
 -- the states that are stood for, as the lemmas on all readers say it
-held_in : (o : Option (Step Token)) (source : Source) (x : SourceReader) → StandsForHeld o source x → StandsHeld reading_so_far IsSource [] o (of_source source) x
+held_in : (o : Option (Step Token)) (source : Source) (x : SourceReader) → StandsForHeld o source x → StandsHeld source_rules IsSource [] o (of_source source) x
 held_in None source x h = h
 held_in (Some (Ok token)) source x h = h
 held_in (Some (Err Continue)) source x h = h
 held_in (Some (Err Finished)) source x h = h
 held_in (Some (Err (Error fault))) source x h = tt
 
-held_for : (o : Option (Step Token)) (source : Source) (x : SourceReader) → StandsHeld reading_so_far IsSource [] o (of_source source) x → StandsForHeld o source x
+held_for : (o : Option (Step Token)) (source : Source) (x : SourceReader) → StandsHeld source_rules IsSource [] o (of_source source) x → StandsForHeld o source x
 held_for None source x h = h
 held_for (Some (Ok token)) source x h = h
 held_for (Some (Err Continue)) source x h = h
 held_for (Some (Err Finished)) source x h = h
 held_for (Some (Err (Error fault))) source x h = tt
 
-stands_in : (m : Machine) (source : Source) (e : Expander SourceReader) → StandsFor m source e → StandsIn reading_so_far IsSource [] m (of_source source) e
+stands_in : (m : Machine) (source : Source) (e : Expander SourceReader) → StandsFor m source e → StandsIn source_rules IsSource [] m (of_source source) e
 stands_in m source e h = record { holds = h.held; list = h.list; reader = held_in m.held source e.reader h.reader; names = h.hidden }
 
-stands_for : (m : Machine) (source : Source) (e : Expander SourceReader) → StandsIn reading_so_far IsSource [] m (of_source source) e → StandsFor m source e
+stands_for : (m : Machine) (source : Source) (e : Expander SourceReader) → StandsIn source_rules IsSource [] m (of_source source) e → StandsFor m source e
 stands_for m source e h = record { held = h.holds; list = h.list; reader = held_for m.held source e.reader h.reader; hidden = h.names }
 
 -- where a call stands
-site_same : (c : PendingCall) (n : Machine) (source : Source) (f : Expander SourceReader) → StandsIn reading_so_far IsSource [] n (of_source source) f → n.held ≡ None → site_of reading_so_far f c.paren c.tokens ≡ site_at c source.definitions (names_of n.frames ++ [])
+site_same : (c : PendingCall) (n : Machine) (source : Source) (f : Expander SourceReader) → StandsIn source_rules IsSource [] n (of_source source) f → n.held ≡ None → site_of source_rules f c.paren c.tokens ≡ site_at c source.definitions (names_of n.frames ++ [])
 site_same c n source f stands free =
-    let reader : StandsForReader source f.reader = subst (λ (o : Option (Step Token)). StandsHeld reading_so_far IsSource [] o (of_source source) f.reader) free stands.reader in
+    let reader : StandsForReader source f.reader = subst (λ (o : Option (Step Token)). StandsHeld source_rules IsSource [] o (of_source source) f.reader) free stands.reader in
     let around : masked f ≡ names_of n.frames ++ [] =
     ap (λ (es : List Entry). open_names es ++ f.hidden) stands.list ∙ ap (λ (hs : List Name). open_names (flat n.frames) ++ hs) stands.names ∙ ap (λ (ns : List Name). ns ++ []) (open_flat n.frames) in
     ap (λ (d : Definitions). record { paren = c.paren; arguments = arguments_of c.tokens; visible = d; open_around = masked f }) reader.definitions
@@ -200,7 +200,7 @@ site_same c n source f stands free =
 
 module _ (levels : ℕ) (m : Machine) (old new : Source) (fit : IsFit m old) (e : Expander SourceReader) (stands : StandsFor m old e) where
   abbrev LeadsBy : Step Taken → Machine → Type 0
-  LeadsBy t n = LeadsTo reading_so_far IsSource [] sources_simulate source_shows source_sees (answers_at levels) t e n (of_source new)
+  LeadsBy t n = LeadsTo source_rules IsSource [] sources_simulate source_shows source_sees (answers_at levels) t e n (of_source new)
 
   call_leads : (c : PendingCall) (n p : Machine) (step : Step Token) → n.held ≡ None → LeadsBy (Ok (taken.Call c)) n → FollowsCall levels new.definitions c n step p → LeadsFrom (answers_at levels) e step p new
   call_leads c n p step free led (opened is o) =

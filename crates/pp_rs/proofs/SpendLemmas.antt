@@ -16,7 +16,7 @@ use Rattle.pp_rs.specs.Machine.{Machine, is_pause, step_of_outcome, taken_as, St
 use Rattle.pp_rs.specs.Reach.{grown, through, total}
 use Rattle.pp_rs.specs.Reader.{Reader, of_source, of_list, Listing, listed_step, Reads, shown_line}
 use Rattle.pp_rs.specs.Source.{Source, StepsSource, IsRefusedStep, Makes, HasEffect}
-use Rattle.pp_rs.specs.SourceMoves.{Effect, Note, move_of, gives, gives_item, fails, ends, passes, defines, undefines, opens_where, opens_unread, parts, closes, unfinished}
+use Rattle.pp_rs.specs.SourceMoves.{Effect, Note, move_of, gives, gives_item, fails, ends, passes, defines, undefines, opens_where, opens_if, opens_unread, parts, parts_if, closes, unfinished, renumbers}
 use Rattle.pp_rs.specs.Turns.{as_pause, frame_move, Moves}
 use Rattle.pp_rs.specs.Work.{steps_left, is_end}
 use Rattle.pp_rs.specs.declared.pp.step.StepExit.TheVariants.{Error, Continue, Finished}
@@ -70,10 +70,13 @@ effect_stays passes taken note old new h = let e = h.0 in cc
 effect_stays (defines named) taken note old new h = absurd (let bad = finished_ends (defines named) taken note old new h in cc)
 effect_stays (undefines name) taken note old new h = let e = h.0 in cc
 effect_stays (opens_where wanted word name) taken note old new h = let e = h.0 in cc
+effect_stays (opens_if word tokens) taken note old new h = absurd (let bad = finished_ends (opens_if word tokens) taken note old new h in cc)
 effect_stays (opens_unread word) taken note old new h = let e = h.0 in cc
 effect_stays (parts block) taken note old new h = let e = h.0 in cc
+effect_stays (parts_if block word tokens) taken note old new h = absurd (let bad = finished_ends (parts_if block word tokens) taken note old new h in cc)
 effect_stays closes taken note old new h = let e = h.0 in cc
 effect_stays (unfinished word) taken note old new h = let e = h.0 in cc
+effect_stays (renumbers word tokens) taken note old new h = absurd (let bad = finished_ends (renumbers word tokens) taken note old new h in cc)
 
 pub source_end_stays : (old new : Source) → StepsSource old (Err Finished) new → new ≡ old
 source_end_stays old new h = go old.spent h

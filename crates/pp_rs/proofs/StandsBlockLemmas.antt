@@ -1,5 +1,5 @@
 -- Behind a line that opens, parts or closes a block the source stands for its reader.
-use Rattle.std.proofs.Common.{◌≡◌, ◌∙◌, ◌+◌, Bool, true, false, List, [], ◌∷◌, ◌++◌, refl, subst, Some, arith}
+use Rattle.std.proofs.Common.{◌≡◌, ◌∙◌, ◌+◌, Bool, true, false, ◌&&◌, not, List, [], ◌∷◌, ◌++◌, refl, subst, Some, arith}
 use Rattle.pp_lexer.specs.Lexed.{Seen}
 use Rattle.pp_lexer.specs.declared.token.Location.{Location}
 use Rattle.pp_lexer.specs.declared.token.Token.{Token}
@@ -12,11 +12,11 @@ use Rattle.pp_model.specs.declared.block.Part.TheVariants as part
 use Rattle.pp_model.specs.declared.directive.Directive.{Directive}
 use Rattle.pp_model.specs.declared.sight.Sight.TheVariants as sight
 use Rattle.pp_rs.specs.Item.{Step}
-use Rattle.pp_rs.specs.OpenBlocks.{OpenBlock, last_block, outer_blocks, is_live_in, block_opened, block_unread, block_parted, AreBefore}
+use Rattle.pp_rs.specs.OpenBlocks.{OpenBlock, last_block, outer_blocks, is_live_in, block_opened, block_unread, block_parted, block_skipped, block_decided, AreBefore}
 use Rattle.pp_rs.specs.SourceMoves as moves
 use Rattle.pp_rs.specs.Source.{Source, Pauses}
 use Rattle.pp_rs.specs.Stands.{StandsForReader}
-use Rattle.pp_rs.proofs.BlockStepLemmas.{AddsLine, opens_read, opens_unread, closes_last, parts_else}
+use Rattle.pp_rs.proofs.BlockStepLemmas.{AddsLine, opens_read, opens_unread, closes_last, parts_else, parts_skipped, parts_read}
 use Rattle.pp_rs.proofs.LinesBeforeLemmas.{AddsLines, adds_one}
 use Rattle.pp_rs.proofs.StandsBehindLemmas.{live_now, split_here}
 use Rattle.pp_rs.proofs.TextBeforeLemmas.{text_before_truth}
@@ -66,3 +66,20 @@ module _ {old : Source} {r : SourceReader} (s : StandsForReader old r) {directiv
         block_pauses s e r.truths (outer_blocks old.blocks ++ block_parted kept ∷ []) its refl
         (parts_else r.items (block_line r word part.Else) (r.position + whole_line old.rest) (adds_here part.Else its) r.truths (outer_blocks old.blocks) kept
         (split_here old r s kept found) refl (before_unread r.position r.truths s.truths)) (still_before s) h
+
+    -- an `#elif` of the innermost block that is skipped
+    pub skipped_last : (kept : OpenBlock) → last_block old.blocks ≡ Some kept → part_of directive ≡ Some part.Elif → kept.live_around && not kept.taken ≡ false
+        → Pauses (whole_line old.rest) moves.directive_line (outer_blocks old.blocks ++ block_skipped kept ∷ []) old move new → PausesAt move new (behind_line r)
+    skipped_last kept found its skips h =
+        block_pauses s e r.truths (outer_blocks old.blocks ++ block_skipped kept ∷ []) its refl
+        (parts_skipped r.items (block_line r word part.Elif) (r.position + whole_line old.rest) (adds_here part.Elif its) r.truths (outer_blocks old.blocks) kept
+        (split_here old r s kept found) refl (before_unread r.position r.truths s.truths) skips) (still_before s) h
+
+    -- an `#elif` of the innermost block whose condition is read
+    pub decided_last : (kept : OpenBlock) → last_block old.blocks ≡ Some kept → part_of directive ≡ Some part.Elif → kept.live_around ≡ true → kept.taken ≡ false → (holds : Bool)
+        → Pauses (whole_line old.rest) moves.directive_line (outer_blocks old.blocks ++ block_decided kept holds ∷ []) old move new → PausesAt move new (decided r holds)
+    decided_last kept found its around untaken holds h =
+        block_pauses s e (with_truth r.position holds r.truths) (outer_blocks old.blocks ++ block_decided kept holds ∷ []) its (text_before_truth r.items r.position holds r.truths r.position (omega arith))
+        (parts_read r.items (block_line r word part.Elif) (r.position + whole_line old.rest) (adds_here part.Elif its) r.truths (outer_blocks old.blocks) kept
+        (split_here old r s kept found) holds refl around untaken)
+        (before_more r.position (r.position + whole_line old.rest) holds r.truths (omega arith) s.truths) h

@@ -1,12 +1,13 @@
 -- A preprocessor at the start of a source stands for the start of its run.
 use Rattle.std.proofs.Common.{ℕ, List, [], None, false, refl, arith}
+use Rattle.std.specs.Prelude.{pos}
 use Rattle.pp_model.specs.Run.{items_of, start}
 use Rattle.pp_rs.specs.Kept.{Preprocessing, Stands}
 use Rattle.pp_rs.proofs.LinedLemmas.{items_lined}
 
 -- what it keeps
 abbrev pub start_of : List ℕ → Preprocessing
-start_of text = record { machine = record { held = None; frames = [] }; source = record { rest = items_of text; definitions = []; blocks = []; spent = false; has_text = false; has_directive = false }; spent = false }
+start_of text = record { machine = record { held = None; frames = [] }; source = record { rest = items_of text; definitions = []; blocks = []; line_offset = pos 0; spent = false; has_text = false; has_directive = false }; spent = false }
 
 -- it stands for the state in which a run of its items begins
 pub start_stands : (text : List ℕ) → Stands (start_of text) (start (items_of text))

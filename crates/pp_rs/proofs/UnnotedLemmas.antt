@@ -2,15 +2,15 @@
 use Rattle.std.proofs.Common.{◌≡◌, ℕ, Bool, true, false, if◌then◌else◌, List, Option, Some, None, Result, Ok, Err, refl}
 use Rattle.pp_lexer.specs.Lexed.{Seen}
 use Rattle.pp_lexer.specs.declared.token.Location.{Location}
+use Rattle.pp_lexer.specs.declared.token.PreprocessorError.TheVariants.{ElifAfterElse}
 use Rattle.pp_model.specs.Calls.{Fault}
 use Rattle.pp_model.specs.DefineLines.{defined_on}
-use Rattle.pp_model.specs.Lines.{line_length, line_fault, comments_before_end, ended_line, only_name}
+use Rattle.pp_model.specs.Lines.{line_length, line_fault, comments_before_end, ended_line, only_name, line_tokens}
 use Rattle.pp_model.specs.declared.directive.Directive.{Directive}
 use Rattle.pp_model.specs.declared.directive.Directive.TheVariants as d
 use Rattle.pp_rs.specs.DirectiveItems.{version, extension, pragma, line_entries}
-use Rattle.pp_rs.specs.OpenBlocks.{OpenBlock}
-use Rattle.pp_rs.specs.SoFar.{directive_fault}
-use Rattle.pp_rs.specs.SourceMoves.{Effect, gives_item, defines, undefines, opens_where, opens_unread, closes, passes, unnoted, Move, line_move, skip_by, skip_move, else_effect, else_move, endif_move, live_move, dead_move, acting_move, unless_refused, directive_move}
+use Rattle.pp_rs.specs.OpenBlocks.{OpenBlock, block_skipped, skips_branches}
+use Rattle.pp_rs.specs.SourceMoves.{Effect, gives_item, defines, undefines, opens_where, opens_if, opens_unread, parts, parts_if, closes, passes, renumbers, unnoted, Move, failing, line_move, skip_by, skip_move, else_effect, else_move, elif_move, endif_move, live_move, dead_move, directive_move}
 
 abbrev IsUnnoted : Move → Type 0
 IsUnnoted move = move.note ≡ unnoted
@@ -34,6 +34,13 @@ module _ (word : Location) (behind : List Seen) where
   else_unnoted : (block : Option OpenBlock) → IsUnnoted (else_move block word behind)
   else_unnoted block = line_unnoted (ended_line word behind) (λ end. else_effect block word) (line_length behind)
 
+  elif_unnoted : (block : Option OpenBlock) → IsUnnoted (elif_move block word behind)
+  elif_unnoted None = refl
+  elif_unnoted (Some block) =
+      either_unnoted block.with_else (failing (ElifAfterElse, word)) _ refl
+      (either_unnoted (skips_branches block) (skip_move (parts (block_skipped block)) behind) (line_move (line_tokens behind) (parts_if block word) (line_length behind))
+      (skipped_unnoted (parts (block_skipped block))) (line_unnoted (line_tokens behind) (parts_if block word) (line_length behind)))
+
   endif_unnoted : (block : Option OpenBlock) → IsUnnoted (endif_move block word behind)
   endif_unnoted None = refl
   endif_unnoted (Some block) =
@@ -44,33 +51,30 @@ module _ (word : Location) (behind : List Seen) where
     live_unnoted : (directive : Directive) → IsUnnoted (live_move block directive word behind)
     live_unnoted d.Define = line_unnoted (defined_on word behind) defines (line_length behind)
     live_unnoted d.Undef = line_unnoted (only_name word behind) undefines (line_length behind)
+    live_unnoted d.If = line_unnoted (line_tokens behind) (opens_if word) (line_length behind)
     live_unnoted d.Ifdef = line_unnoted (only_name word behind) (opens_where true word) (line_length behind)
     live_unnoted d.Ifndef = line_unnoted (only_name word behind) (opens_where false word) (line_length behind)
+    live_unnoted d.Elif = elif_unnoted block
     live_unnoted d.Else = else_unnoted block
     live_unnoted d.Endif = endif_unnoted block
+    live_unnoted d.Line = line_unnoted (line_tokens behind) (renumbers word) (line_length behind)
     live_unnoted d.Version = line_unnoted (line_entries behind) (λ tokens. gives_item (version tokens (comments_before_end behind)) word) (line_length behind)
     live_unnoted d.Extension = line_unnoted (line_entries behind) (λ tokens. gives_item (extension tokens) word) (line_length behind)
     live_unnoted d.Pragma = line_unnoted (line_entries behind) (λ tokens. gives_item (pragma tokens) word) (line_length behind)
-    live_unnoted _ = refl
+    live_unnoted d.Error = refl
+    live_unnoted d.Unknown = refl
 
     dead_unnoted : (directive : Directive) → IsUnnoted (dead_move block directive word behind)
     dead_unnoted d.If = skipped_unnoted (opens_unread word)
     dead_unnoted d.Ifdef = skipped_unnoted (opens_unread word)
     dead_unnoted d.Ifndef = skipped_unnoted (opens_unread word)
-    dead_unnoted d.Elif = refl
+    dead_unnoted d.Elif = elif_unnoted block
     dead_unnoted d.Else = else_unnoted block
     dead_unnoted d.Endif = endif_unnoted block
     dead_unnoted d.Unknown = refl
     dead_unnoted _ = skipped_unnoted passes
 
-    acting_unnoted : (live : Bool) (directive : Directive) → IsUnnoted (acting_move live block directive word behind)
-    acting_unnoted true directive = live_unnoted directive
-    acting_unnoted false directive = dead_unnoted directive
-
-    refused_unnoted : (found : Option Fault) (move : Move) → IsUnnoted move → IsUnnoted (unless_refused found move)
-    refused_unnoted (Some fault) move h = refl
-    refused_unnoted None move h = h
-
     -- so it is of each directive, in live and in dead text
     pub directive_unnoted : (live : Bool) (directive : Directive) → IsUnnoted (directive_move live block directive word behind)
-    directive_unnoted live directive = refused_unnoted (directive_fault live directive word behind) (acting_move live block directive word behind) (acting_unnoted live directive)
+    directive_unnoted true directive = live_unnoted directive
+    directive_unnoted false directive = dead_unnoted directive

@@ -14,7 +14,6 @@ pub mod Held
 pub mod Kept
 pub mod Preprocessing
 pub mod Defined
-pub mod SoFar
 pub mod DirectiveItems
 pub mod SourceMoves
 pub mod OpenBlocks

@@ -1,5 +1,5 @@
 -- What is kept of the blocks that are open, and the blocks of the definitions that this stands for (docs/RULES.md, Directives 7 to 11).
-use Rattle.std.specs.Prelude.{◌≡◌, ℕ, ◌<◌, ◌-◌, Bool, true, false, not, ◌&&◌, List, ◌∷◌, length, take, slice_get, Option, Some, None}
+use Rattle.std.specs.Prelude.{◌≡◌, ℕ, ◌<◌, ◌-◌, Bool, true, false, not, ◌&&◌, ◌||◌, List, ◌∷◌, length, take, slice_get, Option, Some, None}
 use Rattle.std.specs.List.{AllByRecursion as Each, AllZip, list_all}
 use Rattle.pp_lexer.specs.Lexed.{Seen}
 use Rattle.pp_lexer.specs.declared.token.Location.{Location}
@@ -31,6 +31,18 @@ block_unread word = record { word = word; live_around = false; taken = false; wi
 -- the block behind its `#else`, whose branch is chosen where no other was taken
 abbrev pub block_parted : OpenBlock → OpenBlock
 block_parted block = record block { with_else = true; chosen = block.live_around && not block.taken }
+
+-- the block after an `#elif` that is skipped
+abbrev pub block_skipped : OpenBlock → OpenBlock
+block_skipped block = record block { chosen = false }
+
+-- the block after an `#elif` whose condition holds or not, where no branch was taken before
+abbrev pub block_decided : OpenBlock → Bool → OpenBlock
+block_decided block holds = record block { taken = holds; chosen = holds }
+
+-- whether an `#elif` of the block is skipped: its surroundings are dead, or a branch was taken
+abbrev pub skips_branches : OpenBlock → Bool
+skips_branches block = not block.live_around || block.taken
 
 -- the branch marks of a block
 abbrev pub marks : Block → List BlockLine

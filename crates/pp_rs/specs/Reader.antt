@@ -1,5 +1,5 @@
 -- What stands behind the frames, as the interface object of a reader shows it.
-use Rattle.std.specs.Prelude.{◌≡◌, ◌⊎◌, ℕ, pos, Bool, ◌||◌, ◌&&◌, if◌then◌else◌, List, [], ◌∷◌, Option, Some, None, Ok, Err}
+use Rattle.std.specs.Prelude.{◌≡◌, ◌⊎◌, ℕ, pos, ◌+ℤ◌, Bool, ◌||◌, ◌&&◌, if◌then◌else◌, List, [], ◌∷◌, Option, Some, None, Ok, Err}
 use Rattle.pp_lexer.specs.PreprocessorError.{out_of_memory}
 use Rattle.pp_lexer.specs.declared.token.Token.{Token}
 use Rattle.pp_model.specs.Definitions.{Definitions}
@@ -46,9 +46,9 @@ abbrev pub visible : Reader → Definitions
 visible (of_source source) = meaning_of source.definitions
 visible (of_list list) = λ name. if is_masked list name then None else meaning_of list.definitions name
 
--- the number that `__LINE__` shows for a line, unless it is out of range; no `#line` acts so far
+-- the number that `__LINE__` shows for a line, unless it is out of range
 abbrev pub shown_line : Reader → ℕ → Option ℕ
-shown_line (of_source source) line = as_line_number (pos line)
+shown_line (of_source source) line = as_line_number (pos line +ℤ source.line_offset)
 shown_line (of_list list) line = Some line
 
 -- what is defined there, the hidden names too

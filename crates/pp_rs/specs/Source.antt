@@ -1,24 +1,29 @@
 -- What the reader of a source keeps, and one step of it.
-use Rattle.std.specs.Prelude.{◌≡◌, ◌≢◌, ℕ, ◌+◌, ◌<◌, ◌⊎◌, Bool, false, if◌then◌else◌, not, ◌||◌, is_some, List, [], ◌∷◌, ◌++◌, length, drop, Option, Some, None, Ok, Err, MatchBool}
+use Rattle.std.specs.Prelude.{◌≡◌, ◌≢◌, ℕ, ◌+◌, ◌<◌, ◌⊎◌, Bool, false, if◌then◌else◌, not, ◌||◌, is_some, List, [], ◌∷◌, ◌++◌, length, drop, Option, Some, None, Result, Ok, Err, MatchBool, ℤ, pos, ◌-ℤ◌}
 use Rattle.pp_lexer.specs.Lexed.{Seen}
 use Rattle.pp_lexer.specs.PreprocessorError.{out_of_memory}
 use Rattle.pp_lexer.specs.declared.token.PreprocessorError.TheVariants.{DefineRedefined, UnfinishedBlock}
 use Rattle.pp_lexer.specs.declared.token.Token.{Token}
+use Rattle.pp_lexer.specs.declared.token.Location.{Location}
+use Rattle.pp_model.specs.Calls.{Fault}
 use Rattle.pp_model.specs.Definitions.{Definition, IsSameDefinition}
+use Rattle.pp_model.specs.Emitting.{answers_at, expansion_limit}
+use Rattle.pp_model.specs.LineValues.{IsCondition, IsLineNumber}
 use Rattle.pp_model.specs.declared.definition.Named.{Named}
 use Rattle.pp_rs.specs.DirectiveItems.{value_of}
 use Rattle.pp_rs.specs.Item.{Step}
 use Rattle.pp_rs.specs.Defined.{Defined, meaning_of, IsChanged}
-use Rattle.pp_rs.specs.OpenBlocks.{OpenBlock, outer_blocks, block_opened, block_unread}
-use Rattle.pp_rs.specs.SourceMoves.{Effect, gives, gives_item, fails, ends, passes, defines, undefines, opens_where, opens_unread, parts, closes, unfinished, Note, notes_text, notes_directive, Move, move_of}
+use Rattle.pp_rs.specs.OpenBlocks.{OpenBlock, outer_blocks, block_opened, block_unread, block_decided}
+use Rattle.pp_rs.specs.SourceMoves.{Effect, gives, gives_item, fails, ends, passes, defines, undefines, opens_where, opens_if, opens_unread, parts, parts_if, closes, unfinished, renumbers, Note, notes_text, notes_directive, Move, move_of}
 use Rattle.pp_rs.specs.declared.pp.step.StepExit.TheVariants.{Error, Continue, Finished}
 
--- the items that are left, what is defined, the blocks that are open, the outermost first, whether memory was refused, and whether a live
--- token of the text was read so far, and a directive
+-- the items that are left, what is defined, the blocks that are open, the outermost first, what `#line` adds to a line, whether memory was
+-- refused, and whether a live token of the text was read so far, and a directive
 pub record Source : Type 0 where
   pub rest : List Seen
   pub definitions : List Defined
   pub blocks : List OpenBlock
+  pub line_offset : ℤ
   pub spent : Bool
   pub has_text : Bool
   pub has_directive : Bool
@@ -27,6 +32,7 @@ pub record Source : Type 0 where
 pub record IsBehind (taken : ℕ) (note : Note) (still_open : List OpenBlock) (old new : Source) : Type 0 where
   pub rest : new.rest ≡ drop taken old.rest
   pub blocks : new.blocks ≡ still_open
+  pub line_offset : new.line_offset ≡ old.line_offset
   pub spent : new.spent ≡ false
   pub has_text : new.has_text ≡ (notes_text note || old.has_text)
   pub has_directive : new.has_directive ≡ (notes_directive note || old.has_directive)
@@ -60,6 +66,24 @@ holds_where wanted found = if wanted then is_some found else not (is_some found)
 abbrev pub Pauses : ℕ → Note → List OpenBlock → Source → Step Token → Source → Type 0
 Pauses taken note blocks old step new = (step ≡ Err Continue) × IsBehind taken note blocks old new × (new.definitions ≡ old.definitions)
 
+-- the condition of an `#if` or `#elif` with this word and these tokens holds or not, or is at fault
+abbrev pub Condition : Location → List Token → List Defined → Result Bool Fault → Type 0
+Condition word tokens definitions result = IsCondition (answers_at expansion_limit) word tokens (meaning_of definitions) result
+
+-- the number that a `#line` with this word and these tokens gives, or its fault
+abbrev pub LineNumber : Location → List Token → List Defined → Result ℕ Fault → Type 0
+LineNumber word tokens definitions result = IsLineNumber (answers_at expansion_limit) word tokens (meaning_of definitions) result
+
+-- a line with a condition: these blocks are then open, where it holds or not
+pub data Decides (word : Location) (tokens : List Token) (blocks : Bool → List OpenBlock) (taken : ℕ) (note : Note) (old : Source) (step : Step Token) (new : Source) : Type 0 where
+  holds : (value : Bool) → Condition word tokens old.definitions (Ok value) → Pauses taken note (blocks value) old step new → Decides word tokens blocks taken note old step new
+  faulty : (fault : Fault) → Condition word tokens old.definitions (Err fault) → step ≡ Err (Error fault) → IsBehindFault old new → Decides word tokens blocks taken note old step new
+
+-- a `#line`: the lines behind it are numbered from there
+pub data Renumbers (word : Location) (tokens : List Token) (taken : ℕ) (note : Note) (old : Source) (step : Step Token) (new : Source) : Type 0 where
+  numbers : (n : ℕ) → LineNumber word tokens old.definitions (Ok n) → Pauses taken note old.blocks (record old { line_offset = pos n -ℤ pos word.line }) step new → Renumbers word tokens taken note old step new
+  unnumbered : (fault : Fault) → LineNumber word tokens old.definitions (Err fault) → step ≡ Err (Error fault) → IsBehindFault old new → Renumbers word tokens taken note old step new
+
 -- what an effect means for the step, and for the source behind it
 abbrev pub HasEffect : Effect → ℕ → Note → Source → Step Token → Source → Type 0
 HasEffect (gives token) taken note old step new = (step ≡ Ok token) × IsBehind taken note old.blocks old new × (new.definitions ≡ old.definitions)
@@ -71,10 +95,13 @@ HasEffect passes taken note old step new = Pauses taken note old.blocks old step
 HasEffect (defines named) taken note old step new = DefinesOver named (meaning_of old.definitions named.name) taken note old step new
 HasEffect (undefines name) taken note old step new = (step ≡ Err Continue) × IsBehind taken note old.blocks old new × IsChanged name None old.definitions new.definitions
 HasEffect (opens_where wanted word name) taken note old step new = Pauses taken note (old.blocks ++ block_opened word (holds_where wanted (meaning_of old.definitions name)) ∷ []) old step new
+HasEffect (opens_if word tokens) taken note old step new = Decides word tokens (λ value. old.blocks ++ block_opened word value ∷ []) taken note old step new
 HasEffect (opens_unread word) taken note old step new = Pauses taken note (old.blocks ++ block_unread word ∷ []) old step new
 HasEffect (parts block) taken note old step new = Pauses taken note (outer_blocks old.blocks ++ block ∷ []) old step new
+HasEffect (parts_if block word tokens) taken note old step new = Decides word tokens (λ value. outer_blocks old.blocks ++ block_decided block value ∷ []) taken note old step new
 HasEffect closes taken note old step new = Pauses taken note (outer_blocks old.blocks) old step new
 HasEffect (unfinished word) taken note old step new = (step ≡ Err (Error (UnfinishedBlock, word))) × IsBehindBlock old new
+HasEffect (renumbers word tokens) taken note old step new = Renumbers word tokens taken note old step new
 
 abbrev pub Makes : Move → Source → Step Token → Source → Type 0
 Makes move old step new = HasEffect move.effect move.taken move.note old step new

@@ -16,8 +16,8 @@ use Rattle.pp_model.specs.declared.definition.Placed.{Placed}
 use Rattle.pp_rs.specs.Defined.{Defined, meaning_of}
 use Rattle.pp_rs.specs.Item.{Step}
 use Rattle.pp_rs.specs.OpenBlocks.{OpenBlock}
-use Rattle.pp_rs.specs.Source.{Source, Makes}
-use Rattle.pp_rs.specs.SourceMoves.{Effect, fails, passes, defines, unnoted, Move, failing, directive_move, taking_more}
+use Rattle.pp_rs.specs.Source.{Source, Condition, LineNumber, Makes}
+use Rattle.pp_rs.specs.SourceMoves.{Effect, fails, passes, defines, opens_if, parts_if, renumbers, unnoted, Move, failing, directive_move, taking_more}
 use Rattle.pp_rs.specs.Turns.{as_pause}
 use Rattle.pp_rs.specs.declared.pp.halt.Halt.{Halt}
 use Rattle.pp_rs.specs.declared.pp.halt.Halt.TheVariants as halt
@@ -37,6 +37,9 @@ RedefinesWith named (Some before) fault = (IsSameDefinition before named.definit
 abbrev pub FailsWith : Effect → List Defined → Fault → Type 0
 FailsWith (fails wanted) definitions fault = fault ≡ wanted
 FailsWith (defines named) definitions fault = RedefinesWith named (meaning_of definitions named.name) fault
+FailsWith (opens_if word tokens) definitions fault = Condition word tokens definitions (Err fault)
+FailsWith (parts_if block word tokens) definitions fault = Condition word tokens definitions (Err fault)
+FailsWith (renumbers word tokens) definitions fault = LineNumber word tokens definitions (Err fault)
 FailsWith _ definitions fault = ⊥
 
 -- a directive does what the move says, where this is the step that its value comes to, unless memory is refused

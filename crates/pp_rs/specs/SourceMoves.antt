@@ -1,13 +1,13 @@
--- What a token or a line at the front of the items that are left comes to (docs/RULES.md, Directives 1 to 12 and 14).
+-- What a token or a line at the front of the items that are left comes to (docs/RULES.md, Directives).
 use Rattle.std.specs.Prelude.{ℕ, ◌+◌, Bool, true, false, if◌then◌else◌, List, drop, Option, Some, None, Result, Ok, Err}
 use Rattle.pp_lexer.specs.Entry.{Entry}
 use Rattle.pp_lexer.specs.Lexed.{Seen}
 use Rattle.pp_lexer.specs.declared.token.Location.{Location}
-use Rattle.pp_lexer.specs.declared.token.PreprocessorError.TheVariants.{UnexpectedHash, ErrorDirective, UnknownDirective, ElseOutsideOfBlock, EndifOutsideOfBlock, MoreThanOneElse}
+use Rattle.pp_lexer.specs.declared.token.PreprocessorError.TheVariants.{UnexpectedHash, ErrorDirective, UnknownDirective, ElifOutsideOfBlock, ElifAfterElse, ElseOutsideOfBlock, EndifOutsideOfBlock, MoreThanOneElse}
 use Rattle.pp_lexer.specs.declared.token.Token.{Token}
 use Rattle.pp_model.specs.Names.{Name}
 use Rattle.pp_model.specs.Calls.{Fault}
-use Rattle.pp_model.specs.Lines.{line_length, line_fault, comments_before_end, ended_line, only_name}
+use Rattle.pp_model.specs.Lines.{line_length, line_fault, comments_before_end, ended_line, only_name, line_tokens}
 use Rattle.pp_model.specs.DefineLines.{defined_on}
 use Rattle.pp_model.specs.Sights.{sight_of}
 use Rattle.pp_model.specs.declared.definition.Named.{Named}
@@ -16,11 +16,11 @@ use Rattle.pp_model.specs.declared.directive.Directive.TheVariants as d
 use Rattle.pp_model.specs.declared.sight.Sight.{Sight}
 use Rattle.pp_model.specs.declared.sight.Sight.TheVariants as sight
 use Rattle.pp_rs.specs.DirectiveItems.{DirectiveItem, version, extension, pragma, line_entries}
-use Rattle.pp_rs.specs.OpenBlocks.{OpenBlock, last_block, is_live_in, block_parted}
-use Rattle.pp_rs.specs.SoFar.{directive_fault}
+use Rattle.pp_rs.specs.OpenBlocks.{OpenBlock, last_block, is_live_in, block_parted, block_skipped, skips_branches}
 
--- What comes of it: a token of the text, a directive that is an item, or a fault is given, nothing, or the end; a name stands for something from now on, or for nothing; a block
--- opens where a name is defined, or where it isn't, or unread; the innermost block is parted, or closes, or is told at the end.
+-- What comes of it: a token of the text, a directive that is an item, or a fault is given, nothing, or the end; a name stands for
+-- something from now on, or for nothing; a block opens where a name is defined, or where it isn't, or where the condition of these tokens
+-- holds, or unread; the innermost block is parted, or parted by a condition, or closes, or is reported at the end; lines are numbered anew.
 pub data Effect : Type 0 where
   gives : Token → Effect
   gives_item : DirectiveItem → Location → Effect
@@ -30,10 +30,13 @@ pub data Effect : Type 0 where
   defines : Named → Effect
   undefines : Name → Effect
   opens_where : Bool → Location → Name → Effect
+  opens_if : Location → List Token → Effect
   opens_unread : Location → Effect
   parts : OpenBlock → Effect
+  parts_if : OpenBlock → Location → List Token → Effect
   closes : Effect
   unfinished : Location → Effect
+  renumbers : Location → List Token → Effect
 
 -- what is remembered of what was read: nothing, or that it was a live token of the text, or a directive
 pub data Note : Type 0 where
@@ -85,6 +88,14 @@ endif_move None word behind = failing (EndifOutsideOfBlock, word)
 endif_move (Some block) word behind =
     if block.live_around then line_move (ended_line word behind) (λ end. closes) (line_length behind) else skip_move closes behind
 
+-- an `#elif` of the innermost block: it is skipped where it can't be the first branch to be taken
+abbrev pub elif_move : Option OpenBlock → Location → List Seen → Move
+elif_move None word behind = failing (ElifOutsideOfBlock, word)
+elif_move (Some block) word behind =
+    if block.with_else then failing (ElifAfterElse, word)
+    else if skips_branches block then skip_move (parts (block_skipped block)) behind
+    else line_move (line_tokens behind) (parts_if block word) (line_length behind)
+
 -- a line that is an item
 abbrev pub item_move : (List Entry → DirectiveItem) → Location → List Seen → Move
 item_move item word behind = line_move (line_entries behind) (λ tokens. gives_item (item tokens) word) (line_length behind)
@@ -93,36 +104,32 @@ item_move item word behind = line_move (line_entries behind) (λ tokens. gives_i
 abbrev pub live_move : Option OpenBlock → Directive → Location → List Seen → Move
 live_move block d.Define word behind = line_move (defined_on word behind) defines (line_length behind)
 live_move block d.Undef word behind = line_move (only_name word behind) undefines (line_length behind)
+live_move block d.If word behind = line_move (line_tokens behind) (opens_if word) (line_length behind)
 live_move block d.Ifdef word behind = line_move (only_name word behind) (opens_where true word) (line_length behind)
 live_move block d.Ifndef word behind = line_move (only_name word behind) (opens_where false word) (line_length behind)
+live_move block d.Elif word behind = elif_move block word behind
 live_move block d.Else word behind = else_move block word behind
 live_move block d.Endif word behind = endif_move block word behind
 live_move block d.Error word behind = failing (ErrorDirective, word)
+live_move block d.Line word behind = line_move (line_tokens behind) (renumbers word) (line_length behind)
 live_move block d.Version word behind = item_move (λ tokens. version tokens (comments_before_end behind)) word behind
 live_move block d.Extension word behind = item_move extension word behind
 live_move block d.Pragma word behind = item_move pragma word behind
-live_move block _ word behind = failing (UnknownDirective, word)
+live_move block d.Unknown word behind = failing (UnknownDirective, word)
 
 -- a directive in dead text
 abbrev pub dead_move : Option OpenBlock → Directive → Location → List Seen → Move
 dead_move block d.If word behind = skip_move (opens_unread word) behind
 dead_move block d.Ifdef word behind = skip_move (opens_unread word) behind
 dead_move block d.Ifndef word behind = skip_move (opens_unread word) behind
-dead_move block d.Elif word behind = failing (UnknownDirective, word)
+dead_move block d.Elif word behind = elif_move block word behind
 dead_move block d.Else word behind = else_move block word behind
 dead_move block d.Endif word behind = endif_move block word behind
 dead_move block d.Unknown word behind = record { effect = passes; taken = 0; note = unnoted }
 dead_move block _ word behind = skip_move passes behind
 
-abbrev pub acting_move : Bool → Option OpenBlock → Directive → Location → List Seen → Move
-acting_move live block directive word behind = if live then live_move block directive word behind else dead_move block directive word behind
-
-abbrev pub unless_refused : Option Fault → Move → Move
-unless_refused (Some fault) move = failing fault
-unless_refused None move = move
-
 abbrev pub directive_move : Bool → Option OpenBlock → Directive → Location → List Seen → Move
-directive_move live block directive word behind = unless_refused (directive_fault live directive word behind) (acting_move live block directive word behind)
+directive_move live block directive word behind = if live then live_move block directive word behind else dead_move block directive word behind
 
 -- so many items more, the number sign and the word of a directive among them
 abbrev pub taking_more : ℕ → Move → Move

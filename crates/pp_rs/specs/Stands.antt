@@ -1,5 +1,5 @@
 -- The state of a run that a preprocessor stands for. It keeps less: neither what was read, nor the list into which its frames are spliced.
-use Rattle.std.specs.Prelude.{◌≡◌, ◌≢◌, pos, ◌≤◌, true, false, ◌||◌, List, [], ◌++◌, length, take, drop, Option, Some, Err, option_map, ⊤}
+use Rattle.std.specs.Prelude.{◌≡◌, ◌≢◌, ◌≤◌, true, false, ◌||◌, List, [], ◌++◌, length, take, drop, Option, Some, Err, option_map, ⊤}
 use Rattle.pp_lexer.specs.Lexed.{Seen}
 use Rattle.pp_lexer.specs.declared.token.Token.{Token}
 use Rattle.pp_model.specs.Reading.{Expander}
@@ -21,7 +21,7 @@ pub record StandsForReader (source : Source) (reader : SourceReader) : Type 0 wh
   pub rest : source.rest ≡ drop reader.position reader.items
   pub within : reader.position ≤ length reader.items
   pub definitions : reader.definitions ≡ meaning_of source.definitions
-  pub line_offset : reader.line_offset ≡ pos 0
+  pub line_offset : reader.line_offset ≡ source.line_offset
   pub lined : AreLined reader.items
   pub lines : (behind : List Seen) → block_lines 0 (take reader.position reader.items ++ behind) ≡ block_lines 0 (take reader.position reader.items) ++ block_lines reader.position behind
   pub blocks : StandForBlocks reader.items reader.truths source.blocks (blocks_at reader.items reader.position)

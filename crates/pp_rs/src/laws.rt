@@ -10,7 +10,6 @@ ghost use Rattle.pp_model.specs.RespellLaws.{RunsAreReadAfresh};
 ghost use Rattle.pp_model.specs.RunChains.{ChainsAreRuns};
 ghost use Rattle.pp_model.specs.RunLaws.{OneReplies, OneRun, RedefinitionIsChecked};
 ghost use Rattle.pp_model.specs.RunStates.{RunKeepsMarksApart, RunShowsNoLineName, EndStays, RunEndsForGood};
-ghost use Rattle.pp_rs.specs.Comes.{OneRunSoFar};
 ghost use Rattle.pp_rs.specs.LiveBranch.{RunHasLiveBranches};
 
 use crate::lexer;
@@ -91,12 +90,11 @@ pub fn respell()
 }
 
 /// Calls that follow one another from the start of a source, each in the state behind the one before, are a run. Equal sources
-/// and calls have equal replies, up to and with the first error item; so they have as far as the directives act.
+/// and calls have equal replies, up to and with the first error item.
 pub fn runs()
     ensures chains { (level : ℕ) → ChainsAreRuns (answers_at level) }
     ensures replies { (level : ℕ) → OneReplies (answers_at level) }
     ensures run { OneRun }
-    ensures so_far { OneRunSoFar }
 {
     pp_model::laws::chains();
     pp_model::laws::one_run()

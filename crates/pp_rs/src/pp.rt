@@ -13,6 +13,7 @@ mod directives;
 mod expander;
 mod frames;
 mod halt;
+mod line_value;
 mod lines;
 mod list_lexer;
 mod list_step;

@@ -59,6 +59,34 @@ impl OpenBlock {
             ..self
         }
     }
+
+    /// Whether an `#elif` of the block is skipped: its surroundings are dead, or a branch was taken.
+    pub fn skips_branches(&self) -> bool
+        ensures { result ≡ spec.skips_branches self.now }
+    {
+        !self.live_around || self.taken
+    }
+
+    /// The block after an `#elif` that is skipped.
+    pub fn skipped(self) -> OpenBlock
+        ensures { result ≡ spec.block_skipped self }
+    {
+        OpenBlock {
+            chosen: false,
+            ..self
+        }
+    }
+
+    /// The block after an `#elif` whose condition holds or not, where no branch was taken before.
+    pub fn decided(self, holds: bool) -> OpenBlock
+        ensures { result ≡ spec.block_decided self holds }
+    {
+        OpenBlock {
+            taken: holds,
+            chosen: holds,
+            ..self
+        }
+    }
 }
 
 /// The blocks that are open, the innermost last.

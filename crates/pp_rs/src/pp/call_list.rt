@@ -1,10 +1,9 @@
 //! The replies to a list of calls.
 
 ghost use Rattle.std.specs.Prelude.{◌≡◌, ◌-◌, ◌^◌, ◌<◌, false, length, map, All, IfOk};
-ghost use Rattle.pp_model.specs.Run.{add_define, next, call_of, HasRoom};
+ghost use Rattle.pp_model.specs.Run.{add_define, next, call_of, HasRoom, IsRun};
 ghost use Rattle.pp_model.specs.SeenSource.{ends_run};
 ghost use Rattle.pp_rs.specs.Answering.{IsAnswered};
-ghost use Rattle.pp_rs.specs.Comes.{IsRunSoFar};
 ghost use Rattle.pp_rs.specs.Item.{is_out_of_memory};
 ghost use Rattle.pp_rs.specs.Kept.{is_spent};
 
@@ -79,7 +78,7 @@ fn ends_run(reply: &Reply) -> bool
 pub fn replies(alloc: Global, source: &str, calls: &[Call<'_>]) -> Result<Vec<Reply>, AllocError>
     requires size { length source.now < 2 ^ 32 - 1 }
     requires contents { All HasRoom calls.now }
-    ensures { IfOk result (λ replies. IsRunSoFar source.now (map call_of calls.now) replies.items) }
+    ensures { IfOk result (λ replies. IsRun source.now (map call_of calls.now) replies.items) }
 {
     let mut pp = Preprocessor::new(alloc, source);
     let mut replies = Vec::new(alloc);

@@ -1,12 +1,13 @@
 //! The source's reader: directives act, and the tokens between them are given.
 
-ghost use Rattle.std.specs.Prelude.{◌≡◌, ◌≢◌, ◌||◌, ◌-◌, ◌^◌, ◌<◌, [], length, drop, false, true, Ok, Err, is_ok, IfOk, IfSome, option_map};
+ghost use Rattle.std.specs.Prelude.{◌≡◌, ◌≢◌, ◌||◌, ◌-◌, ◌^◌, ◌<◌, [], length, drop, false, true, Ok, Err, is_ok, IfOk, IfSome, option_map, Some, pos, ◌+ℤ◌, ◌-ℤ◌};
 ghost use Rattle.std.specs.Str.{chars};
 ghost use Rattle.pp_lexer.specs.Lexed.{start_of};
 ghost use Rattle.pp_lexer.specs.Spots.{spots_of};
 ghost use Rattle.pp_lexer.specs.declared.lexer.item.TokenValue.TheVariants.{NewLine};
 ghost use Rattle.pp_model.specs.Conversions.{conversion};
-ghost use Rattle.pp_model.specs.Lines.{only_name, line_length, first_name, first_token};
+ghost use Rattle.pp_model.specs.Lines.{only_name, line_tokens, line_length, first_name, first_token};
+ghost use Rattle.pp_model.specs.LineValues.{as_line_number};
 ghost use Rattle.pp_model.specs.Run.{items_of, content_tokens};
 ghost use Rattle.pp_model.specs.declared.directive.Directive.TheVariants as d;
 ghost use Rattle.pp_rs.specs.Defined.{meaning_of};
@@ -14,7 +15,7 @@ ghost use Rattle.pp_rs.specs.DirectiveItems.{is_item};
 ghost use Rattle.pp_rs.specs.Held.{HoldsOrdinary};
 ghost use Rattle.pp_rs.specs.Item.{as_step};
 ghost use Rattle.pp_rs.specs.LineReading.{named};
-ghost use Rattle.pp_rs.specs.OpenBlocks.{last_block, is_live_in};
+ghost use Rattle.pp_rs.specs.OpenBlocks.{last_block, is_live_in, block_skipped};
 ghost use Rattle.pp_rs.specs.SettingContent.{SetsContent};
 ghost use Rattle.pp_rs.specs.Source.{StepsSource};
 ghost use Rattle.pp_rs.specs.SourceActs.{Acts, ActsAs, Gives, live_word_move, dead_word_move, word_move, defining};
@@ -28,9 +29,10 @@ use crate::pp::convert::convert_lexer_token_to_step;
 use crate::pp::define::Define;
 use crate::pp::definitions::Definitions;
 use crate::pp::halt::Halt;
+use crate::pp::line_value::{condition, line_number};
 use crate::pp::lines::{
     DefineLine, define_line, ended_line, endif_end, first_name, first_token, line_tokens,
-    only_name, skip_line,
+    only_name, rest_of_line, skip_line,
 };
 use crate::pp::source_lexer::SourceLexer;
 use crate::pp::step::{Step, StepExit};
@@ -49,6 +51,7 @@ pub struct DirectiveProcessor<'a> {
     lexer: SourceLexer<'a>,
     definitions: Definitions,
     blocks: Blocks,
+    line_offset: i64,
     has_text: bool,
     has_directive: bool,
 }
@@ -58,7 +61,7 @@ impl<'a> Model for DirectiveProcessor<'a> {
 
     ghost Value = { Source };
 
-    ghost view = { λ p. record { rest = p.lexer.rest; definitions = p.definitions; blocks = p.blocks; spent = p.lexer.spent; has_text = p.has_text; has_directive = p.has_directive } };
+    ghost view = { λ p. record { rest = p.lexer.rest; definitions = p.definitions; blocks = p.blocks; line_offset = p.line_offset; spent = p.lexer.spent; has_text = p.has_text; has_directive = p.has_directive } };
 }
 
 impl<'a> DirectiveProcessor<'a> {
@@ -67,13 +70,14 @@ impl<'a> DirectiveProcessor<'a> {
     /// Takes no memory and reads nothing yet.
     pub fn new(alloc: Global, input: &'a str) -> DirectiveProcessor<'a>
         requires { length input.now < 2 ^ 32 - 1 }
-        ensures { result ≡ record { rest = (start_of (spots_of input.now)).rest; definitions = []; blocks = []; spent = false; has_text = false; has_directive = false } }
+        ensures { result ≡ record { rest = (start_of (spots_of input.now)).rest; definitions = []; blocks = []; line_offset = pos 0; spent = false; has_text = false; has_directive = false } }
     {
         DirectiveProcessor {
             alloc,
             lexer: SourceLexer::new(alloc, input),
             definitions: Definitions::new(alloc),
             blocks: Blocks::new(alloc),
+            line_offset: 0,
             has_text: false,
             has_directive: false,
         }
@@ -91,6 +95,14 @@ impl<'a> DirectiveProcessor<'a> {
         ensures { result.now ≡ self.now.definitions }
     {
         &self.definitions
+    }
+
+    /// The line that `__LINE__` shows for a line of the source, where it has 32 bits.
+    pub fn shown_line(&self, line: u32) -> Option<u32>
+        ensures { result ≡ as_line_number (pos line +ℤ self.now.line_offset) }
+    {
+        let shown = self.line_offset.checked_add(i64::from(line))?;
+        u32::try_from(shown).ok()
     }
 
     /// Lets the name stand for the tokens of a content of fewer than 2^32 - 1 bytes from now on, whatever it stood for.
@@ -162,6 +174,17 @@ impl<'a> DirectiveProcessor<'a> {
         Ok(())
     }
 
+    // Opens a block where the condition on the line holds.
+    fn open_if(&mut self, word: Location) -> Result<(), Halt>
+        requires { self.old.spent ≡ false }
+        ensures { Acts (moves.line_move (line_tokens self.old.rest) (moves.opens_if word) (line_length self.old.rest)) self.old result self.new }
+    {
+        let tokens = rest_of_line(self.alloc, &mut self.lexer)?;
+        let holds = condition(self.alloc, word, &tokens, &self.definitions)?;
+        self.blocks.push(OpenBlock::opened(word, holds))?;
+        Ok(())
+    }
+
     // Opens a block in dead text, whatever stands on its line.
     fn open_unread(&mut self, word: Location) -> Result<(), Halt>
         requires { self.old.spent ≡ false }
@@ -169,6 +192,46 @@ impl<'a> DirectiveProcessor<'a> {
     {
         self.blocks.push(OpenBlock::unread(word))?;
         skip_line(&mut self.lexer)
+    }
+
+    // Skips the branch behind an `#elif` of the innermost block.
+    fn skip_branch(&mut self, block: OpenBlock) -> Result<(), Halt>
+        requires unspent { self.old.spent ≡ false }
+        requires innermost { last_block self.old.blocks ≡ Some block }
+        ensures { Acts (moves.skip_move (moves.parts (block_skipped block)) self.old.rest) self.old result self.new }
+    {
+        skip_line(&mut self.lexer)?;
+        self.blocks.replace_last(block.skipped());
+        Ok(())
+    }
+
+    // Parts the innermost block by the condition on the line.
+    fn part_if(&mut self, block: OpenBlock, word: Location) -> Result<(), Halt>
+        requires unspent { self.old.spent ≡ false }
+        requires innermost { last_block self.old.blocks ≡ Some block }
+        ensures { Acts (moves.line_move (line_tokens self.old.rest) (moves.parts_if block word) (line_length self.old.rest)) self.old result self.new }
+    {
+        let tokens = rest_of_line(self.alloc, &mut self.lexer)?;
+        let holds = condition(self.alloc, word, &tokens, &self.definitions)?;
+        self.blocks.replace_last(block.decided(holds));
+        Ok(())
+    }
+
+    // Does what an `#elif` line says, after its word.
+    fn elif_line(&mut self, word: Location) -> Result<(), Halt>
+        requires { self.old.spent ≡ false }
+        ensures { Acts (moves.elif_move (last_block self.old.blocks) word self.old.rest) self.old result self.new }
+    {
+        let Some(block) = self.blocks.last() else {
+            return Err(Halt::Fault((PreprocessorError::ElifOutsideOfBlock, word)));
+        };
+        if block.with_else {
+            return Err(Halt::Fault((PreprocessorError::ElifAfterElse, word)));
+        }
+        if block.skips_branches() {
+            return self.skip_branch(block);
+        }
+        self.part_if(block, word)
     }
 
     // Does what an `#else` line says, behind its word.
@@ -196,6 +259,24 @@ impl<'a> DirectiveProcessor<'a> {
             return Err(Halt::Fault((PreprocessorError::EndifOutsideOfBlock, word)));
         };
         endif_end(block.live_around, word, &mut self.lexer)
+    }
+
+    // Shows the line as this number from now on, and the lines after it accordingly.
+    fn count_from(&mut self, line: u32, number: u32)
+        ensures { self.new ≡ record self.old { line_offset = pos number -ℤ pos line } }
+    {
+        self.line_offset = i64::from(number) - i64::from(line);
+    }
+
+    // Does what a `#line` line says, after its word: the next lines are numbered from there.
+    fn number_lines(&mut self, word: Location) -> Result<(), Halt>
+        requires { self.old.spent ≡ false }
+        ensures { Acts (moves.line_move (line_tokens self.old.rest) (moves.renumbers word) (line_length self.old.rest)) self.old result self.new }
+    {
+        let tokens = rest_of_line(self.alloc, &mut self.lexer)?;
+        let number = line_number(self.alloc, word, &tokens, &self.definitions)?;
+        self.count_from(word.line, number);
+        Ok(())
     }
 
     // Skips the line.
@@ -266,10 +347,13 @@ impl<'a> DirectiveProcessor<'a> {
         match directive {
             Directive::Define => self.define(word),
             Directive::Undef => self.undef(word),
+            Directive::If => self.open_if(word),
             Directive::Ifdef => self.open_where(true, word),
             Directive::Ifndef => self.open_where(false, word),
+            Directive::Elif => self.elif_line(word),
             Directive::Else => self.else_line(word),
             Directive::Endif => self.endif_line(word),
+            Directive::Line => self.number_lines(word),
             Directive::Error => Err(Halt::Fault((PreprocessorError::ErrorDirective, word))),
             _ => Err(Halt::Fault((PreprocessorError::UnknownDirective, word))),
         }
@@ -300,7 +384,7 @@ impl<'a> DirectiveProcessor<'a> {
     {
         match directive {
             Directive::If | Directive::Ifdef | Directive::Ifndef => self.open_unread(word),
-            Directive::Elif => Err(Halt::Fault((PreprocessorError::UnknownDirective, word))),
+            Directive::Elif => self.elif_line(word),
             Directive::Else => self.else_line(word),
             Directive::Endif => self.endif_line(word),
             Directive::Unknown => Ok(()),
@@ -379,7 +463,7 @@ impl<'a> DirectiveProcessor<'a> {
     /// Reads on by one token or one line of a directive.
     ///
     /// A newline and a directive that acts are pauses, and so are the tokens of dead text. These
-    /// directives act: `#define`, `#undef`, `#ifdef`, `#ifndef`, `#else` and `#endif`. In live text `#version`, `#extension` and `#pragma` are tokens at their
+    /// directives act: `#define`, `#undef`, `#if`, `#ifdef`, `#ifndef`, `#elif`, `#else`, `#endif` and `#line`. In live text `#version`, `#extension` and `#pragma` are tokens at their
     /// word, which hold the tokens of their line; `#error` is `ErrorDirective` at its word, and a
     /// number sign that begins no line is `UnexpectedHash` at its place. The lexer's errors are
     /// given as they are. At the end `UnfinishedBlock` is told of each block that is open, the

@@ -5,7 +5,7 @@ ghost use Rattle.pp_lexer.specs.Lexed.{comments_before};
 ghost use Rattle.pp_lexer.specs.TokenValue.{is_ordinary};
 ghost use Rattle.pp_model.specs.Conversions as conversions;
 ghost use Rattle.pp_model.specs.DefineLines.{is_attached_paren, definition_at, defined_on};
-ghost use Rattle.pp_model.specs.Lines.{first_token, first_name, ended_line, only_name, line_length, comments_before_end};
+ghost use Rattle.pp_model.specs.Lines.{first_token, first_name, ended_line, only_name, line_tokens, line_length, comments_before_end};
 ghost use Rattle.pp_rs.specs.DirectiveItems.{line_entries};
 ghost use Rattle.pp_rs.specs.Held.{is_ordinary_leaf};
 ghost use Rattle.pp_rs.specs.LineReading as spec;
@@ -197,6 +197,18 @@ pub fn line_tokens_from(
 }
 
 /// The tokens of the rest of the line.
+pub fn rest_of_line(alloc: Global, lexer: &mut SourceLexer<'_>) -> Result<Vec<Token>, Halt>
+    requires { lexer.old.spent ≡ false }
+    ensures is { spec.Meets (λ tokens. tokens.items) result (line_tokens lexer.old.rest) }
+    ensures takes { spec.TakesItems (line_length lexer.old.rest) lexer.old result lexer.new }
+    ensures comments { IfOk result (λ tokens. lexer.old.rest ≢ [] → lexer.new.had_comments ≡ comments_before_end lexer.old.rest) }
+    ensures ordinary { IfOk result (λ tokens. All (λ t. IsTrue (is_ordinary t.value)) tokens.items) }
+{
+    let first = next_line_token(lexer)?;
+    line_tokens_from(alloc, first, lexer)
+}
+
+/// The tokens of the rest of the line, as a directive item holds them.
 pub fn line_tokens(alloc: Global, lexer: &mut SourceLexer<'_>) -> Result<Tokens, Halt>
     requires unspent { lexer.old.spent ≡ false }
     requires left { lexer.old.rest ≢ [] }
@@ -229,8 +241,7 @@ fn function_behind(
     ensures takes { spec.TakesItems (line_length lexer.old.rest) lexer.old result lexer.new }
 {
     let names = parameters(alloc, word, lexer)?;
-    let first = next_line_token(lexer)?;
-    let body = line_tokens_from(alloc, first, lexer)?;
+    let body = rest_of_line(alloc, lexer)?;
     Ok(Define::function_like(names, body))
 }
 

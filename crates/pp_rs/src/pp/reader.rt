@@ -9,8 +9,8 @@ ghost use Rattle.pp_rs.specs.Reader.{Reader, of_source, Reads, visible, shown_li
 
 use crate::pp::define::Define;
 use crate::pp::directives::DirectiveProcessor;
-use crate::pp::step::Step;
-use crate::token::{Location, Token};
+use crate::pp::step::{Step, StepExit};
+use crate::token::{Location, PreprocessorError, Token};
 use std::rc::Rc;
 
 /// A reader of tokens, with what names stand for where it stands.
@@ -42,7 +42,10 @@ impl<'a> MeLexer for DirectiveProcessor<'a> {
         self.find(name)
     }
 
-    fn apply_line_offset(&self, line: u32, _location: Location) -> Step<u32> {
-        Ok(line)
+    fn apply_line_offset(&self, line: u32, location: Location) -> Step<u32> {
+        match self.shown_line(line) {
+            Some(shown) => Ok(shown),
+            None => Err(StepExit::Error((PreprocessorError::LineOverflow, location))),
+        }
     }
 }
