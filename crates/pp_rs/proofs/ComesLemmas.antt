@@ -1,8 +1,16 @@
 -- The tokens that come one after another in a state.
-use Rattle.std.proofs.Common.{List, [], ◌∷◌, ◌++◌, refl, ap, subst}
+use Rattle.std.proofs.Common.{◌≡◌, List, [], ◌∷◌, ◌++◌, refl, ap, subst}
 use Rattle.pp_lexer.specs.declared.token.Token.{Token}
 use Rattle.pp_model.specs.declared.outcome.Outcome.TheVariants as outcome
-use Rattle.pp_rs.specs.Comes.{State, Comes, Gives, nothing, first}
+use Rattle.pp_model.specs.Emitting.{answers_at, expansion_limit}
+use Rattle.pp_model.specs.ExpansionLaws.{OneItem}
+use Rattle.pp_model.proofs.LevelLemmas.{one_answer, one_item_at}
+use Rattle.pp_model.proofs.ReadsLemmas.{source_reads_one}
+use Rattle.pp_rs.specs.Comes.{State, source_rules, Comes, Gives, nothing, first}
+
+-- one thing comes next
+pub one_comes : OneItem source_rules (answers_at expansion_limit)
+one_comes = one_item_at source_rules (source_reads_one (answers_at expansion_limit) (one_answer expansion_limit)) expansion_limit
 
 pub gives_nothing : (e : State) → Gives e [] e
 gives_nothing e = nothing [] e e refl refl

@@ -6,9 +6,11 @@ ghost use Rattle.pp_lexer.specs.ItemLaws.{TokensLieWithin, TokensHaveLines, Item
 ghost use Rattle.pp_lexer.specs.PhaseLaws.{PairsCountOnce, LinesCountNewlines, SourcesNeverFall};
 ghost use Rattle.pp_model.specs.BlockLaws.{OneBranch, NoneBehindTaken, DeadTextGivesNothing};
 ghost use Rattle.pp_model.specs.Emitting.{answers_at};
+ghost use Rattle.pp_model.specs.ExpansionLaws.{OneReads};
+ghost use Rattle.pp_model.specs.Reads.{source_reading};
 ghost use Rattle.pp_model.specs.RespellLaws.{RunsAreReadAfresh};
 ghost use Rattle.pp_model.specs.RunChains.{ChainsAreRuns};
-ghost use Rattle.pp_model.specs.RunLaws.{OneReplies, OneRun, RedefinitionIsChecked};
+ghost use Rattle.pp_model.specs.RunLaws.{OneStep, OneReplies, OneRun, RedefinitionIsChecked};
 ghost use Rattle.pp_model.specs.RunStates.{RunKeepsMarksApart, RunShowsNoLineName, EndStays, RunEndsForGood};
 ghost use Rattle.pp_rs.specs.LiveBranch.{RunHasLiveBranches};
 
@@ -87,6 +89,14 @@ pub fn respell()
     ensures { (level : ℕ) → RunsAreReadAfresh (answers_at level) }
 {
     pp_model::laws::respell()
+}
+
+/// A token or line of a source comes to one outcome, or to nothing, and reading the source gives one outcome next.
+pub fn one_reading()
+    ensures step { (level : ℕ) → OneStep (answers_at level) }
+    ensures reading { (level : ℕ) → OneReads (source_reading (answers_at level)) }
+{
+    pp_model::laws::one_source_reading()
 }
 
 /// Calls that follow one another from the start of a source, each in the state behind the one before, are a run. Equal sources
