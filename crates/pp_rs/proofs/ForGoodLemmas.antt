@@ -12,8 +12,7 @@ use Rattle.pp_model.specs.Reading.{Reading, Opening, opening_by, opening_of, ope
 use Rattle.pp_model.specs.Taking.{read_outcome, Takes, held, listed, read}
 use Rattle.pp_model.specs.Emitting.{opened, itself, object, name_alone, call_refused, call, answers_at, expansion_limit}
 use Rattle.pp_model.specs.Reads.{shown_line, Reads, here, later, source_reading}
-use Rattle.pp_model.specs.Run.{by_rules, Call, is_fault, items_of, start, with_added, Runs, done, added, refused as refused_call, given, failed}
-use Rattle.pp_model.specs.SeenSource.{ends_run}
+use Rattle.pp_model.specs.Run.{by_rules, Call, is_fault, items_of, start, with_added, Runs, done, added, refused as refused_call, given, failed, ends_run}
 use Rattle.pp_model.specs.SourceReader.{SourceReader}
 use Rattle.pp_model.specs.declared.call.Reply.{Reply}
 use Rattle.pp_model.specs.declared.call.Reply.TheVariants as reply

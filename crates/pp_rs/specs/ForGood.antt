@@ -1,8 +1,7 @@
 -- Runs as far as the directives act: equal calls have equal replies, and what comes without an error is given for good, as all of the
 -- definitions say the same.
 use Rattle.std.specs.Prelude.{◌≡◌, ℕ, false, List, All}
-use Rattle.pp_model.specs.Run.{Call, IsRun}
-use Rattle.pp_model.specs.SeenSource.{ends_run}
+use Rattle.pp_model.specs.Run.{Call, IsRun, ends_run}
 use Rattle.pp_model.specs.declared.call.Reply.{Reply}
 use Rattle.pp_rs.specs.Comes.{IsRunSoFar}
 
