@@ -1,10 +1,7 @@
 pub mod ListLemmas
 pub mod TextLemmas
 pub mod GatherLemmas
-pub mod TakeLemmas
-pub mod TurnLemmas
 pub mod CollectLemmas
-pub mod WordLemmas
 pub mod TakingLemmas
 pub mod CallsLemmas
 pub mod EmittingLemmas
@@ -14,8 +11,6 @@ pub mod LineWordsLemmas
 pub mod OpenNamesLemmas
 pub mod ApartMarksLemmas
 pub mod NoLineNameLemmas
-pub mod SourceTextLemmas
-pub mod LineNumberLemmas
 pub mod LineValueLemmas
 pub mod ReadsLemmas
 pub mod RunLemmas
@@ -28,8 +23,6 @@ pub mod BlockLemmas
 pub mod KeptItemsLemmas
 pub mod DeadTextLemmas
 pub mod RedefinitionLemmas
-pub mod SourceStepLemmas
-pub mod RunProgramLemmas
 pub mod HoldingLemmas
 pub mod KeptTokensLemmas
 pub mod LineHoldsLemmas

@@ -66,6 +66,11 @@ is_fault (outcome.Fault fault) = true
 is_fault (outcome.Token token) = false
 is_fault outcome.End = false
 
+-- the reply is an error item, with which the run is over
+abbrev pub ends_run : Reply → Bool
+ends_run (reply.Given (outcome.Fault fault)) = true
+ends_run _ = false
+
 -- what comes next in a state, and the state behind it
 abbrev pub Comings : Type 1
 Comings = Expander SourceReader → Outcome → Expander SourceReader → Type 0

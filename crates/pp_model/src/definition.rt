@@ -1,10 +1,6 @@
 //! Macros.
 
-ghost use Rattle.std.specs.Prelude.{◌≡◌, IfOk};
-
-use crate::copies::{copy_names, copy_tokens};
 use pp_lexer::token::{Location, Text, Token};
-use std::alloc::{AllocError, Global};
 use std::marker::Model;
 
 /// A list of tokens.
@@ -19,37 +15,6 @@ impl Model for TokenList {
     ghost use Rattle.pp_lexer.specs.declared.token.Token.{Token};
 
     ghost Value = { List Token };
-
-    ghost view = { λ list. list.items.items };
-}
-
-/// A list of lists of tokens, as the arguments of a call.
-#[derive(Drop)]
-pub struct TokenLists {
-    /// The lists.
-    pub items: Vec<TokenList>,
-}
-
-impl Model for TokenLists {
-    ghost use Rattle.std.specs.Prelude.{List};
-    ghost use Rattle.pp_lexer.specs.declared.token.Token.{Token};
-
-    ghost Value = { List (List Token) };
-
-    ghost view = { λ lists. lists.items.items };
-}
-
-/// A list of names.
-#[derive(Drop)]
-pub struct NameList {
-    /// The names.
-    pub items: Vec<Text>,
-}
-
-impl Model for NameList {
-    ghost use Rattle.std.specs.Prelude.{List, ℕ};
-
-    ghost Value = { List (List ℕ) };
 
     ghost view = { λ list. list.items.items };
 }
@@ -80,19 +45,6 @@ impl Model for Definition {
     ghost Value = { spec.Definition };
 
     ghost view = { λ d. record { function_like = d.function_like; parameters = d.parameters.items; body = d.body.items } };
-}
-
-impl Definition {
-    /// A copy.
-    pub fn clone(&self, alloc: Global) -> Result<Self, AllocError>
-        ensures { IfOk result (λ copy. copy ≡ self.now) }
-    {
-        Ok(Definition {
-            function_like: self.function_like,
-            parameters: copy_names(alloc, &self.parameters)?,
-            body: copy_tokens(alloc, &self.body)?,
-        })
-    }
 }
 
 /// A definition with the name that a `#define` line gives it.

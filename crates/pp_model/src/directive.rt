@@ -1,5 +1,11 @@
 //! The words of directives (GLSL ES 3.20 section 3.4).
 
+ghost use Rattle.std.specs.Prelude.{◌≡◌};
+ghost use Rattle.pp_model.specs.Sights.{is_word, directive_of};
+
+use crate::names::is_spelled;
+use pp_lexer::token::Text;
+
 /// What a directive's word says.
 #[derive(Clone, Copy, PartialEq, Eq, Debug)]
 pub enum Directive {
@@ -31,4 +37,47 @@ pub enum Directive {
     Pragma,
     /// Any other identifier.
     Unknown,
+}
+
+// Whether a directive's word is spelled so.
+#[tactic(auto, unfolding(crate::specs::Sights::is_word))]
+fn is_word(name: &Text, word: &str) -> bool
+    ensures { result ≡ is_word name.now word.now }
+{
+    is_spelled(name, word)
+}
+
+/// What a directive's word says.
+pub fn directive_of(name: &Text) -> Directive
+    ensures { result ≡ directive_of name.now }
+{
+    if is_word(name, "define") {
+        Directive::Define
+    } else if is_word(name, "undef") {
+        Directive::Undef
+    } else if is_word(name, "if") {
+        Directive::If
+    } else if is_word(name, "ifdef") {
+        Directive::Ifdef
+    } else if is_word(name, "ifndef") {
+        Directive::Ifndef
+    } else if is_word(name, "elif") {
+        Directive::Elif
+    } else if is_word(name, "else") {
+        Directive::Else
+    } else if is_word(name, "endif") {
+        Directive::Endif
+    } else if is_word(name, "error") {
+        Directive::Error
+    } else if is_word(name, "line") {
+        Directive::Line
+    } else if is_word(name, "version") {
+        Directive::Version
+    } else if is_word(name, "extension") {
+        Directive::Extension
+    } else if is_word(name, "pragma") {
+        Directive::Pragma
+    } else {
+        Directive::Unknown
+    }
 }

@@ -2,7 +2,7 @@
 
 ghost use Rattle.std.specs.Prelude.{◌≡◌};
 ghost use Rattle.std.specs.Str.{chars};
-ghost use Rattle.pp_model.specs.Names.{is_same_name, is_in, is_identifier, line_name, defined_name};
+ghost use Rattle.pp_model.specs.Names.{is_same_name, is_identifier, line_name};
 
 use pp_lexer::token::{Text, TokenValue};
 
@@ -21,18 +21,4 @@ pub fn is_line_name(value: &TokenValue) -> bool
         TokenValue::Ident(text) => is_spelled(text, "__LINE__"),
         _ => false,
     }
-}
-
-/// Whether the name is `defined`.
-pub fn is_defined_name(name: &Text) -> bool
-    ensures { result ≡ is_same_name name.now defined_name }
-{
-    is_spelled(name, "defined")
-}
-
-/// Whether the name is among the names.
-pub fn is_among(name: &Text, names: &[Text]) -> bool
-    ensures { result ≡ is_in name.now names.now }
-{
-    names.iter().any(|other| *name == *other)
 }

@@ -6,9 +6,8 @@ use Rattle.std.proofs.lemmas.List.{take_more, take-append-drop, map-append}
 use Rattle.pp_lexer.specs.PreprocessorError.{out_of_memory}
 use Rattle.pp_lexer.specs.declared.token.Token.{Token}
 use Rattle.pp_model.specs.Calls.{Fault}
-use Rattle.pp_model.specs.Run.{Call, call_of, add_define, next, items_of, start, with_added, IsRun}
+use Rattle.pp_model.specs.Run.{Call, call_of, add_define, next, items_of, start, with_added, IsRun, ends_run}
 use Rattle.pp_model.specs.RunChains.{adds, refuses, gives, Chain, none, one_more}
-use Rattle.pp_model.specs.SeenSource.{ends_run}
 use Rattle.pp_model.specs.declared.call.Call.{Call as Called}
 use Rattle.pp_model.specs.declared.call.Reply.{Reply}
 use Rattle.pp_model.specs.declared.call.Reply.TheVariants as reply

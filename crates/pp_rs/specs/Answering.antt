@@ -1,9 +1,8 @@
 -- How far a list of calls has come. No contract of a public call cites this.
 use Rattle.std.specs.Prelude.{◌≡◌, false}
 use Rattle.pp_model.specs.Calls.{Fault}
-use Rattle.pp_model.specs.Run.{Call, next}
+use Rattle.pp_model.specs.Run.{Call, next, ends_run}
 use Rattle.pp_model.specs.RunChains.{AnswersIn}
-use Rattle.pp_model.specs.SeenSource.{ends_run}
 use Rattle.pp_model.specs.declared.call.Reply.{Reply}
 use Rattle.pp_model.specs.declared.call.Reply.TheVariants as reply
 use Rattle.pp_model.specs.declared.outcome.Outcome.TheVariants as outcome

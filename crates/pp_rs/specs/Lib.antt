@@ -28,7 +28,6 @@ pub mod Lined
 pub mod Halting
 pub mod LineReading
 pub mod SourceActs
-pub mod Words
 pub mod Adding
 pub mod SettingContent
 pub mod Comes

@@ -7,7 +7,7 @@ ghost use Rattle.pp_model.specs.Run.{HasRoom};
 use crate::shown::{item, joined, reply};
 use pp_model::call::{Call, Reply};
 use pp_model::outcome::Outcome;
-use pp_model::run::run;
+use pp_plain::run::run;
 use pp_rs::pp::{self, Preprocessor};
 use std::alloc::{AllocError, Global};
 

@@ -1,8 +1,7 @@
 //! The replies to a list of calls.
 
 ghost use Rattle.std.specs.Prelude.{◌≡◌, ◌-◌, ◌^◌, ◌<◌, false, length, map, All, IfOk};
-ghost use Rattle.pp_model.specs.Run.{add_define, next, call_of, HasRoom, IsRun};
-ghost use Rattle.pp_model.specs.SeenSource.{ends_run};
+ghost use Rattle.pp_model.specs.Run.{add_define, next, call_of, HasRoom, IsRun, ends_run};
 ghost use Rattle.pp_rs.specs.Answering.{IsAnswered};
 ghost use Rattle.pp_rs.specs.Item.{is_out_of_memory};
 ghost use Rattle.pp_rs.specs.Kept.{is_spent};

@@ -20,7 +20,6 @@ ghost use Rattle.pp_rs.specs.SettingContent.{SetsContent};
 ghost use Rattle.pp_rs.specs.Source.{StepsSource};
 ghost use Rattle.pp_rs.specs.SourceActs.{Acts, ActsAs, Gives, live_word_move, dead_word_move, word_move, defining};
 ghost use Rattle.pp_rs.specs.SourceMoves as moves;
-ghost use Rattle.pp_rs.specs.Words.{directive_named};
 
 use crate::lexer;
 use crate::pp::blocks::{Blocks, OpenBlock};
@@ -36,10 +35,10 @@ use crate::pp::lines::{
 };
 use crate::pp::source_lexer::SourceLexer;
 use crate::pp::step::{Step, StepExit};
-use crate::pp::words::{Directive, directive_of};
 use crate::token::{
     Extension, Location, Pragma, PreprocessorError, Text, Token, TokenValue, Version,
 };
+use pp_model::directive::{Directive, directive_of};
 use std::alloc::Global;
 use std::marker::Model;
 use std::rc::Rc;
@@ -341,8 +340,8 @@ impl<'a> DirectiveProcessor<'a> {
     // Does what a directive that is no item says in live text, behind its word.
     fn act_live(&mut self, directive: Directive, word: Location) -> Result<(), Halt>
         requires unspent { self.old.spent ≡ false }
-        requires silent { is_item (directive_named directive) ≡ false }
-        ensures { Acts (moves.directive_move true (last_block self.old.blocks) (directive_named directive) word self.old.rest) self.old result self.new }
+        requires silent { is_item directive ≡ false }
+        ensures { Acts (moves.directive_move true (last_block self.old.blocks) directive word self.old.rest) self.old result self.new }
     {
         match directive {
             Directive::Define => self.define(word),
@@ -363,7 +362,7 @@ impl<'a> DirectiveProcessor<'a> {
     fn give_live(&mut self, directive: Directive, word: Location) -> Result<Option<Token>, Halt>
         requires unspent { self.old.spent ≡ false }
         requires left { self.old.rest ≢ [] }
-        ensures gives { Gives (moves.directive_move true (last_block self.old.blocks) (directive_named directive) word self.old.rest) self.old result self.new }
+        ensures gives { Gives (moves.directive_move true (last_block self.old.blocks) directive word self.old.rest) self.old result self.new }
         ensures holds { IfOk result (λ given. IfSome given (λ token. HoldsOrdinary token.value)) }
     {
         match directive {
@@ -380,7 +379,7 @@ impl<'a> DirectiveProcessor<'a> {
     // Does what a directive says in dead text, behind its word.
     fn act_dead(&mut self, directive: Directive, word: Location) -> Result<(), Halt>
         requires { self.old.spent ≡ false }
-        ensures { Acts (moves.directive_move false (last_block self.old.blocks) (directive_named directive) word self.old.rest) self.old result self.new }
+        ensures { Acts (moves.directive_move false (last_block self.old.blocks) directive word self.old.rest) self.old result self.new }
     {
         match directive {
             Directive::If | Directive::Ifdef | Directive::Ifndef => self.open_unread(word),

@@ -1,0 +1,82 @@
+//! A worked case.
+
+use std::alloc::{AllocError, Global};
+
+/// What is done before the items that are left are asked for.
+#[derive(Drop)]
+pub enum Act {
+    /// A name is made to stand for a content.
+    Add {
+        /// The name.
+        name: String,
+        /// The content.
+        content: String,
+    },
+    /// One item is asked for.
+    Next,
+}
+
+/// A source, what is done with it, and what it comes to.
+#[derive(Drop)]
+pub struct Case {
+    /// What it shows.
+    pub name: String,
+    /// The source, its lines joined by LF.
+    pub source: String,
+    /// What is done before the items that are left are asked for.
+    pub acts: Vec<Act>,
+    /// Whether the preprocessor acts on all that it needs.
+    pub acts_whole: bool,
+    /// What it comes to, up to the end or its first error.
+    pub expected: Option<String>,
+    /// What the preprocessor gives after the error.
+    pub after: Option<String>,
+    /// What the preprocessor gives as long as something that the case needs doesn't act.
+    pub so_far: Option<String>,
+    has_line: bool,
+}
+
+impl Case {
+    /// A case of this name, with nothing else.
+    pub fn new(alloc: Global, name: &str) -> Result<Case, AllocError> {
+        Ok(Case {
+            name: String::from_str(alloc, name)?,
+            source: String::new(alloc),
+            acts: Vec::new(alloc),
+            acts_whole: true,
+            expected: None,
+            after: None,
+            so_far: None,
+            has_line: false,
+        })
+    }
+
+    /// One more line of the source.
+    pub fn add_line(&mut self, line: &str) -> Result<(), AllocError> {
+        if self.has_line {
+            self.source.push('\n')?;
+        }
+        self.has_line = true;
+        self.source.push_str(line)
+    }
+
+    /// More of the last line, so many times.
+    pub fn add_times(&mut self, times: u32, text: &str) -> Result<(), AllocError> {
+        for _ in 0..times {
+            self.source.push_str(text)?;
+        }
+        Ok(())
+    }
+
+    /// One more line of the content that was added last, or `false` where none was.
+    pub fn add_content_line(&mut self, line: &str) -> Result<bool, AllocError> {
+        match self.acts.last_mut() {
+            Some(Act::Add { content, .. }) => {
+                content.push('\n')?;
+                content.push_str(line)?;
+                Ok(true)
+            }
+            _ => Ok(false),
+        }
+    }
+}

@@ -1,0 +1,172 @@
+//! What a case comes to: by the plain program, by the preprocessor's list of replies, and by its items one by one.
+
+ghost use Rattle.std.specs.Prelude.{IsTrue, All};
+ghost use Rattle.pp_model.specs.Run.{HasRoom};
+
+use crate::case::{Act, Case};
+use pp_plain::run::run;
+use pp_rs::pp::{self, Call, Outcome, Preprocessor, Reply, preprocess_all};
+use pp_shown::{item, joined, reply};
+use std::alloc::{AllocError, Global};
+
+// More steps than any source here wants.
+const STEPS: u64 = 1_000_000;
+
+// More bytes than any source or content here has.
+const BYTES: usize = 100_000;
+
+// More items than any source here comes to up to its first error.
+const ITEMS: u32 = 100;
+
+fn has_room(call: &Call<'_>) -> bool
+    ensures { IsTrue result → HasRoom call.now }
+{
+    match call {
+        Call::AddDefine(_, content) => content.len() < BYTES,
+        Call::Next => true,
+    }
+}
+
+// Whether each content is short, as all are here.
+fn have_room(calls: &[Call<'_>]) -> bool
+    ensures { IsTrue result → All HasRoom calls.now }
+{
+    calls.iter().all(|call| has_room(call))
+}
+
+fn call_of<'a>(act: &'a Act) -> Call<'a> {
+    match act {
+        Act::Add { name, content } => Call::AddDefine(name.as_str(), content.as_str()),
+        Act::Next => Call::Next,
+    }
+}
+
+/// The calls of a case: what it does, and then one for each item that is left.
+pub fn calls_of<'a>(alloc: Global, case: &'a Case) -> Result<Vec<Call<'a>>, AllocError> {
+    let mut calls = Vec::new(alloc);
+    for act in &case.acts {
+        calls.push(call_of(act))?;
+    }
+    for _ in 0..ITEMS {
+        calls.push(Call::Next)?;
+    }
+    Ok(calls)
+}
+
+// The replies as text, up to the end.
+fn shown(alloc: Global, replies: &[Reply]) -> Result<String, AllocError> {
+    let mut parts = Vec::new(alloc);
+    for given in replies {
+        parts.push(reply(alloc, given)?)?;
+        if matches!(given, Reply::Given(Outcome::End)) {
+            break;
+        }
+    }
+    joined(alloc, &parts)
+}
+
+/// What the calls answer by the plain program, up to the end or the first error.
+pub fn by_the_plain_program(
+    alloc: Global,
+    source: &str,
+    calls: &[Call<'_>],
+) -> Result<String, AllocError> {
+    if source.len() < BYTES && have_room(calls) {
+        if let Some(replies) = run(alloc, source, calls, STEPS)? {
+            return shown(alloc, &replies);
+        }
+    }
+    String::from_str(alloc, "no answer")
+}
+
+/// The same by the preprocessor.
+pub fn by_replies(alloc: Global, source: &str, calls: &[Call<'_>]) -> Result<String, AllocError> {
+    if source.len() < BYTES && have_room(calls) {
+        let replies = pp::replies(alloc, source, calls)?;
+        return shown(alloc, &replies);
+    }
+    String::from_str(alloc, "no answer")
+}
+
+/// Items as text.
+#[derive(Drop)]
+pub struct Items {
+    /// Those up to the end or the first error.
+    pub first: Vec<String>,
+    /// Those after the first error, up to the end.
+    pub after: Vec<String>,
+    failed: bool,
+}
+
+impl Items {
+    // One more.
+    fn push(&mut self, shown: String, fails: bool) -> Result<(), AllocError> {
+        if self.failed {
+            self.after.push(shown)?;
+        } else {
+            self.first.push(shown)?;
+        }
+        self.failed = self.failed || fails;
+        Ok(())
+    }
+}
+
+// What an act answers.
+fn act_on(
+    alloc: Global,
+    pp: &mut Preprocessor<'_>,
+    act: &Act,
+    items: &mut Items,
+) -> Result<(), AllocError> {
+    match act {
+        Act::Add { name, content } if content.len() < BYTES => {
+            let answer = match pp.add_define(name.as_str(), content.as_str()) {
+                Ok(()) => Reply::Added,
+                Err(fault) => Reply::Refused(fault),
+            };
+            items.push(reply(alloc, &answer)?, false)
+        }
+        Act::Add { .. } => items.push(String::from_str(alloc, "no answer")?, false),
+        Act::Next => match pp.next() {
+            Some(given) => items.push(item(alloc, &given)?, given.is_err()),
+            None => items.push(String::from_str(alloc, "None")?, false),
+        },
+    }
+}
+
+// The items that are left, and the end twice.
+fn items_left(
+    alloc: Global,
+    pp: &mut Preprocessor<'_>,
+    items: &mut Items,
+) -> Result<(), AllocError> {
+    match preprocess_all(alloc, pp) {
+        Ok(left) => {
+            for given in &left {
+                items.push(item(alloc, given)?, given.is_err())?;
+            }
+        }
+        Err(_) => return Err(AllocError),
+    }
+    if pp.next().is_some() || pp.next().is_some() {
+        return items.push(String::from_str(alloc, "an item after the end")?, false);
+    }
+    items.push(String::from_str(alloc, "None")?, false)
+}
+
+/// What a case comes to by the preprocessor, item by item, past errors too.
+pub fn by_items(alloc: Global, case: &Case) -> Result<Items, AllocError> {
+    let mut items = Items {
+        first: Vec::new(alloc),
+        after: Vec::new(alloc),
+        failed: false,
+    };
+    if case.source.len() < BYTES {
+        let mut pp = Preprocessor::new(alloc, case.source.as_str());
+        for act in &case.acts {
+            act_on(alloc, &mut pp, act, &mut items)?;
+        }
+        items_left(alloc, &mut pp, &mut items)?;
+    }
+    Ok(items)
+}

@@ -1,6 +1,0 @@
-use Rattle.std.proofs.Common.{◌≡◌, drop}
-use Rattle.pp_model.specs.Changes.{meaning_of}
-use Rattle.pp_model.proofs.definitions.Definitions.find.Given as goal
-
-abbrev pub invariant-loop-change : goal.invariant-loop-change
-invariant-loop-change l = meaning_of l.change-items l.name ≡ meaning_of (drop l.change-index l.change-items) l.name

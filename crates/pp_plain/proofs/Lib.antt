@@ -1,0 +1,7 @@
+pub mod TakeLemmas
+pub mod TurnLemmas
+pub mod WordLemmas
+pub mod SourceTextLemmas
+pub mod LineNumberLemmas
+pub mod SourceStepLemmas
+pub mod RunProgramLemmas

@@ -1,0 +1,12 @@
+use Rattle.std.proofs.Common.{◌≡◌, ◌++◌, ◌∷◌, ◌+◌, ◌≤◌, length}
+use Rattle.pp_model.specs.Calls.{arguments_of, pieces}
+use Rattle.pp_plain.proofs.calls.arguments_of.Given as goal
+
+abbrev pub invariant-loop-token : goal.invariant-loop-token
+invariant-loop-token l = record {
+  cut : arguments_of l.fn.tokens.items ≡ l.pieces.items ++ ((l.piece.items ++ (pieces l.depth l.tokens.items).first) ∷ (pieces l.depth l.tokens.items).others);
+  few : l.depth + length l.tokens.items ≤ length l.fn.tokens.items;
+}
+
+abbrev pub decreases-loop-token : goal.decreases-loop-token
+decreases-loop-token l = length l.tokens.items

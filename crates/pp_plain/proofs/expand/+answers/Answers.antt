@@ -1,0 +1,80 @@
+use Rattle.std.proofs.Common.{[], refl, ◌∙◌, subst, arith}
+use Rattle.std.specs.Prelude.{Ok, Err}
+use Rattle.std.proofs.lemmas.Result.{IfOk-weaker}
+use Rattle.pp_plain.specs.Changes.{meaning_of}
+use Rattle.pp_model.specs.Emitting.{Collects, done, failed, item, token_before, list_before, Alone, answers_at}
+use Rattle.pp_model.specs.Reading.{Expander, Listed, argument_reading}
+use Rattle.pp_plain.specs.Seen.{seen}
+use Rattle.pp_plain.specs.SeenList.{list_state}
+use Rattle.pp_plain.specs.declared.expander.Turn.TheVariants.{Item, Replaced, Called}
+use Rattle.pp_model.specs.declared.outcome.Outcome.TheVariants as outcome
+use Rattle.pp_model.proofs.CollectLemmas.{behind_items-before, behind_lists-before, behind_items-end, Alone-collects, each_at-failed, each_at-more, each_at-end}
+use Rattle.pp_plain.proofs.TurnLemmas.{turns_mean, answer_known, resolves_fault, resolves_next}
+use Rattle.pp_plain.proofs.expand.+answers.Goals as goal
+
+pub emit_alone-returns-in-Item-clause-emits : goal.emit_alone-returns-in-Item-clause-emits
+emit_alone-returns-in-Item-clause-emits t c =
+    c.turns.invariant.goes_on c.in-Item.outcome (seen list_state c.turn.new.self) (turns_mean argument_reading (answers_at c.args.levels) (Item c.in-Item.outcome) (seen list_state c.turns.expander) (seen list_state c.turn.new.self) (rw c.in-Item.is at c.in_ok-outcome.ensures.turns))
+
+pub emit_alone-turns-preserved-in-Replaced : goal.emit_alone-turns-preserved-in-Replaced
+emit_alone-turns-preserved-in-Replaced t c = record {
+  goes_on = λ o end h. c.turns.invariant.goes_on o end (turns_mean argument_reading (answers_at c.args.levels) Replaced (seen list_state c.turns.expander) (seen list_state c.turn.new.self) (rw c.in-Replaced.is at c.in_ok-outcome.ensures.turns) o end h);
+  spent = omega arith;
+}
+
+pub emit_alone-returns-in-Some-clause-emits : goal.emit_alone-returns-in-Some-clause-emits
+emit_alone-returns-in-Some-clause-emits t c =
+    c.turns.invariant.goes_on (outcome.Fault c.in-Some.fault) (seen list_state c.resolve.new.self)
+    (resolves_fault argument_reading (answers_at c.args.levels) (seen list_state c.turns.expander) (seen list_state c.turn.new.self) (seen list_state c.resolve.new.self) c.in-Called.call c.in_ok-answer-in-Called.answer c.in-Some.fault
+    (turns_mean argument_reading (answers_at c.args.levels) (Called c.in-Called.call) (seen list_state c.turns.expander) (seen list_state c.turn.new.self) (rw c.in-Called.is at c.in_ok-outcome.ensures.turns))
+    (answer_known argument_reading (answers_at c.args.levels) (seen list_state c.turn.new.self) c.in-Called.call (meaning_of c.visible-visible.result.now) c.deref.result.now c.in_ok-answer-in-Called.answer c.visible-visible.ensures (c.deref.ensures.value ∙ c.in_ok-around-in-Called.ensures) c.in_ok-answer-in-Called.ensures.answers)
+    (rw c.in-Some.is at c.in_ok-fault-in-Called.ensures))
+
+pub emit_alone-turns-preserved : goal.emit_alone-turns-preserved
+emit_alone-turns-preserved t c = record {
+  goes_on = λ o end h.
+      c.turns.invariant.goes_on o end
+      (resolves_next argument_reading (answers_at c.args.levels) (seen list_state c.turns.expander) (seen list_state c.turn.new.self) (seen list_state c.resolve.new.self) c.in-Called.call c.in_ok-answer-in-Called.answer
+      (turns_mean argument_reading (answers_at c.args.levels) (Called c.in-Called.call) (seen list_state c.turns.expander) (seen list_state c.turn.new.self) (rw c.in-Called.is at c.in_ok-outcome.ensures.turns))
+      (answer_known argument_reading (answers_at c.args.levels) (seen list_state c.turn.new.self) c.in-Called.call (meaning_of c.visible-visible.result.now) c.deref.result.now c.in_ok-answer-in-Called.answer c.visible-visible.ensures (c.deref.ensures.value ∙ c.in_ok-around-in-Called.ensures) c.in_ok-answer-in-Called.ensures.answers)
+      (rw c.in_default.is at c.in_ok-fault-in-Called.ensures) o end h);
+  spent = omega arith;
+}
+
+pub collect-items-preserved : goal.collect-items-preserved
+collect-items-preserved t c = record {
+  goes_on = λ out h.
+      rw (c.in_ok-push-in-Token.ensures.items, ← behind_items-before c.items.items.items c.in-Token.token out)
+      (c.items.invariant.goes_on (token_before c.in-Token.token out) (item c.in-Token.token out _ _ _ (rw c.in-Token.is at c.in_ok-token.ensures.emits) h refl));
+  spent = omega arith;
+}
+
+pub collect-returns-in-Fault-clause-collects : goal.collect-returns-in-Fault-clause-collects
+collect-returns-in-Fault-clause-collects t c =
+    c.items.invariant.goes_on (Err c.in-Fault.fault) (failed c.in-Fault.fault _ _ _ (rw c.in-Fault.is at c.in_ok-token.ensures.emits) refl)
+
+pub collect-returns-in-End-clause-collects : goal.collect-returns-in-End-clause-collects
+collect-returns-in-End-clause-collects t c =
+    rw (← behind_items-end c.items.items.items)
+    (c.items.invariant.goes_on (Ok []) (done _ _ _ (rw c.in-End.is at c.in_ok-token.ensures.emits) refl))
+
+pub expand_argument-returns-clause-alone : goal.expand_argument-returns-clause-alone
+expand_argument-returns-clause-alone t c =
+    IfOk-weaker c.collect-expanded.result _ _ (λ out h. Alone-collects c.args.levels c.args.tokens.now (meaning_of c.args.visible.now) c.args.hidden.now out (subst (λ (e : Expander Listed). Collects argument_reading (answers_at c.args.levels) e out) c.in_ok-expander.ensures h)) c.collect-expanded.ensures.collects
+
+pub expand_arguments-returns-in-Err-clause-each : goal.expand_arguments-returns-in-Err-clause-each
+expand_arguments-returns-in-Err-clause-each t c =
+    c.loop-argument.invariant.goes_on (Err c.in-Err.fault) (each_at-failed (Alone c.args.levels) (meaning_of c.args.visible.now) c.args.hidden.now c.args.arguments.now c.loop-argument.argument-index c.argument-item.result c.deref.result.now c.in-Err.fault c.loop-argument-test.true c.argument-item.is (c.deref.ensures.value ∙ c.argument.view_is) (rw c.in-Err.is at c.in_ok-list.ensures.alone))
+
+pub expand_arguments-loop-argument-preserved : goal.expand_arguments-loop-argument-preserved
+expand_arguments-loop-argument-preserved t c = record {
+  goes_on = λ out h.
+      rw (c.in_ok-push-in-Ok.ensures.items, ← behind_lists-before c.loop-argument.expanded.items c.in-Ok.list out)
+      (c.loop-argument.invariant.goes_on (list_before c.in-Ok.list out) (each_at-more (Alone c.args.levels) (meaning_of c.args.visible.now) c.args.hidden.now c.args.arguments.now c.loop-argument.argument-index c.argument-item.result c.deref.result.now c.in-Ok.list out c.loop-argument-test.true c.argument-item.is (c.deref.ensures.value ∙ c.argument.view_is) (rw c.in-Ok.is at c.in_ok-list.ensures.alone) h));
+  spent = omega arith;
+}
+
+pub expand_arguments-returns-clause-each : goal.expand_arguments-returns-clause-each
+expand_arguments-returns-clause-each t c =
+    rw (← behind_items-end c.loop-argument.expanded.items)
+    (c.loop-argument.invariant.goes_on (Ok []) (each_at-end (Alone c.args.levels) (meaning_of c.args.visible.now) c.args.hidden.now c.args.arguments.now c.loop-argument.argument-index c.loop-argument-test.false))

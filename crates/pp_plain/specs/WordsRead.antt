@@ -1,0 +1,42 @@
+-- The plain program's values that say what a token of an expanded line is, and the parts of a `defined`.
+use Rattle.std.specs.Prelude.{◌≡◌, Bool, true, false, Some, None, Result, Ok, Err}
+use Rattle.pp_lexer.specs.declared.token.Location.{Location}
+use Rattle.pp_lexer.specs.declared.token.Token.{Token}
+use Rattle.pp_model.specs.Names.{Name}
+use Rattle.pp_model.specs.Reading.{Expander, Listed, line_reading}
+use Rattle.pp_model.specs.Taking.{Takes}
+use Rattle.pp_model.specs.Calls.{Fault, Answers}
+use Rattle.pp_model.specs.Emitting.{Emits}
+use Rattle.pp_model.specs.LineWords.{unexpected, unwanted, unwanted_word, name_in, is_close_paren, is_defined}
+use Rattle.pp_model.specs.LineWords as line
+use Rattle.pp_model.specs.declared.outcome.Outcome.{Outcome}
+use Rattle.pp_model.specs.declared.word.LineKind.{LineKind}
+use Rattle.pp_plain.specs.declared.line_words.WordReading.{WordReading}
+use Rattle.pp_plain.specs.declared.line_words.WordReading.TheVariants.{Operator, Word, Refused}
+
+abbrev pub reading_named : WordReading → line.Reading
+reading_named (Operator token) = line.operator
+reading_named (Word token) = line.word token
+reading_named (Refused fault) = line.fault fault
+
+-- an operator is the token itself
+abbrev pub IsOf : Token → WordReading → Type 0
+IsOf token (Operator operator) = operator ≡ token
+IsOf token (Word word) = Unit {0}
+IsOf token (Refused fault) = Unit {0}
+
+-- the fault of what was read as a word where a part of `defined` is wanted
+abbrev pub unwanted_read : WordReading → Fault
+unwanted_read (Operator token) = unexpected token
+unwanted_read (Word word) = unexpected word
+unwanted_read (Refused fault) = fault
+
+-- what a `defined` comes to behind its `(` and the name
+pub data Closes (kind : LineKind) (directive : Location) (A : Answers) (n : Name) : Expander Listed → Result Bool Fault → Expander Listed → Type 0 where
+  unclosed : (y : Outcome) (e f : Expander Listed) (r : Result Bool Fault) → Emits line_reading A e y f → is_close_paren y ≡ false → r ≡ Err (unwanted_word kind directive y) → Closes kind directive A n e r f
+  closed : (y : Outcome) (e f : Expander Listed) (r : Result Bool Fault) → Emits line_reading A e y f → is_close_paren y ≡ true → r ≡ Ok (is_defined f n) → Closes kind directive A n e r f
+
+-- what a `defined` comes to behind its `(`
+pub data Parenthesized (kind : LineKind) (directive : Location) (A : Answers) : Expander Listed → Result Bool Fault → Expander Listed → Type 0 where
+  no_name : (x : Outcome) (e f : Expander Listed) (r : Result Bool Fault) → Takes line_reading e x f → name_in x ≡ None → r ≡ Err (unwanted directive x) → Parenthesized kind directive A e r f
+  named : (x : Outcome) (n : Name) (e f g : Expander Listed) (r : Result Bool Fault) → Takes line_reading e x f → name_in x ≡ Some n → Closes kind directive A n f r g → Parenthesized kind directive A e r g

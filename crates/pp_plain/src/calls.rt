@@ -1,0 +1,144 @@
+//! The arguments of calls.
+
+ghost use Rattle.std.specs.Prelude.{◌≡◌, IfOk};
+ghost use Rattle.pp_model.specs.Calls.{nesting, arguments_of, misfit, paren_at, is_left_paren, is_right_paren, is_comma, is_one_empty};
+ghost use Rattle.pp_plain.specs.Nested.{nesting_named};
+
+use crate::list::take_first;
+use crate::lists::TokenLists;
+use pp_lexer::token::{Location, PreprocessorError, Punct, Token, TokenValue};
+use pp_model::definition::{Definition, TokenList};
+use pp_model::outcome::Outcome;
+use std::alloc::{AllocError, Global};
+use std::marker::Model;
+
+/// Where a token stands among the parentheses of a call.
+#[derive(Clone, Copy)]
+pub enum Nesting {
+    /// It closes the call.
+    Closes,
+    /// So many inner parentheses are open behind it.
+    Within(u32),
+    /// It opens one too many.
+    TooMany,
+}
+
+/// The tokens between the parentheses of a call, and where the closing one stands.
+#[derive(Drop)]
+pub struct Gathered {
+    /// The tokens.
+    pub tokens: Vec<Token>,
+    /// The place of the `)`.
+    pub closing: Location,
+}
+
+impl Model for Gathered {
+    ghost use Rattle.pp_model.specs.Calls as spec;
+
+    ghost Value = { spec.Gathered };
+
+    ghost view = { λ g. record { tokens = g.tokens.items; closing = g.closing } };
+}
+
+/// Whether it is a `(`.
+pub fn is_left_paren(value: &TokenValue) -> bool
+    ensures { result ≡ is_left_paren value.now }
+{
+    matches!(value, TokenValue::Punct(Punct::LeftParen))
+}
+
+/// Whether it is a `)`.
+pub fn is_right_paren(value: &TokenValue) -> bool
+    ensures { result ≡ is_right_paren value.now }
+{
+    matches!(value, TokenValue::Punct(Punct::RightParen))
+}
+
+/// Whether it is a `,`.
+pub fn is_comma(value: &TokenValue) -> bool
+    ensures { result ≡ is_comma value.now }
+{
+    matches!(value, TokenValue::Punct(Punct::Comma))
+}
+
+/// The place of a `(`.
+pub fn paren_at(outcome: &Outcome) -> Option<Location>
+    ensures { result ≡ paren_at outcome.now }
+{
+    match outcome {
+        Outcome::Token(token) if is_left_paren(&token.value) => Some(token.location),
+        _ => None,
+    }
+}
+
+/// Where a token stands among the parentheses of a call.
+pub fn nesting_of(depth: u32, value: &TokenValue) -> Nesting
+    ensures { nesting depth value.now ≡ nesting_named result }
+{
+    if is_left_paren(value) {
+        if depth < u32::MAX {
+            Nesting::Within(depth + 1)
+        } else {
+            Nesting::TooMany
+        }
+    } else if is_right_paren(value) {
+        if depth == 0 {
+            Nesting::Closes
+        } else {
+            Nesting::Within(depth - 1)
+        }
+    } else {
+        Nesting::Within(depth)
+    }
+}
+
+/// The tokens of a call cut at the commas that stand outside inner parentheses.
+pub fn arguments_of(alloc: Global, mut tokens: Vec<Token>) -> Result<TokenLists, AllocError>
+    ensures { IfOk result (λ arguments. arguments ≡ arguments_of tokens.items) }
+{
+    let mut pieces = Vec::new(alloc);
+    let mut piece = Vec::new(alloc);
+    let mut depth: usize = 0;
+    while let Some(token) = take_first(&mut tokens) {
+        if is_comma(&token.value) && depth == 0 {
+            pieces.push(TokenList { items: piece })?;
+            piece = Vec::new(alloc);
+        } else {
+            if is_left_paren(&token.value) {
+                depth += 1;
+            } else if is_right_paren(&token.value) {
+                depth = depth.saturating_sub(1);
+            }
+            piece.push(token)?;
+        }
+    }
+    pieces.push(TokenList { items: piece })?;
+    Ok(TokenLists { items: pieces })
+}
+
+/// Whether there is one list, without a token.
+fn is_one_empty(arguments: &[TokenList]) -> bool
+    ensures { result ≡ is_one_empty arguments.now }
+{
+    match arguments {
+        [only] => only.items.is_empty(),
+        _ => false,
+    }
+}
+
+/// What is wrong with the number of arguments.
+pub fn misfit(definition: &Definition, arguments: &TokenLists) -> Option<PreprocessorError>
+    ensures { result ≡ misfit definition.now.parameters arguments.now }
+{
+    let wanted = definition.parameters.len();
+    let given = arguments.items.len();
+    if wanted == 0 && is_one_empty(&arguments.items) {
+        None
+    } else if wanted < given {
+        Some(PreprocessorError::TooManyDefineArguments)
+    } else if given < wanted {
+        Some(PreprocessorError::TooFewDefineArguments)
+    } else {
+        None
+    }
+}

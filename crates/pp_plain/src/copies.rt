@@ -1,0 +1,50 @@
+//! Copies of tokens, names and definitions.
+
+ghost use Rattle.std.specs.Prelude.{◌≡◌, IfOk};
+
+use pp_lexer::token::{Text, Token};
+use pp_model::definition::Definition;
+use std::alloc::{AllocError, Global};
+
+/// A copy of a token.
+pub fn copy_token(alloc: Global, token: &Token) -> Result<Token, AllocError>
+    ensures { IfOk result (λ copy. copy ≡ token.now) }
+{
+    match token.clone(alloc) {
+        Ok(copy) => Ok(copy),
+        Err(_) => Err(AllocError),
+    }
+}
+
+/// Copies of the tokens, in order.
+pub fn copy_tokens(alloc: Global, tokens: &[Token]) -> Result<Vec<Token>, AllocError>
+    ensures { IfOk result (λ copies. copies.items ≡ tokens.now) }
+{
+    let mut copies = Vec::new(alloc);
+    for token in tokens {
+        copies.push(copy_token(alloc, token)?)?;
+    }
+    Ok(copies)
+}
+
+/// Copies of the names, in order.
+pub fn copy_names(alloc: Global, names: &[Text]) -> Result<Vec<Text>, AllocError>
+    ensures { IfOk result (λ copies. copies.items ≡ names.now) }
+{
+    let mut copies = Vec::new(alloc);
+    for name in names {
+        copies.push(name.try_clone(alloc)?)?;
+    }
+    Ok(copies)
+}
+
+/// A copy of what a name stands for.
+pub fn copy_definition(alloc: Global, definition: &Definition) -> Result<Definition, AllocError>
+    ensures { IfOk result (λ copy. copy ≡ definition.now) }
+{
+    Ok(Definition {
+        function_like: definition.function_like,
+        parameters: copy_names(alloc, &definition.parameters)?,
+        body: copy_tokens(alloc, &definition.body)?,
+    })
+}

@@ -1,0 +1,152 @@
+//! What a `#define` line says.
+
+ghost use Rattle.std.specs.Prelude.{◌≡◌, [], IfOk};
+ghost use Rattle.pp_model.specs.Conversions as conversions;
+ghost use Rattle.pp_model.specs.DefineLines as spec;
+ghost use Rattle.pp_plain.specs.Halting.{Meets};
+
+use crate::conversion::{
+    closes_parameters, identifier_of, opens_parameters, parts_parameters, refused_token,
+};
+use crate::item::SourceItem;
+use crate::line::{behind_first_token, first_name, first_token, line_tokens};
+use crate::lists::NameList;
+use crate::names::is_among;
+use crate::stop::Halt;
+use pp_lexer::lexer::{self, LexerItem};
+use pp_lexer::token::{Location, PreprocessorError, Text};
+use pp_model::definition::{Definition, Named};
+use std::alloc::Global;
+use std::marker::Model;
+
+/// The parameters of a macro, and the items behind their `)`.
+#[derive(Drop)]
+pub struct ParameterList<'a> {
+    names: NameList,
+    behind: &'a [SourceItem],
+}
+
+impl<'a> Model for ParameterList<'a> {
+    ghost use Rattle.pp_model.specs.DefineLines as spec;
+
+    ghost Value = { spec.Parameters };
+
+    ghost view = { λ p. record { names = p.names; behind = p.behind.now } };
+}
+
+// The parameters with one more, whose name this token is to be.
+fn parameter_here(alloc: Global, names: NameList, token: &lexer::Token) -> Result<NameList, Halt>
+    ensures { Meets result (spec.parameter_here names token.now (conversions.identifier_of token.now.value)) }
+{
+    let Some(name) = identifier_of(alloc, &token.value)? else {
+        return Err(Halt::Fault(refused_token(alloc, token)?));
+    };
+    if is_among(&name, &names.items) {
+        return Err(Halt::Fault((PreprocessorError::DuplicateParameter, token.location)));
+    }
+    let mut names = names;
+    names.items.push(name)?;
+    Ok(names)
+}
+
+// The parameters that go on behind one.
+fn behind_parameter<'a>(
+    alloc: Global,
+    word: Location,
+    names: NameList,
+    items: &'a [SourceItem],
+) -> Result<ParameterList<'a>, Halt>
+    ensures { Meets result (spec.behind_parameter word names items.now) }
+{
+    let token = first_token(alloc, word, items)?;
+    let rest = behind_first_token(items);
+    if closes_parameters(&token.value) {
+        return Ok(ParameterList {
+            names,
+            behind: rest,
+        });
+    }
+    if !parts_parameters(&token.value) {
+        return Err(Halt::Fault(refused_token(alloc, &token)?));
+    }
+    let token = first_token(alloc, word, rest)?;
+    let names = parameter_here(alloc, names, &token)?;
+    behind_parameter(alloc, word, names, behind_first_token(rest))
+}
+
+// The parameters, which begin behind the `(`.
+fn parameters<'a>(
+    alloc: Global,
+    word: Location,
+    items: &'a [SourceItem],
+) -> Result<ParameterList<'a>, Halt>
+    ensures { Meets result (spec.parameters word items.now) }
+{
+    let token = first_token(alloc, word, items)?;
+    let rest = behind_first_token(items);
+    let names = NameList {
+        items: Vec::new(alloc),
+    };
+    if closes_parameters(&token.value) {
+        return Ok(ParameterList {
+            names,
+            behind: rest,
+        });
+    }
+    let names = parameter_here(alloc, names, &token)?;
+    behind_parameter(alloc, word, names, rest)
+}
+
+// Whether the item is a `(` without a blank before it.
+fn is_attached_paren(item: &LexerItem) -> bool
+    ensures { result ≡ spec.is_attached_paren item.now }
+{
+    match item {
+        Ok(token) => opens_parameters(&token.value) && !token.leading_whitespace,
+        Err(_) => false,
+    }
+}
+
+// Whether a `(` stands directly behind the name.
+fn has_parameters(items: &[SourceItem]) -> bool
+    ensures { result ≡ spec.has_parameters items.now }
+{
+    match items.first() {
+        Some(first) => is_attached_paren(&first.item),
+        None => false,
+    }
+}
+
+// The definition behind the name.
+fn definition_at(alloc: Global, word: Location, items: &[SourceItem]) -> Result<Definition, Halt>
+    ensures { Meets result (spec.definition_at word items.now) }
+{
+    if !has_parameters(items) {
+        let body = line_tokens(alloc, items)?;
+        return Ok(Definition {
+            function_like: false,
+            parameters: Vec::new(alloc),
+            body: body.items,
+        });
+    }
+    let list = parameters(alloc, word, behind_first_token(items))?;
+    let body = line_tokens(alloc, list.behind)?;
+    Ok(Definition {
+        function_like: true,
+        parameters: list.names.items,
+        body: body.items,
+    })
+}
+
+/// What the line defines, or its first fault.
+pub fn defined_on(alloc: Global, word: Location, items: &[SourceItem]) -> Result<Named, Halt>
+    ensures { Meets result (spec.defined_on word items.now) }
+{
+    let first = first_name(alloc, word, items)?;
+    let definition = definition_at(alloc, word, behind_first_token(items))?;
+    Ok(Named {
+        name: first.name,
+        location: first.location,
+        definition,
+    })
+}

@@ -1,0 +1,67 @@
+//! Which names are defined, and as what.
+
+ghost use Rattle.std.specs.Prelude.{◌≡◌, OnOk, OnErr};
+ghost use Rattle.std.specs.Option.{option_copied};
+ghost use Rattle.pp_model.specs.Definitions.{changed, nothing_defined};
+ghost use Rattle.pp_plain.specs.Changes.{meaning_of};
+
+use pp_lexer::token::Text;
+use pp_model::definition::Definition;
+use std::alloc::{AllocError, Global};
+use std::marker::Model;
+
+/// A `#define` or an `#undef` of a name.
+#[derive(Drop)]
+pub struct Change {
+    /// The name.
+    pub name: Text,
+    /// What it stands for from then on, or `None` for nothing.
+    pub definition: Option<Definition>,
+}
+
+/// The changes so far, the latest first.
+#[derive(Drop)]
+pub struct Definitions {
+    changes: Vec<Change>,
+}
+
+impl Model for Definitions {
+    ghost use Rattle.std.specs.Prelude.{List};
+    ghost use Rattle.pp_plain.specs.declared.definitions.Change.{Change};
+
+    ghost Value = { List Change };
+
+    ghost view = { λ definitions. definitions.changes.items };
+}
+
+impl Definitions {
+    /// No name is defined.
+    pub fn new(alloc: Global) -> Self
+        ensures { meaning_of result ≡ nothing_defined }
+    {
+        Definitions {
+            changes: Vec::new(alloc),
+        }
+    }
+
+    /// What the name stands for.
+    pub fn find(&self, name: &Text) -> Option<&Definition>
+        ensures { option_copied result ≡ meaning_of self.now name.now }
+    {
+        for change in &self.changes {
+            if *name == change.name {
+                return change.definition.as_ref();
+            }
+        }
+        None
+    }
+
+    /// Lets the name stand for this from now on, or for nothing.
+    pub fn change(&mut self, name: Text, definition: Option<Definition>) -> Result<(), AllocError>
+        ensures ok { OnOk result (meaning_of self.new ≡ changed (meaning_of self.old) name definition) }
+        ensures err { OnErr result (self.new ≡ self.old) }
+    {
+        self.changes.insert(0, Change { name, definition })?;
+        Ok(())
+    }
+}

@@ -1,0 +1,195 @@
+//! The next item of an expander, and an argument's expansion alone.
+
+ghost use Rattle.std.specs.Prelude.{◌≡◌, ◌≤◌, IfOk};
+ghost use Rattle.pp_plain.specs.Changes.{meaning_of};
+ghost use Rattle.pp_model.specs.Emitting.{Emits, Collects, Each, Alone, answers_at, expansion_limit};
+ghost use Rattle.pp_model.specs.Reading.{reading_of, argument_reading};
+ghost use Rattle.pp_plain.specs.Seen.{seen};
+ghost use Rattle.pp_plain.specs.SeenList.{list_state};
+
+use crate::calls::misfit;
+use crate::copies::{copy_names, copy_tokens};
+use crate::definitions::Definitions;
+use crate::expander::{Call, Expander, Turn};
+use crate::lists::TokenLists;
+use crate::reader::{ArgumentReader, Reader};
+use crate::stop::{Budget, Stop};
+use pp_lexer::token::{PreprocessorError, Text, Token};
+use pp_model::definition::TokenList;
+use pp_model::outcome::{Fault, Outcome};
+use std::alloc::{AllocError, Global};
+
+/// How many argument expansions may be read inside each other.
+pub const EXPANSION_LIMIT: u32 = 128;
+
+/// The limit, as a number that proofs do not look into.
+#[tactic(auto, unfolding(pp_model::specs::Emitting::expansion_limit))]
+pub fn expansion_limit() -> u32
+    ensures { result ≡ expansion_limit }
+{
+    EXPANSION_LIMIT
+}
+
+/// What a call comes to: its arguments, each expanded alone, or a fault.
+#[cycle(answers)]
+pub fn answer(
+    alloc: Global,
+    call: &Call,
+    visible: &Definitions,
+    hidden: &[Text],
+    levels: u32,
+    budget: &mut Budget,
+) -> Result<Result<TokenLists, Fault>, Stop>
+    ensures answers { IfOk result (λ answer. answers_at levels call.now.opening.definition (record { paren = call.now.site.paren; arguments = call.now.site.arguments; visible = meaning_of visible.now; open_around = hidden.now }) answer) }
+    ensures budget { budget.new.steps ≤ budget.old.steps }
+{
+    let opening = &call.opening;
+    let site = &call.site;
+    if let Some(error) = misfit(&opening.definition, &site.arguments) {
+        return Ok(Err((error, site.paren)));
+    }
+    if levels == 0 {
+        return Ok(Err((PreprocessorError::RecursionLimitReached, site.paren)));
+    }
+    expand_arguments(
+        alloc,
+        &site.arguments.items,
+        visible,
+        hidden,
+        levels - 1,
+        budget,
+    )
+}
+
+/// The arguments, each expanded alone, or the first fault.
+#[cycle(answers)]
+pub fn expand_arguments(
+    alloc: Global,
+    arguments: &[TokenList],
+    visible: &Definitions,
+    hidden: &[Text],
+    levels: u32,
+    budget: &mut Budget,
+) -> Result<Result<TokenLists, Fault>, Stop>
+    ensures each { IfOk result (λ answer. Each (Alone levels) (meaning_of visible.now) hidden.now arguments.now answer) }
+    ensures budget { budget.new.steps ≤ budget.old.steps }
+{
+    let mut expanded = Vec::new(alloc);
+    for argument in arguments {
+        match expand_argument(alloc, &argument.items, visible, hidden, levels, budget)? {
+            Ok(list) => expanded.push(list)?,
+            Err(fault) => return Ok(Err(fault)),
+        }
+    }
+    Ok(Ok(TokenLists { items: expanded }))
+}
+
+/// What a list of tokens comes to alone.
+#[cycle(answers)]
+pub fn expand_argument(
+    alloc: Global,
+    tokens: &[Token],
+    visible: &Definitions,
+    hidden: &[Text],
+    levels: u32,
+    budget: &mut Budget,
+) -> Result<Result<TokenList, Fault>, Stop>
+    ensures alone { IfOk result (λ expanded. Alone levels tokens.now (meaning_of visible.now) hidden.now expanded) }
+    ensures budget { budget.new.steps ≤ budget.old.steps }
+{
+    let mut expander = argument_expander(alloc, tokens, visible, hidden)?;
+    let expanded = collect(alloc, &mut expander, levels, budget);
+    drop(expander);
+    expanded
+}
+
+/// The items of an argument up to the end, or the first fault.
+#[cycle(answers)]
+fn collect(
+    alloc: Global,
+    expander: &mut Expander<ArgumentReader<'_>>,
+    levels: u32,
+    budget: &mut Budget,
+) -> Result<Result<TokenList, Fault>, Stop>
+    ensures collects { IfOk result (λ expanded. Collects argument_reading (answers_at levels) (seen list_state expander.old) expanded) }
+    ensures budget { budget.new.steps ≤ budget.old.steps }
+{
+    let mut items = Vec::new(alloc);
+    'items: loop {
+        budget.spend()?;
+        match emit_alone(expander, levels, budget)? {
+            Outcome::Token(token) => items.push(token)?,
+            Outcome::Fault(fault) => return Ok(Err(fault)),
+            Outcome::End => return Ok(Ok(TokenList { items })),
+        }
+    }
+}
+
+/// The start of an argument.
+fn argument_expander<'a>(
+    alloc: Global,
+    tokens: &[Token],
+    visible: &'a Definitions,
+    hidden: &[Text],
+) -> Result<Expander<ArgumentReader<'a>>, AllocError>
+    ensures { IfOk result (λ expander. seen list_state expander ≡ reading_of tokens.now (meaning_of visible.now) hidden.now) }
+{
+    let reader = ArgumentReader {
+        tokens: copy_tokens(alloc, tokens)?,
+        definitions: visible,
+    };
+    Ok(Expander::new(alloc, reader, copy_names(alloc, hidden)?))
+}
+
+/// The next item of an argument.
+#[cycle(answers)]
+fn emit_alone(
+    expander: &mut Expander<ArgumentReader<'_>>,
+    levels: u32,
+    budget: &mut Budget,
+) -> Result<Outcome, Stop>
+    ensures emits { IfOk result (λ outcome. Emits argument_reading (answers_at levels) (seen list_state expander.old) outcome (seen list_state expander.new)) }
+    ensures budget { budget.new.steps ≤ budget.old.steps }
+{
+    'turns: loop {
+        budget.spend()?;
+        match expander.turn(budget)? {
+            Turn::Item(outcome) => return Ok(outcome),
+            Turn::Replaced => {}
+            Turn::Called(call) => {
+                let around = expander.masked()?;
+                let visible = expander.reader.visible();
+                let answer = answer(expander.alloc, &call, visible, &around, levels, budget)?;
+                if let Some(fault) = expander.resolve(call, answer)? {
+                    return Ok(Outcome::Fault(fault));
+                }
+            }
+        }
+    }
+}
+
+/// The next item of an expander.
+pub fn emit<R: Reader>(
+    expander: &mut Expander<R>,
+    levels: u32,
+    budget: &mut Budget,
+) -> Result<Outcome, Stop>
+    ensures emits { IfOk result (λ outcome. Emits R.reading (answers_at levels) (seen R.state expander.old) outcome (seen R.state expander.new)) }
+    ensures budget { budget.new.steps ≤ budget.old.steps }
+{
+    'turns: loop {
+        budget.spend()?;
+        match expander.turn(budget)? {
+            Turn::Item(outcome) => return Ok(outcome),
+            Turn::Replaced => {}
+            Turn::Called(call) => {
+                let around = expander.masked()?;
+                let visible = expander.reader.visible();
+                let answer = answer(expander.alloc, &call, visible, &around, levels, budget)?;
+                if let Some(fault) = expander.resolve(call, answer)? {
+                    return Ok(Outcome::Fault(fault));
+                }
+            }
+        }
+    }
+}

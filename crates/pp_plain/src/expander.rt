@@ -1,0 +1,405 @@
+//! Expanders: what is taken next, which names open a macro, and one turn of reading.
+
+ghost use Rattle.std.specs.Prelude.{◌≡◌, ◌≤◌, [], None, IfOk, OnOk};
+ghost use Rattle.pp_model.specs.Reading.{opening, masked};
+ghost use Rattle.pp_model.specs.Taking.{Takes, taken_token, read_outcome, line_number};
+ghost use Rattle.pp_model.specs.Calls.{Gathers};
+ghost use Rattle.pp_model.specs.Emitting.{opened};
+ghost use Rattle.pp_plain.specs.Seen.{seen, turned, Resolves, TakesParen, Finds, TurnsAt, Turns};
+
+use crate::calls::{Gathered, Nesting, arguments_of, nesting_of, paren_at};
+use crate::copies::{copy_definition, copy_names, copy_token};
+use crate::list;
+use crate::list::{open_names, outermost_line, take_token};
+use crate::lists::TokenLists;
+use crate::names::is_among;
+use crate::reader::Reader;
+use crate::stop::{Budget, Stop};
+use pp_lexer::token::{Integer, Location, PreprocessorError, Text, Token, TokenValue};
+use pp_model::definition::Definition;
+use pp_model::names::is_line_name;
+use pp_model::outcome::{Fault, Outcome};
+use pp_model::splice::Entry;
+use std::alloc::{AllocError, Global};
+use std::marker::Model;
+
+/// A token that opens a macro.
+#[derive(Drop)]
+pub struct Opening {
+    /// The token.
+    pub token: Token,
+    /// Its name.
+    pub name: Text,
+    /// What that stands for.
+    pub definition: Definition,
+}
+
+impl Model for Opening {
+    ghost use Rattle.pp_model.specs.Reading as spec;
+
+    ghost Value = { spec.Opening };
+
+    ghost view = { λ m. record { token = m.token; name = m.name; definition = m.definition } };
+}
+
+/// The parentheses of a call, whose `)` has been taken.
+#[derive(Drop)]
+pub struct Site {
+    /// The place of the `(`.
+    pub paren: Location,
+    /// The line of the `)`.
+    pub line: u32,
+    /// The arguments, as they were read.
+    pub arguments: TokenLists,
+}
+
+/// What stands behind the name of a macro with parameters.
+#[derive(Drop)]
+pub enum Found {
+    /// No `(`.
+    NoCall,
+    /// A call that does not end.
+    Broken(Fault),
+    /// A call.
+    Whole(Site),
+}
+
+/// A call of a macro.
+#[derive(Drop)]
+pub struct Call {
+    /// The macro.
+    pub opening: Opening,
+    /// Its parentheses.
+    pub site: Site,
+}
+
+/// What one turn of an expander comes to.
+#[derive(Drop)]
+pub enum Turn {
+    /// An item.
+    Item(Outcome),
+    /// A macro without parameters was replaced.
+    Replaced,
+    /// A call was gathered.
+    Called(Call),
+}
+
+/// An expander over a reader.
+#[derive(Drop)]
+pub struct Expander<R> {
+    /// Where its memory comes from.
+    pub alloc: Global,
+    /// An outcome that was found too early.
+    pub held: Option<Outcome>,
+    /// What was spliced in and is not read yet.
+    pub list: Vec<Entry>,
+    /// What stands behind the list.
+    pub reader: R,
+    /// The names that are open in the expanders around this one.
+    pub hidden: Vec<Text>,
+}
+
+/// Whether the macro has parameters in parentheses.
+fn is_function_like(opening: &Opening) -> bool
+    ensures { result ≡ opening.now.definition.function_like }
+{
+    let definition = &opening.definition;
+    definition.function_like
+}
+
+/// The line of the token.
+fn line_of(opening: &Opening) -> u32
+    ensures { result ≡ opening.now.token.location.line }
+{
+    opening.token.location.line
+}
+
+/// A line number at this place.
+fn line_number(location: Location, shown: Option<u32>) -> Outcome
+    ensures { result ≡ line_number location shown }
+{
+    match shown {
+        Some(line) => Outcome::Token(Token {
+            value: TokenValue::Integer(Integer {
+                value: line as u64,
+                signed: false,
+                width: 32,
+            }),
+            location,
+        }),
+        None => Outcome::Fault((PreprocessorError::LineOverflow, location)),
+    }
+}
+
+/// A taken token, with `__LINE__` as a number.
+fn taken_token<R: Reader>(reader: &R, behind: &[Entry], token: Token) -> Outcome
+    ensures { result ≡ taken_token (R.reading.shown_line (R.state reader.now)) behind.now token }
+{
+    if is_line_name(&token.value) {
+        let line = outermost_line(behind).unwrap_or(token.location.line);
+        line_number(token.location, reader.shown_line(line))
+    } else {
+        Outcome::Token(token)
+    }
+}
+
+/// What a reader gave, with `__LINE__` as a number.
+fn read_outcome<R: Reader>(reader: &R, outcome: Outcome) -> Outcome
+    ensures { result ≡ read_outcome (R.reading.shown_line (R.state reader.now)) outcome }
+{
+    match outcome {
+        Outcome::Token(token) => taken_token(reader, &[], token),
+        Outcome::Fault(fault) => Outcome::Fault(fault),
+        Outcome::End => Outcome::End,
+    }
+}
+
+/// The turn at the name of a macro with parameters, where this stands behind it.
+fn turned(taken: Outcome, opening: Opening, found: Found) -> Turn
+    ensures { result ≡ turned taken opening found }
+{
+    match found {
+        Found::NoCall => {
+            drop(opening);
+            Turn::Item(taken)
+        }
+        Found::Broken(fault) => {
+            drop(taken);
+            drop(opening);
+            Turn::Item(Outcome::Fault(fault))
+        }
+        Found::Whole(site) => {
+            drop(taken);
+            Turn::Called(Call { opening, site })
+        }
+    }
+}
+
+impl<R: Reader> Expander<R> {
+    /// The start of a reader, where these names are open around.
+    pub fn new(alloc: Global, reader: R, hidden: Vec<Text>) -> Self
+        ensures { seen R.state result ≡ record { held = None; list = []; reader = R.state reader; hidden = hidden.items } }
+    {
+        Expander {
+            alloc,
+            held: None,
+            list: Vec::new(alloc),
+            reader,
+            hidden,
+        }
+    }
+
+    /// The next outcome, before it is looked up.
+    pub fn take(&mut self, budget: &mut Budget) -> Result<Outcome, Stop>
+        ensures takes { IfOk result (λ outcome. Takes R.reading (seen R.state self.old) outcome (seen R.state self.new)) }
+        ensures budget { budget.new.steps ≤ budget.old.steps }
+    {
+        if let Some(outcome) = self.held.take() {
+            return Ok(outcome);
+        }
+        if let Some(token) = take_token(&mut self.list) {
+            return Ok(taken_token(&self.reader, &self.list, token));
+        }
+        let outcome = self.reader.read(budget)?;
+        Ok(read_outcome(&self.reader, outcome))
+    }
+
+    /// The names that are open here or around.
+    pub fn masked(&self) -> Result<Vec<Text>, AllocError>
+        ensures { IfOk result (λ names. names.items ≡ masked (seen R.state self.now)) }
+    {
+        let mut names = open_names(self.alloc, &self.list)?;
+        let mut hidden = copy_names(self.alloc, &self.hidden)?;
+        names.append(&mut hidden)?;
+        Ok(names)
+    }
+
+    /// The macro that a taken outcome opens, if it does.
+    pub fn opening(&self, outcome: &Outcome) -> Result<Option<Opening>, AllocError>
+        ensures { IfOk result (λ found. found ≡ opening R.reading (seen R.state self.now) outcome.now) }
+    {
+        let Outcome::Token(token) = outcome else {
+            return Ok(None);
+        };
+        let TokenValue::Ident(name) = &token.value else {
+            return Ok(None);
+        };
+        let masked = self.masked()?;
+        if self.reader.is_reserved(name) || is_among(name, &masked) {
+            return Ok(None);
+        }
+        let Some(definition) = self.reader.visible().find(name) else {
+            return Ok(None);
+        };
+        Ok(Some(Opening {
+            token: copy_token(self.alloc, token)?,
+            name: name.try_clone(self.alloc)?,
+            definition: copy_definition(self.alloc, definition)?,
+        }))
+    }
+
+    /// Puts a macro's replacement before the list.
+    pub fn splice(
+        &mut self,
+        opening: Opening,
+        line: u32,
+        arguments: &TokenLists,
+    ) -> Result<(), AllocError>
+        ensures { OnOk result (seen R.state self.new ≡ opened opening line arguments.now (seen R.state self.old)) }
+    {
+        let Opening {
+            token: _token,
+            name,
+            definition,
+        } = opening;
+        list::splice(
+            self.alloc,
+            &mut self.list,
+            name,
+            &definition,
+            line,
+            arguments,
+        )
+    }
+
+    /// Replaces a call by its answer, or gives the fault of the answer.
+    pub fn resolve(
+        &mut self,
+        call: Call,
+        answer: Result<TokenLists, Fault>,
+    ) -> Result<Option<Fault>, AllocError>
+        ensures { IfOk result (λ fault. Resolves call answer (seen R.state self.old) fault (seen R.state self.new)) }
+    {
+        match answer {
+            Ok(arguments) => {
+                let Call { opening, site } = call;
+                self.splice(opening, site.line, &arguments)?;
+                Ok(None)
+            }
+            Err(fault) => Ok(Some(fault)),
+        }
+    }
+
+    /// The tokens up to the `)` of a call whose `(` stands here, or the fault that is met before it.
+    pub fn gather(
+        &mut self,
+        paren: Location,
+        budget: &mut Budget,
+    ) -> Result<Result<Gathered, Fault>, Stop>
+        ensures gathers { IfOk result (λ gathered. Gathers R.reading 0 paren (seen R.state self.old) gathered (seen R.state self.new)) }
+        ensures budget { budget.new.steps ≤ budget.old.steps }
+    {
+        let mut tokens = Vec::new(self.alloc);
+        let mut last = paren;
+        let mut depth = 0;
+        'tokens: loop {
+            budget.spend()?;
+            let token = match self.take(budget)? {
+                Outcome::Token(token) => token,
+                Outcome::Fault(fault) => return Ok(Err(fault)),
+                Outcome::End => return Ok(Err((PreprocessorError::UnexpectedEndOfInput, last))),
+            };
+            last = token.location;
+            match nesting_of(depth, &token.value) {
+                Nesting::Closes => return Ok(Ok(Gathered {
+                    tokens,
+                    closing: last,
+                })),
+                Nesting::TooMany => return Ok(Err((PreprocessorError::IntegerOverflow, last))),
+                Nesting::Within(deeper) => depth = deeper,
+            }
+            tokens.push(token)?;
+        }
+    }
+
+    /// Takes the `(` of a call, or holds what stands in its place.
+    fn take_paren(&mut self, budget: &mut Budget) -> Result<Option<Location>, Stop>
+        ensures takes { IfOk result (λ paren. TakesParen R.reading (seen R.state self.old) paren (seen R.state self.new)) }
+        ensures budget { budget.new.steps ≤ budget.old.steps }
+    {
+        let found = self.take(budget)?;
+        match paren_at(&found) {
+            Some(paren) => {
+                drop(found);
+                Ok(Some(paren))
+            }
+            None => {
+                self.held = Some(found);
+                Ok(None)
+            }
+        }
+    }
+
+    /// What stands behind the name of a macro with parameters.
+    fn find_call(&mut self, budget: &mut Budget) -> Result<Found, Stop>
+        ensures finds { IfOk result (λ found. Finds R.reading (seen R.state self.old) found (seen R.state self.new)) }
+        ensures budget { budget.new.steps ≤ budget.old.steps }
+    {
+        let Some(paren) = self.take_paren(budget)? else {
+            return Ok(Found::NoCall);
+        };
+        match self.gather(paren, budget)? {
+            Ok(gathered) => {
+                let Gathered { tokens, closing } = gathered;
+                let arguments = arguments_of(self.alloc, tokens)?;
+                Ok(Found::Whole(Site {
+                    paren,
+                    line: closing.line,
+                    arguments,
+                }))
+            }
+            Err(fault) => Ok(Found::Broken(fault)),
+        }
+    }
+
+    /// One turn of reading.
+    pub fn turn(&mut self, budget: &mut Budget) -> Result<Turn, Stop>
+        ensures turns { IfOk result (λ turn. Turns R.reading (seen R.state self.old) turn (seen R.state self.new)) }
+        ensures budget { budget.new.steps ≤ budget.old.steps }
+    {
+        let taken = self.take(budget)?;
+        match self.opening(&taken) {
+            Ok(None) => Ok(Turn::Item(taken)),
+            Ok(Some(opening)) => self.turn_at(taken, opening, budget),
+            Err(_) => {
+                drop(taken);
+                Err(Stop::OutOfMemory)
+            }
+        }
+    }
+
+    /// The turn at a token that opens a macro.
+    fn turn_at(
+        &mut self,
+        taken: Outcome,
+        opening: Opening,
+        budget: &mut Budget,
+    ) -> Result<Turn, Stop>
+        ensures turns { IfOk result (λ turn. TurnsAt R.reading taken opening (seen R.state self.old) turn (seen R.state self.new)) }
+        ensures budget { budget.new.steps ≤ budget.old.steps }
+    {
+        if !is_function_like(&opening) {
+            drop(taken);
+            self.replace(opening)?;
+            return Ok(Turn::Replaced);
+        }
+        match self.find_call(budget) {
+            Ok(found) => Ok(turned(taken, opening, found)),
+            Err(stop) => {
+                drop(taken);
+                Err(stop)
+            }
+        }
+    }
+
+    /// Replaces a macro without parameters.
+    fn replace(&mut self, opening: Opening) -> Result<(), AllocError>
+        ensures { OnOk result (seen R.state self.new ≡ opened opening opening.token.location.line [] (seen R.state self.old)) }
+    {
+        let line = line_of(&opening);
+        let none = TokenLists {
+            items: Vec::new(self.alloc),
+        };
+        self.splice(opening, line, &none)
+    }
+}

@@ -1,0 +1,306 @@
+//! The words of an `#if`, `#elif` or `#line` line.
+
+ghost use Rattle.std.specs.Prelude.{◌≡◌, ◌≤◌, [], IfOk, MatchResult, Some, None, is_some};
+ghost use Rattle.pp_plain.specs.Changes.{meaning_of};
+ghost use Rattle.pp_model.specs.Emitting.{answers_at};
+ghost use Rattle.pp_model.specs.LineWords.{LineWords, Operand, reading, unknown_name, unexpected, name_in, name_in_value, is_open_paren, is_close_paren, is_defined, unwanted, unwanted_word};
+ghost use Rattle.pp_model.specs.Names.{is_identifier, defined_name};
+ghost use Rattle.pp_model.specs.Reading.{reading_of};
+ghost use Rattle.pp_plain.specs.WordsRead.{reading_named, unwanted_read, IsOf, Closes, Parenthesized};
+ghost use Rattle.pp_plain.specs.Seen.{seen};
+ghost use Rattle.pp_plain.specs.SeenList.{line_state};
+
+use crate::calls::{is_left_paren, is_right_paren};
+use crate::definitions::Definitions;
+use crate::expand::emit;
+use crate::expander::Expander;
+use crate::names::is_defined_name;
+use crate::reader::LineReader;
+use crate::stop::{Budget, Stop};
+use pp_lexer::token::{Integer, Location, PreprocessorError, Text, Token, TokenValue};
+use pp_model::outcome::{Fault, Outcome};
+use pp_model::word::{LineKind, Word};
+use std::alloc::Global;
+use std::marker::Model;
+
+/// What a token of an expanded line is.
+#[derive(Drop)]
+pub enum WordReading {
+    /// The operator `defined`, as the token that it was read from.
+    Operator(Token),
+    /// A word.
+    Word(Token),
+    /// An unknown name where it is refused.
+    Refused(Fault),
+}
+
+/// The words of a line, and the fault of reading that ends them, if one does.
+#[derive(Drop)]
+pub struct Words {
+    /// The words.
+    pub words: Vec<Word>,
+    /// The fault.
+    pub ending: Option<Fault>,
+}
+
+impl Model for Words {
+    ghost use Rattle.pp_model.specs.LineWords as spec;
+
+    ghost Value = { spec.Words };
+
+    ghost view = { λ w. record { words = w.words.items; ending = w.ending } };
+}
+
+/// The fault of a token that is not wanted.
+fn unexpected(token: Token) -> Fault
+    ensures { result ≡ unexpected token }
+{
+    let Token { value, location } = token;
+    (PreprocessorError::UnexpectedToken(value), location)
+}
+
+/// Whether the token is the identifier `defined`.
+fn is_operator(value: &TokenValue) -> bool
+    ensures { result ≡ is_identifier defined_name value.now }
+{
+    match value {
+        TokenValue::Ident(name) => is_defined_name(name),
+        _ => false,
+    }
+}
+
+/// Whether the token is an identifier.
+fn is_name(value: &TokenValue) -> bool
+    ensures { result ≡ is_some (name_in_value value.now) }
+{
+    matches!(value, TokenValue::Ident(_))
+}
+
+/// What an unknown identifier of a line is.
+fn unknown_name(kind: LineKind, token: Token) -> WordReading
+    ensures { unknown_name kind token ≡ reading_named result }
+{
+    match kind {
+        LineKind::Condition => {
+            let location = token.location;
+            drop(token);
+            WordReading::Word(Token {
+                value: TokenValue::Integer(Integer {
+                    value: 0,
+                    signed: true,
+                    width: 64,
+                }),
+                location,
+            })
+        }
+        LineKind::LineNumber => WordReading::Refused(unexpected(token)),
+    }
+}
+
+/// What a token of an expanded line is.
+fn reading_of(kind: LineKind, token: Token) -> WordReading
+    ensures reads { reading kind token ≡ reading_named result }
+    ensures whole { IsOf token result }
+{
+    if is_operator(&token.value) {
+        WordReading::Operator(token)
+    } else if is_name(&token.value) {
+        unknown_name(kind, token)
+    } else {
+        WordReading::Word(token)
+    }
+}
+
+/// The fault of what was read as a word where a part of `defined` is wanted.
+fn unwanted_reading(read: WordReading) -> Fault
+    ensures { result ≡ unwanted_read read }
+{
+    match read {
+        WordReading::Operator(token) => unexpected(token),
+        WordReading::Word(word) => unexpected(word),
+        WordReading::Refused(fault) => fault,
+    }
+}
+
+/// The fault of an item where a part of `defined` is wanted.
+fn unwanted_word(kind: LineKind, directive: Location, outcome: Outcome) -> Fault
+    ensures { result ≡ unwanted_word kind directive outcome }
+{
+    match outcome {
+        Outcome::Token(token) => unwanted_reading(reading_of(kind, token)),
+        Outcome::Fault(fault) => fault,
+        Outcome::End => (PreprocessorError::UnexpectedEndOfInput, directive),
+    }
+}
+
+/// The name of an identifier, or the fault of anything else where a part of `defined` is wanted.
+fn name_or_fault(directive: Location, outcome: Outcome) -> Result<Text, Fault>
+    ensures { MatchResult result (λ name. name_in outcome ≡ Some name) (λ fault. (name_in outcome ≡ None) × (fault ≡ unwanted directive outcome)) }
+{
+    match outcome {
+        Outcome::Token(token) => {
+            let Token { value, location } = token;
+            match value {
+                TokenValue::Ident(name) => Ok(name),
+                other => Err((PreprocessorError::UnexpectedToken(other), location)),
+            }
+        }
+        Outcome::Fault(fault) => Err(fault),
+        Outcome::End => Err((PreprocessorError::UnexpectedEndOfInput, directive)),
+    }
+}
+
+/// Whether it is a `(`.
+fn is_open_paren(outcome: &Outcome) -> bool
+    ensures { result ≡ is_open_paren outcome.now }
+{
+    match outcome {
+        Outcome::Token(token) => is_left_paren(&token.value),
+        Outcome::Fault(_) | Outcome::End => false,
+    }
+}
+
+/// Whether it is a `)`.
+fn is_close_paren(outcome: &Outcome) -> bool
+    ensures { result ≡ is_close_paren outcome.now }
+{
+    match outcome {
+        Outcome::Token(token) => is_right_paren(&token.value),
+        Outcome::Fault(_) | Outcome::End => false,
+    }
+}
+
+/// Whether the name is defined.
+fn is_defined(expander: &Expander<LineReader<'_>>, name: &Text) -> bool
+    ensures { result ≡ is_defined (seen line_state expander.now) name.now }
+{
+    expander.reader.definitions.find(name).is_some()
+}
+
+/// What a `defined` comes to behind its `(` and the name.
+fn closed_operand(
+    kind: LineKind,
+    directive: Location,
+    expander: &mut Expander<LineReader<'_>>,
+    name: &Text,
+    levels: u32,
+    budget: &mut Budget,
+) -> Result<Result<bool, Fault>, Stop>
+    ensures closes { IfOk result (λ answer. Closes kind directive (answers_at levels) name.now (seen line_state expander.old) answer (seen line_state expander.new)) }
+    ensures budget { budget.new.steps ≤ budget.old.steps }
+{
+    let found = emit(expander, levels, budget)?;
+    if is_close_paren(&found) {
+        drop(found);
+        Ok(Ok(is_defined(expander, name)))
+    } else {
+        Ok(Err(unwanted_word(kind, directive, found)))
+    }
+}
+
+/// What a `defined` comes to behind its `(`.
+fn operand_in_parentheses(
+    kind: LineKind,
+    directive: Location,
+    expander: &mut Expander<LineReader<'_>>,
+    levels: u32,
+    budget: &mut Budget,
+) -> Result<Result<bool, Fault>, Stop>
+    ensures parenthesized { IfOk result (λ answer. Parenthesized kind directive (answers_at levels) (seen line_state expander.old) answer (seen line_state expander.new)) }
+    ensures budget { budget.new.steps ≤ budget.old.steps }
+{
+    let found = expander.take(budget)?;
+    match name_or_fault(directive, found) {
+        Ok(name) => closed_operand(kind, directive, expander, &name, levels, budget),
+        Err(fault) => Ok(Err(fault)),
+    }
+}
+
+/// What the operand of a `defined` comes to.
+fn operand(
+    kind: LineKind,
+    directive: Location,
+    expander: &mut Expander<LineReader<'_>>,
+    levels: u32,
+    budget: &mut Budget,
+) -> Result<Result<bool, Fault>, Stop>
+    ensures operand { IfOk result (λ answer. Operand kind directive (answers_at levels) (seen line_state expander.old) answer (seen line_state expander.new)) }
+    ensures budget { budget.new.steps ≤ budget.old.steps }
+{
+    let found = expander.take(budget)?;
+    if is_open_paren(&found) {
+        drop(found);
+        return operand_in_parentheses(kind, directive, expander, levels, budget);
+    }
+    match name_or_fault(directive, found) {
+        Ok(name) => Ok(Ok(is_defined(expander, &name))),
+        Err(fault) => Ok(Err(fault)),
+    }
+}
+
+/// The words that the rest of a line comes to.
+fn read_words(
+    kind: LineKind,
+    directive: Location,
+    expander: &mut Expander<LineReader<'_>>,
+    levels: u32,
+    budget: &mut Budget,
+) -> Result<Words, Stop>
+    ensures words { IfOk result (λ words. LineWords kind directive (answers_at levels) (seen line_state expander.old) words) }
+    ensures budget { budget.new.steps ≤ budget.old.steps }
+{
+    let mut words = Vec::new(expander.alloc);
+    'words: loop {
+        budget.spend()?;
+        let token = match emit(expander, levels, budget)? {
+            Outcome::Token(token) => token,
+            Outcome::Fault(fault) => return Ok(ended(words, Some(fault))),
+            Outcome::End => return Ok(ended(words, None)),
+        };
+        let place = token.location;
+        match reading_of(kind, token) {
+            WordReading::Refused(fault) => return Ok(ended(words, Some(fault))),
+            WordReading::Word(word) => words.push(Word::Plain(word))?,
+            WordReading::Operator(operator) => {
+                drop(operator);
+                match operand(kind, directive, expander, levels, budget)? {
+                    Ok(answer) => words.push(Word::Defined(place, Ok(answer)))?,
+                    Err(fault) => {
+                        words.push(Word::Defined(place, Err(fault)))?;
+                        return Ok(ended(words, None));
+                    }
+                }
+            }
+        }
+    }
+}
+
+/// The words of a line with its fault.
+fn ended(words: Vec<Word>, ending: Option<Fault>) -> Words
+    ensures { result ≡ record { words = words.items; ending = ending } }
+{
+    Words { words, ending }
+}
+
+/// The words that a line comes to, and the fault of reading that ends them, if one does.
+pub fn line_words(
+    alloc: Global,
+    kind: LineKind,
+    directive: Location,
+    tokens: Vec<Token>,
+    definitions: &Definitions,
+    levels: u32,
+    budget: &mut Budget,
+) -> Result<Words, Stop>
+    ensures words { IfOk result (λ words. LineWords kind directive (answers_at levels) (reading_of tokens.items (meaning_of definitions.now) []) words) }
+    ensures budget { budget.new.steps ≤ budget.old.steps }
+{
+    let reader = LineReader {
+        tokens,
+        definitions,
+    };
+    let mut expander = Expander::new(alloc, reader, Vec::new(alloc));
+    let words = read_words(kind, directive, &mut expander, levels, budget);
+    drop(expander);
+    words
+}

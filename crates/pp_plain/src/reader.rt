@@ -1,0 +1,121 @@
+//! Readers: what an expander asks of what stands behind its list.
+
+ghost use Rattle.std.specs.Prelude.{◌≡◌, ◌≤◌, ℕ, IfOk};
+ghost use Rattle.pp_plain.specs.Changes.{meaning_of};
+ghost use Rattle.pp_model.specs.Reading.{first_listed, behind_listed};
+
+use crate::definitions::Definitions;
+use crate::list::take_first;
+use crate::names::is_defined_name;
+use crate::stop::{Budget, Stop};
+use pp_lexer::token::{Text, Token};
+use pp_model::outcome::Outcome;
+
+/// A reader of tokens. `State` is what contracts see of it, and `reading` is its kind.
+pub trait Reader {
+    ghost use Rattle.pp_model.specs.Reading.{Reading};
+
+    ghost State: { Type 0 };
+
+    ghost state: { Self → State };
+
+    ghost reading: { Reading State };
+
+    /// What it gives next.
+    fn read(&mut self, budget: &mut Budget) -> Result<Outcome, Stop>
+        ensures reads { IfOk result (λ outcome. reading.Reads (state self.old) outcome (state self.new)) }
+        ensures budget { budget.new.steps ≤ budget.old.steps };
+
+    /// The definitions that it sees.
+    fn visible(&self) -> &Definitions
+        ensures { meaning_of result.now ≡ reading.visible (state self.now) };
+
+    /// What `__LINE__` shows for a line, unless the number is out of range.
+    fn shown_line(&self, line: u32) -> Option<u32>
+        ensures { result ≡ reading.shown_line (state self.now) line };
+
+    /// Whether the name never opens where it is read.
+    fn is_reserved(&self, name: &Text) -> bool
+        ensures { result ≡ reading.is_reserved name.now };
+}
+
+/// The next token of a list, which is taken, or the end.
+fn next_listed(tokens: &mut Vec<Token>) -> Outcome
+    ensures given { result ≡ first_listed tokens.old.items }
+    ensures rest { tokens.new.items ≡ behind_listed tokens.old.items }
+{
+    match take_first(tokens) {
+        Some(token) => Outcome::Token(token),
+        None => Outcome::End,
+    }
+}
+
+/// An argument of a call, read alone.
+#[derive(Drop)]
+pub struct ArgumentReader<'a> {
+    /// The tokens that are left.
+    pub tokens: Vec<Token>,
+    /// The definitions that it sees.
+    pub definitions: &'a Definitions,
+}
+
+impl Reader for ArgumentReader<'_> {
+    ghost use Rattle.pp_model.specs.Reading.{Listed, argument_reading};
+
+    ghost State = { Listed };
+
+    ghost state = { λ reader. record { tokens = reader.tokens.items; visible = meaning_of reader.definitions.now } };
+
+    ghost reading = { argument_reading };
+
+    fn read(&mut self, _budget: &mut Budget) -> Result<Outcome, Stop> {
+        Ok(next_listed(&mut self.tokens))
+    }
+
+    fn visible(&self) -> &Definitions {
+        self.definitions
+    }
+
+    fn shown_line(&self, line: u32) -> Option<u32> {
+        Some(line)
+    }
+
+    fn is_reserved(&self, _name: &Text) -> bool {
+        false
+    }
+}
+
+/// The line of an `#if`, `#elif` or `#line`, where `defined` is an operator.
+#[derive(Drop)]
+pub struct LineReader<'a> {
+    /// The tokens that are left.
+    pub tokens: Vec<Token>,
+    /// The definitions that it sees.
+    pub definitions: &'a Definitions,
+}
+
+impl Reader for LineReader<'_> {
+    ghost use Rattle.pp_model.specs.Reading.{Listed, line_reading};
+
+    ghost State = { Listed };
+
+    ghost state = { λ reader. record { tokens = reader.tokens.items; visible = meaning_of reader.definitions.now } };
+
+    ghost reading = { line_reading };
+
+    fn read(&mut self, _budget: &mut Budget) -> Result<Outcome, Stop> {
+        Ok(next_listed(&mut self.tokens))
+    }
+
+    fn visible(&self) -> &Definitions {
+        self.definitions
+    }
+
+    fn shown_line(&self, line: u32) -> Option<u32> {
+        Some(line)
+    }
+
+    fn is_reserved(&self, name: &Text) -> bool {
+        is_defined_name(name)
+    }
+}

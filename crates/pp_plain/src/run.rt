@@ -1,0 +1,231 @@
+//! Runs of a source, by the definitions.
+
+ghost use Rattle.std.specs.Prelude.{◌≡◌, ◌≤◌, ◌<◌, ◌^◌, ◌-◌, [], ◌∷◌, length, map, All, IfOk, IfSome};
+ghost use Rattle.pp_model.specs.Emitting.{answers_at, expansion_limit};
+ghost use Rattle.pp_plain.specs.Halting.{Meets};
+ghost use Rattle.pp_model.specs.Run as spec;
+ghost use Rattle.pp_model.specs.Run.{call_of, ends_run, HasRoom};
+ghost use Rattle.pp_plain.specs.Seen.{seen};
+ghost use Rattle.pp_plain.specs.SeenSource.{source_state, RefusedBy, Replying, is_refused};
+ghost use Rattle.std.specs.Str.{chars};
+
+use crate::block::blocks_at;
+use crate::conversion::{conversion, is_newline};
+use crate::definitions::Definitions;
+use crate::expand::{emit, expansion_limit};
+use crate::expander::Expander;
+use crate::item::SourceItem;
+use crate::line::copy_of;
+use crate::source::Source;
+use crate::source_reader::SourceReader;
+use crate::stop::{Budget, Halt, Stop};
+use pp_lexer::lexer::{Lexer, LexerItem};
+use pp_lexer::token::{PreprocessorError, Text};
+use pp_model::call::{Call, Reply};
+use pp_model::definition::TokenList;
+use pp_model::outcome::Outcome;
+use std::alloc::{AllocError, Global};
+
+// Whether memory for the item was refused.
+fn is_refused(item: &LexerItem) -> bool
+    ensures { result ≡ is_refused item.now }
+{
+    matches!(item, Err((PreprocessorError::OutOfMemory, _)))
+}
+
+/// The items of a text, with what the lexer knew of comments at each.
+pub fn items_of(alloc: Global, text: &str) -> Result<Vec<SourceItem>, Stop>
+    requires { length text.now < 2 ^ 32 - 1 }
+    ensures { IfOk result (λ items. items.items ≡ spec.items_of text.now) }
+{
+    let mut lexer = Lexer::new(alloc, text);
+    let mut items = Vec::new(alloc);
+    'items: loop {
+        let Some(item) = lexer.next() else {
+            return Ok(items);
+        };
+        if is_refused(&item) {
+            return Err(Stop::OutOfMemory);
+        }
+        let had_comments = lexer.had_comments();
+        items.push(SourceItem { item, had_comments })?;
+    }
+}
+
+// The tokens of an added content, or the first error or number sign in it.
+fn content_tokens(alloc: Global, items: &[SourceItem]) -> Result<TokenList, Halt>
+    ensures { Meets result (spec.content_tokens items.now) }
+{
+    let Some((first, rest)) = items.split_first() else {
+        return Ok(TokenList {
+            items: Vec::new(alloc),
+        });
+    };
+    match &first.item {
+        Err(fault) => Err(Halt::Fault(copy_of(alloc, fault)?)),
+        Ok(token) if is_newline(&token.value) => content_tokens(alloc, rest),
+        Ok(token) => {
+            let first = conversion(alloc, token)?;
+            let mut tokens = content_tokens(alloc, rest)?;
+            tokens.items.insert(0, first)?;
+            Ok(tokens)
+        }
+    }
+}
+
+// The start of a source.
+fn start(alloc: Global, items: &[SourceItem]) -> Result<Expander<Source<'_>>, Stop>
+    ensures { IfOk result (λ expander. seen source_state expander ≡ spec.start items.now) }
+{
+    let unfinished = blocks_at(alloc, items, items.len())?.len();
+    let reader = SourceReader {
+        items,
+        position: 0,
+        definitions: Definitions::new(alloc),
+        line_offset: 0,
+        truths: Vec::new(alloc),
+        unfinished,
+    };
+    let source = Source { alloc, reader };
+    Ok(Expander::new(alloc, source, Vec::new(alloc)))
+}
+
+// The tokens of an added content.
+fn added_body(alloc: Global, content: &str) -> Result<TokenList, Halt>
+    requires { length content.now < 2 ^ 32 - 1 }
+    ensures { Meets result (spec.content_tokens (spec.items_of content.now)) }
+{
+    let items = items_of(alloc, content)?;
+    content_tokens(alloc, &items)
+}
+
+// The reply where a content is refused.
+fn refusal(halt: Halt) -> Result<Reply, Stop>
+    ensures { IfOk result (RefusedBy halt) }
+{
+    match halt {
+        Halt::Fault(fault) => Ok(Reply::Refused(fault)),
+        Halt::Stop(stop) => Err(stop),
+    }
+}
+
+// The text of a name.
+fn text_of(alloc: Global, name: &str) -> Result<Text, AllocError>
+    ensures { IfOk result (λ text. text ≡ chars name.now) }
+{
+    Ok(Text::from(String::from_str(alloc, name)?))
+}
+
+// The reply to an `add_define`.
+fn add_define(
+    alloc: Global,
+    expander: &mut Expander<Source<'_>>,
+    name: &str,
+    content: &str,
+) -> Result<Reply, Stop>
+    requires { length content.now < 2 ^ 32 - 1 }
+    ensures { IfOk result (λ reply. Replying (answers_at expansion_limit) (seen source_state expander.old) (spec.add_define name.now content.now) reply (seen source_state expander.new)) }
+{
+    match added_body(alloc, content) {
+        Ok(body) => {
+            let name = text_of(alloc, name)?;
+            expander.reader.reader.add(alloc, name, body)?;
+            Ok(Reply::Added)
+        }
+        Err(halt) => refusal(halt),
+    }
+}
+
+// The reply to a call.
+fn reply_to(
+    alloc: Global,
+    expander: &mut Expander<Source<'_>>,
+    call: &Call<'_>,
+    budget: &mut Budget,
+) -> Result<Reply, Stop>
+    requires { HasRoom call.now }
+    ensures { IfOk result (λ reply. Replying (answers_at expansion_limit) (seen source_state expander.old) (call_of call.now) reply (seen source_state expander.new)) }
+{
+    match call {
+        Call::AddDefine(name, content) => add_define(alloc, expander, name, content),
+        Call::Next => Ok(Reply::Given(emit(expander, expansion_limit(), budget)?)),
+    }
+}
+
+// Whether the reply is an error item.
+fn ends_run(reply: &Reply) -> bool
+    ensures { result ≡ ends_run reply.now }
+{
+    matches!(reply, Reply::Given(Outcome::Fault(_)))
+}
+
+// A list of one reply.
+fn only(alloc: Global, reply: Reply) -> Result<Vec<Reply>, Stop>
+    ensures { IfOk result (λ replies. replies.items ≡ reply ∷ []) }
+{
+    let mut replies = Vec::new(alloc);
+    replies.push(reply)?;
+    Ok(replies)
+}
+
+// The replies to the calls, up to and with the first error item.
+#[tactic(auto, using(crate::proofs::RunProgramLemmas::all_behind))]
+fn replies(
+    alloc: Global,
+    expander: &mut Expander<Source<'_>>,
+    calls: &[Call<'_>],
+    budget: &mut Budget,
+) -> Result<Vec<Reply>, Stop>
+    requires { All HasRoom calls.now }
+    ensures { IfOk result (λ replies. spec.Runs (spec.by_rules (answers_at expansion_limit)) (seen source_state expander.old) (map call_of calls.now) replies.items) }
+{
+    let Some((call, others)) = calls.split_first() else {
+        return Ok(Vec::new(alloc));
+    };
+    let reply = reply_to(alloc, expander, call, budget)?;
+    if ends_run(&reply) {
+        return only(alloc, reply);
+    }
+    let mut rest = replies(alloc, expander, others, budget)?;
+    rest.insert(0, reply)?;
+    Ok(rest)
+}
+
+// The same over a source.
+fn run_within(
+    alloc: Global,
+    source: &str,
+    calls: &[Call<'_>],
+    budget: &mut Budget,
+) -> Result<Vec<Reply>, Stop>
+    requires size { length source.now < 2 ^ 32 - 1 }
+    requires contents { All HasRoom calls.now }
+    ensures { IfOk result (λ replies. spec.IsRun source.now (map call_of calls.now) replies.items) }
+{
+    let items = items_of(alloc, source)?;
+    let mut expander = start(alloc, &items)?;
+    replies(alloc, &mut expander, calls, budget)
+}
+
+/// What the calls of a source answer, up to and with the first error item; `None` where more than
+/// this many steps were wanted.
+///
+/// The source and each added content have fewer than 2^32 - 1 bytes. The one error is that memory
+/// was refused.
+pub fn run(
+    alloc: Global,
+    source: &str,
+    calls: &[Call<'_>],
+    steps: u64,
+) -> Result<Option<Vec<Reply>>, AllocError>
+    requires size { length source.now < 2 ^ 32 - 1 }
+    requires contents { All HasRoom calls.now }
+    ensures { IfOk result (λ answer. IfSome answer (λ replies. spec.IsRun source.now (map call_of calls.now) replies.items)) }
+{
+    let mut budget = Budget { steps };
+    match run_within(alloc, source, calls, &mut budget) {
+        Ok(replies) => Ok(Some(replies)),
+        Err(Stop::OutOfBudget) => Ok(None),
+        Err(Stop::OutOfMemory) => Err(AllocError),
+    }
+}

@@ -1,0 +1,502 @@
+//! A reader of a source: what a token or a line comes to.
+
+ghost use Rattle.std.specs.Prelude.{◌≡◌, ◌≤◌, ◌+◌, Some, None, length, drop, take, IfOk, OnOk};
+ghost use Rattle.std.specs.Option.{option_copied};
+ghost use Rattle.pp_plain.specs.Acting.{ActsAs, HasLine, HasLineIfOk};
+ghost use Rattle.pp_model.specs.Acts as spec;
+ghost use Rattle.pp_model.specs.Blocks.{are_surroundings_live};
+ghost use Rattle.pp_plain.specs.ReaderState.{reader_of};
+ghost use Rattle.pp_model.specs.Reads.{renumbered, shown_line};
+ghost use Rattle.pp_model.specs.Run.{adding};
+ghost use Rattle.pp_model.specs.Sights.{least_items};
+ghost use Rattle.pp_plain.specs.declared.stop.Halt.TheVariants as halt;
+
+use crate::block::{Block, blocks_at, has_else, has_taken_branch, is_live};
+use crate::define_line::defined_on;
+use crate::definitions::Definitions;
+use crate::item::SourceItem;
+use crate::line::{
+    comments_before_end, ended_line, line_fault, line_length, line_tokens, only_name,
+};
+use crate::sight::sight_of;
+use crate::source_text::{has_live_text_before, is_first_directive};
+use crate::stop::{Halt, Stop};
+use pp_lexer::token::{
+    Extension, Location, Pragma, PreprocessorError, Text, Token, TokenValue, Tokens, Version,
+};
+use pp_model::definition::{Definition, TokenList};
+use pp_model::directive::Directive;
+use pp_model::outcome::Outcome;
+use pp_model::sight::Sight;
+use pp_model::step::Step;
+use pp_model::truth::Truth;
+use std::alloc::Global;
+use std::marker::Model;
+
+/// A reader of a source.
+#[derive(Drop)]
+pub struct SourceReader<'a> {
+    /// What it reads.
+    pub items: &'a [SourceItem],
+    /// The position of the item that comes next.
+    pub position: usize,
+    /// What is defined.
+    pub definitions: Definitions,
+    /// What is added to a line that `__LINE__` shows.
+    pub line_offset: i64,
+    /// The conditions that were read, the latest first.
+    pub truths: Vec<Truth>,
+    /// How many blocks that stay open at the end are still to be told.
+    pub unfinished: usize,
+}
+
+impl<'a> Model for SourceReader<'a> {
+    ghost use Rattle.std.specs.Prelude.{◌≤◌, length};
+    ghost use Rattle.pp_plain.specs.ReaderState as spec;
+
+    ghost Value = { spec.ReaderState };
+
+    ghost view = { λ r. record { items = r.items.now; position = r.position; changes = r.definitions; line_offset = r.line_offset; truths = r.truths.items; unfinished = r.unfinished } };
+
+    ghost invariant = { λ r. r.position ≤ length r.items.now };
+}
+
+fn refuse(error: PreprocessorError, location: Location) -> Halt
+    ensures { result ≡ halt.Fault (error, location) }
+{
+    Halt::Fault((error, location))
+}
+
+impl<'a> SourceReader<'a> {
+    // The items behind the directive's word.
+    fn behind_word(&self) -> &'a [SourceItem]
+        requires { self.now.position + 2 ≤ length self.now.items }
+        ensures { result.now ≡ spec.behind_word (reader_of self.now) }
+    {
+        &self.items[self.position + 2..]
+    }
+
+    // Goes behind the directive's line.
+    fn pass_line(&mut self)
+        requires { self.old.position + 2 ≤ length self.old.items }
+        ensures { (reader_of self.new) ≡ spec.behind_line (reader_of self.old) }
+    {
+        let length = line_length(self.behind_word());
+        self.position += 2 + length;
+    }
+
+    // Skips the directive's line, but for the lexer's errors.
+    fn skip_line(&mut self, alloc: Global) -> Result<Step, Halt>
+        requires { self.old.position + 2 ≤ length self.old.items }
+        ensures acts { ActsAs result (spec.skipped (reader_of self.old)) (reader_of self.new) }
+        ensures line { HasLineIfOk result self.new }
+    {
+        match line_fault(alloc, self.behind_word())? {
+            Some(fault) => Err(Halt::Fault(fault)),
+            None => {
+                self.pass_line();
+                Ok(Step::Passed)
+            }
+        }
+    }
+
+    /// Goes behind a condition's line, which holds or not.
+    pub fn decide(&mut self, holds: bool) -> Result<(), Stop>
+        requires { self.old.position + 2 ≤ length self.old.items }
+        ensures { OnOk result ((reader_of self.new) ≡ spec.decided (reader_of self.old) holds) }
+    {
+        let position = self.position;
+        self.truths.insert(0, Truth { position, holds })?;
+        self.pass_line();
+        Ok(())
+    }
+
+    /// Goes behind a `#line` of this number, whose word stands here.
+    pub fn renumber(&mut self, word: Location, number: u32)
+        requires { self.old.position + 2 ≤ length self.old.items }
+        ensures { reader_of self.new ≡ renumbered (reader_of self.old) word number }
+    {
+        self.line_offset = i64::from(number) - i64::from(word.line);
+        self.pass_line();
+    }
+
+    /// What `__LINE__` shows for a line.
+    pub fn shown_line(&self, line: u32) -> Option<u32>
+        ensures { result ≡ shown_line (reader_of self.now) line }
+    {
+        u32::try_from(i128::from(line) + i128::from(self.line_offset)).ok()
+    }
+
+    /// Lets the name stand for these tokens from now on.
+    pub fn add(&mut self, alloc: Global, name: Text, body: TokenList) -> Result<(), Stop>
+        ensures { OnOk result (reader_of self.new ≡ adding name body (reader_of self.old)) }
+    {
+        let definition = Definition {
+            function_like: false,
+            parameters: Vec::new(alloc),
+            body: body.items,
+        };
+        self.definitions.change(name, Some(definition))?;
+        Ok(())
+    }
+
+    // Gathers a line whose condition is wanted.
+    fn condition(&mut self, alloc: Global, word: Location) -> Result<Step, Halt>
+        requires { self.old.position + 2 ≤ length self.old.items }
+        ensures acts { ActsAs result (spec.condition word (reader_of self.old)) (reader_of self.new) }
+        ensures line { HasLineIfOk result self.new }
+    {
+        let tokens = line_tokens(alloc, self.behind_word())?;
+        Ok(Step::Condition(word, tokens))
+    }
+
+    // Gathers a `#line`.
+    fn line_number(&mut self, alloc: Global, word: Location) -> Result<Step, Halt>
+        requires { self.old.position + 2 ≤ length self.old.items }
+        ensures acts { ActsAs result (spec.line_number word (reader_of self.old)) (reader_of self.new) }
+        ensures line { HasLineIfOk result self.new }
+    {
+        let tokens = line_tokens(alloc, self.behind_word())?;
+        Ok(Step::LineNumber(word, tokens))
+    }
+
+    // Reads a `#define`.
+    fn define(&mut self, alloc: Global, word: Location) -> Result<Step, Halt>
+        requires { self.old.position + 2 ≤ length self.old.items }
+        ensures acts { ActsAs result (spec.define word (reader_of self.old)) (reader_of self.new) }
+        ensures line { HasLineIfOk result self.new }
+    {
+        let named = defined_on(alloc, word, self.behind_word())?;
+        self.pass_line();
+        Ok(Step::Defines(named))
+    }
+
+    // Does what an `#undef` says.
+    fn undef(&mut self, alloc: Global, word: Location) -> Result<Step, Halt>
+        requires { self.old.position + 2 ≤ length self.old.items }
+        ensures acts { ActsAs result (spec.undef word (reader_of self.old)) (reader_of self.new) }
+        ensures line { HasLineIfOk result self.new }
+    {
+        let name = only_name(alloc, word, self.behind_word())?;
+        self.definitions.change(name, None)?;
+        self.pass_line();
+        Ok(Step::Passed)
+    }
+
+    // Does what an `#ifdef` says, or an `#ifndef`, whose block is live where the name is not defined.
+    fn ifdef(&mut self, alloc: Global, word: Location) -> Result<Step, Halt>
+        requires { self.old.position + 2 ≤ length self.old.items }
+        ensures acts { ActsAs result (spec.ifdef word (reader_of self.old)) (reader_of self.new) }
+        ensures line { HasLineIfOk result self.new }
+    {
+        let name = only_name(alloc, word, self.behind_word())?;
+        let holds = self.definitions.find(&name).is_some();
+        self.decide(holds)?;
+        Ok(Step::Passed)
+    }
+
+    fn ifndef(&mut self, alloc: Global, word: Location) -> Result<Step, Halt>
+        requires { self.old.position + 2 ≤ length self.old.items }
+        ensures acts { ActsAs result (spec.ifndef word (reader_of self.old)) (reader_of self.new) }
+        ensures line { HasLineIfOk result self.new }
+    {
+        let name = only_name(alloc, word, self.behind_word())?;
+        let holds = self.definitions.find(&name).is_none();
+        self.decide(holds)?;
+        Ok(Step::Passed)
+    }
+
+    // Whether the line on which the block begins is live.
+    fn are_surroundings_live(&self, alloc: Global, block: &Block) -> Result<bool, Stop>
+        ensures { IfOk result (λ live. live ≡ are_surroundings_live self.now.items self.now.truths block.now) }
+    {
+        is_live(alloc, self.items, &self.truths, block.first.position)
+    }
+
+    // Reads an `#elif` of this block.
+    fn elif_in(
+        &mut self,
+        alloc: Global,
+        block: Option<&Block>,
+        word: Location,
+    ) -> Result<Step, Halt>
+        requires { self.old.position + 2 ≤ length self.old.items }
+        ensures acts { ActsAs result (spec.elif_in (option_copied block.entry) word (reader_of self.old)) (reader_of self.new) }
+        ensures line { HasLineIfOk result self.new }
+    {
+        let Some(block) = block else {
+            return Err(refuse(PreprocessorError::ElifOutsideOfBlock, word));
+        };
+        if has_else(block) {
+            return Err(refuse(PreprocessorError::ElifAfterElse, word));
+        }
+        if !self.are_surroundings_live(alloc, block)? || has_taken_branch(&self.truths, block) {
+            return self.skip_line(alloc);
+        }
+        self.condition(alloc, word)
+    }
+
+    // Reads an `#else` of this block.
+    fn else_in(
+        &mut self,
+        alloc: Global,
+        block: Option<&Block>,
+        word: Location,
+    ) -> Result<Step, Halt>
+        requires { self.old.position + 2 ≤ length self.old.items }
+        ensures acts { ActsAs result (spec.only_word word (reader_of self.old) (spec.else_in (option_copied block.entry) word (reader_of self.old))) (reader_of self.new) }
+        ensures line { HasLineIfOk result self.new }
+    {
+        ended_line(alloc, word, self.behind_word())?;
+        let Some(block) = block else {
+            return Err(refuse(PreprocessorError::ElseOutsideOfBlock, word));
+        };
+        if has_else(block) {
+            return Err(refuse(PreprocessorError::MoreThanOneElse, word));
+        }
+        self.pass_line();
+        Ok(Step::Passed)
+    }
+
+    // Reads the `#endif` of this block.
+    fn endif_in(
+        &mut self,
+        alloc: Global,
+        block: Option<&Block>,
+        word: Location,
+    ) -> Result<Step, Halt>
+        requires { self.old.position + 2 ≤ length self.old.items }
+        ensures acts { ActsAs result (spec.endif_in (option_copied block.entry) word (reader_of self.old)) (reader_of self.new) }
+        ensures line { HasLineIfOk result self.new }
+    {
+        let Some(block) = block else {
+            return Err(refuse(PreprocessorError::EndifOutsideOfBlock, word));
+        };
+        if !self.are_surroundings_live(alloc, block)? {
+            return self.skip_line(alloc);
+        }
+        ended_line(alloc, word, self.behind_word())?;
+        self.pass_line();
+        Ok(Step::Passed)
+    }
+
+    // Reads a line that parts or closes the innermost block.
+    fn elif_line(&mut self, alloc: Global, word: Location) -> Result<Step, Halt>
+        requires { self.old.position + 2 ≤ length self.old.items }
+        ensures acts { ActsAs result (spec.elif_line word (reader_of self.old)) (reader_of self.new) }
+        ensures line { HasLineIfOk result self.new }
+    {
+        let blocks = blocks_at(alloc, self.items, self.position)?;
+        self.elif_in(alloc, blocks.last(), word)
+    }
+
+    fn else_line(&mut self, alloc: Global, word: Location) -> Result<Step, Halt>
+        requires { self.old.position + 2 ≤ length self.old.items }
+        ensures acts { ActsAs result (spec.else_line word (reader_of self.old)) (reader_of self.new) }
+        ensures line { HasLineIfOk result self.new }
+    {
+        let blocks = blocks_at(alloc, self.items, self.position)?;
+        self.else_in(alloc, blocks.last(), word)
+    }
+
+    fn endif_line(&mut self, alloc: Global, word: Location) -> Result<Step, Halt>
+        requires { self.old.position + 2 ≤ length self.old.items }
+        ensures acts { ActsAs result (spec.endif_line word (reader_of self.old)) (reader_of self.new) }
+        ensures line { HasLineIfOk result self.new }
+    {
+        let blocks = blocks_at(alloc, self.items, self.position)?;
+        self.endif_in(alloc, blocks.last(), word)
+    }
+
+    // Gives the item of a `#version`.
+    fn version(&mut self, alloc: Global, word: Location) -> Result<Step, Halt>
+        requires { self.old.position + 2 ≤ length self.old.items }
+        ensures acts { ActsAs result (spec.version word (reader_of self.old)) (reader_of self.new) }
+        ensures line { HasLineIfOk result self.new }
+    {
+        let tokens = line_tokens(alloc, self.behind_word())?;
+        let first = is_first_directive(alloc, self.items, &self.truths, self.position)?;
+        let value = TokenValue::Version(Version {
+            tokens: Tokens::from(tokens.items),
+            is_first_directive: first,
+            has_comments_before: comments_before_end(self.behind_word()),
+        });
+        Ok(self.give_line(value, word))
+    }
+
+    // Gives the item of an `#extension`.
+    fn extension(&mut self, alloc: Global, word: Location) -> Result<Step, Halt>
+        requires { self.old.position + 2 ≤ length self.old.items }
+        ensures acts { ActsAs result (spec.extension word (reader_of self.old)) (reader_of self.new) }
+        ensures line { HasLineIfOk result self.new }
+    {
+        let tokens = line_tokens(alloc, self.behind_word())?;
+        let before = has_live_text_before(alloc, self.items, &self.truths, self.position)?;
+        let value = TokenValue::Extension(Extension {
+            tokens: Tokens::from(tokens.items),
+            has_non_directive_before: before,
+        });
+        Ok(self.give_line(value, word))
+    }
+
+    // Gives the item of a `#pragma`.
+    fn pragma(&mut self, alloc: Global, word: Location) -> Result<Step, Halt>
+        requires { self.old.position + 2 ≤ length self.old.items }
+        ensures acts { ActsAs result (spec.pragma word (reader_of self.old)) (reader_of self.new) }
+        ensures line { HasLineIfOk result self.new }
+    {
+        let tokens = line_tokens(alloc, self.behind_word())?;
+        let value = TokenValue::Pragma(Pragma {
+            tokens: Tokens::from(tokens.items),
+        });
+        Ok(self.give_line(value, word))
+    }
+
+    // Gives a line's item, and goes behind the line.
+    fn give_line(&mut self, value: TokenValue, word: Location) -> Step
+        requires { self.old.position + 2 ≤ length self.old.items }
+        ensures { spec.given (record { value = value; location = word }) (spec.behind_line (reader_of self.old)) ≡ record { step = result; after = (reader_of self.new) } }
+    {
+        self.pass_line();
+        Step::Given(Outcome::Token(Token {
+            value,
+            location: word,
+        }))
+    }
+
+    // Does what a directive in live text says.
+    fn act_live_directive(
+        &mut self,
+        alloc: Global,
+        directive: Directive,
+        word: Location,
+    ) -> Result<Step, Halt>
+        requires { self.old.position + 2 ≤ length self.old.items }
+        ensures acts { ActsAs result (spec.live_directive directive word (reader_of self.old)) (reader_of self.new) }
+        ensures line { HasLineIfOk result self.new }
+    {
+        match directive {
+            Directive::Define => self.define(alloc, word),
+            Directive::Undef => self.undef(alloc, word),
+            Directive::If => self.condition(alloc, word),
+            Directive::Ifdef => self.ifdef(alloc, word),
+            Directive::Ifndef => self.ifndef(alloc, word),
+            Directive::Elif => self.elif_line(alloc, word),
+            Directive::Else => self.else_line(alloc, word),
+            Directive::Endif => self.endif_line(alloc, word),
+            Directive::Error => Err(refuse(PreprocessorError::ErrorDirective, word)),
+            Directive::Line => self.line_number(alloc, word),
+            Directive::Version => self.version(alloc, word),
+            Directive::Extension => self.extension(alloc, word),
+            Directive::Pragma => self.pragma(alloc, word),
+            Directive::Unknown => Err(refuse(PreprocessorError::UnknownDirective, word)),
+        }
+    }
+
+    // Does what a directive in dead text says: only those of blocks act.
+    fn act_dead_directive(
+        &mut self,
+        alloc: Global,
+        directive: Directive,
+        word: Location,
+    ) -> Result<Step, Halt>
+        requires { self.old.position + 2 ≤ length self.old.items }
+        ensures acts { ActsAs result (spec.dead_directive directive word (reader_of self.old)) (reader_of self.new) }
+        ensures line { HasLineIfOk result self.new }
+    {
+        match directive {
+            Directive::Elif => self.elif_line(alloc, word),
+            Directive::Else => self.else_line(alloc, word),
+            Directive::Endif => self.endif_line(alloc, word),
+            Directive::Unknown => {
+                self.position += 2;
+                Ok(Step::Passed)
+            }
+            _ => self.skip_line(alloc),
+        }
+    }
+
+    // Tells the next of the blocks that stay open at the end, or the end.
+    fn tell_end(&mut self, alloc: Global) -> Result<Step, Halt>
+        ensures acts { ActsAs result (spec.ended (reader_of self.old)) (reader_of self.new) }
+        ensures line { HasLineIfOk result self.new }
+    {
+        let mut blocks = blocks_at(alloc, self.items, self.items.len())?;
+        blocks.truncate(self.unfinished);
+        let Some(block) = blocks.last() else {
+            return Ok(Step::Given(Outcome::End));
+        };
+        let word = block.first.word;
+        self.unfinished = self.unfinished.saturating_sub(1);
+        Ok(Step::Given(Outcome::Fault((PreprocessorError::UnfinishedBlock, word))))
+    }
+
+    // Goes on by so many items, which give nothing.
+    fn pass(&mut self, count: usize) -> Step
+        requires { self.old.position + count ≤ length self.old.items }
+        ensures acts { spec.passed (spec.moved count (reader_of self.old)) ≡ record { step = result; after = reader_of self.new } }
+        ensures line { HasLine result self.new }
+    {
+        self.position += count;
+        Step::Passed
+    }
+
+    // Acts on what stands at the position in live text.
+    fn act_live(&mut self, alloc: Global, sight: Sight) -> Result<Step, Halt>
+        requires { self.old.position + least_items sight ≤ length self.old.items }
+        ensures acts { ActsAs result (spec.live_act sight (reader_of self.old)) (reader_of self.new) }
+        ensures line { HasLineIfOk result self.new }
+    {
+        match sight {
+            Sight::End => self.tell_end(alloc),
+            Sight::NewLine => Ok(self.pass(1)),
+            Sight::Fault(fault) | Sight::NoWord(fault) => Err(Halt::Fault(fault)),
+            Sight::Token(token) => {
+                self.position += 1;
+                Ok(Step::Given(Outcome::Token(token)))
+            }
+            Sight::Hash(location) => Err(refuse(PreprocessorError::UnexpectedHash, location)),
+            Sight::Directive(directive, word) => self.act_live_directive(alloc, directive, word),
+        }
+    }
+
+    // Acts on what stands at the position in dead text.
+    fn act_dead(&mut self, alloc: Global, sight: Sight) -> Result<Step, Halt>
+        requires { self.old.position + least_items sight ≤ length self.old.items }
+        ensures acts { ActsAs result (spec.dead_act sight (reader_of self.old)) (reader_of self.new) }
+        ensures line { HasLineIfOk result self.new }
+    {
+        match sight {
+            Sight::End => self.tell_end(alloc),
+            Sight::Fault(fault) => Err(Halt::Fault(fault)),
+            Sight::NewLine | Sight::Token(_) | Sight::Hash(_) => Ok(self.pass(1)),
+            Sight::NoWord(_) => Ok(self.pass(2)),
+            Sight::Directive(directive, word) => self.act_dead_directive(alloc, directive, word),
+        }
+    }
+
+    // Acts on what stands at the position.
+    fn act_here(&mut self, alloc: Global) -> Result<Step, Halt>
+        ensures acts { ActsAs result (spec.act (reader_of self.old)) (reader_of self.new) }
+        ensures line { HasLineIfOk result self.new }
+    {
+        let sight = sight_of(alloc, &self.items[self.position..])?;
+        if is_live(alloc, self.items, &self.truths, self.position)? {
+            self.act_live(alloc, sight)
+        } else {
+            self.act_dead(alloc, sight)
+        }
+    }
+
+    /// What stands at the position comes to this. A fault leaves the reader where it is.
+    pub fn act(&mut self, alloc: Global) -> Result<Step, Stop>
+        ensures acts { IfOk result (λ step. spec.act (reader_of self.old) ≡ record { step = step; after = reader_of self.new }) }
+        ensures line { IfOk result (λ step. HasLine step self.new) }
+    {
+        match self.act_here(alloc) {
+            Ok(step) => Ok(step),
+            Err(Halt::Fault(fault)) => Ok(Step::Given(Outcome::Fault(fault))),
+            Err(Halt::Stop(stop)) => Err(stop),
+        }
+    }
+}

@@ -1,0 +1,108 @@
+//! The budget of the plain program, and why it gives no answer.
+
+ghost use Rattle.std.specs.Prelude.{◌≡◌, ◌+◌, ◌≤◌, OnOk};
+
+use pp_lexer::token::{Location, PreprocessorError};
+use pp_model::outcome::Fault;
+use std::alloc::{AllocError, AllocFailed};
+
+/// Why the plain program gives no answer.
+#[derive(Clone, Copy, PartialEq, Eq, Debug)]
+pub enum Stop {
+    /// An allocation was refused.
+    OutOfMemory,
+    /// More steps were wanted than the budget has.
+    OutOfBudget,
+}
+
+impl From<AllocError> for Stop {
+    ghost use Rattle.std.specs.Prelude.{⊤};
+
+    ghost from_gives = { λ error stop. ⊤ };
+
+    fn from(_error: AllocError) -> Self {
+        Stop::OutOfMemory
+    }
+}
+
+impl<T: Drop> From<AllocFailed<T>> for Stop {
+    ghost use Rattle.std.specs.Prelude.{⊤};
+
+    ghost from_gives = { λ error stop. ⊤ };
+
+    fn from(_error: AllocFailed<T>) -> Self {
+        Stop::OutOfMemory
+    }
+}
+
+/// Why a part of a line has no value.
+#[derive(Drop)]
+pub enum Halt {
+    /// Its first fault.
+    Fault(Fault),
+    /// The program gives no answer.
+    Stop(Stop),
+}
+
+impl From<Stop> for Halt {
+    ghost use Rattle.std.specs.Prelude.{◌≡◌};
+    ghost use Rattle.pp_plain.specs.declared.stop.Halt.TheVariants.{Stop as halt_stop};
+
+    ghost from_gives = { λ stop halt. halt ≡ halt_stop stop };
+
+    fn from(stop: Stop) -> Self {
+        Halt::Stop(stop)
+    }
+}
+
+impl From<AllocError> for Halt {
+    ghost use Rattle.pp_plain.specs.Halting.{IsStop};
+
+    ghost from_gives = { λ error halt. IsStop halt };
+
+    fn from(_error: AllocError) -> Self {
+        Halt::Stop(Stop::OutOfMemory)
+    }
+}
+
+impl<T: Drop> From<AllocFailed<T>> for Halt {
+    ghost use Rattle.pp_plain.specs.Halting.{IsStop};
+
+    ghost from_gives = { λ error halt. IsStop halt };
+
+    fn from(_error: AllocFailed<T>) -> Self {
+        Halt::Stop(Stop::OutOfMemory)
+    }
+}
+
+impl From<(PreprocessorError, Location)> for Halt {
+    ghost use Rattle.std.specs.Prelude.{◌≡◌};
+    ghost use Rattle.pp_plain.specs.declared.stop.Halt.TheVariants.{Fault as halt_fault};
+
+    ghost from_gives = { λ fault halt. halt ≡ halt_fault fault };
+
+    fn from(fault: Fault) -> Self {
+        Halt::Fault(fault)
+    }
+}
+
+/// How many steps the plain program may still take. It stands in place of a proof that the program ends.
+#[derive(Clone, Copy, PartialEq, Eq, Debug)]
+pub struct Budget {
+    /// The steps that are left.
+    pub steps: u64,
+}
+
+impl Budget {
+    /// Takes one step, unless none is left.
+    pub fn spend(&mut self) -> Result<(), Stop>
+        ensures spent { OnOk result (self.new.steps + 1 ≡ self.old.steps) }
+        ensures kept { self.new.steps ≤ self.old.steps }
+    {
+        if self.steps == 0 {
+            return Err(Stop::OutOfBudget);
+        }
+        self.steps -= 1;
+        Ok(())
+    }
+}

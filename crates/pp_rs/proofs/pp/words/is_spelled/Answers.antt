@@ -1,8 +1,0 @@
-use Rattle.std.proofs.Common.{◌∙◌, ap, nat_eq}
-use Rattle.std.specs.Str.{chars}
-use Rattle.std.specs.Cmp.Lexicographic.{pointwise}
-use Rattle.pp_lexer.proofs.TextLemmas.{chars_tested}
-use Rattle.pp_rs.proofs.pp.words.is_spelled.Goals as goal
-
-pub returns : goal.returns
-returns c = c.eq.ensures ∙ chars_tested _ _ c.as_str.utf8 c.utf8.spelling ∙ ap (λ x. pointwise nat_eq x (chars c.args.spelling.now)) c.as_str.ensures
