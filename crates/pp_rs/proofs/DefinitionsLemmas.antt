@@ -28,7 +28,7 @@ found_or_later : {X : Type 0} (value_of : X → Definition) (here : Bool) (x : X
 found_or_later value_of true x m later e = refl
 found_or_later value_of false x m later e = e
 
-lookup_alike : {K X : Type 0} (f g : K → Bool) → ((k : K) → f k ≡ g k) → (es : List (K × X)) → lookup f es ≡ lookup g es
+pub lookup_alike : {K X : Type 0} (f g : K → Bool) → ((k : K) → f k ≡ g k) → (es : List (K × X)) → lookup f es ≡ lookup g es
 lookup_alike f g h [] = refl
 lookup_alike f g h (e ∷ es) = rw (h e.0, lookup_alike f g h es) refl
 

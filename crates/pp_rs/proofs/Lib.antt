@@ -21,6 +21,7 @@ pub mod ShortenLemmas
 pub mod ShrinkLemmas
 pub mod FrameLemmas
 pub mod OpenMacroLemmas
+pub mod OpenNamesLemmas
 pub mod Walk
 pub mod UnspentLemmas
 pub mod ItemThereLemmas

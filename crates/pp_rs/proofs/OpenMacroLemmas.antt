@@ -1,8 +1,8 @@
 -- Open macros, which the expander keeps with the innermost last.
-use Rattle.std.proofs.Common.{◌≡◌, ◌∙◌, ℕ, ◌-◌, ◌+◌, ◌<◌, ◌⊎◌, Bool, true, false, ◌||◌, List, [], ◌∷◌, ◌++◌, length, get_or, take, reverse, set, refl, ap, sym, arith, Option, Some, None, slice_get, Err, inl, inr, get_or-set_same}
+use Rattle.std.proofs.Common.{◌≡◌, ◌∙◌, ℕ, ◌-◌, ◌+◌, ◌<◌, ◌⊎◌, Bool, true, false, ◌||◌, List, [], ◌∷◌, ◌++◌, length, get_or, take, drop, reverse, set, refl, ap, sym, arith, Option, Some, None, slice_get, Err, inl, inr, get_or-set_same}
 use Rattle.std.specs.List.{list_any}
 use Rattle.std.proofs.Math.Seq.{take-length}
-use Rattle.std.proofs.lemmas.List.{reverse-append, take_more, length-set, take-set}
+use Rattle.std.proofs.lemmas.List.{reverse-append, length-map, length-reverse, take_more, length-set, take-set}
 use Rattle.pp_lexer.specs.PreprocessorError.{out_of_memory}
 use Rattle.pp_lexer.specs.declared.token.Token.{Token}
 use Rattle.pp_model.specs.Names.{Name, is_in, is_same_name}
@@ -10,8 +10,10 @@ use Rattle.pp_rs.specs.Frames.{Layer, Advance, advance, names_of, outermost_fram
 use Rattle.pp_rs.specs.Item.{Step}
 use Rattle.pp_rs.specs.Reader.{Reader}
 use Rattle.pp_rs.specs.Turns.{Moves, frame_move}
-use Rattle.pp_rs.specs.declared.pp.step.StepExit.TheVariants.{Error}
+use Rattle.pp_rs.specs.declared.pp.step.StepExit.TheVariants.{Error, Continue}
+use Rattle.pp_rs.specs.OpenNames.{Position, AreNamesOf, IsOpenedAt, IsClosedAt}
 use Rattle.pp_rs.proofs.FrameLemmas.{TellsAdvance}
+use Rattle.pp_rs.proofs.OpenNamesLemmas.{names_open, names_close}
 
 or_left_comm : (a b c : Bool) → (a || (b || c)) ≡ (b || (a || c))
 or_left_comm true true c = refl
@@ -82,3 +84,48 @@ last_moves fs f v step reader n e some last advances =
     let more = rw e at some in
     let is = rw e at last in
     rw (e, reverse_last fs f more, ← is, reverse_set_last fs v more) (refl, frame_moves (advance f) (reverse (take (length fs - 1) fs)) v step advances)
+
+-- what a move of the frames gives, and the frames after it
+abbrev EndsFrame : List Layer → Option Advance → List Layer → Step Token → Type 0
+EndsFrame fs advanced after step = ((step ≡ (frame_move fs advanced).gives) × (after ≡ (frame_move fs advanced).after)) ⊎ (step ≡ Err (Error out_of_memory))
+
+-- the innermost frame is at its end
+frame_ends : (advanced : Option Advance) (fs after : List Layer) (v : Layer) → TellsAdvance advanced None v → after ≡ fs
+    → EndsFrame fs advanced after (Err Continue)
+frame_ends advanced fs after v (inl refused) is = inr cc
+frame_ends (Some a) fs after v (inr (given, then_after)) is = inr cc
+frame_ends None fs after v (inr none) is = inl (refl, is)
+
+-- the last of them is closed
+pub last_closes : (fs after : List Layer) (f v : Layer) (reader : Reader) (n : ℕ) → n ≡ length fs → 0 < n → f ≡ get_or fs (n - 1) f → TellsAdvance (advance f) None v → after ≡ drop 1 (reverse (set fs (n - 1) v))
+    → Moves (reverse fs) reader (Err Continue) after reader
+last_closes fs after f v reader n e some last ends is =
+    let more = rw e at some in
+    let at_end = rw e at last in
+    let left = rw e at is in
+    rw (reverse_last fs f more, ← at_end) (refl, frame_ends (advance f) (reverse (take (length fs - 1) fs)) after v ends (left ∙ ap (drop 1) (reverse_set_last fs v more)))
+
+-- a step keeps the names
+pub names_kept : (fs : List Layer) (f v : Layer) (n : ℕ) → n ≡ length fs → 0 < n → f ≡ get_or fs (n - 1) f → v.name ≡ f.name → names_of (reverse (set fs (n - 1) v)) ≡ names_of (reverse fs)
+names_kept fs f v n e some last named =
+    let more = rw e at some in
+    let at_end = rw e at last in
+    rw (e, reverse_set_last fs v more, reverse_last fs f more, ← at_end) (ap (λ name. name ∷ names_of (reverse (take (length fs - 1) fs))) named)
+
+names_number : (fs : List Layer) → length (names_of (reverse fs)) ≡ length fs
+names_number fs = length-map (reverse fs) (λ (f : Layer). f.name) ∙ length-reverse fs
+
+-- a frame opens within them
+pub names_opened : (fs after : List Layer) (f : Layer) (name : Name) (n : ℕ) (old new : List Position) → after ≡ fs ++ f ∷ [] → name ≡ f.name → n ≡ length fs
+    → AreNamesOf old (names_of (reverse fs)) → IsOpenedAt name n old new → AreNamesOf new (names_of (reverse after))
+names_opened fs after f name n old new e named number are opens =
+    let counted : n ≡ length (names_of (reverse fs)) = number ∙ sym (names_number fs) in
+    rw (e, reverse-append fs (f ∷ []), ← named) (names_open name (names_of (reverse fs)) old new are (rw counted at opens))
+
+-- the last of them closes
+pub names_closed : (fs rest : List Layer) (f : Layer) (name : Name) (n : ℕ) (old new : List Position) → fs ≡ rest ++ f ∷ [] → name ≡ f.name → n ≡ length rest
+    → AreNamesOf old (names_of (reverse fs)) → IsClosedAt name n old new → AreNamesOf new (names_of (reverse rest))
+names_closed fs rest f name n old new e named number are closes =
+    let counted : n ≡ length (names_of (reverse rest)) = number ∙ sym (names_number rest) in
+    let before = rw (e, reverse-append rest (f ∷ []), ← named) at are in
+    names_close name (names_of (reverse rest)) old new before (rw counted at closes)

@@ -20,6 +20,7 @@ pub mod OpenBlocks
 pub mod Source
 pub mod Reader
 pub mod Frames
+pub mod OpenNames
 pub mod Turns
 pub mod Stands
 pub mod LiveBranch

@@ -17,6 +17,7 @@ mod line_value;
 mod lines;
 mod list_lexer;
 mod list_step;
+mod open_names;
 mod parameters;
 mod preprocessor;
 mod preprocessor_step;

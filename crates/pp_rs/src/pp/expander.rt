@@ -1,11 +1,11 @@
 //! The expander: open macros over a reader.
 
-ghost use Rattle.std.specs.Prelude.{◌≡◌, ◌⊎◌, ◌∷◌, [], IfOk, OnOk, MatchResult, Ok, Err, option_map, pos, false};
-ghost use Rattle.std.specs.List.{list_any};
+ghost use Rattle.std.specs.Prelude.{◌≡◌, ◌⊎◌, ◌∷◌, [], drop, IfOk, OnOk, MatchResult, Ok, Err, option_map, pos, false};
+ghost use Rattle.std.specs.Str.{chars};
 ghost use Rattle.pp_lexer.specs.PreprocessorError.{out_of_memory};
 ghost use Rattle.pp_lexer.specs.declared.token.PreprocessorError.TheVariants.{LineOverflow};
 ghost use Rattle.pp_lexer.specs.declared.token.TokenValue.TheVariants as value;
-ghost use Rattle.pp_model.specs.Names.{is_in, is_identifier, is_same_name, line_name};
+ghost use Rattle.pp_model.specs.Names.{is_in, is_identifier, line_name};
 ghost use Rattle.pp_model.specs.declared.outcome.Outcome.TheVariants as outcome;
 ghost use Rattle.pp_rs.specs.Frames.{layer, names_of, outermost_frame_line};
 ghost use Rattle.pp_rs.specs.Held.{HoldsOrdinary};
@@ -14,6 +14,7 @@ ghost use Rattle.pp_rs.specs.declared.pp.step.StepExit.TheVariants.{Error, Conti
 
 use crate::pp::define::Define;
 use crate::pp::frames::{Frame, TokenList};
+use crate::pp::open_names::OpenNames;
 use crate::pp::reader::MeLexer;
 use crate::pp::step::{Step, StepExit};
 use crate::pp::words::is_spelled;
@@ -27,15 +28,19 @@ use std::rc::Rc;
 pub struct MacroProcessor {
     alloc: Global,
     frames: Vec<Frame>,
+    open_names: OpenNames,
 }
 
 impl Model for MacroProcessor {
     ghost use Rattle.std.specs.Prelude.{List, reverse};
-    ghost use Rattle.pp_rs.specs.Frames.{Layer};
+    ghost use Rattle.pp_rs.specs.Frames.{Layer, names_of};
+    ghost use Rattle.pp_rs.specs.OpenNames.{AreNamesOf};
 
     ghost Value = { List Layer };
 
     ghost view = { λ p. reverse p.frames.items };
+
+    ghost invariant = { λ p. AreNamesOf p.open_names (names_of (reverse p.frames.items)) };
 }
 
 // Whether the token is `__LINE__`.
@@ -46,13 +51,6 @@ fn is_line_name(value: &TokenValue) -> bool
         TokenValue::Ident(name) => is_spelled(name, "__LINE__"),
         _ => false,
     }
-}
-
-// Whether one of the frames has the name.
-fn any_has_name(frames: &[Frame], name: &Text) -> bool
-    ensures { result ≡ list_any (λ frame. is_same_name name.now frame.name) frames.now }
-{
-    frames.iter().any(|frame| *name == *frame.name())
 }
 
 // A line number as an unsigned integer at this place.
@@ -77,14 +75,15 @@ impl MacroProcessor {
         MacroProcessor {
             alloc,
             frames: Vec::new(alloc),
+            open_names: OpenNames::new(alloc),
         }
     }
 
     /// Whether the macro of this name is open.
-    pub fn is_open(&self, name: &Text) -> bool
-        ensures { result ≡ is_in name.now (names_of self.now) }
+    pub fn is_open(&self, name: &str) -> bool
+        ensures { result ≡ is_in (chars name.now) (names_of self.now) }
     {
-        any_has_name(&self.frames, name)
+        self.open_names.is_open(name)
     }
 
     // The line of the outermost macro that is open.
@@ -95,6 +94,17 @@ impl MacroProcessor {
             Some(frame) => Some(frame.line()),
             None => None,
         }
+    }
+
+    // Closes the innermost frame.
+    fn close(&mut self)
+        ensures { self.new ≡ drop 1 self.old }
+    {
+        let Some(frame) = self.frames.pop() else {
+            return;
+        };
+        self.open_names
+            .close(frame.name().as_str(), self.frames.len());
     }
 
     // One step of the innermost frame, or of the reader where no macro is open. A frame at its
@@ -109,7 +119,7 @@ impl MacroProcessor {
         match frame.advance(self.alloc) {
             Some(step) => step,
             None => {
-                self.frames.pop();
+                self.close();
                 Err(StepExit::Continue)
             }
         }
@@ -138,13 +148,13 @@ impl MacroProcessor {
     ) -> Result<Option<Rc<Define>>, AllocError>
         ensures { IfOk result (λ found. option_map (λ define. (name.now, define.value)) found ≡ opens_value self.now (reader lexer.now) (value.Ident name.now)) }
     {
-        if self.is_open(name) {
+        let Some(define) = lexer.get_define(name.as_str()) else {
+            return Ok(None);
+        };
+        if self.is_open(name.as_str()) {
             return Ok(None);
         }
-        match lexer.get_define(name.as_str()) {
-            Some(define) => Ok(Some(define.clone()?)),
-            None => Ok(None),
-        }
+        Ok(Some(define.clone()?))
     }
 
     /// The names of the macros that are open, the innermost first.
@@ -169,8 +179,10 @@ impl MacroProcessor {
     ) -> Result<(), AllocError>
         ensures { OnOk result (self.new ≡ layer name line define.value arguments.items ∷ self.old) }
     {
+        self.frames.reserve(1)?;
+        self.open_names.open(name.as_str(), self.frames.len())?;
         let frame = Frame::new(name, line, define, arguments);
-        self.frames.push(frame)?;
+        self.frames.push_reserved(frame);
         Ok(())
     }
 }

@@ -160,6 +160,7 @@ impl Frame {
     /// of an argument are pauses.
     pub fn advance(&mut self, alloc: Global) -> Option<Step<Token>>
         ensures step { (result ≡ Some (Err (Error out_of_memory))) ⊎ MatchOption (advance self.old) (result ≡ None) (λ step. (result ≡ Some (as_pause step.gives)) × (self.new ≡ step.after)) }
+        ensures name { self.new.name ≡ self.old.name }
         ensures holds { IfSome result (λ step. IfOk step (λ token. HoldsOrdinary token.value)) }
     {
         if let Some(index) = self.expanding {

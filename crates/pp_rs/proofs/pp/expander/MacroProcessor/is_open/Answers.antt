@@ -1,5 +1,7 @@
-use Rattle.pp_rs.proofs.OpenMacroLemmas.{is_in-names}
+use Rattle.std.proofs.Common.{◌∙◌}
+use Rattle.std.specs.Str.{chars}
+use Rattle.pp_rs.proofs.OpenNamesLemmas.{is_open_name}
 use Rattle.pp_rs.proofs.pp.expander.MacroProcessor.is_open.Goals as goal
 
 pub returns : goal.returns
-returns c = rw (← c.self.view_is, is_in-names c.args.name.now c.self.inside.frames.items, ← c.deref.ensures.value) c.any_has_name.ensures
+returns c = rw (← c.self.view_is) (c.is_open.ensures ∙ is_open_name (chars c.args.name.now) _ _ c.self.invariant)
