@@ -43,6 +43,7 @@ pub mod CallTurns
 pub mod CallNesting
 pub mod Seeking
 pub mod Finishing
+pub mod LineItems
 pub mod SourceTurns
 pub mod Fit
 pub mod ParameterReading

@@ -1,0 +1,1 @@
+//! The words of an `#if`, `#elif` or `#line` line.

@@ -1,0 +1,1 @@
+//! What an `#if`, `#elif` or `#line` line comes to.
