@@ -84,7 +84,9 @@ pub mod WorkFallsLemmas
 pub mod CallFallsLemmas
 pub mod SearchSimulates
 pub mod TurnLeadsLemmas
+pub mod ListedLeadsLemmas
 pub mod ListLeadsLemmas
+pub mod LineTurnLemmas
 pub mod SourceLeadsLemmas
 pub mod AnswerLemmas
 pub mod SeekLemmas
