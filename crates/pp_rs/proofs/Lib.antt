@@ -87,6 +87,10 @@ pub mod TurnLeadsLemmas
 pub mod ListedLeadsLemmas
 pub mod ListLeadsLemmas
 pub mod LineTurnLemmas
+pub mod LineReadLemmas
+pub mod LineOperandLemmas
+pub mod LineWordsLemmas
+pub mod LineValueLemmas
 pub mod SourceLeadsLemmas
 pub mod AnswerLemmas
 pub mod SeekLemmas

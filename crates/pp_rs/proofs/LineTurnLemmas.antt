@@ -1,12 +1,12 @@
 -- Reading the line of an `#if`, `#elif` or `#line`: each step of the code reads what the definitions read.
-use Rattle.std.proofs.Common.{◌≡◌, ◌∙◌, inl, inr, true, false, ℕ, ◌<◌, ◌≤◌, arith, List, [], ◌∷◌, ◌++◌, refl, sym, ap, subst, Option, Some, None, Bool, le_trans}
+use Rattle.std.proofs.Common.{◌≡◌, ◌∙◌, inl, inr, true, false, ℕ, ◌≤◌, List, [], ◌∷◌, ◌++◌, refl, sym, ap, subst, Option, Some, None, Bool}
 use Rattle.std.specs.Prelude.{if◌then◌else◌, Result, Ok, Err, option_map, unwrap_or, ⊤}
 use Rattle.pp_lexer.specs.declared.token.Token.{Token}
 use Rattle.pp_model.specs.Calls.{Fault, Gathered, Site, site_of}
 use Rattle.pp_model.specs.Definitions.{Definition}
 use Rattle.pp_model.specs.Emitting.{Emits, answers_at}
 use Rattle.pp_model.specs.Names.{Name, is_identifier, line_name}
-use Rattle.pp_model.specs.Reading.{Expander, Listed, line_reading, reading_of}
+use Rattle.pp_model.specs.Reading.{Expander, Listed, line_reading}
 use Rattle.pp_model.specs.SpliceList.{spliced}
 use Rattle.pp_model.specs.Taking.{Takes, line_number}
 use Rattle.pp_model.specs.declared.outcome.Outcome.{Outcome}
@@ -14,15 +14,15 @@ use Rattle.pp_model.specs.declared.outcome.Outcome.TheVariants as outcome
 use Rattle.pp_model.specs.declared.splice.Entry.{Entry}
 use Rattle.pp_rs.specs.Calling.{PendingCall}
 use Rattle.pp_rs.specs.CallTurns.{Sought, no_call, refused, gathered, sought_by, Seeks, alone, called, Finds, TurnsTo, passes, gives, object, seeks, is_refusal}
-use Rattle.pp_rs.specs.Defined.{Defined, meaning_of}
+use Rattle.pp_rs.specs.Defined.{Defined}
 use Rattle.pp_rs.specs.Finishing.{site_at, IsOpened}
-use Rattle.pp_rs.specs.Frames.{Layer, Advance, advance, layer, flat, names_of, outermost_frame_line}
+use Rattle.pp_rs.specs.Frames.{Layer, Advance, advance, names_of, outermost_frame_line}
 use Rattle.pp_rs.specs.Item.{Step, wants_memory, is_out_of_memory}
 use Rattle.pp_rs.specs.Left.{work_of, IsSound, most_open, most_bodies, regions}
-use Rattle.pp_rs.specs.LineItems.{expander_of, IsHeld, IsOnLine, ReadsOn}
+use Rattle.pp_rs.specs.LineItems.{expander_of, IsHeld, IsOnLine, ReadsOn, IsWorkLess}
 use Rattle.pp_rs.specs.Machine.{Machine, outcome_of_step, step_of_outcome, taken_as, is_pause, StepsTaking, held, moved, TakesNext, now, later}
-use Rattle.pp_rs.specs.Reader.{Reader, of_source, of_list, Listing, listed_step, StepsListed, shown_line, Reads}
-use Rattle.pp_rs.specs.Turns.{Moves, as_pause, frame_move, taken_in}
+use Rattle.pp_rs.specs.Reader.{Reader, of_source, of_list, Listing, listed_step}
+use Rattle.pp_rs.specs.Turns.{Moves, as_pause, frame_move}
 use Rattle.pp_rs.specs.declared.pp.calls.Taken.{Taken}
 use Rattle.pp_rs.specs.declared.pp.calls.Taken.TheVariants as taken
 use Rattle.pp_rs.specs.declared.pp.step.StepExit.{StepExit}
@@ -32,7 +32,7 @@ use Rattle.pp_rs.proofs.ListedLeadsLemmas.{IsListed, list_simulates, list_shows,
 use Rattle.pp_rs.proofs.MachineLemmas.{next_no_pause}
 use Rattle.pp_rs.proofs.OpenSoundLemmas.{next_sound}
 use Rattle.pp_rs.proofs.ReachLemmas.{frame_steps_level}
-use Rattle.pp_rs.proofs.SearchSimulates.{StandsIn, StandsHeld, next_simulates}
+use Rattle.pp_rs.proofs.SearchSimulates.{StandsHeld, next_simulates}
 use Rattle.pp_rs.proofs.SpendLemmas.{step_spends, next_left, next_spends, no_more}
 use Rattle.pp_rs.proofs.TurnLeadsLemmas.{LeadsTo, wants_taken}
 use Rattle.pp_rs.proofs.WorkFallsLemmas.{frame_of, no_more_work}
@@ -194,21 +194,17 @@ module _ (definitions : List Defined) where
   here : (n : Machine) (k : Listing) (f : Expander Listed) → StandsListed true definitions [] n k f → IsHeld n.held → IsSound n (of_list k) → (f ≡ expander_of n k) × IsOnLine definitions n k
   here n k f stands holds sound =
       let listed = stands_held n.held k f.reader holds stands.reader in
-      let e = expander_of n k in
-      (
+      let e = expander_of n k in (
         ap (λ (o : Option Outcome). record f { held = o }) stands.holds
-        ∙ ap (λ (es : List Entry). record { held = e.held; list = es; reader = f.reader; hidden = f.hidden }) stands.list
-        ∙ ap (λ (x : Listed). record { held = e.held; list = e.list; reader = x; hidden = f.hidden }) listed.0
-        ∙ ap (λ (ns : List Name). record { held = e.held; list = e.list; reader = e.reader; hidden = ns }) stands.names,
+            ∙ ap (λ (es : List Entry). record { held = e.held; list = es; reader = f.reader; hidden = f.hidden }) stands.list
+            ∙ ap (λ (x : Listed). record { held = e.held; list = e.list; reader = x; hidden = f.hidden }) listed.0
+            ∙ ap (λ (ns : List Name). record { held = e.held; list = e.list; reader = e.reader; hidden = ns }) stands.names,
         record { sound = sound; holds = holds; line = listed.2; unhidden = listed.1; defined = listed.3 },
       )
 
 -- the items from here on are those from the beginning on
 abbrev pub GoesOn : ℕ → Machine → Listing → Machine → Listing → Type 0
 GoesOn levels m l n k = (o : Outcome) (g : Expander Listed) → Emits line_reading (answers_at levels) (expander_of n k) o g → Emits line_reading (answers_at levels) (expander_of m l) o g
-
-abbrev pub IsWorkLess : ℕ → Machine → Listing → Machine → Listing → Type 0
-IsWorkLess levels m l n k = work_of levels n (of_list k) < work_of levels m (of_list l)
 
 module _ (levels : ℕ) (definitions : List Defined) (m n : Machine) (l k : Listing) (on : IsOnLine definitions m l) where
   leads : (step : Step Taken) → TurnsTo m (of_list l) step n (of_list k) → wants_taken step ≡ false → LeadsTo line_reading (IsListed true definitions []) [] (list_simulates true definitions []) (list_shows true definitions []) (list_sees true definitions []) (answers_at levels) step (expander_of m l) n (of_list k)
@@ -267,8 +263,7 @@ module _ (levels : ℕ) (definitions : List Defined) (m n : Machine) (l k : List
         let f : Expander Listed = record led.0 { list = spliced c.name c.definition c.closing.line opened.arguments led.0.list } in
         let stood : StandsListed true definitions [] n k led.0 = led.1 in
         let stands : StandsListed true definitions [] p k f = subst (λ (q : Machine). StandsListed true definitions [] q k f) (sym opened.opens) (record { holds = stood.holds; list = ap (spliced c.name c.definition c.closing.line opened.arguments) stood.list; reader = stood.reader; names = stood.names }) in
-        let at = here definitions p k f stands (free_held p.held (ap (λ (q : Machine). q.held) opened.opens ∙ pending.free)) less.sound in
-        (
+        let at = here definitions p k f stands (free_held p.held (ap (λ (q : Machine). q.held) opened.opens ∙ pending.free)) less.sound in (
           λ o g emits. led.3 opened.arguments (subst (λ (x : Site). answers_at levels c.definition x (Ok opened.arguments)) (sym site) opened.answers) o g (subst (λ (e : Expander Listed). Emits line_reading (answers_at levels) e o g) (sym at.0) emits),
           at.1,
           less.falls,
@@ -291,8 +286,7 @@ module _ (levels : ℕ) (definitions : List Defined) (m n : Machine) (l k : List
       ap (λ (o : Option Outcome). record h.0 { held = o }) h.3
       ∙ ap (λ (e : Expander Listed). record e { held = None }) at.0
       ∙ ap (λ (o : Option (Step Token)). record (expander_of holding k) { held = option_map outcome_of_step o }) (sym free) in
-      let stood : IsOnLine definitions holding k = at.1 in
-      (
+      let stood : IsOnLine definitions holding k = at.1 in (
         subst (λ (f : Expander Listed). Takes line_reading (expander_of m l) (outcome_of_step step) f) same h.1,
         record { stands = record { sound = sound; holds = free_held n.held free; line = stood.line; unhidden = stood.unhidden; defined = stood.defined }; least = no_more_work levels m n r s left.tightens left.spends },
       )

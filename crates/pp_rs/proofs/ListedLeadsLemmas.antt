@@ -1,34 +1,27 @@
 -- The expander over a list of tokens, an argument or a line, is the definitions' expander of it.
-use Rattle.std.proofs.Common.{◌≡◌, ◌∙◌, inl, inr, true, false, ℕ, zero, suc, ◌+◌, ◌-◌, All, ◌<◌, ◌≤◌, arith, List, [], ◌∷◌, ◌++◌, length, length-append, refl, sym, ap, subst, Option, Some, None, Bool}
-use Rattle.std.specs.Prelude.{if◌then◌else◌, ◌||◌, ◌&&◌, Result, Ok, Err}
+use Rattle.std.proofs.Common.{◌≡◌, ◌∙◌, inl, inr, true, false, ℕ, zero, suc, ◌-◌, All, ◌≤◌, arith, List, [], ◌∷◌, ◌++◌, length, refl, sym, ap, subst, Option, Some, None, Bool}
+use Rattle.std.specs.Prelude.{if◌then◌else◌, ◌||◌, ◌&&◌, Ok, Err}
 use Rattle.pp_lexer.specs.declared.token.Token.{Token}
 use Rattle.pp_model.specs.Names.{Name, is_in, is_same_name, defined_name}
-use Rattle.pp_model.specs.Reading.{Reading, ReadsListed, Expander, Listed, first_listed, behind_listed, argument_reading, reading_of, masked}
-use Rattle.pp_model.specs.Calls.{Fault, Answers, Site, arguments_of, site_of}
+use Rattle.pp_model.specs.Reading.{Reading, ReadsListed, Expander, Listed, first_listed, behind_listed, masked}
+use Rattle.pp_model.specs.Calls.{Answers, arguments_of, site_of}
 use Rattle.pp_model.specs.Definitions.{Definitions}
 use Rattle.pp_model.specs.declared.splice.Entry.{Entry}
-use Rattle.pp_model.specs.Emitting.{Emits, Alone, Collects, done, failed, item, token_before, answers_at}
-use Rattle.pp_model.specs.SpliceList.{open_names, spliced}
-use Rattle.pp_model.specs.declared.outcome.Outcome.{Outcome}
-use Rattle.pp_model.specs.declared.outcome.Outcome.TheVariants as outcome
-use Rattle.pp_model.proofs.CollectLemmas.{behind_items, behind_items-before, behind_items-end, Alone-collects}
+use Rattle.pp_model.specs.SpliceList.{open_names}
 use Rattle.pp_rs.specs.Calling.{PendingCall}
 use Rattle.pp_rs.specs.CallTurns.{TurnsTo, TurnsOrRefuses}
 use Rattle.pp_rs.specs.Defined.{Defined, meaning_of}
 use Rattle.pp_rs.specs.Finishing.{site_at, IsOpened}
 use Rattle.pp_rs.specs.Frames.{layer, flat, names_of}
-use Rattle.pp_rs.specs.Item.{Step, wants_memory, is_out_of_memory}
-use Rattle.pp_rs.specs.Left.{work_of, most_alone, IsSound}
+use Rattle.pp_rs.specs.Item.{Step, wants_memory}
+use Rattle.pp_rs.specs.Left.{most_alone}
 use Rattle.pp_rs.specs.Machine.{Machine}
 use Rattle.pp_rs.specs.Reader.{Reader, of_source, of_list, Listing, listed_step, Reads, shown_line, visible}
 use Rattle.pp_rs.specs.declared.pp.calls.Taken.{Taken}
-use Rattle.pp_rs.specs.declared.pp.calls.Taken.TheVariants as taken
-use Rattle.pp_rs.specs.declared.pp.step.StepExit.TheVariants.{Error, Continue, Finished}
-use Rattle.pp_rs.proofs.CallFallsLemmas.{IsLess, IsPending, turn_falls, pending_opens}
+use Rattle.pp_rs.proofs.CallFallsLemmas.{IsLess, IsPending, pending_opens}
 use Rattle.pp_rs.proofs.FlatLemmas.{open_flat}
 use Rattle.pp_rs.proofs.SearchSimulates.{ReadsTo, StandsIn, StandsHeld}
 use Rattle.pp_rs.proofs.TurnLeadsLemmas.{LeadsTo, turn_leads, wants_taken}
-use Rattle.pp_rs.proofs.WorkFallsLemmas.{start_work}
 
 -- how a list is read: an argument, or a line, where `defined` is an operator
 abbrev pub listed_reading : Bool → Reading Listed

@@ -48,6 +48,10 @@ pub record ReadsOn (levels : ℕ) (definitions : List Defined) (m : Machine) (l 
   pub stands : IsOnLine definitions n k
   pub least : work_of levels n (of_list k) ≤ work_of levels m (of_list l)
 
+-- less of the line is left
+abbrev pub IsWorkLess : ℕ → Machine → Listing → Machine → Listing → Type 0
+IsWorkLess levels m l n k = work_of levels n (of_list k) < work_of levels m (of_list l)
+
 -- What is read of a line: a value, behind which the line is read on, or a fault, behind which it isn't. Of a refusal of
 -- memory nothing is said.
 abbrev pub Reads : {T : Type 0} → ℕ → List Defined → Machine → Listing → (Result T Fault → Expander Listed → Type 0) → Result T Halt → Machine → Listing → Type 0
