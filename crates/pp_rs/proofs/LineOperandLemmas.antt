@@ -29,7 +29,7 @@ told_fault : (fault wanted : Fault) → fault ≡ wanted → ◌≡◌ {A = Resu
 told_fault fault wanted is = ap (λ (f : Fault). let r : Result Bool Fault = Err f in r) is
 
 module _ (kind : LineKind) (directive : Location) (levels : ℕ) (definitions : List Defined) (m : Machine) (l : Listing) (n : Machine) (k : Listing) where
-  -- behind the `(` and the name
+  -- after the `(` and the name
   pub closed_broken : (name : Name) (h : Halt) (r : Result Bool Halt) → r ≡ Err h → ReadsItem levels definitions m l (Err h) n k → ReadsClosed kind directive levels definitions name m l r n k
   closed_broken name h r is reads =
       reads_broken levels definitions m l (λ (item : Result (Option Token) Fault) (f : Expander Listed). Emits line_reading (answers_at levels) (expander_of m l) (outcome_of_item item) f)
@@ -43,7 +43,7 @@ module _ (kind : LineKind) (directive : Location) (levels : ℕ) (definitions : 
     closed_fault name fault still is = (expander_of n k, unclosed (outcome_of found) (expander_of m l) (expander_of n k) (Err fault) item.0 still (told_fault fault (unwanted_word kind directive (outcome_of found)) is))
 
   module _ (found : Option Token) (taken : ReadsTaken levels definitions m l (Ok found) n k) where
-    -- behind the `(`
+    -- after the `(`
     pub parenthesized_name : (name : Name) (r : Result Bool Halt) (p : Machine) (q : Listing) → name_in (outcome_of found) ≡ Some name → ReadsClosed kind directive levels definitions name n k r p q → ReadsParenthesized kind directive levels definitions m l r p q
     parenthesized_name name r p q is reads =
         reads_then levels definitions m l (λ (answer : Result Bool Fault) (f : Expander Listed). Closes kind directive (answers_at levels) name (expander_of n k) answer f)

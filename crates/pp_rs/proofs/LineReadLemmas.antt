@@ -1,4 +1,4 @@
--- What is read of a line, as the code reads it: parts of it read one behind the other, and faults that are passed on.
+-- What is read of a line, as the code reads it: parts of it read one after the other, and faults that are passed on.
 use Rattle.std.proofs.Common.{◌≡◌, ℕ, ◌≤◌, arith, Bool, true, false, List, [], ◌++◌, refl, sym, subst, le_trans, Option, Some, None}
 use Rattle.std.specs.Prelude.{if◌then◌else◌, Result, Ok, Err}
 use Rattle.pp_lexer.specs.declared.token.Token.{Token}
@@ -44,7 +44,7 @@ module _ (levels : ℕ) (definitions : List Defined) (m : Machine) (l : Listing)
       go (halt.Fault fault) reads = (reads.0, on fault reads.0 reads.1)
       go halt.OutOfMemory reads = tt
 
-  -- what is read behind something that was read
+  -- what is read after something that was read
   pub reads_then : {T : Type 0} (P Q : Result T Fault → Expander Listed → Type 0) (n p : Machine) (k q : Listing) (r : Result T Halt) → ReadsOn levels definitions m l n k → ((x : Result T Fault) (f : Expander Listed) → P x f → Q x f) → Reads {T = T} levels definitions n k P r p q → Reads {T = T} levels definitions m l Q r p q
   reads_then P Q n p k q (Ok value) before on (read, behind) = (on (Ok value) _ read, record { stands = behind.stands; least = le_trans behind.least before.least })
   reads_then P Q n p k q (Err (halt.Fault fault)) before on (f, read) = (f, on (Err fault) f read)

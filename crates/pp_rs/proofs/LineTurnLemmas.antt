@@ -117,7 +117,7 @@ next_quiet m n r s step list holds (later step1 m1 between n1 r1 s1 t1 steps nex
     let h = step_quiet m between r s1 (Err Continue) list holds steps refl in
     next_quiet between n s1 s step h.list (free_held between.held (step_frees m between r s1 (Err Continue) steps)) next told
 
--- what is held behind a turn; behind a call it is said elsewhere
+-- what is held after a turn; after a call it is said elsewhere
 abbrev HoldsBehind : Step Taken → Machine → Type 0
 HoldsBehind (Ok (taken.Token token)) n = IsHeld n.held
 HoldsBehind (Ok (taken.Call c)) n = ⊤

@@ -24,7 +24,7 @@ satisfies_more P Q (Ok value) more by = more (Ok value) by
 satisfies_more P Q (Err (halt.Fault fault)) more by = more (Err fault) by
 satisfies_more P Q (Err halt.OutOfMemory) more by = tt
 
--- a second expression behind a line number
+-- a second expression after a line number
 pub followed_by : (directive : Location) (words : Words) (n : ℕ) (second : Result Value Found) (result : Result ℕ Halt) → Evaluates (line_of words) second → Satisfies result (λ r. r ≡ alone_on_line directive words (λ value. n) second) → Satisfies result (IsFollowed directive words n)
 followed_by directive words n second result evaluated =
     satisfies_more (λ (r : Result ℕ Fault). r ≡ alone_on_line directive words (λ value. n) second) (IsFollowed directive words n) result (λ x is. record { second = second; evaluated = evaluated; is = is })

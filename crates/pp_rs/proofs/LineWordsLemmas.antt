@@ -17,7 +17,7 @@ use Rattle.pp_rs.specs.Machine.{Machine}
 use Rattle.pp_rs.specs.Reader.{Listing}
 use Rattle.pp_rs.specs.declared.pp.halt.Halt.TheVariants as halt
 
--- What the reading of a line has reached: its words so far, behind which those from here on come.
+-- What the reading of a line has reached: its words so far, after which those from here on come.
 pub record WordsOn (kind : LineKind) (directive : Location) (levels : ℕ) (defined : List definitions.Defined) (m : Machine) (l : Listing) (words : List Word) (n : Machine) (k : Listing) : Type 0 where
   pub goes_on : (rest : Words) → LineWords kind directive (answers_at levels) (expander_of n k) rest → LineWords kind directive (answers_at levels) (expander_of m l) (behind_words words rest)
   pub stands : IsOnLine defined n k

@@ -80,7 +80,7 @@ module _ (is_line : Bool) (definitions : List Defined) (hidden : List Name) wher
       ap (λ (d : Definitions). record { paren = c.paren; arguments = arguments_of c.tokens; visible = d; open_around = masked f }) seen
       ∙ ap (λ (ns : List Name). record { paren = c.paren; arguments = arguments_of c.tokens; visible = meaning_of definitions; open_around = ns }) around
 
-  -- behind a call whose frame opened less is left
+  -- after a call whose frame opened less is left
   pub opened_less : (levels : ℕ) (m n : Machine) (l k : Listing) → (c : PendingCall) (p : Machine) → IsPending levels m (of_list l) c n (of_list k) → k.definitions ≡ definitions → IsOpened levels definitions (names_of n.frames ++ hidden) c n p → IsLess levels m (of_list l) p (of_list k)
   opened_less zero m n l k c p pend same opened = absurd (let bad : Ok opened.arguments ≡ Err _ = opened.answers in cc)
   opened_less (suc lower) m n l k c p pend same opened =

@@ -44,6 +44,7 @@ pub mod CallNesting
 pub mod Seeking
 pub mod Finishing
 pub mod LineItems
+pub mod IfParsing
 pub mod SourceTurns
 pub mod Fit
 pub mod ParameterReading

@@ -52,7 +52,7 @@ pub record ReadsOn (levels : ℕ) (definitions : List Defined) (m : Machine) (l 
 abbrev pub IsWorkLess : ℕ → Machine → Listing → Machine → Listing → Type 0
 IsWorkLess levels m l n k = work_of levels n (of_list k) < work_of levels m (of_list l)
 
--- What is read of a line: a value, behind which the line is read on, or a fault, behind which it isn't. Of a refusal of
+-- What is read of a line: a value, after which the line is read on, or a fault, after which it isn't. Of a refusal of
 -- memory nothing is said.
 abbrev pub Reads : {T : Type 0} → ℕ → List Defined → Machine → Listing → (Result T Fault → Expander Listed → Type 0) → Result T Halt → Machine → Listing → Type 0
 Reads levels definitions m l P (Ok value) n k = P (Ok value) (expander_of n k) × ReadsOn levels definitions m l n k
@@ -76,7 +76,7 @@ ReadsItem levels definitions m l = Reads levels definitions m l (λ item f. Emit
 abbrev pub ReadsTaken : ℕ → List Defined → Machine → Listing → Result (Option Token) Halt → Machine → Listing → Type 0
 ReadsTaken levels definitions m l = Reads levels definitions m l (λ item f. Takes line_reading (expander_of m l) (outcome_of_item item) f)
 
--- what the operand of a `defined` comes to; the same behind its `(`, and behind that and the name
+-- what the operand of a `defined` comes to; the same after its `(`, and after that and the name
 abbrev pub ReadsOperand : LineKind → Location → ℕ → List Defined → Machine → Listing → Result Bool Halt → Machine → Listing → Type 0
 ReadsOperand kind directive levels definitions m l = Reads levels definitions m l (λ answer f. Operand kind directive (answers_at levels) (expander_of m l) answer f)
 

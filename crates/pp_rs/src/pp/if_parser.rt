@@ -1,18 +1,16 @@
 //! The words of an `#if`, `#elif` or `#line` line.
 
-ghost use Rattle.std.specs.Prelude.{◌≡◌, ◌≤◌, ◌<◌, [], IfOk, IfSome, MatchResult, Some, None, is_some, if◌then◌else◌};
+ghost use Rattle.std.specs.Prelude.{◌≡◌, [], IfOk, is_some};
 ghost use Rattle.pp_model.specs.Emitting.{answers_at};
-ghost use Rattle.pp_model.specs.LineWords.{LineWords, reading, unknown_name, unexpected, name_in, name_in_value, unwanted, unwanted_word, is_open_paren, is_close_paren};
+ghost use Rattle.pp_model.specs.LineWords.{LineWords, reading, unknown_name, unexpected, name_in_value, unwanted_word, is_open_paren, is_close_paren};
 ghost use Rattle.pp_model.specs.Names.{is_identifier, defined_name};
 ghost use Rattle.pp_model.specs.Reading.{reading_of};
 ghost use Rattle.pp_model.specs.WordsRead.{reading_named, unwanted_read, IsOf};
 ghost use Rattle.pp_rs.specs.Defined.{meaning_of};
 ghost use Rattle.pp_rs.specs.Halting.{halt_of};
 ghost use Rattle.pp_rs.specs.Held.{AllHoldOrdinary};
-ghost use Rattle.pp_rs.specs.Left.{work_of};
-ghost use Rattle.pp_rs.specs.LineItems.{IsOnLine, IsWorkLess, ReadsItem, ReadsTaken, ReadsOperand, ReadsParenthesized, ReadsClosed, expander_of, outcome_of};
-ghost use Rattle.pp_rs.specs.Machine.{Satisfies};
-ghost use Rattle.pp_rs.specs.Reader.{of_list};
+ghost use Rattle.pp_rs.specs.IfParsing.{Stands, GivesItem, TakesOff, GivesTaken, IsNameOrFault, GivesOperand, GivesParenthesized, GivesClosed, AreWordsOf};
+ghost use Rattle.pp_rs.specs.LineItems.{outcome_of};
 
 use crate::pp::arguments::finish_call;
 use crate::pp::calls::{Caller, Taken, is_left_paren, is_right_paren};
@@ -53,8 +51,8 @@ struct LineExpander<'a> {
     lexer: ListLexer<'a>,
 }
 
-// What the words of a line are read with: how it is read, where its directive stands, what is defined, and how many levels
-// deep arguments may be read inside each other.
+// The reader of a line's words: what the line is, where its directive stands, what is defined there,
+// and how many levels deep arguments may be read inside each other.
 #[derive(Drop)]
 struct IfParser<'a> {
     alloc: Global,
@@ -176,9 +174,9 @@ fn ended(words: Vec<Word>, ending: Option<Fault>) -> Words
 impl<'a> IfParser<'a> {
     // The next item of the line, or nothing at its end.
     fn next_item(&self, line: &mut LineExpander<'_>) -> Result<Option<Token>, Halt>
-        requires { IsOnLine self.now.definitions.now line.old.caller line.old.lexer }
-        ensures reads { ReadsItem self.now.levels self.now.definitions.now line.old.caller line.old.lexer result line.new.caller line.new.lexer }
-        ensures less { IfOk result (λ found. IfSome found (λ token. IsWorkLess self.now.levels line.old.caller line.old.lexer line.new.caller line.new.lexer)) }
+        requires { Stands self.now line.old }
+        ensures reads { GivesItem self.now line.old result line.new }
+        ensures less { TakesOff self.now line.old result line.new }
     {
         let hidden = [];
         'items: loop {
@@ -201,8 +199,8 @@ impl<'a> IfParser<'a> {
 
     // What is taken next and not looked up, or nothing at the end of the line.
     fn take(&self, line: &mut LineExpander<'_>) -> Result<Option<Token>, Halt>
-        requires { IsOnLine self.now.definitions.now line.old.caller line.old.lexer }
-        ensures { ReadsTaken self.now.levels self.now.definitions.now line.old.caller line.old.lexer result line.new.caller line.new.lexer }
+        requires { Stands self.now line.old }
+        ensures { GivesTaken self.now line.old result line.new }
     {
         match take_list(&mut line.caller, &mut line.lexer) {
             Ok(token) => Ok(Some(token)),
@@ -231,7 +229,7 @@ impl<'a> IfParser<'a> {
 
     // The name of an identifier, or the fault of anything else where a part of `defined` is wanted.
     fn name_or_fault(&self, found: Option<Token>) -> Result<Text, Fault>
-        ensures { MatchResult result (λ name. name_in (outcome_of found) ≡ Some name) (λ fault. (name_in (outcome_of found) ≡ None) × (fault ≡ unwanted self.now.directive (outcome_of found))) }
+        ensures { IsNameOrFault self.now.directive found result }
     {
         match found {
             Some(token) => {
@@ -245,10 +243,10 @@ impl<'a> IfParser<'a> {
         }
     }
 
-    // What a `defined` comes to behind its `(` and the name.
+    // What a `defined` comes to after its `(` and the name.
     fn closed_operand(&self, line: &mut LineExpander<'_>, name: &Text) -> Result<bool, Halt>
-        requires { IsOnLine self.now.definitions.now line.old.caller line.old.lexer }
-        ensures { ReadsClosed self.now.kind self.now.directive self.now.levels self.now.definitions.now name.now line.old.caller line.old.lexer result line.new.caller line.new.lexer }
+        requires { Stands self.now line.old }
+        ensures { GivesClosed self.now name.now line.old result line.new }
     {
         let found = self.next_item(line)?;
         if is_close_paren(&found) {
@@ -259,10 +257,10 @@ impl<'a> IfParser<'a> {
         }
     }
 
-    // What a `defined` comes to behind its `(`.
+    // What a `defined` comes to after its `(`.
     fn operand_in_parentheses(&self, line: &mut LineExpander<'_>) -> Result<bool, Halt>
-        requires { IsOnLine self.now.definitions.now line.old.caller line.old.lexer }
-        ensures { ReadsParenthesized self.now.kind self.now.directive self.now.levels self.now.definitions.now line.old.caller line.old.lexer result line.new.caller line.new.lexer }
+        requires { Stands self.now line.old }
+        ensures { GivesParenthesized self.now line.old result line.new }
     {
         let found = self.take(line)?;
         match self.name_or_fault(found) {
@@ -273,8 +271,8 @@ impl<'a> IfParser<'a> {
 
     // What the operand of a `defined` comes to.
     fn operand(&self, line: &mut LineExpander<'_>) -> Result<bool, Halt>
-        requires { IsOnLine self.now.definitions.now line.old.caller line.old.lexer }
-        ensures { ReadsOperand self.now.kind self.now.directive self.now.levels self.now.definitions.now line.old.caller line.old.lexer result line.new.caller line.new.lexer }
+        requires { Stands self.now line.old }
+        ensures { GivesOperand self.now line.old result line.new }
     {
         let found = self.take(line)?;
         if is_open_paren(&found) {
@@ -289,8 +287,8 @@ impl<'a> IfParser<'a> {
 
     // The words that the rest of a line comes to.
     fn read_words(&self, line: &mut LineExpander<'_>) -> Result<Words, AllocError>
-        requires { IsOnLine self.now.definitions.now line.old.caller line.old.lexer }
-        ensures { IfOk result (λ words. LineWords self.now.kind self.now.directive (answers_at self.now.levels) (expander_of line.old.caller line.old.lexer) words) }
+        requires { Stands self.now line.old }
+        ensures { IfOk result (AreWordsOf self.now line.old) }
     {
         let mut words = Vec::new(self.alloc);
         'words: loop {

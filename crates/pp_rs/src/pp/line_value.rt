@@ -5,7 +5,7 @@ ghost use Rattle.std.specs.Option.{option_copied};
 ghost use Rattle.pp_expression.specs.Arithmetic.{is_zero};
 ghost use Rattle.pp_expression.specs.FirstFault.{Evaluates};
 ghost use Rattle.pp_model.specs.Emitting.{answers_at, expansion_limit};
-ghost use Rattle.pp_model.specs.LineValues as spec;
+ghost use Rattle.pp_model.specs.LineValues.{IsCondition, IsFollowed, IsLineNumber, Numbers, alone_on_line, as_line_number, ended_early, fault_of_operand, line_of, symbol_of, told_fault, unless_followed, unwanted_word, word_from_end, words_behind};
 ghost use Rattle.pp_rs.specs.Defined.{meaning_of};
 ghost use Rattle.pp_rs.specs.Held.{AllHoldOrdinary};
 ghost use Rattle.pp_rs.specs.Machine.{Satisfies};
@@ -24,7 +24,7 @@ use std::alloc::{AllocError, Global};
 
 // What a word is to the grammar of expressions.
 fn symbol_of(word: &Word) -> Symbol
-    ensures { result ≡ spec.symbol_of word.now }
+    ensures { result ≡ symbol_of word.now }
 {
     match word {
         Word::Plain(token) => match &token.value {
@@ -39,7 +39,7 @@ fn symbol_of(word: &Word) -> Symbol
 
 // What the words are to the grammar of expressions.
 fn symbols_of(alloc: Global, words: &[Word]) -> Result<Vec<Symbol>, AllocError>
-    ensures { IfOk result (λ symbols. symbols.items ≡ map spec.symbol_of words.now) }
+    ensures { IfOk result (λ symbols. symbols.items ≡ map symbol_of words.now) }
 {
     let mut symbols = Vec::new(alloc);
     for word in words {
@@ -50,7 +50,7 @@ fn symbols_of(alloc: Global, words: &[Word]) -> Result<Vec<Symbol>, AllocError>
 
 // The value of the expression at the front of the words, or its first fault.
 fn evaluation(alloc: Global, words: &Words) -> Result<Result<Value, Found>, AllocError>
-    ensures { IfOk result (λ evaluation. Evaluates (spec.line_of words.now) evaluation) }
+    ensures { IfOk result (λ evaluation. Evaluates (line_of words.now) evaluation) }
 {
     let symbols = symbols_of(alloc, &words.words)?;
     let ending = words.ending.as_ref().map(|_| ExpressionFault::Unread);
@@ -59,7 +59,7 @@ fn evaluation(alloc: Global, words: &Words) -> Result<Result<Value, Found>, Allo
 
 // The word with which so many words of the line end.
 fn word_from_end(words: &Words, left: usize) -> Option<&Word>
-    ensures { option_copied result ≡ spec.word_from_end left words.now }
+    ensures { option_copied result ≡ word_from_end left words.now }
 {
     words.words.get(words.words.len().saturating_sub(left))
 }
@@ -76,7 +76,7 @@ fn copy_of(alloc: Global, fault: &Fault) -> Result<Fault, AllocError>
 
 // The fault of a word that can't stand where it does.
 fn unwanted_word(alloc: Global, word: &Word) -> Result<Fault, AllocError>
-    ensures { IfOk result (λ fault. fault ≡ spec.unwanted_word word.now) }
+    ensures { IfOk result (λ fault. fault ≡ unwanted_word word.now) }
 {
     match word {
         Word::Plain(token) => {
@@ -96,7 +96,7 @@ fn unwanted_word(alloc: Global, word: &Word) -> Result<Fault, AllocError>
 
 // The fault of a `defined` with its operand, or else that of a line that ends too early.
 fn fault_of_operand(alloc: Global, directive: Location, word: &Word) -> Result<Fault, AllocError>
-    ensures { IfOk result (λ fault. fault ≡ spec.fault_of_operand (spec.ended_early directive) word.now) }
+    ensures { IfOk result (λ fault. fault ≡ fault_of_operand (ended_early directive) word.now) }
 {
     match word {
         Word::Defined(_, Err(fault)) => copy_of(alloc, fault),
@@ -111,7 +111,7 @@ fn told(
     words: &Words,
     found: Found,
 ) -> Result<Fault, AllocError>
-    ensures { IfOk result (λ fault. fault ≡ spec.told_fault directive words.now found) }
+    ensures { IfOk result (λ fault. fault ≡ told_fault directive words.now found) }
 {
     let early = (PreprocessorError::UnexpectedEndOfInput, directive);
     match found.kind {
@@ -133,9 +133,9 @@ fn told(
     }
 }
 
-// Whether nothing stands behind an expression; else what stands there is refused.
+// Whether nothing stands after an expression; else what stands there is refused.
 fn ends_line(alloc: Global, words: &Words, left: usize) -> Result<(), Halt>
-    ensures { Satisfies result (λ r. r ≡ spec.unless_followed tt (spec.word_from_end left words.now)) }
+    ensures { Satisfies result (λ r. r ≡ unless_followed tt (word_from_end left words.now)) }
 {
     match word_from_end(words, left) {
         Some(word) => Err(Halt::Fault(unwanted_word(alloc, word)?)),
@@ -150,7 +150,7 @@ fn holds_alone(
     words: &Words,
     evaluation: Result<Value, Found>,
 ) -> Result<bool, Halt>
-    ensures { Satisfies result (λ r. r ≡ spec.alone_on_line directive words.now (λ value. not (is_zero value)) evaluation) }
+    ensures { Satisfies result (λ r. r ≡ alone_on_line directive words.now (λ value. not (is_zero value)) evaluation) }
 {
     match evaluation {
         Ok(value) => {
@@ -169,7 +169,7 @@ fn number_alone(
     evaluation: Result<Value, Found>,
     number: u32,
 ) -> Result<u32, Halt>
-    ensures { Satisfies result (λ r. r ≡ spec.alone_on_line directive words.now (λ value. number) evaluation) }
+    ensures { Satisfies result (λ r. r ≡ alone_on_line directive words.now (λ value. number) evaluation) }
 {
     match evaluation {
         Ok(value) => {
@@ -180,9 +180,9 @@ fn number_alone(
     }
 }
 
-// The number, where these words behind it are one expression.
+// The number, where these words after it are one expression.
 fn followed(alloc: Global, directive: Location, words: &Words, number: u32) -> Result<u32, Halt>
-    ensures { Satisfies result (spec.IsFollowed directive words.now number) }
+    ensures { Satisfies result (IsFollowed directive words.now number) }
 {
     let second = evaluation(alloc, words)?;
     number_alone(alloc, directive, words, second, number)
@@ -190,8 +190,8 @@ fn followed(alloc: Global, directive: Location, words: &Words, number: u32) -> R
 
 /// Whether the condition of an `#if` or `#elif` line holds, or its first fault.
 ///
-/// `directive` is the place of the directive's word, and `tokens` are those behind it. The error is the fault, or
-/// `OutOfMemory` where memory was refused.
+/// `directive` is the place of the directive's word, and `tokens` are those after it. The error is
+/// the fault, or `OutOfMemory` where memory was refused.
 pub fn condition(
     alloc: Global,
     directive: Location,
@@ -199,7 +199,7 @@ pub fn condition(
     definitions: &Definitions,
 ) -> Result<bool, Halt>
     requires { AllHoldOrdinary tokens.now }
-    ensures { Satisfies result (spec.IsCondition (answers_at expansion_limit) directive tokens.now (meaning_of definitions.now)) }
+    ensures { Satisfies result (IsCondition (answers_at expansion_limit) directive tokens.now (meaning_of definitions.now)) }
 {
     let kind = LineKind::Condition;
     let levels = expansion_limit();
@@ -210,14 +210,14 @@ pub fn condition(
 
 // The value as the number of a line.
 fn as_line_number(value: Value) -> Option<u32>
-    ensures { result ≡ spec.as_line_number value.value }
+    ensures { result ≡ as_line_number value.value }
 {
     u32::try_from(value.value).ok()
 }
 
-// The words behind an expression.
+// The words after an expression.
 fn words_behind(words: Words, left: usize) -> Words
-    ensures { result ≡ spec.words_behind left words }
+    ensures { result ≡ words_behind left words }
 {
     let mut words = words;
     let count = words.words.len().saturating_sub(left);
@@ -227,7 +227,7 @@ fn words_behind(words: Words, left: usize) -> Words
 
 // What the words of a `#line` come to.
 fn numbers(alloc: Global, directive: Location, words: Words) -> Result<u32, Halt>
-    ensures { Satisfies result (spec.Numbers directive words) }
+    ensures { Satisfies result (Numbers directive words) }
 {
     let value = match evaluation(alloc, &words)? {
         Ok(value) => value,
@@ -246,8 +246,8 @@ fn numbers(alloc: Global, directive: Location, words: Words) -> Result<u32, Halt
 
 /// The line number of a `#line`, or its first fault.
 ///
-/// `directive` is the place of the directive's word, and `tokens` are those behind it. The error is the fault, or
-/// `OutOfMemory` where memory was refused.
+/// `directive` is the place of the directive's word, and `tokens` are those after it. The error is
+/// the fault, or `OutOfMemory` where memory was refused.
 pub fn line_number(
     alloc: Global,
     directive: Location,
@@ -255,7 +255,7 @@ pub fn line_number(
     definitions: &Definitions,
 ) -> Result<u32, Halt>
     requires { AllHoldOrdinary tokens.now }
-    ensures { Satisfies result (spec.IsLineNumber (answers_at expansion_limit) directive tokens.now (meaning_of definitions.now)) }
+    ensures { Satisfies result (IsLineNumber (answers_at expansion_limit) directive tokens.now (meaning_of definitions.now)) }
 {
     let kind = LineKind::LineNumber;
     let levels = expansion_limit();
