@@ -86,7 +86,13 @@ pub mod WorkFallsLemmas
 pub mod CallFallsLemmas
 pub mod SearchSimulates
 pub mod TurnLeadsLemmas
+pub mod ListedLeadsLemmas
 pub mod ListLeadsLemmas
+pub mod LineTurnLemmas
+pub mod LineReadLemmas
+pub mod LineOperandLemmas
+pub mod LineWordsLemmas
+pub mod LineValueLemmas
 pub mod SourceLeadsLemmas
 pub mod AnswerLemmas
 pub mod SeekLemmas

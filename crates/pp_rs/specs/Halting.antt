@@ -1,8 +1,8 @@
 -- Why a part of the source has no value, as the exit of a step.
-use Rattle.std.specs.Prelude.{Option, Result, Ok, Err}
+use Rattle.std.specs.Prelude.{if◌then◌else◌, Option, Result, Ok, Err}
 use Rattle.pp_lexer.specs.PreprocessorError.{out_of_memory}
 use Rattle.pp_lexer.specs.declared.token.Token.{Token}
-use Rattle.pp_rs.specs.Item.{Step}
+use Rattle.pp_rs.specs.Item.{Fault, Step, is_out_of_memory}
 use Rattle.pp_rs.specs.Turns.{as_pause}
 use Rattle.pp_rs.specs.declared.pp.halt.Halt.{Halt}
 use Rattle.pp_rs.specs.declared.pp.halt.Halt.TheVariants as halt
@@ -18,3 +18,7 @@ exit_of halt.OutOfMemory = Error out_of_memory
 abbrev pub step_of : Result (Option Token) Halt → Step Token
 step_of (Ok given) = as_pause given
 step_of (Err halt) = Err (exit_of halt)
+
+-- a fault, or that memory was refused
+abbrev pub halt_of : Fault → Halt
+halt_of fault = if is_out_of_memory fault.0 then halt.OutOfMemory else halt.Fault fault

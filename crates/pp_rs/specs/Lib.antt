@@ -42,6 +42,8 @@ pub mod CallTurns
 pub mod CallNesting
 pub mod Seeking
 pub mod Finishing
+pub mod LineItems
+pub mod IfParsing
 pub mod SourceTurns
 pub mod Fit
 pub mod ParameterReading

@@ -13,6 +13,8 @@ mod directives;
 mod expander;
 mod frames;
 mod halt;
+mod if_parser;
+mod limit;
 mod line_value;
 mod lines;
 mod list_lexer;

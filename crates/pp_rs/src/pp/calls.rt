@@ -275,8 +275,8 @@ impl Caller {
         }
     }
 
-    // What is taken next: the first step that is no pause.
-    fn take_next(&mut self, lexer: &mut dyn MeLexer) -> Step<Token>
+    /// What is taken next: the first step that is no pause.
+    pub fn take_next(&mut self, lexer: &mut dyn MeLexer) -> Step<Token>
         ensures takes { TakesNext self.old (reader lexer.old) result self.new (reader lexer.new) }
         ensures holds { IfOk result (λ token. HoldsOrdinary token.value) }
     {

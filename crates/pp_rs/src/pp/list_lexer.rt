@@ -1,6 +1,6 @@
 //! A list of tokens as a reader: an argument of a call, or the line of a directive.
 
-ghost use Rattle.std.specs.Prelude.{◌≡◌, ◌&&◌, false};
+ghost use Rattle.std.specs.Prelude.{◌≡◌, ◌&&◌, [], false, true};
 ghost use Rattle.std.specs.Str.{chars};
 ghost use Rattle.pp_model.specs.Names.{is_in, is_same_name, defined_name};
 ghost use Rattle.pp_rs.specs.Held.{AllHoldOrdinary};
@@ -72,6 +72,21 @@ impl<'a> ListLexer<'a> {
             definitions,
             hidden,
             is_line: false,
+        }
+    }
+
+    /// The line of an `#if`, `#elif` or `#line`, where `defined` is reserved.
+    pub fn line(alloc: Global, tokens: &'a [Token], definitions: &'a Definitions) -> Self
+        requires { AllHoldOrdinary tokens.now }
+        ensures { result ≡ record { tokens = tokens.now; definitions = definitions.now; hidden = []; is_line = true } }
+    {
+        ListLexer {
+            alloc,
+            tokens,
+            position: 0,
+            definitions,
+            hidden: &[],
+            is_line: true,
         }
     }
 

@@ -1,12 +1,15 @@
-//! One step over a list of tokens.
+//! Steps over a list of tokens.
 
 ghost use Rattle.std.specs.Prelude.{IfOk};
 ghost use Rattle.pp_rs.specs.CallTurns.{TurnsOrRefuses, TakenHoldsOrdinary};
+ghost use Rattle.pp_rs.specs.Held.{HoldsOrdinary};
+ghost use Rattle.pp_rs.specs.Machine.{TakesNext};
 ghost use Rattle.pp_rs.specs.Reader.{of_list};
 
 use crate::pp::calls::{Caller, Taken};
 use crate::pp::list_lexer::ListLexer;
 use crate::pp::step::Step;
+use crate::token::Token;
 
 /// One step of the expander, where a list stands behind the frames.
 pub fn step_list(caller: &mut Caller, list: &mut ListLexer<'_>) -> Step<Taken>
@@ -14,4 +17,12 @@ pub fn step_list(caller: &mut Caller, list: &mut ListLexer<'_>) -> Step<Taken>
     ensures holds { IfOk result TakenHoldsOrdinary }
 {
     caller.step(list)
+}
+
+/// What is taken next and not looked up, where a list stands behind the frames.
+pub fn take_list(caller: &mut Caller, list: &mut ListLexer<'_>) -> Step<Token>
+    ensures takes { TakesNext caller.old (of_list list.old) result caller.new (of_list list.new) }
+    ensures holds { IfOk result (λ token. HoldsOrdinary token.value) }
+{
+    caller.take_next(list)
 }

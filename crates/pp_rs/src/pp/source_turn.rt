@@ -1,26 +1,18 @@
 //! One turn over the reader of a source.
 
-ghost use Rattle.std.specs.Prelude.{◌≡◌, IfOk};
+ghost use Rattle.std.specs.Prelude.{IfOk};
 ghost use Rattle.pp_model.specs.Emitting.{expansion_limit};
 ghost use Rattle.pp_rs.specs.Held.{HoldsOrdinary};
 ghost use Rattle.pp_rs.specs.SourceTurns.{StepsOver};
 
-use crate::pp::EXPANSION_LIMIT;
 use crate::pp::arguments::finish_call;
 use crate::pp::calls::{Caller, Taken};
 use crate::pp::directives::DirectiveProcessor;
+use crate::pp::limit::expansion_limit;
 use crate::pp::preprocessor_step::step_source;
 use crate::pp::step::{Step, StepExit};
 use crate::token::Token;
 use std::alloc::Global;
-
-// The limit, as a number that proofs do not look into.
-#[tactic(auto, unfolding(pp_model::specs::Emitting::expansion_limit))]
-fn expansion_limit() -> u32
-    ensures { result ≡ expansion_limit }
-{
-    EXPANSION_LIMIT
-}
 
 /// One step of the expander over a source, behind which a call is finished at once.
 pub fn turn_source(

@@ -12,7 +12,8 @@ use Rattle.std.proofs.lemmas.List.Elements.{All-push, All-nil}
 use Rattle.pp_lexer.specs.declared.token.Token.{Token}
 use Rattle.pp_rs.specs.Held.{HoldsOrdinary}
 use Rattle.pp_rs.proofs.AnswerLemmas.{satisfies_exit, fault_of, finish_fault, opens_frame, short_more, short_list}
-use Rattle.pp_rs.proofs.ListLeadsLemmas.{reached_start, reached_token, token_less, reached_pause, pause_less, reached_end, reached_fault, reached_call_fault, call_less, reached_call, turned}
+use Rattle.pp_rs.proofs.ListLeadsLemmas.{reached_start, reached_token, token_less, reached_pause, pause_less, reached_end, reached_fault, reached_call_fault, call_less, reached_call}
+use Rattle.pp_rs.proofs.ListedLeadsLemmas.{turned}
 use Rattle.pp_rs.proofs.pp.arguments.+answers.Goals as goal
 
 pub expand_argument-items-init : goal.expand_argument-items-init
