@@ -16,6 +16,7 @@ mod halt;
 mod lines;
 mod list_lexer;
 mod list_step;
+mod open_around;
 mod open_names;
 mod parameters;
 mod preprocessor;
