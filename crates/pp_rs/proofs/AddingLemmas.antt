@@ -22,7 +22,6 @@ use Rattle.pp_rs.specs.SettingContent.{IsSetIn}
 use Rattle.pp_rs.specs.Source.{Source}
 use Rattle.pp_rs.specs.Stands.{StandsForReader, StandsForHeld, StandsFor}
 use Rattle.pp_rs.specs.declared.pp.step.StepExit.TheVariants.{Error, Continue, Finished}
-use Rattle.pp_rs.proofs.ChangedLemmas.{changed_object_like, some_object_like}
 use Rattle.pp_rs.proofs.LeftLemmas.{no_more_work}
 
 module _ (name : Name) (tokens : List Token) (old new : Source) (h : IsSetIn name tokens old new) where
@@ -31,7 +30,6 @@ module _ (name : Name) (tokens : List Token) (old new : Source) (h : IsSetIn nam
     rest = s.rest;
     within = s.within;
     definitions = ap (λ (m : Definitions). changed m name (Some (object_like tokens))) s.definitions ∙ sym c.meaning;
-    object_like = changed_object_like name (Some (object_like tokens)) old.definitions definitions c (some_object_like (object_like tokens) refl) s.object_like;
     line_offset = s.line_offset;
     lined = s.lined;
     lines = s.lines;

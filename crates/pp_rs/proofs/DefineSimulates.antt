@@ -23,8 +23,6 @@ use Rattle.pp_rs.specs.SoFar.{live_fault, acts}
 use Rattle.pp_rs.specs.SourceMoves as moves
 use Rattle.pp_rs.specs.Source.{Source, DefinesOver, Makes}
 use Rattle.pp_rs.specs.Stands.{StandsForReader}
-use Rattle.pp_rs.proofs.ChangedLemmas.{changed_object_like, some_object_like}
-use Rattle.pp_rs.proofs.DirectiveLineLemmas.{define_plain}
 use Rattle.pp_rs.proofs.Simulates.{Simulates}
 use Rattle.pp_rs.proofs.StepHereLemmas.{whole_line, fault_here, act_here, refused_here, pauses_here, line_simulates}
 use Rattle.pp_rs.proofs.StandsLineLemmas.{stands_line, line_stays}
@@ -33,7 +31,7 @@ defined_now : {old : Source} {r : SourceReader} (s : StandsForReader old r) (nam
 defined_now s name known = ap (λ (m : Definitions). m name) s.definitions ∙ known
 
 module _ {old : Source} {r : SourceReader} (s : StandsForReader old r) (alive : is_live_in (last_block old.blocks) ≡ true) (move : Step Token) (new : Source) {word : Location} where
-  module _ (e : sight_of old.rest ≡ sight.Directive d.Define word) (none : live_fault d.Define word (drop 2 old.rest) ≡ None) (named : Named) (read : defined_on word (drop 2 old.rest) ≡ Ok named)
+  module _ (e : sight_of old.rest ≡ sight.Directive d.Define word) (named : Named)
       (is : live_act (sight.Directive d.Define word) r ≡ record { step = step.Defines named; after = behind_line r }) where
     -- the name stood for nothing, for the same or for something else
     define_over : (before : Option Definition) → meaning_of old.definitions named.name ≡ before → DefinesOver named before (whole_line old.rest) moves.directive_line old move new
@@ -41,20 +39,17 @@ module _ {old : Source} {r : SourceReader} (s : StandsForReader old r) (alive : 
     define_over None known h =
         let a = act_here s alive e ∙ is in
         let t = record (behind_line r) { definitions = changed r.definitions named.name (Some named.definition) } in
-        let p = define_plain word (drop 2 old.rest) named read none in
         rw h.0 (record {
           after = t;
-          steps = acts None r t (fault_here s alive e ∙ none) (defines named None r t (ap (λ x. x.step) a) (defined_now s named.name known) refl (ap (λ x. defining named x.after) (sym a)));
+          steps = acts None r t (fault_here s alive e) (defines named None r t (ap (λ x. x.step) a) (defined_now s named.name known) refl (ap (λ x. defining named x.after) (sym a)));
           stands = stands_line s e (changed r.definitions named.name (Some named.definition)) refl h.1
-              (changed_object_like named.name (Some named.definition) old.definitions new.definitions h.2
-              (some_object_like named.definition (ap (λ (x : Definition). x.function_like) p.definition)) s.object_like)
               (ap (λ (m : Definitions). changed m named.name (Some named.definition)) s.definitions ∙ sym h.2.meaning);
         })
     define_over (Some before) known (inl h) =
         let a = act_here s alive e ∙ is in
         rw h.1 (record {
           after = behind_line r;
-          steps = acts None r (behind_line r) (fault_here s alive e ∙ none)
+          steps = acts None r (behind_line r) (fault_here s alive e)
               (repeats named before None r (behind_line r) (ap (λ x. x.step) a) (defined_now s named.name known) h.0 refl (sym (ap (λ x. x.after) a)));
           stands = line_stays s e refl h.2 h.3;
         })
@@ -62,21 +57,16 @@ module _ {old : Source} {r : SourceReader} (s : StandsForReader old r) (alive : 
         let a = act_here s alive e ∙ is in
         rw h.1 (record {
           after = behind_line r;
-          steps = acts _ r (behind_line r) (fault_here s alive e ∙ none)
+          steps = acts _ r (behind_line r) (fault_here s alive e)
               (redefines named before _ r (behind_line r) (ap (λ x. x.step) a) (defined_now s named.name known) h.0 refl (sym (ap (λ x. x.after) a)));
         })
-
-  define_unless : (e : sight_of old.rest ≡ sight.Directive d.Define word) (found : Option Fault) → live_fault d.Define word (drop 2 old.rest) ≡ found
-      → Makes (moves.taking_more 2 (moves.unless_refused found (moves.line_move (defined_on word (drop 2 old.rest)) moves.defines (line_length (drop 2 old.rest))))) old move new → Simulates move r new
-  define_unless e (Some fault) some h = refused_here s alive move new e some h.0
-  define_unless e None none h =
-      line_simulates s alive move new e none (defined_on word) (λ named. record { step = step.Defines named; after = behind_line r }) moves.defines refl
-      (λ named read is. define_over e none named read is (meaning_of old.definitions named.name) refl) h
 
   -- a `#define` is the reader's step
   pub define_simulates : sight_of old.rest ≡ sight.Directive d.Define word → Makes (moves.live_move_at (last_block old.blocks) (sight.Directive d.Define word) old.rest) old move new
       → Simulates move r new
-  define_simulates e h = define_unless e (live_fault d.Define word (drop 2 old.rest)) refl h
+  define_simulates e h =
+      line_simulates s alive move new e refl (defined_on word) (λ named. record { step = step.Defines named; after = behind_line r }) moves.defines refl
+      (λ named read is. define_over e named is (meaning_of old.definitions named.name) refl) h
 
   -- an `#undef` is the reader's step
   pub undef_simulates : sight_of old.rest ≡ sight.Directive d.Undef word → Makes (moves.live_move_at (last_block old.blocks) (sight.Directive d.Undef word) old.rest) old move new
@@ -86,6 +76,5 @@ module _ {old : Source} {r : SourceReader} (s : StandsForReader old r) (alive : 
       (λ name read is undefined. pauses_here s alive move new e refl is (
         undefined.0,
         stands_line s e (changed r.definitions name None) refl undefined.1
-            (changed_object_like name None old.definitions new.definitions undefined.2 (λ definition none. cc) s.object_like)
             (ap (λ (m : Definitions). changed m name None) s.definitions ∙ sym undefined.2.meaning),
       )) h

@@ -1,4 +1,4 @@
--- What stands in front of a directive's line, and what the line of a `#define` that acts so far defines.
+-- What stands in front of a directive's line.
 use Rattle.std.proofs.Common.{◌≡◌, ◌∙◌, ℕ, suc, ◌+◌, Bool, true, false, if◌then◌else◌, List, [], ◌∷◌, take, refl, ap, sym, Some, None, arith}
 use Rattle.std.specs.Prelude.{Result, Ok, Err}
 use Rattle.std.specs.List.{cons_option}
@@ -20,7 +20,6 @@ use Rattle.pp_model.specs.declared.definition.Placed.{Placed}
 use Rattle.pp_model.specs.declared.directive.Directive.{Directive}
 use Rattle.pp_model.specs.declared.sight.Sight.{Sight}
 use Rattle.pp_model.specs.declared.sight.Sight.TheVariants as sight
-use Rattle.pp_rs.specs.SoFar.{paren_fault, parameters_fault, parameters_fault_behind}
 use Rattle.pp_rs.proofs.QuietLemmas.{quiet_item}
 
 -- the number sign and the word of a directive stand in front
@@ -101,50 +100,3 @@ pub take_two : (n : ℕ) (a b : Seen) (rest : List Seen) → take (2 + n) (a ∷
 take_two n a b rest =
     let e : 2 + n ≡ suc (suc n) = omega arith in
     ap (λ k. take k (a ∷ b ∷ rest)) e
-
--- a value, and what was made of it
-record Chained (A B : Type 0) (first : Result A Fault) (next : A → Result B Fault) (made : B) : Type 0 where
-  value : A
-  is : first ≡ Ok value
-  made_of : next value ≡ Ok made
-
-chained : {A B : Type 0} (first : Result A Fault) (next : A → Result B Fault) (made : B) → (first >>= next) ≡ Ok made → Chained A B first next made
-chained (Ok value) next made e = record { value = value; is = refl; made_of = e }
-chained (Err fault) next made e = cc
-
-no_paren : (item : Lexeme) → paren_fault item ≡ None → is_attached_paren item ≡ false
-no_paren (Ok token) e = tested (is_attached_paren (Ok token)) e
-  where
-    tested : (attached : Bool) → (if attached then Some (refused_token token) else None) ≡ None → attached ≡ false
-    tested true e = cc
-    tested false e = refl
-no_paren (Err fault) e = refl
-
--- a macro's name behind which no parameters are refused has none
-pub no_parameters : (rest : List Seen) → parameters_fault rest ≡ None → has_parameters rest ≡ false
-no_parameters [] e = refl
-no_parameters (s ∷ rest) e = no_paren s.item e
-
-abbrev ok_named : Placed → Definition → Result Named Fault
-ok_named first definition = Ok (record { name = first.name; location = first.location; definition = definition })
-
-plain_definition : (word : Location) (rest : List Seen) → has_parameters rest ≡ false → definition_at word rest ≡ (line_tokens rest >>= λ body. Ok (object_like body))
-plain_definition word rest h = rw h refl
-
--- the macro that is defined has no parameters, and this body
-pub record IsPlain (named : Named) : Type 0 where
-  pub body : List Token
-  pub definition : named.definition ≡ object_like body
-
--- a `#define` that acts so far defines a macro without parameters
-pub define_plain : (word : Location) (behind : List Seen) (named : Named) → defined_on word behind ≡ Ok named → parameters_fault_behind (first_name word behind) (behind_first_token behind) ≡ None → IsPlain named
-define_plain word [] named e none = cc
-define_plain word (s ∷ rest) named e none =
-    let finish = λ (first : Placed) (definition : Definition). ok_named first definition in
-    let b = chained (first_name word (s ∷ rest)) (λ first. definition_at word rest >>= finish first) named e in
-    let c = chained (definition_at word rest) (finish b.value) named b.made_of in
-    let plain : parameters_fault rest ≡ None = ap (λ name. parameters_fault_behind name rest) (sym b.is) ∙ none in
-    let d = chained (line_tokens rest) (λ body. Ok (object_like body)) c.value (sym (plain_definition word rest (no_parameters rest plain)) ∙ c.is) in
-    let is : named.definition ≡ c.value = cc (c.made_of) in
-    let body : c.value ≡ object_like d.value = cc (d.made_of) in
-    record { body = d.value; definition = is ∙ body }

@@ -5,7 +5,6 @@ pub mod EndedLemmas
 pub mod HeldLemmas
 pub mod DirectiveLineLemmas
 pub mod SkippedLemmas
-pub mod ChangedLemmas
 pub mod Simulates
 pub mod FlatLemmas
 pub mod PauseLemmas
@@ -16,6 +15,7 @@ pub mod SoundLemmas
 pub mod AdvanceLemmas
 pub mod StepLemmas
 pub mod BodyLemmas
+pub mod DefinedBodyLemmas
 pub mod MoveSizeLemmas
 pub mod ShortenLemmas
 pub mod ShrinkLemmas
@@ -77,8 +77,6 @@ pub mod BranchesReadLemmas
 pub mod KnownBehindLemmas
 pub mod BranchActsLemmas
 pub mod LiveBranchLemmas
-pub mod PlainActsLemmas
-pub mod ForGoodLemmas
 pub mod IterateLemmas
 pub mod ReachLemmas
 pub mod SpendLemmas

@@ -8,8 +8,7 @@ use Rattle.pp_model.specs.Calls.{Fault}
 use Rattle.pp_model.specs.Conversions.{is_newline, conversion}
 use Rattle.pp_model.specs.Emitting.{token_before}
 use Rattle.pp_model.specs.Lines.{◌>>=◌, line_tokens, line_length, line_fault}
-use Rattle.pp_rs.specs.LineReading.{HasTaken, TakesItems, line_token, some_token, next_line_token, tokens_behind, length_behind, next_body_token, body_tokens, unless_fault, skipped_line, goes_on_behind, line_goes_on}
-use Rattle.pp_rs.specs.SoFar.{paren_fault}
+use Rattle.pp_rs.specs.LineReading.{HasTaken, TakesItems, line_token, some_token, next_line_token, tokens_behind, length_behind, unless_fault, skipped_line, goes_on_behind, line_goes_on}
 use Rattle.pp_rs.specs.declared.pp.halt.Halt.{Halt}
 use Rattle.pp_rs.specs.declared.pp.halt.Halt.TheVariants as halt
 
@@ -103,36 +102,6 @@ skipped_more (s ∷ rest) after e d = rw d (sym (skips_item s.item s.had_comment
 pub skipped_place : (rest after : List Seen) → line_goes_on rest ≡ Ok true → after ≡ drop 1 rest → drop (line_length after) after ≡ drop (line_length rest) rest
 skipped_place [] after e d = cc
 skipped_place (s ∷ rest) after e d = rw d (sym (skip_place_item s.item s.had_comments rest e))
-
--- a body behind its name
-body_by : (token : LexerToken) (had : Bool) (rest : List Seen) (fault : Option Fault)
-    → unless_fault fault (line_tokens (record { item = Ok token; had_comments = had } ∷ rest)) ≡ (unless_fault fault (line_token (Some token)) >>= λ first. tokens_behind first rest)
-body_by token had rest (Some fault) = refl
-body_by token had rest None = tokens_behind_item (Ok token) had rest
-
-body_behind_item : (item : Lexeme) (had : Bool) (rest : List Seen)
-    → body_tokens (record { item = item; had_comments = had } ∷ rest) ≡ (next_body_token (record { item = item; had_comments = had } ∷ rest) >>= λ first. tokens_behind first rest)
-body_behind_item (Err fault) had rest = refl
-body_behind_item (Ok token) had rest = body_by token had rest (paren_fault (Ok token))
-
--- a body's tokens are the next one, and those behind it
-pub body_tokens-next : (rest : List Seen) → body_tokens rest ≡ (next_body_token rest >>= λ first. tokens_behind first (drop 1 rest))
-body_tokens-next [] = refl
-body_tokens-next (s ∷ rest) = body_behind_item s.item s.had_comments rest
-
-no_fault : (token : LexerToken) (fault : Option Fault) (first : Option Token) → unless_fault fault (line_token (Some token)) ≡ Ok first → line_token (Some token) ≡ Ok first
-no_fault token (Some fault) first e = cc
-no_fault token None first e = e
-
-body_place_item : (item : Lexeme) (had : Bool) (rest : List Seen) (first : Option Token) → next_body_token (record { item = item; had_comments = had } ∷ rest) ≡ Ok first
-    → drop (line_length (record { item = item; had_comments = had } ∷ rest)) (record { item = item; had_comments = had } ∷ rest) ≡ drop (length_behind first rest) rest
-body_place_item (Err fault) had rest first e = cc
-body_place_item (Ok token) had rest first e = place_behind_item (Ok token) had rest first (no_fault token (paren_fault (Ok token)) first e)
-
--- and the line ends where those behind it end
-pub body_place-next : (rest : List Seen) (first : Option Token) → next_body_token rest ≡ Ok first → drop (line_length rest) rest ≡ drop (length_behind first (drop 1 rest)) (drop 1 rest)
-body_place-next [] first e = let is : first ≡ None = cc in rw is refl
-body_place-next (s ∷ rest) first e = body_place_item s.item s.had_comments rest first e
 
 -- a part of a line is taken behind another
 pub takes_behind : {A : Type 0} (result : Result A Halt) (first more total : ℕ) (old mid new : Lexed) → HasTaken first old mid → TakesItems more mid result new → drop total old.rest ≡ drop more mid.rest → TakesItems total old result new

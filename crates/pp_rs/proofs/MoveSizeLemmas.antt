@@ -14,7 +14,8 @@ use Rattle.pp_rs.specs.DirectiveItems.{DirectiveItem, version, extension, pragma
 use Rattle.pp_rs.specs.OpenBlocks.{OpenBlock, block_parted}
 use Rattle.pp_rs.specs.SoFar.{directive_fault}
 use Rattle.pp_rs.specs.SourceMoves.{Effect, gives_item, fails, defines, undefines, opens_where, opens_unread, parts, closes, passes, unfinished, Move, failing, line_move, skip_by, skip_move, else_effect, else_move, endif_move, item_move, live_move, dead_move, acting_move, directive_move, unless_refused}
-use Rattle.pp_rs.proofs.BodyLemmas.{line_length_least, defined_least}
+use Rattle.pp_rs.proofs.BodyLemmas.{line_length_least}
+use Rattle.pp_rs.proofs.DefinedBodyLemmas.{defined_least}
 
 -- how many tokens an effect defines, or blocks it adds; a block that is parted counts as one that is added
 abbrev pub effect_adds : Effect → ℕ
@@ -53,9 +54,9 @@ module _ (word : Location) (behind : List Seen) where
       go (Some fault) = failing_within fault (length behind)
       go None = record { small = small; taken = line_length_least behind }
 
-  define_small : directive_fault true d.Define word behind ≡ None → (named : Named) → defined_on word behind ≡ Ok named → IsSmall (defines named) (line_length behind)
-  define_small plain named e =
-      let low : length named.definition.body ≤ line_length behind = subst (λ (r : Result Named Fault). IfOk r (λ n. length n.definition.body ≤ line_length behind)) e (defined_least word behind plain) in
+  define_small : (named : Named) → defined_on word behind ≡ Ok named → IsSmall (defines named) (line_length behind)
+  define_small named e =
+      let low : length named.definition.body ≤ line_length behind = subst (λ (r : Result Named Fault). IfOk r (λ n. length n.definition.body ≤ line_length behind)) e (defined_least word behind) in
       record { untold = refl; adds = omega (arith, low) }
 
   else_small : (block : Option OpenBlock) → IsSmall (else_effect block word) (line_length behind)
@@ -84,17 +85,17 @@ module _ (word : Location) (behind : List Seen) where
   item_within item = line_within (line_entries behind) (λ tokens. gives_item (item tokens) word) (λ value is. record { untold = refl; adds = omega arith })
 
   module _ (block : Option OpenBlock) where
-    live_within : (directive : Directive) → directive_fault true directive word behind ≡ None → IsWithin (live_move block directive word behind) (length behind)
-    live_within d.Define e = line_within (defined_on word behind) defines (define_small e)
-    live_within d.Undef e = line_within (only_name word behind) undefines (λ value is. record { untold = refl; adds = omega arith })
-    live_within d.Ifdef e = line_within (only_name word behind) (opens_where true word) (λ value is. record { untold = refl; adds = omega arith })
-    live_within d.Ifndef e = line_within (only_name word behind) (opens_where false word) (λ value is. record { untold = refl; adds = omega arith })
-    live_within d.Else e = else_within block
-    live_within d.Endif e = endif_within block
-    live_within d.Version e = item_within (λ tokens. version tokens (comments_before_end behind))
-    live_within d.Extension e = item_within extension
-    live_within d.Pragma e = item_within pragma
-    live_within _ e = failing_within _ (length behind)
+    live_within : (directive : Directive) → IsWithin (live_move block directive word behind) (length behind)
+    live_within d.Define = line_within (defined_on word behind) defines define_small
+    live_within d.Undef = line_within (only_name word behind) undefines (λ value is. record { untold = refl; adds = omega arith })
+    live_within d.Ifdef = line_within (only_name word behind) (opens_where true word) (λ value is. record { untold = refl; adds = omega arith })
+    live_within d.Ifndef = line_within (only_name word behind) (opens_where false word) (λ value is. record { untold = refl; adds = omega arith })
+    live_within d.Else = else_within block
+    live_within d.Endif = endif_within block
+    live_within d.Version = item_within (λ tokens. version tokens (comments_before_end behind))
+    live_within d.Extension = item_within extension
+    live_within d.Pragma = item_within pragma
+    live_within _ = failing_within _ (length behind)
 
     unread_within : IsWithin (skip_move (opens_unread word) behind) (length behind)
     unread_within = skip_within (opens_unread word) (record { untold = refl; adds = omega arith })
@@ -109,13 +110,13 @@ module _ (word : Location) (behind : List Seen) where
     dead_within d.Unknown = record { small = record { untold = refl; adds = omega arith }; taken = omega arith }
     dead_within _ = skip_within passes (record { untold = refl; adds = omega arith })
 
-    acting_within : (live : Bool) (directive : Directive) → directive_fault live directive word behind ≡ None → IsWithin (acting_move live block directive word behind) (length behind)
-    acting_within true directive e = live_within directive e
-    acting_within false directive e = dead_within directive
+    acting_within : (live : Bool) (directive : Directive) → IsWithin (acting_move live block directive word behind) (length behind)
+    acting_within true directive = live_within directive
+    acting_within false directive = dead_within directive
 
     pub directive_within : (live : Bool) (directive : Directive) → IsWithin (directive_move live block directive word behind) (length behind)
-    directive_within live directive = go (directive_fault live directive word behind) (acting_within live directive)
+    directive_within live directive = go (directive_fault live directive word behind)
       where
-        go : (o : Option Fault) → (o ≡ None → IsWithin (acting_move live block directive word behind) (length behind)) → IsWithin (unless_refused o (acting_move live block directive word behind)) (length behind)
-        go (Some fault) h = failing_within fault (length behind)
-        go None h = h refl
+        go : (o : Option Fault) → IsWithin (unless_refused o (acting_move live block directive word behind)) (length behind)
+        go (Some fault) = failing_within fault (length behind)
+        go None = acting_within live directive

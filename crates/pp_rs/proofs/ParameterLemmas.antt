@@ -129,10 +129,15 @@ paren_on : (value : LexerTokenValue) (b : Bool) → (opens_parameters value && b
 paren_on NewLine b e = cc
 paren_on _ b e = refl
 
+-- the line goes on behind a `(` that stands directly behind a name
+pub paren_goes_on : (item : Lexeme) (had : Bool) (rest : List Seen) → is_attached_paren item ≡ true → IsOnLine (record { item = item; had_comments = had } ∷ rest) rest
+paren_goes_on (Ok token) had rest e = past_item (Ok token) had rest (paren_on token.value (not token.leading_whitespace) e)
+paren_goes_on (Err fault) had rest e = cc
+
 paren_item : (item : Lexeme) (had : Bool) (rest : List Seen) (token : LexerToken) → as_next item ≡ Ok (Some token) → is_attached_paren (Ok token) ≡ true → IsOnLine (record { item = item; had_comments = had } ∷ rest) rest
 paren_item (Ok found) had rest token e paren =
     let same : token ≡ found = cc in
-    past_item (Ok found) had rest (paren_on found.value (not found.leading_whitespace) (ap (λ (t : LexerToken). is_attached_paren (Ok t)) (sym same) ∙ paren))
+    paren_goes_on (Ok found) had rest (ap (λ (t : LexerToken). is_attached_paren (Ok t)) (sym same) ∙ paren)
 paren_item (Err fault) had rest token e paren = cc
 
 -- the line goes on behind a `(`

@@ -8,6 +8,9 @@ use Rattle.pp_model.specs.declared.outcome.Outcome.{Outcome}
 use Rattle.pp_model.specs.declared.outcome.Outcome.TheVariants as outcome
 use Rattle.pp_model.proofs.LevelLemmas.{one_answer, one_item_at}
 use Rattle.pp_model.proofs.ReadsLemmas.{one_step}
+use Rattle.pp_model.proofs.RunLemmas.{one_replies_of}
+use Rattle.pp_model.specs.Run.{items_of, start}
+use Rattle.pp_rs.specs.Comes.{Comes, OneRunSoFar}
 use Rattle.pp_rs.specs.SoFar.{StepsSoFar, acts, refused, ReadsSoFar, here, later, reading_so_far}
 
 -- a line acts, or is refused for one fault
@@ -35,3 +38,7 @@ one_reading_so_far r x y s t (later x1 r1 u s1 a h) (later y1 r2 v t1 b k) =
 -- so a run has one next item in each state
 pub one_item_so_far : OneItem reading_so_far (answers_at expansion_limit)
 one_item_so_far = one_item_at reading_so_far one_reading_so_far expansion_limit
+
+-- equal texts and calls have equal replies
+pub one_run_so_far : OneRunSoFar
+one_run_so_far text calls x y a b = one_replies_of Comes one_item_so_far (start (items_of text)) calls x y a b

@@ -13,7 +13,7 @@ use Rattle.pp_model.specs.Lines.{line_length}
 use Rattle.pp_model.specs.declared.directive.Directive.TheVariants as d
 use Rattle.pp_rs.specs.SoFar.{directive_fault}
 use Rattle.pp_rs.specs.Defined.{Defined, meaning_of}
-use Rattle.pp_rs.specs.LineReading.{Meets, TakesItems, HasTaken, unless_fault, defined_so_far}
+use Rattle.pp_rs.specs.LineReading.{Meets, TakesItems, HasTaken}
 use Rattle.pp_rs.specs.OpenBlocks.{OpenBlock, last_block}
 use Rattle.pp_rs.specs.Source.{Source, IsBehind, IsBehindFault, DefinesOver, HasEffect}
 use Rattle.pp_rs.specs.SourceActs.{HasKept, RedefinesWith, FailsWith, Acts, Gives, defining}
@@ -38,14 +38,6 @@ acts_failed : {A B : Type 0} (shows : A → B) (h : Halt) (line : Result B Fault
     → Meets shows (Err h) line → TakesItems {A = A} taken old (Err h) new → Acts (line_move line effect n) (source_of old definitions blocks has_text has_directive) (Err h) (source_of new definitions blocks has_text has_directive)
 acts_failed shows (halt.Fault fault) line effect n taken definitions blocks has_text has_directive old new m t = rw m (refl, record { left = omega (arith, t.rest); definitions = refl; spent = t.spent })
 acts_failed shows halt.OutOfMemory line effect n taken definitions blocks has_text has_directive old new m t = tt
-
-line_unless_fault : (fault : Option Fault) (line : Result Named Fault) (n : ℕ) → unless_refused fault (line_move line defines n) ≡ line_move (unless_fault fault line) defines n
-line_unless_fault (Some fault) line n = refl
-line_unless_fault None line n = refl
-
--- a `#define` by what its line says
-define_move : (block : Option OpenBlock) (word : Location) (behind : List Seen) → directive_move true block d.Define word behind ≡ line_move (defined_so_far word behind) defines (line_length behind)
-define_move block word behind = line_unless_fault (directive_fault true d.Define word behind) (defined_on word behind) (line_length behind)
 
 pub pause_no_fault : (given : Option Token) (fault : Fault) → as_pause given ≡ Err (Error fault) → ⊥
 pause_no_fault (Some token) fault e = cc
@@ -106,17 +98,14 @@ module _ (definitions : List Defined) (blocks : List OpenBlock) (has_text has_di
 
 -- a `#define`, by its line
 module _ (definitions : List Defined) (blocks : List OpenBlock) (has_text has_directive : Bool) (old new : Lexed) (word : Location) where
-  pub define_failed : {A : Type 0} (shows : A → Named) (h : Halt) → Meets shows (Err h) (defined_so_far word old.rest) → TakesItems {A = A} (line_length old.rest) old (Err h) new
+  pub define_failed : {A : Type 0} (shows : A → Named) (h : Halt) → Meets shows (Err h) (defined_on word old.rest) → TakesItems {A = A} (line_length old.rest) old (Err h) new
       → Acts (directive_move true (last_block blocks) d.Define word old.rest) (source_of old definitions blocks has_text has_directive) (Err h) (source_of new definitions blocks has_text has_directive)
-  define_failed shows h m t =
-      subst (λ (move : Move). Acts move (source_of old definitions blocks has_text has_directive) (Err h) (source_of new definitions blocks has_text has_directive)) (sym (define_move (last_block blocks) word old.rest))
-      (acts_failed shows h (defined_so_far word old.rest) defines (line_length old.rest) (line_length old.rest) definitions blocks has_text has_directive old new m t)
+  define_failed shows h m t = acts_failed shows h (defined_on word old.rest) defines (line_length old.rest) (line_length old.rest) definitions blocks has_text has_directive old new m t
 
-  pub define_acts : (named : Named) (result : Result (Unit {0}) Halt) (after : Source) → defined_so_far word old.rest ≡ Ok named → HasTaken (line_length old.rest) old new → Acts (defining named) (source_of new definitions blocks has_text has_directive) result after
+  pub define_acts : (named : Named) (result : Result (Unit {0}) Halt) (after : Source) → defined_on word old.rest ≡ Ok named → HasTaken (line_length old.rest) old new → Acts (defining named) (source_of new definitions blocks has_text has_directive) result after
       → Acts (directive_move true (last_block blocks) d.Define word old.rest) (source_of old definitions blocks has_text has_directive) result after
   define_acts named result after e t acts =
-      subst (λ (move : Move). Acts move (source_of old definitions blocks has_text has_directive) result after)
-      (sym (define_move (last_block blocks) word old.rest ∙ ap (λ line. line_move line defines (line_length old.rest)) e))
+      subst (λ (move : Move). Acts move (source_of old definitions blocks has_text has_directive) result after) (sym (ap (λ line. line_move line defines (line_length old.rest)) e))
       (acts_behind definitions blocks has_text has_directive old new (line_length old.rest) 0 (line_length old.rest) (omega arith) t.rest unnoted (defines named) result after acts)
 
 -- a fault behind something that was read

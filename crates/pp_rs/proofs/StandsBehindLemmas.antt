@@ -12,7 +12,7 @@ use Rattle.pp_rs.specs.Defined.{meaning_of}
 use Rattle.pp_rs.specs.Lined.{AreLined}
 use Rattle.pp_rs.specs.OpenBlocks.{OpenBlock, last_block, outer_blocks, is_live_in, StandForBlocks, AreBefore}
 use Rattle.pp_rs.specs.Source.{Source}
-use Rattle.pp_rs.specs.Stands.{AreObjectLike, StandsForReader}
+use Rattle.pp_rs.specs.Stands.{StandsForReader}
 use Rattle.pp_rs.proofs.BlockStackLemmas.{Innermost, innermost_last, stands_innermost, none_stand, live_outside, live_inside}
 use Rattle.pp_rs.proofs.LastLemmas.{last_split}
 use Rattle.pp_rs.proofs.LinedLemmas.{lined_behind}
@@ -70,17 +70,16 @@ module _ (old : Source) (r : SourceReader) (s : StandsForReader old r) where
   remembered_here = record { text = s.remembers_text; directive = s.remembers_directive; apart = s.directives; off_line = s.off_line }
 
   -- some items further on
-  pub stands_further : (n : ℕ) (definitions : Definitions) (truths : Truths) (more : List BlockLine) (new : Source) → n ≤ length old.rest → new.rest ≡ drop n old.rest → new.spent ≡ false → AreObjectLike new.definitions
+  pub stands_further : (n : ℕ) (definitions : Definitions) (truths : Truths) (more : List BlockLine) (new : Source) → n ≤ length old.rest → new.rest ≡ drop n old.rest → new.spent ≡ false
       → definitions ≡ meaning_of new.definitions → AddsLines r.position n old.rest more → StandForBlocks r.items truths new.blocks (blocks_at r.items (r.position + n)) → AreBefore (r.position + n) truths
       → IsRemembered new r.items truths (r.position + n) → StandsForReader new (record r { position = r.position + n; definitions = definitions; truths = truths })
-  stands_further n definitions truths more new within behind unspent plain means adds blocks before remembered =
+  stands_further n definitions truths more new within behind unspent means adds blocks before remembered =
       let further : AreLinesBefore r.items (r.position + n) (block_lines 0 (take r.position r.items) ++ more) =
       lines_further r.items r.position n (block_lines 0 (take r.position r.items)) more s.lines (subst (λ (items : List Seen). AddsLines r.position n items more) s.rest adds) in
       record {
         rest = behind ∙ ap (λ items. drop n items) s.rest ∙ drop-drop n r.position r.items;
         within = omega (arith, s.within, within, ap length s.rest, length-drop r.position r.items);
         definitions = means;
-        object_like = plain;
         line_offset = s.line_offset;
         lined = s.lined;
         lines = subst (λ (lines : List BlockLine). AreLinesBefore r.items (r.position + n) lines) (sym (lines_here r.items (r.position + n) (block_lines 0 (take r.position r.items) ++ more) further)) further;

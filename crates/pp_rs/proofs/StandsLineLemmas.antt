@@ -19,7 +19,7 @@ use Rattle.pp_rs.specs.Defined.{meaning_of}
 use Rattle.pp_rs.specs.OpenBlocks.{OpenBlock, StandForBlocks, AreBefore}
 use Rattle.pp_rs.specs.SourceMoves as moves
 use Rattle.pp_rs.specs.Source.{Source, IsBehind, Pauses}
-use Rattle.pp_rs.specs.Stands.{AreObjectLike, StandsForReader}
+use Rattle.pp_rs.specs.Stands.{StandsForReader}
 use Rattle.pp_rs.proofs.BodyLemmas.{line_length_least}
 use Rattle.pp_rs.proofs.DirectiveLineLemmas.{begins_directive}
 use Rattle.pp_rs.proofs.LinesBeforeLemmas.{AddsLines, directive_adds}
@@ -27,7 +27,7 @@ use Rattle.pp_rs.proofs.RememberedLemmas.{IsRemembered, line_remembered}
 use Rattle.pp_rs.proofs.SkippedLemmas.{quiet_behind_word}
 use Rattle.pp_rs.proofs.StandsBehindLemmas.{lined_here, behind_here, remembered_here, stands_further}
 use Rattle.pp_rs.proofs.StepHereLemmas.{whole_line, PausesAt}
-use Rattle.pp_rs.proofs.StandsQuietLemmas.{stays_object_like, same_meaning, stands_quiet}
+use Rattle.pp_rs.proofs.StandsQuietLemmas.{same_meaning, stands_quiet}
 
 -- the line of a block whose number sign stands at a reader's position
 abbrev pub block_line : SourceReader → Location → Part → BlockLine
@@ -59,15 +59,15 @@ module _ {old : Source} {r : SourceReader} (s : StandsForReader old r) {directiv
     remembers_line truths blocks same b = line_remembered old new r.items r.truths r.position s.rest (remembered_here old r s) directive word e truths same blocks b
 
     -- behind a line that is none of a block
-    pub stands_line : (definitions : Definitions) → part_of directive ≡ None → IsBehind (whole_line old.rest) moves.directive_line old.blocks old new → AreObjectLike new.definitions
+    pub stands_line : (definitions : Definitions) → part_of directive ≡ None → IsBehind (whole_line old.rest) moves.directive_line old.blocks old new
         → definitions ≡ meaning_of new.definitions → StandsForReader new (record (behind_line r) { definitions = definitions })
-    stands_line definitions its b plain means =
-        behind_line_is s definitions r.truths (stands_quiet s (whole_line old.rest) definitions (line_there old.rest directive word e) b plain means (line_adds None its)
+    stands_line definitions its b means =
+        behind_line_is s definitions r.truths (stands_quiet s (whole_line old.rest) definitions (line_there old.rest directive word e) b means (line_adds None its)
         (remembers_line r.truths old.blocks refl b))
 
     -- the same where no definition changes
     pub line_stays : part_of directive ≡ None → IsBehind (whole_line old.rest) moves.directive_line old.blocks old new → new.definitions ≡ old.definitions → StandsForReader new (behind_line r)
-    line_stays its b same = stands_line r.definitions its b (stays_object_like s new same) (same_meaning s new same)
+    line_stays its b same = stands_line r.definitions its b (same_meaning s new same)
 
     -- a pause behind a line of a block, where these conditions were read and these blocks are then open
     pub block_pauses : {p : Part} {move : Step Token} (truths : Truths) (blocks : List OpenBlock) → part_of directive ≡ Some p
@@ -77,7 +77,7 @@ module _ {old : Source} {r : SourceReader} (s : StandsForReader old r) {directiv
     block_pauses {p} truths blocks is text stand before h = (
       h.0,
       behind_line_is s r.definitions truths (stands_further old r s (whole_line old.rest) r.definitions truths (block_line r word p ∷ []) new
-          (line_there old.rest directive word e) h.1.rest h.1.spent (stays_object_like s new h.2) (same_meaning s new h.2) (line_adds (Some p) is)
+          (line_there old.rest directive word e) h.1.rest h.1.spent (same_meaning s new h.2) (line_adds (Some p) is)
           (subst (λ (kept : List OpenBlock). StandForBlocks r.items truths kept (blocks_at r.items (r.position + whole_line old.rest))) (sym h.1.blocks) stand) before
           (remembers_line truths blocks text h.1)),
     )

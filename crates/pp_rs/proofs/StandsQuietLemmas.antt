@@ -7,12 +7,12 @@ use Rattle.pp_model.specs.Blocks.{block_lines, Block, blocks_at}
 use Rattle.pp_model.specs.SourceReader.{SourceReader}
 use Rattle.pp_model.specs.Acts.{moved}
 use Rattle.pp_model.specs.declared.sight.Sight.{Sight}
-use Rattle.pp_rs.specs.Defined.{Defined, meaning_of}
+use Rattle.pp_rs.specs.Defined.{meaning_of}
 use Rattle.pp_rs.specs.OpenBlocks.{OpenBlock, last_block, is_live_in, StandForBlocks}
 use Rattle.pp_rs.specs.SourceMoves as moves
 use Rattle.pp_rs.specs.SourceMoves.{notes_text, notes_directive}
 use Rattle.pp_rs.specs.Source.{Source, IsBehind}
-use Rattle.pp_rs.specs.Stands.{AreObjectLike, StandsForReader}
+use Rattle.pp_rs.specs.Stands.{StandsForReader}
 use Rattle.pp_rs.proofs.DirectiveBeforeLemmas.{begins_with_hash, AddsDirective}
 use Rattle.pp_rs.proofs.LinesBeforeLemmas.{AddsLines}
 use Rattle.pp_rs.proofs.QuietLemmas.{is_one_item, quiet_one, one_there, one_in_front}
@@ -21,21 +21,17 @@ use Rattle.pp_rs.proofs.StandsBehindLemmas.{live_now, remembered_here, stands_fu
 use Rattle.pp_rs.proofs.TruthLemmas.{before_later}
 
 module _ {old : Source} {r : SourceReader} (s : StandsForReader old r) (new : Source) where
-  -- where no definition changes, no name stands for a macro with parameters
-  pub stays_object_like : new.definitions ≡ old.definitions → AreObjectLike new.definitions
-  stays_object_like same = subst (λ (ds : List Defined). AreObjectLike ds) (sym same) s.object_like
-
   -- where no definition changes, each name stands for what it stood for
   pub same_meaning : new.definitions ≡ old.definitions → r.definitions ≡ meaning_of new.definitions
   same_meaning same = s.definitions ∙ ap meaning_of (sym same)
 
 module _ {old : Source} {r : SourceReader} (s : StandsForReader old r) {new : Source} where
   -- behind so many items among which no line of a block stands
-  pub stands_quiet : (n : ℕ) {note : moves.Note} (definitions : Definitions) → n ≤ length old.rest → IsBehind n note old.blocks old new → AreObjectLike new.definitions
+  pub stands_quiet : (n : ℕ) {note : moves.Note} (definitions : Definitions) → n ≤ length old.rest → IsBehind n note old.blocks old new
       → definitions ≡ meaning_of new.definitions → AddsLines r.position n old.rest [] → IsRemembered new r.items r.truths (r.position + n)
       → StandsForReader new (record r { position = r.position + n; definitions = definitions })
-  stands_quiet n definitions within b plain means adds remembered =
-      stands_further old r s n definitions r.truths [] new within b.rest b.spent plain means adds
+  stands_quiet n definitions within b means adds remembered =
+      stands_further old r s n definitions r.truths [] new within b.rest b.spent means adds
       (subst (λ (kept : List OpenBlock). StandForBlocks r.items r.truths kept (blocks_at r.items (r.position + n))) (sym b.blocks)
       (subst (λ (blocks : List Block). StandForBlocks r.items r.truths old.blocks blocks) (sym (blocks_stay old r s n adds)) s.blocks))
       (before_later r.position (r.position + n) r.truths (omega arith) s.truths) remembered
@@ -43,7 +39,7 @@ module _ {old : Source} {r : SourceReader} (s : StandsForReader old r) {new : So
   -- the same where no definition changes
   stands_same : (n : ℕ) {note : moves.Note} → n ≤ length old.rest → IsBehind n note old.blocks old new → new.definitions ≡ old.definitions → AddsLines r.position n old.rest []
       → IsRemembered new r.items r.truths (r.position + n) → StandsForReader new (moved n r)
-  stands_same n within b same adds remembered = stands_quiet n r.definitions within b (stays_object_like s new same) (same_meaning s new same) adds remembered
+  stands_same n within b same adds remembered = stands_quiet n r.definitions within b (same_meaning s new same) adds remembered
 
   -- behind one item, a newline, a token of the text or a number sign that begins no line
   pub stands_one : {live : Bool} (alive : is_live_in (last_block old.blocks) ≡ live) {shown : Sight} (e : sight_of old.rest ≡ shown) {note : moves.Note}

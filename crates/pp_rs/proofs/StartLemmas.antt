@@ -18,7 +18,6 @@ start_stands text = record {
     rest = refl;
     within = omega arith;
     definitions = refl;
-    object_like = λ name definition defined. cc;
     line_offset = refl;
     lined = items_lined text;
     lines = λ behind. refl;

@@ -21,6 +21,10 @@ Comes state outcome behind = Emits reading_so_far (answers_at expansion_limit) s
 abbrev pub IsRunSoFar : List ℕ → List Call → List Reply → Type 0
 IsRunSoFar text calls replies = Runs Comes (start (items_of text)) calls replies
 
+-- equal texts and calls have equal replies
+abbrev pub OneRunSoFar : Type 0
+OneRunSoFar = (text : List ℕ) (calls : List Call) (x y : List Reply) → IsRunSoFar text calls x → IsRunSoFar text calls y → x ≡ y
+
 -- these tokens come next, one after another
 pub data Gives : State → List Token → State → Type 0 where
   nothing : (tokens : List Token) (state behind : State) → tokens ≡ [] → behind ≡ state → Gives state tokens behind

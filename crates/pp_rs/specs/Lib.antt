@@ -37,7 +37,6 @@ pub mod SettingContent
 pub mod Comes
 pub mod Collecting
 pub mod Answering
-pub mod ForGood
 pub mod Reach
 pub mod Machine
 pub mod Left

@@ -8,13 +8,10 @@ use Rattle.pp_lexer.specs.declared.token.Location.{Location}
 use Rattle.pp_lexer.specs.declared.token.Token.{Token}
 use Rattle.pp_model.specs.Calls.{Fault}
 use Rattle.pp_model.specs.Conversions.{is_newline, conversion}
-use Rattle.pp_model.specs.DefineLines.{defined_on}
 use Rattle.pp_model.specs.Emitting.{token_before}
 use Rattle.pp_model.specs.Lines.{◌>>=◌, line_tokens, line_length, line_fault, comments_before_end, ended_line}
 use Rattle.pp_model.specs.declared.definition.Named.{Named}
-use Rattle.pp_model.specs.declared.directive.Directive.TheVariants as d
 use Rattle.pp_model.specs.declared.definition.Placed.{Placed}
-use Rattle.pp_rs.specs.SoFar.{live_fault, paren_fault, parameters_fault}
 use Rattle.pp_rs.specs.declared.pp.lines.DefineLine.{DefineLine}
 use Rattle.pp_rs.specs.declared.pp.lines.PlacedName.{PlacedName}
 use Rattle.pp_rs.specs.declared.pp.halt.Halt.{Halt}
@@ -117,27 +114,11 @@ skipped_line rest = unless_fault (line_fault rest) (Ok tt)
 abbrev pub endif_end : Bool → Location → List Seen → Result (Unit {0}) Fault
 endif_end live_around word rest = if live_around then ended_line word rest else skipped_line rest
 
--- what a `#define` line defines, as far as it acts
-abbrev pub defined_so_far : Location → List Seen → Result Named Fault
-defined_so_far word behind = unless_fault (live_fault d.Define word behind) (defined_on word behind)
-
 abbrev pub placed : PlacedName → Placed
 placed first = record { name = first.name; location = first.location }
 
 abbrev pub IsOrdinaryIfOk : Result (Option Token) Halt → Type 0
 IsOrdinaryIfOk result = IfOk result (λ token. IfSome token (λ t. IsTrue (is_ordinary t.value)))
-
--- the token behind a macro's name, where parameters are refused
-abbrev pub token_behind_name : Option LexerToken → Result (Option Token) Fault
-token_behind_name None = Ok None
-token_behind_name (Some token) = unless_fault (paren_fault (Ok token)) (line_token (Some token))
-
-abbrev pub next_body_token : List Seen → Result (Option Token) Fault
-next_body_token rest = next_token rest >>= token_behind_name
-
--- the body behind a macro's name, where parameters are refused
-abbrev pub body_tokens : List Seen → Result (List Token) Fault
-body_tokens rest = unless_fault (parameters_fault rest) (line_tokens rest)
 
 abbrev pub named : DefineLine → Named
 named line = record { name = line.name; location = line.location; definition = line.define }

@@ -1,20 +1,15 @@
 -- The directives that act so far. The others are refused where they are read, whatever they would do.
-use Rattle.std.specs.Prelude.{◌≡◌, Bool, false, if◌then◌else◌, List, [], ◌∷◌, drop, Option, Some, None, Result, Ok, Err}
+use Rattle.std.specs.Prelude.{◌≡◌, Bool, false, if◌then◌else◌, List, [], ◌∷◌, drop, Option, Some, None}
 use Rattle.pp_lexer.specs.Lexed.{Seen}
-use Rattle.pp_lexer.specs.Items.{Lexeme}
 use Rattle.pp_lexer.specs.declared.token.Location.{Location}
 use Rattle.pp_lexer.specs.declared.token.PreprocessorError.TheVariants.{UnknownDirective}
 use Rattle.pp_model.specs.Calls.{Fault}
-use Rattle.pp_model.specs.Conversions.{refused_token}
-use Rattle.pp_model.specs.Lines.{first_name, behind_first_token}
-use Rattle.pp_model.specs.DefineLines.{is_attached_paren}
 use Rattle.pp_model.specs.Emitting.{answers_at, expansion_limit}
 use Rattle.pp_model.specs.Reading.{Reading}
 use Rattle.pp_model.specs.Reads.{Steps, shown_line}
 use Rattle.pp_model.specs.Blocks.{is_live}
 use Rattle.pp_model.specs.Sights.{sight_of}
 use Rattle.pp_model.specs.SourceReader.{SourceReader}
-use Rattle.pp_model.specs.declared.definition.Placed.{Placed}
 use Rattle.pp_model.specs.declared.directive.Directive.{Directive}
 use Rattle.pp_model.specs.declared.directive.Directive.TheVariants as d
 use Rattle.pp_model.specs.declared.outcome.Outcome.{Outcome}
@@ -22,23 +17,8 @@ use Rattle.pp_model.specs.declared.outcome.Outcome.TheVariants as outcome
 use Rattle.pp_model.specs.declared.sight.Sight.{Sight}
 use Rattle.pp_model.specs.declared.sight.Sight.TheVariants as sight
 
--- the fault of a `(` that stands directly behind a macro's name
-abbrev pub paren_fault : Lexeme → Option Fault
-paren_fault (Ok token) = if is_attached_paren (Ok token) then Some (refused_token token) else None
-paren_fault (Err fault) = None
-
-abbrev pub parameters_fault : List Seen → Option Fault
-parameters_fault [] = None
-parameters_fault (s ∷ rest) = paren_fault s.item
-
--- the same behind a name
-abbrev pub parameters_fault_behind : Result Placed Fault → List Seen → Option Fault
-parameters_fault_behind (Ok name) rest = parameters_fault rest
-parameters_fault_behind (Err fault) rest = None
-
--- In live text all act so far but `#define` of a macro with parameters, `#if`, `#elif` and `#line`.
+-- in live text all act so far but `#if`, `#elif` and `#line`
 abbrev pub live_fault : Directive → Location → List Seen → Option Fault
-live_fault d.Define word behind = parameters_fault_behind (first_name word behind) (behind_first_token behind)
 live_fault d.If word behind = Some (UnknownDirective, word)
 live_fault d.Elif word behind = Some (UnknownDirective, word)
 live_fault d.Line word behind = Some (UnknownDirective, word)

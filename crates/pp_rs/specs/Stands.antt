@@ -2,12 +2,10 @@
 use Rattle.std.specs.Prelude.{◌≡◌, ◌≢◌, pos, ◌≤◌, true, false, ◌||◌, List, [], ◌++◌, length, take, drop, Option, Some, Err, option_map, ⊤}
 use Rattle.pp_lexer.specs.Lexed.{Seen}
 use Rattle.pp_lexer.specs.declared.token.Token.{Token}
-use Rattle.pp_model.specs.Names.{Name}
-use Rattle.pp_model.specs.Definitions.{Definition}
 use Rattle.pp_model.specs.Reading.{Expander}
 use Rattle.pp_model.specs.Blocks.{block_lines, blocks_at}
 use Rattle.pp_model.specs.SourceReader.{SourceReader, has_directive, is_on_directive_line, has_live_text_before}
-use Rattle.pp_rs.specs.Defined.{Defined, meaning_of}
+use Rattle.pp_rs.specs.Defined.{meaning_of}
 use Rattle.pp_rs.specs.Frames.{flat}
 use Rattle.pp_rs.specs.Item.{Step}
 use Rattle.pp_rs.specs.Lined.{AreLined}
@@ -16,10 +14,6 @@ use Rattle.pp_rs.specs.OpenBlocks.{last_block, is_live_in, StandForBlocks, AreBe
 use Rattle.pp_rs.specs.Source.{Source}
 use Rattle.pp_rs.specs.declared.pp.step.StepExit.TheVariants.{Error, Continue}
 
--- no name stands for a macro with parameters: none can be defined so far
-abbrev pub AreObjectLike : List Defined → Type 0
-AreObjectLike definitions = (name : Name) (definition : Definition) → meaning_of definitions name ≡ Some definition → definition.function_like ≡ false
-
 -- A reader of a source: what is left to read stands behind its position, the lines of blocks are those before it and those behind it, and
 -- the blocks that are kept are those that are open there. It remembers whether a live token of the text was read, and a directive. No
 -- number sign of a directive stands directly before its position; in live text the position isn't on a directive's line, but at the end.
@@ -27,7 +21,6 @@ pub record StandsForReader (source : Source) (reader : SourceReader) : Type 0 wh
   pub rest : source.rest ≡ drop reader.position reader.items
   pub within : reader.position ≤ length reader.items
   pub definitions : reader.definitions ≡ meaning_of source.definitions
-  pub object_like : AreObjectLike source.definitions
   pub line_offset : reader.line_offset ≡ pos 0
   pub lined : AreLined reader.items
   pub lines : (behind : List Seen) → block_lines 0 (take reader.position reader.items ++ behind) ≡ block_lines 0 (take reader.position reader.items) ++ block_lines reader.position behind

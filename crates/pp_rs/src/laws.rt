@@ -10,7 +10,7 @@ ghost use Rattle.pp_model.specs.RespellLaws.{RunsAreReadAfresh};
 ghost use Rattle.pp_model.specs.RunChains.{ChainsAreRuns};
 ghost use Rattle.pp_model.specs.RunLaws.{OneReplies, OneRun, RedefinitionIsChecked};
 ghost use Rattle.pp_model.specs.RunStates.{RunKeepsMarksApart, RunShowsNoLineName, EndStays, RunEndsForGood};
-ghost use Rattle.pp_rs.specs.ForGood.{IsGivenForGood, OneRunSoFar};
+ghost use Rattle.pp_rs.specs.Comes.{OneRunSoFar};
 ghost use Rattle.pp_rs.specs.LiveBranch.{RunHasLiveBranches};
 
 use crate::lexer;
@@ -101,9 +101,3 @@ pub fn runs()
     pp_model::laws::chains();
     pp_model::laws::one_run()
 }
-
-/// What comes without an error as far as the directives act comes by all rules: where no reply is an error item, the replies to
-/// calls of `add_define` and `next` are those of the definitions, with all directives, macros and calls.
-pub fn given_for_good()
-    ensures { IsGivenForGood }
-{}

@@ -379,8 +379,7 @@ impl<'a> DirectiveProcessor<'a> {
     /// Reads on by one token or one line of a directive.
     ///
     /// A newline and a directive that acts are pauses, and so are the tokens of dead text. These
-    /// directives act: `#define` of a macro without parameters, `#undef`, `#ifdef`, `#ifndef`,
-    /// `#else` and `#endif`. In live text `#version`, `#extension` and `#pragma` are tokens at their
+    /// directives act: `#define`, `#undef`, `#ifdef`, `#ifndef`, `#else` and `#endif`. In live text `#version`, `#extension` and `#pragma` are tokens at their
     /// word, which hold the tokens of their line; `#error` is `ErrorDirective` at its word, and a
     /// number sign that begins no line is `UnexpectedHash` at its place. The lexer's errors are
     /// given as they are. At the end `UnfinishedBlock` is told of each block that is open, the

@@ -173,29 +173,6 @@ fn is_attached_paren(token: &lexer::Token) -> bool
     matches!(token.value, lexer::TokenValue::Punct(Punct::LeftParen)) && !token.leading_whitespace
 }
 
-// The token behind a macro's name, or nothing where the line ends. Parameters are refused.
-fn token_behind_name(token: Option<lexer::Token>) -> Result<Option<Token>, Halt>
-    ensures is { spec.Meets (λ t. t) result (spec.token_behind_name token) }
-    ensures ordinary { spec.IsOrdinaryIfOk result }
-    ensures within { IfOk result (λ next. IfSome next (λ t. spec.IsWithinLine token)) }
-{
-    match token {
-        Some(token) if is_attached_paren(&token) => Err(Halt::Fault(refused_token(token))),
-        other => line_token(other),
-    }
-}
-
-// The next token, where a macro's body begins.
-fn next_body_token(lexer: &mut SourceLexer<'_>) -> Result<Option<Token>, Halt>
-    requires { lexer.old.spent ≡ false }
-    ensures is { spec.Meets (λ t. t) result (spec.next_body_token lexer.old.rest) }
-    ensures takes { spec.TakesItems 1 lexer.old result lexer.new }
-    ensures ordinary { spec.IsOrdinaryIfOk result }
-    ensures left { IfOk result (λ next. IfSome next (λ t. lexer.new.rest ≢ [])) }
-{
-    token_behind_name(lexer.next_token()?)
-}
-
 /// The tokens of a line whose first one was read, if it has one.
 pub fn line_tokens_from(
     alloc: Global,
@@ -233,42 +210,12 @@ pub fn line_tokens(alloc: Global, lexer: &mut SourceLexer<'_>) -> Result<Tokens,
     Ok(Tokens::from(tokens))
 }
 
-/// The body of a macro without parameters, behind its name. Parameters are refused.
-pub fn body_tokens(alloc: Global, lexer: &mut SourceLexer<'_>) -> Result<Vec<Token>, Halt>
-    requires { lexer.old.spent ≡ false }
-    ensures is { spec.Meets (λ tokens. tokens.items) result (spec.body_tokens lexer.old.rest) }
-    ensures takes { spec.TakesItems (line_length lexer.old.rest) lexer.old result lexer.new }
-    ensures ordinary { IfOk result (λ tokens. All (λ t. IsTrue (is_ordinary t.value)) tokens.items) }
-{
-    let first = next_body_token(lexer)?;
-    line_tokens_from(alloc, first, lexer)
-}
-
 /// What a `#define` line says.
 #[derive(Drop)]
 pub struct DefineLine {
     pub name: Text,
     pub location: Location,
     pub define: Define,
-}
-
-/// What a `#define` line says, behind its word. Parameters are refused.
-pub fn define_line(
-    alloc: Global,
-    word: Location,
-    lexer: &mut SourceLexer<'_>,
-) -> Result<DefineLine, Halt>
-    requires { lexer.old.spent ≡ false }
-    ensures is { spec.Meets spec.named result (spec.defined_so_far word lexer.old.rest) }
-    ensures takes { spec.TakesItems (line_length lexer.old.rest) lexer.old result lexer.new }
-{
-    let PlacedName { name, location } = first_name(word, lexer)?;
-    let body = body_tokens(alloc, lexer)?;
-    Ok(DefineLine {
-        name,
-        location,
-        define: Define::object_like(alloc, body),
-    })
 }
 
 // The definition behind a macro's name and the `(` that stands directly behind that.
@@ -304,7 +251,7 @@ fn definition(alloc: Global, word: Location, lexer: &mut SourceLexer<'_>) -> Res
 }
 
 /// What a `#define` line says, behind its word.
-pub fn whole_define_line(
+pub fn define_line(
     alloc: Global,
     word: Location,
     lexer: &mut SourceLexer<'_>,

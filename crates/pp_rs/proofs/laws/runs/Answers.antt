@@ -1,4 +1,4 @@
-use Rattle.pp_rs.proofs.ForGoodLemmas.{one_run_so_far}
+use Rattle.pp_rs.proofs.SoFarLemmas.{one_run_so_far}
 use Rattle.pp_rs.proofs.laws.runs.Goals as goal
 
 pub returns-clause-so_far : goal.returns-clause-so_far

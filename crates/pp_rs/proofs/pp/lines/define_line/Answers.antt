@@ -1,7 +1,7 @@
 use Rattle.std.proofs.Common.{Ok}
 use Rattle.pp_rs.proofs.LineReadingLemmas.{takes_behind}
 use Rattle.pp_rs.proofs.ParameterLemmas.{name_place}
-use Rattle.pp_rs.proofs.pp.lines.whole_define_line.Goals as goal
+use Rattle.pp_rs.proofs.pp.lines.define_line.Goals as goal
 
 pub returns-clause-takes : goal.returns-clause-takes
 returns-clause-takes c =
