@@ -22,6 +22,7 @@ pub mod ShrinkLemmas
 pub mod FrameLemmas
 pub mod OpenMacroLemmas
 pub mod OpenNamesLemmas
+pub mod OpenAroundLemmas
 pub mod Walk
 pub mod UnspentLemmas
 pub mod ItemThereLemmas

@@ -21,6 +21,7 @@ pub mod Source
 pub mod Reader
 pub mod Frames
 pub mod OpenNames
+pub mod OpenAround
 pub mod Turns
 pub mod Stands
 pub mod LiveBranch

@@ -19,6 +19,7 @@ mod line_value;
 mod lines;
 mod list_lexer;
 mod list_step;
+mod open_around;
 mod open_names;
 mod parameters;
 mod preprocessor;

@@ -21,8 +21,9 @@ use crate::pp::frames::TokenList;
 use crate::pp::halt::Halt;
 use crate::pp::list_lexer::ListLexer;
 use crate::pp::list_step::step_list;
+use crate::pp::open_around::OpenAround;
 use crate::pp::step::{Step, StepExit, is_out_of_memory};
-use crate::token::{Location, PreprocessorError, Punct, Text, Token, TokenValue};
+use crate::token::{Location, PreprocessorError, Punct, Token, TokenValue};
 use std::alloc::{AllocError, Global};
 use std::rc::Rc;
 
@@ -112,7 +113,7 @@ pub fn finish_call(
     caller: &mut Caller,
     call: Call,
     definitions: &Definitions,
-    hidden: &[Text],
+    hidden: &OpenAround<'_>,
     levels: u32,
 ) -> Result<(), Halt>
     ensures { Finishes levels definitions.now hidden.now call caller.old result caller.new }
@@ -125,10 +126,26 @@ pub fn finish_call(
     if levels == 0 {
         return Err(Halt::Fault((PreprocessorError::RecursionLimitReached, call.paren())));
     }
-    let around = caller.masked(hidden)?;
-    let expanded = expand_arguments(alloc, &arguments, definitions, &around, levels - 1)?;
+    let expanded = expand_within(alloc, &*caller, &arguments, definitions, hidden, levels - 1)?;
     caller.open_call(call, expanded)?;
     Ok(())
+}
+
+// The arguments, each expanded alone, where the macros of the caller and those around it are open.
+#[cycle(answers)]
+fn expand_within(
+    alloc: Global,
+    caller: &Caller,
+    arguments: &ExpandedArguments,
+    definitions: &Definitions,
+    hidden: &OpenAround<'_>,
+    levels: u32,
+) -> Result<ExpandedArguments, Halt>
+    ensures each { Satisfies result (λ out. Each (Alone levels) (meaning_of definitions.now) (names_of caller.now.frames ++ hidden.now) arguments.now out) }
+    ensures least { IfOk result (λ outs. AreShort levels definitions.now arguments.now outs) }
+{
+    let around = (&*caller).around(&*hidden)?;
+    expand_arguments(alloc, arguments, definitions, &around, levels)
 }
 
 // The arguments, each expanded alone, or the first fault.
@@ -137,7 +154,7 @@ fn expand_arguments(
     alloc: Global,
     arguments: &ExpandedArguments,
     definitions: &Definitions,
-    hidden: &[Text],
+    hidden: &OpenAround<'_>,
     levels: u32,
 ) -> Result<ExpandedArguments, Halt>
     ensures each { Satisfies result (λ out. Each (Alone levels) (meaning_of definitions.now) hidden.now arguments.now out) }
@@ -157,14 +174,14 @@ fn expand_argument(
     alloc: Global,
     tokens: &[Token],
     definitions: &Definitions,
-    hidden: &[Text],
+    hidden: &OpenAround<'_>,
     levels: u32,
 ) -> Result<TokenList, Halt>
     requires { AllHoldOrdinary tokens.now }
     ensures alone { Satisfies result (λ out. Alone levels tokens.now (meaning_of definitions.now) hidden.now out) }
     ensures least { IfOk result (λ out. IsShort levels definitions.now (length tokens.now) out) }
 {
-    let mut lexer = ListLexer::argument(alloc, tokens, definitions, hidden);
+    let mut lexer = ListLexer::argument(alloc, tokens, definitions, &*hidden);
     let mut caller = Caller::new(alloc);
     let mut items = Vec::new(alloc);
     'items: loop {

@@ -17,6 +17,7 @@ use crate::pp::define::Define;
 use crate::pp::expander::MacroProcessor;
 use crate::pp::frames::TokenList;
 use crate::pp::halt::Halt;
+use crate::pp::open_around::OpenAround;
 use crate::pp::reader::MeLexer;
 use crate::pp::step::{Step, StepExit, is_out_of_memory};
 use crate::token::{Location, PreprocessorError, Punct, Text, Token, TokenValue, out_of_memory};
@@ -450,15 +451,11 @@ impl Caller {
         }
     }
 
-    /// The names that are open here or around.
-    pub fn masked(&self, hidden: &[Text]) -> Result<Vec<Text>, AllocError>
-        ensures { IfOk result (λ names. names.items ≡ names_of self.now.frames ++ hidden.now) }
+    /// The macros that are open here or around.
+    pub fn around<'a>(&'a self, hidden: &OpenAround<'a>) -> Result<OpenAround<'a>, AllocError>
+        ensures { IfOk result (λ names. names ≡ names_of self.now.frames ++ hidden.now) }
     {
-        let mut names = self.processor.names(self.alloc)?;
-        for name in hidden {
-            names.push(name.try_clone(self.alloc)?)?;
-        }
-        Ok(names)
+        OpenAround::within(self.alloc, &self.processor, hidden)
     }
 
     /// Opens the frame of a call.

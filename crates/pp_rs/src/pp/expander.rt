@@ -157,18 +157,6 @@ impl MacroProcessor {
         Ok(Some(define.clone()?))
     }
 
-    /// The names of the macros that are open, the innermost first.
-    pub fn names(&self, alloc: Global) -> Result<Vec<Text>, AllocError>
-        ensures { IfOk result (λ names. names.items ≡ names_of self.now) }
-    {
-        let mut names = Vec::new(alloc);
-        for frame in &self.frames {
-            names.push(frame.name().try_clone(alloc)?)?;
-        }
-        names.reverse();
-        Ok(names)
-    }
-
     /// Opens the macro of this name, which stands on the line, with these arguments.
     pub fn open(
         &mut self,

@@ -2,27 +2,20 @@
 
 ghost use Rattle.std.specs.Prelude.{◌≡◌, ◌&&◌, [], false, true};
 ghost use Rattle.std.specs.Str.{chars};
-ghost use Rattle.pp_model.specs.Names.{is_in, is_same_name, defined_name};
+ghost use Rattle.pp_model.specs.Names.{is_same_name, defined_name};
 ghost use Rattle.pp_rs.specs.Held.{AllHoldOrdinary};
 ghost use Rattle.pp_rs.specs.Reader.{of_list, is_masked};
 
 use crate::pp::define::Define;
 use crate::pp::definitions::Definitions;
 use crate::pp::frames::{give, token_at};
+use crate::pp::open_around::OpenAround;
 use crate::pp::reader::MeLexer;
 use crate::pp::step::{Step, StepExit};
-use crate::pp::words::is_spelled;
-use crate::token::{Location, Text, Token};
+use crate::token::{Location, Token};
 use std::alloc::Global;
 use std::marker::Model;
 use std::rc::Rc;
-
-// Whether the name is among these.
-fn is_among(names: &[Text], name: &str) -> bool
-    ensures { result ≡ is_in (chars name.now) names.now }
-{
-    names.iter().any(|other| is_spelled(other, name))
-}
 
 // Whether the name is the operator of a directive's line.
 fn is_reserved(is_line: bool, name: &str) -> bool
@@ -38,7 +31,7 @@ pub struct ListLexer<'a> {
     tokens: &'a [Token],
     position: usize,
     definitions: &'a Definitions,
-    hidden: &'a [Text],
+    hidden: &'a OpenAround<'a>,
     is_line: bool,
 }
 
@@ -60,7 +53,7 @@ impl<'a> ListLexer<'a> {
         alloc: Global,
         tokens: &'a [Token],
         definitions: &'a Definitions,
-        hidden: &'a [Text],
+        hidden: &'a OpenAround<'a>,
     ) -> Self
         requires { AllHoldOrdinary tokens.now }
         ensures { result ≡ record { tokens = tokens.now; definitions = definitions.now; hidden = hidden.now; is_line = false } }
@@ -94,7 +87,7 @@ impl<'a> ListLexer<'a> {
     fn is_masked(&self, name: &str) -> bool
         ensures { result ≡ is_masked self.now (chars name.now) }
     {
-        is_reserved(self.is_line, name) || is_among(self.hidden, name)
+        is_reserved(self.is_line, name) || self.hidden.is_open(name)
     }
 }
 
@@ -110,10 +103,13 @@ impl<'a> MeLexer for ListLexer<'a> {
     }
 
     fn get_define(&self, name: &str) -> Option<&Rc<Define>> {
+        let Some(define) = self.definitions.find(name) else {
+            return None;
+        };
         if self.is_masked(name) {
             None
         } else {
-            self.definitions.find(name)
+            Some(define)
         }
     }
 

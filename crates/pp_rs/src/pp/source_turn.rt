@@ -9,6 +9,7 @@ use crate::pp::arguments::finish_call;
 use crate::pp::calls::{Caller, Taken};
 use crate::pp::directives::DirectiveProcessor;
 use crate::pp::limit::expansion_limit;
+use crate::pp::open_around::OpenAround;
 use crate::pp::preprocessor_step::step_source;
 use crate::pp::step::{Step, StepExit};
 use crate::token::Token;
@@ -26,13 +27,13 @@ pub fn turn_source(
     match step_source(caller, source)? {
         Taken::Token(token) => Ok(token),
         Taken::Call(call) => {
-            let hidden = [];
+            let around = OpenAround::nothing(alloc);
             finish_call(
                 alloc,
                 caller,
                 call,
                 source.definitions(),
-                &hidden,
+                &around,
                 expansion_limit(),
             )?;
             Err(StepExit::Continue)

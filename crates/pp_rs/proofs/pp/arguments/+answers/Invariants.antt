@@ -12,13 +12,16 @@ use Rattle.pp_rs.proofs.ListLeadsLemmas.{Reached}
 use Rattle.pp_rs.proofs.pp.arguments.+answers.Given as goal
 
 abbrev pub decreases-finish_call : goal.decreases-finish_call
-decreases-finish_call l = 3 * l.levels
+decreases-finish_call l = 4 * l.levels
 
 abbrev pub decreases-expand_argument : goal.decreases-expand_argument
-decreases-expand_argument l = 3 * l.levels + 1
+decreases-expand_argument l = 4 * l.levels + 1
 
 abbrev pub decreases-expand_arguments : goal.decreases-expand_arguments
-decreases-expand_arguments l = 3 * l.levels + 2
+decreases-expand_arguments l = 4 * l.levels + 2
+
+abbrev pub decreases-expand_within : goal.decreases-expand_within
+decreases-expand_within l = 4 * l.levels + 3
 
 abbrev pub invariant-expand_argument-items : goal.invariant-expand_argument-items
 invariant-expand_argument-items l = record {
