@@ -1,4 +1,4 @@
--- The parser as a function on lines, with turns enough. Each outcome of the definitions is its outcome, so a line has one.
+-- A parser with a function for each level, as a function on lines, with turns enough. Each outcome of the definitions is its outcome, so a line has one.
 use Rattle.std.proofs.Common.{◌≡◌, ℕ, zero, suc, ◌+◌, ◌≤◌, false, nat_le, length, Option, Some, None, Result, Ok, Err, ℤ, refl, sym, ◌∙◌, arith, if◌then◌else◌}
 use Rattle.std.proofs.lemmas.Grind.{common_steps}
 use Rattle.pp_lexer.specs.declared.token.Punct.TheVariants as mark

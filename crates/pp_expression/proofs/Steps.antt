@@ -87,7 +87,8 @@ sign_unread line e h =
 pub in_sign : (o : Unary) (old : Line) (e : Found) → sign_at old ≡ Ok (Some o) → IsFault 10 (behind_next old) e → IsFault 10 old e
 in_sign o old e sign h = record { order = h.order; possible = faults.in_sign o old e.left h.order e.kind sign h.possible }
 
-pub sign_fails : (o : Unary) (old new : Line) (x : ℤ) (e : Found) → sign_at old ≡ Ok (Some o) → Reads 10 10 (behind_next old) new x → located (length new.symbols + 1) (unary_value o x) ≡ Err e → IsFault 10 old e
+pub sign_fails : (o : Unary) (old new : Line) (x : ℤ) (e : Found) → sign_at old ≡ Ok (Some o) → Reads 10 10 (behind_next old) new x
+    → located (length new.symbols + 1) (unary_value o x) ≡ Err e → IsFault 10 old e
 sign_fails o old new x e sign reads h =
     let is = located_err (length new.symbols + 1) (unary_value o x) e h in
     met 10 old (length new.symbols + 1) 2 e is.1 (faults.sign_fails o old new x e.kind sign reads is.0)

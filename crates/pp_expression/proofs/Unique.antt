@@ -206,7 +206,7 @@ line_is line rest xs symbols ending =
     let Made : List Symbol → Option ExpressionFault → Line = λ ys e. record { symbols = ys; ending = e } in
     ap (λ (ys : List Symbol). Made ys line.ending) symbols ∙ ap (λ (e : Option ExpressionFault). Made (xs ++ rest.symbols) e) (sym ending)
 
--- ---- what the parser promises is what the run gives
+-- ---- what is read is what the run gives
 
 pub reads_settles : (level : ℕ) (old new : Line) (v : ℤ) → level ≤ 10 → Reads level level old new v → Settles (Level level) old (Ok (v, new))
 reads_settles level old new v h r =

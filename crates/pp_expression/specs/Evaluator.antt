@@ -26,7 +26,8 @@ Leads from old result new = (whole : Line) → Stands whole from old → MatchRe
 
 -- Whatever whole line is evaluated: where an operand was read, an operand of the level and of the value that comes of it was read, or the evaluation has no value.
 abbrev pub Computes : ℕ → ℤ → Evaluator → Result ℤ Halt → Evaluator → Type 0
-Computes level number old result new = (whole : Line) → HasOperand level whole old.pending old.line number → MatchResult result (λ value. HasOperand level whole new.pending new.line value) (IsHalt whole)
+Computes level number old result new =
+    (whole : Line) → HasOperand level whole old.pending old.line number → MatchResult result (λ value. HasOperand level whole new.pending new.line value) (IsHalt whole)
 
 -- how many steps may still come
 abbrev pub steps_left : State → Evaluator → ℕ

@@ -58,7 +58,7 @@ pub record IsTaken (level : ℕ) (op : Operator) (old new : List Pending) : Type
   pub taken : old ≡ pending.Operator op ∷ new
   pub tight : level ≤ operator_level op
 
--- An expression of the level is wanted before the outer line, and begins with a left operand of this value and its operator; the right operand is wanted before the inner line.
+-- An expression of the level is wanted before the line around. It begins with a left operand of this value and its operator, and the right operand is wanted before the inner line.
 pub record IsRightOf (level : ℕ) (binary : Binary) (left : ℤ) (around inner : Line) : Type 0 where
   pub from_operator : Line
   pub binds : level ≤ level_of binary
@@ -66,21 +66,23 @@ pub record IsRightOf (level : ℕ) (binary : Binary) (left : ℤ) (around inner 
   pub stands : binary_at from_operator ≡ Ok (Some binary)
   pub after : inner ≡ behind_next from_operator
 
--- An expression of the level is wanted before the outer line, and begins so; what is within is wanted before the inner line.
+-- An expression of the level is wanted before the line around. It begins with what is pending, and what stands within that is wanted before the inner line.
 abbrev pub Begins : ℕ → Pending → Line → Line → Type 0
 Begins level pending.Group around inner = (next around ≡ Ok (Some (symbol.Punct mark.LeftParen))) × (inner ≡ behind_next around)
 Begins level (pending.Operator (operator.Prefix unary)) around inner = (sign_at around ≡ Ok (Some unary)) × (inner ≡ behind_next around)
 Begins level (pending.Operator (operator.Infix binary left)) around inner = IsRightOf level binary left around inner
 
--- The whole line was read up to the line, and what is pending is what the operand stands in that is wanted there.
+-- The whole line was read up to the line, where an operand is wanted, and what is pending is what that operand stands in.
 abbrev pub Awaits : Line → List Pending → Line → Type 0
 Awaits whole [] line = line ≡ whole
 Awaits whole (inner ∷ around) line = (start : Line) × Awaits whole around start × Begins (wanted_in around) inner start line
 
 -- The whole line was read up to the line. An operand was wanted within what is pending, and one of this value stands there, whose operators bind at least as tightly as the level, and no operator after it binds tighter than those.
 pub record HasOperand (level : ℕ) (whole : Line) (pending : List Pending) (line : Line) (number : ℤ) : Type 0 where
+  -- where the operand begins
   pub start : Line
   pub awaits : Awaits whole pending start
+  -- its own level
   pub binding : ℕ
   pub wanted : wanted_in pending ≤ binding
   pub tight : level ≤ binding

@@ -1,7 +1,7 @@
-//! The value of an expression, computed as it is read. What is pending is kept in a list, so that no
-//! depth of parentheses or of operators takes more of the native stack.
+//! The value of an expression, computed as it is read. What is pending is kept in a list, so that
+//! depth, of parentheses or of operators, takes none of the native stack.
 
-ghost use Rattle.std.specs.Prelude.{◌≡◌, ◌+◌, ◌^◌, ◌<◌, ◌≤◌, [], length, Ok, Some, None, IfOk, MatchResult};
+ghost use Rattle.std.specs.Prelude.{◌≡◌, ◌+◌, ◌^◌, ◌<◌, ◌≤◌, [], length, Ok, Some, None, IfOk, IfErr};
 ghost use Rattle.pp_expression.specs.Lines.{Line, next, Stops, Reads};
 ghost use Rattle.pp_expression.specs.FirstFault.{Evaluates};
 ghost use Rattle.pp_expression.specs.FirstFault as spec;
@@ -177,8 +177,8 @@ struct Evaluator<'a> {
 }
 
 impl<'a> Evaluator<'a> {
-    /// Computes the pending operators that bind at least as tightly as the level, from the innermost
-    /// outwards. `operand` is the right operand of the innermost.
+    /// Computes the pending operators that bind at least as tightly as the level, from the
+    /// innermost outwards. `operand` is the right operand of the innermost.
     fn compute_from(&mut self, level: u8, operand: i64) -> Result<i64, Halt>
         requires low { level ≤ 9 }
         requires over { Stops (level + 1) self.old.line }
@@ -257,7 +257,8 @@ impl<'a> Evaluator<'a> {
     /// The value of the expression at the front of the line.
     fn run(&mut self) -> Result<i64, Halt>
         requires { self.old.pending ≡ [] }
-        ensures { MatchResult result (Reads 0 0 self.old.line self.new.line) (IsHalt self.old.line) }
+        ensures value { IfOk result (Reads 0 0 self.old.line self.new.line) }
+        ensures halt { IfErr result (IsHalt self.old.line) }
     {
         let mut state = State::OperandWanted;
         loop {
