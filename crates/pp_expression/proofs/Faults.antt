@@ -11,7 +11,8 @@ use Rattle.pp_expression.specs.Arithmetic.{unary_value, binary_value}
 use Rattle.pp_expression.specs.Trees.{Infix, spelling, value, HasValue, ◌>>=◌}
 use Rattle.pp_expression.specs.Lines.{Line, next, next_of, Reads}
 use Rattle.pp_expression.specs.FirstFault.{sign_of, atom_of, closing, Front, Here, InGroup, InPrefix, InInfix, front_spelling, FitsFront, wanted, unread_at, Fails, unread, wrong, unread_behind, unclosed, signed, operated, Possible}
-use Rattle.pp_expression.specs.Parsing.{behind_next, operator_at, operator_of, sign_at}
+use Rattle.pp_expression.specs.Parsing.{behind_next, sign_at}
+use Rattle.pp_expression.proofs.Levels.{operator_at, operator_of}
 use Rattle.pp_expression.proofs.Trees.{next_is, sign_is, operator_is, fits_looser, operation_spelled, operation_fits}
 
 pub here : (level : ℕ) (line : Line) (left order : ℕ) (e : ExpressionFault) → Fails HasValue level line left order e → Possible HasValue level line left order e

@@ -11,7 +11,8 @@ use Rattle.pp_expression.specs.Arithmetic.{binary_value}
 use Rattle.pp_expression.specs.Trees.{Tree, Number, Group, Prefix, Infix, spelling, Fits, value, ◌>>=◌, HasValue}
 use Rattle.pp_expression.specs.Lines.{Line, next}
 use Rattle.pp_expression.specs.FirstFault.{sign_of, unread_at, Front, Here, InGroup, InPrefix, InInfix, front_spelling, FitsFront, wanted, Fails, unread, wrong, unread_behind, unclosed, signed, operated, Possible}
-use Rattle.pp_expression.specs.Parsing.{operator_at, sign_at}
+use Rattle.pp_expression.specs.Parsing.{sign_at}
+use Rattle.pp_expression.proofs.Levels.{operator_at}
 use Rattle.pp_expression.proofs.Trees.{operand_stops}
 use Rattle.pp_expression.proofs.Run.{Halt, Outcome, Operand, Level, Loop, Settles, level_goes, level_operand, loop_unread, loop_goes, loop_overflows, loop_right, operand_unread, operand_overflows, operand_in_sign, operand_wrong, operand_unclosed, operand_in_group}
 use Rattle.pp_expression.proofs.Unique.{onto, onto_more, line_is, is_read, low_operator, sign_front, operator_front, stops_before, bind_ok, descend_fault}

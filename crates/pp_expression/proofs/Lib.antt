@@ -1,8 +1,11 @@
+pub mod Levels
 pub mod Trees
 pub mod Faults
 pub mod Run
 pub mod Unique
 pub mod Steps
+pub mod PendingLemmas
+pub mod EvaluatorLemmas
 pub mod First
 pub mod PossibleFaults
 pub mod Sound

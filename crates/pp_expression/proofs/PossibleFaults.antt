@@ -14,7 +14,8 @@ use Rattle.pp_expression.specs.Arithmetic.{unary_value, binary_value}
 use Rattle.pp_expression.specs.Trees.{Tree, Number, Group, Prefix, Infix, spelling, Fits, value, ◌>>=◌, HasValue}
 use Rattle.pp_expression.specs.Lines.{Line, next, Stops, Reads}
 use Rattle.pp_expression.specs.FirstFault.{unread_at, Front, Here, InGroup, InPrefix, InInfix, front_spelling, FitsFront, wanted, Possible, Any, Before, IsFirst, IsValue, Fails, unread, wrong, unread_behind, unclosed, signed, operated}
-use Rattle.pp_expression.specs.Parsing.{behind_next, operator_at, IsFault}
+use Rattle.pp_expression.specs.Parsing.{behind_next, IsFault}
+use Rattle.pp_expression.proofs.Levels.{operator_at}
 use Rattle.pp_expression.proofs.Trees.{operand_stops}
 use Rattle.pp_expression.proofs.Run.{Halt, Outcome, Mode, Operand, Level, Loop, Settles, settles_once, loop_overflows, loop_right, operand_overflows, operand_in_sign, operand_in_group}
 use Rattle.pp_expression.proofs.First.{spot, found, up, down, left_goes, unreads, wanted_low, fails_settles, fault_settles}

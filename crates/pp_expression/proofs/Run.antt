@@ -1,4 +1,4 @@
--- The parser as a function on lines, with turns enough. Each outcome of the definitions is its outcome, so a line has one.
+-- A parser with a function for each level, as a function on lines, with turns enough. Each outcome of the definitions is its outcome, so a line has one.
 use Rattle.std.proofs.Common.{◌≡◌, ℕ, zero, suc, ◌+◌, ◌≤◌, false, nat_le, length, Option, Some, None, Result, Ok, Err, ℤ, refl, sym, ◌∙◌, arith, if◌then◌else◌}
 use Rattle.std.proofs.lemmas.Grind.{common_steps}
 use Rattle.pp_lexer.specs.declared.token.Punct.TheVariants as mark
@@ -12,7 +12,8 @@ use Rattle.pp_expression.specs.Arithmetic.{unary_value, binary_value, literal}
 use Rattle.pp_expression.specs.Trees.{◌>>=◌}
 use Rattle.pp_expression.specs.Lines.{Line, next}
 use Rattle.pp_expression.specs.FirstFault.{atom_of, closing, unread_at}
-use Rattle.pp_expression.specs.Parsing.{behind_next, operator_at, sign_at}
+use Rattle.pp_expression.specs.Parsing.{behind_next, sign_at}
+use Rattle.pp_expression.proofs.Levels.{operator_at}
 
 -- a fault, the symbols that are unread when it is found, and its order among those found there
 pub record Halt : Type 0 where

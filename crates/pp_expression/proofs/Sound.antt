@@ -14,7 +14,8 @@ use Rattle.pp_expression.specs.Arithmetic.{unary_value, binary_value}
 use Rattle.pp_expression.specs.Trees.{HasValue, ◌>>=◌}
 use Rattle.pp_expression.specs.Lines.{Line, next, next_of, binds_from, goes_on, Reads}
 use Rattle.pp_expression.specs.FirstFault.{atom_of, closing, unread_at, Possible, unread}
-use Rattle.pp_expression.specs.Parsing.{behind_next, of_level, operator_of, operator_at, sign_at}
+use Rattle.pp_expression.specs.Parsing.{behind_next, sign_at}
+use Rattle.pp_expression.proofs.Levels.{of_level, operator_of, operator_at}
 use Rattle.pp_expression.proofs.Trees.{read_number, read_group, read_signed, read_looser, read_operation}
 use Rattle.pp_expression.proofs.Faults.{here, at_group, at_number, at_close, sign_unread, not_begun, in_group, not_closed, in_sign, sign_fails, looser, not_read_behind, in_right, operation_fails}
 use Rattle.pp_expression.proofs.Steps.{no_fault_behind}

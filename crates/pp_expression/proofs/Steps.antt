@@ -1,5 +1,5 @@
 -- Each step of the evaluator, as what it gives.
-use Rattle.std.proofs.Common.{◌≡◌, ℕ, ◌+◌, ◌≤◌, length, Option, Some, None, Result, Ok, Err, ℤ, refl, ap, ◌∙◌, arith}
+use Rattle.std.proofs.Common.{◌≡◌, ℕ, ◌+◌, ◌≤◌, length, Option, Some, None, Result, Ok, Err, ℤ, ap, ◌∙◌, arith}
 use Rattle.pp_lexer.specs.declared.token.Punct.TheVariants as mark
 use Rattle.pp_expression.specs.declared.symbol.Symbol.{Symbol}
 use Rattle.pp_expression.specs.declared.symbol.Symbol.TheVariants as symbol
@@ -11,8 +11,8 @@ use Rattle.pp_expression.specs.Arithmetic.{unary_value, binary_value}
 use Rattle.pp_expression.specs.Trees.{HasValue, ◌>>=◌}
 use Rattle.pp_expression.specs.Lines.{Line, next, Reads}
 use Rattle.pp_expression.specs.FirstFault.{atom_of, closing, unread_at, Possible}
-use Rattle.pp_expression.specs.Parsing.{behind_next, operator_at, sign_at, atom_at, closing_at, located, IsFault, Gives}
-use Rattle.pp_expression.proofs.Trees.{read_signed}
+use Rattle.pp_expression.specs.Parsing.{behind_next, sign_at, atom_at, closing_at, located, IsFault}
+use Rattle.pp_expression.proofs.Levels.{operator_at}
 use Rattle.pp_expression.proofs.Unique.{bind_ok, bind_err}
 use Rattle.pp_expression.proofs.Faults as faults
 
@@ -87,12 +87,11 @@ sign_unread line e h =
 pub in_sign : (o : Unary) (old : Line) (e : Found) → sign_at old ≡ Ok (Some o) → IsFault 10 (behind_next old) e → IsFault 10 old e
 in_sign o old e sign h = record { order = h.order; possible = faults.in_sign o old e.left h.order e.kind sign h.possible }
 
-signed_gives : (r : Result ℤ ExpressionFault) (o : Unary) (old new : Line) (x : ℤ) → unary_value o x ≡ r → sign_at old ≡ Ok (Some o) → Reads 10 10 (behind_next old) new x → Gives 10 old new (located (length new.symbols + 1) r)
-signed_gives (Ok v) o old new x is sign reads = read_signed o old new x v sign reads is
-signed_gives (Err e) o old new x is sign reads = record { order = 2; possible = faults.sign_fails o old new x e sign reads is }
-
-pub sign_gives : (o : Unary) (old new : Line) (x : ℤ) → sign_at old ≡ Ok (Some o) → Reads 10 10 (behind_next old) new x → Gives 10 old new (located (length new.symbols + 1) (unary_value o x))
-sign_gives o old new x sign reads = signed_gives (unary_value o x) o old new x refl sign reads
+pub sign_fails : (o : Unary) (old new : Line) (x : ℤ) (e : Found) → sign_at old ≡ Ok (Some o) → Reads 10 10 (behind_next old) new x
+    → located (length new.symbols + 1) (unary_value o x) ≡ Err e → IsFault 10 old e
+sign_fails o old new x e sign reads h =
+    let is = located_err (length new.symbols + 1) (unary_value o x) e h in
+    met 10 old (length new.symbols + 1) 2 e is.1 (faults.sign_fails o old new x e.kind sign reads is.0)
 
 -- ---- operators between operands
 

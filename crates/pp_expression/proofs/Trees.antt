@@ -15,7 +15,8 @@ use Rattle.pp_expression.specs.Arithmetic.{unary_value, binary_value, literal}
 use Rattle.pp_expression.specs.Trees.{Tree, Number, Group, Prefix, Infix, spelling, Fits, value, ◌>>=◌}
 use Rattle.pp_expression.specs.Lines.{Line, next, next_of, binds_from, goes_on, Stops, Reads}
 use Rattle.pp_expression.specs.FirstFault.{sign_of}
-use Rattle.pp_expression.specs.Parsing.{behind_next, of_level, operator_of, operator_at, sign_at}
+use Rattle.pp_expression.specs.Parsing.{behind_next, sign_at}
+use Rattle.pp_expression.proofs.Levels.{of_level, operator_of, operator_at}
 
 same_unary : (a o : Unary) → Some a ≡ Some o → unary_punct a ≡ unary_punct o
 same_unary a o e = let h : a ≡ o = cc in ap unary_punct h

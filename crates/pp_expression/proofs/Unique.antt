@@ -14,7 +14,8 @@ use Rattle.pp_expression.specs.Operators.{unary_of, binary_of, level_of, unary_p
 use Rattle.pp_expression.specs.Arithmetic.{unary_value, binary_value, literal}
 use Rattle.pp_expression.specs.Trees.{Tree, Number, Group, Prefix, Infix, spelling, Fits, value, ◌>>=◌}
 use Rattle.pp_expression.specs.Lines.{Line, next_of, binds_from, goes_on, Stops, Reads}
-use Rattle.pp_expression.specs.Parsing.{of_level, operator_at, operator_of, sign_at}
+use Rattle.pp_expression.specs.Parsing.{sign_at}
+use Rattle.pp_expression.proofs.Levels.{of_level, operator_at, operator_of}
 use Rattle.pp_expression.proofs.Run.{Halt, Outcome, Operand, Level, Loop, Settles, level_goes, level_fails, level_operand, loop_ends, loop_goes, operand_signed, operand_number, operand_group}
 
 -- these symbols, and then the rest
@@ -35,7 +36,7 @@ binary_again _ = refl
 pub sign_front : (o : Unary) (xs : List Symbol) (rest : Line) → sign_at (onto (symbol.Punct (unary_punct o) ∷ xs) rest) ≡ Ok (Some o)
 sign_front o xs rest = ap Ok (unary_again o)
 
-level_same : (level : ℕ) (o : Binary) → level_of o ≡ level → of_level level (Some o) ≡ Some o
+pub level_same : (level : ℕ) (o : Binary) → level_of o ≡ level → of_level level (Some o) ≡ Some o
 level_same level o e = grind (arith, common_steps)
 
 pub operator_front : (level : ℕ) (o : Binary) (xs : List Symbol) (rest : Line) → level_of o ≡ level → operator_at level (onto (symbol.Punct (binary_punct o) ∷ xs) rest) ≡ Ok (Some o)
@@ -76,7 +77,7 @@ none_at level [] (Some d) k h = cc
 pub stops_none : (level : ℕ) (line : Line) → level ≤ 9 → Stops level line → operator_at level line ≡ Ok None
 stops_none level line h s = none_at level line.symbols line.ending (s.known h) s.over
 
-loosest : (level : ℕ) (o : Binary) → level_of o ≡ level → binds_from (level + 1) (Some o) ≡ false
+pub loosest : (level : ℕ) (o : Binary) → level_of o ≡ level → binds_from (level + 1) (Some o) ≡ false
 loosest level o e = grind (arith, common_steps)
 
 -- an operand of an operator is over before it
@@ -205,7 +206,7 @@ line_is line rest xs symbols ending =
     let Made : List Symbol → Option ExpressionFault → Line = λ ys e. record { symbols = ys; ending = e } in
     ap (λ (ys : List Symbol). Made ys line.ending) symbols ∙ ap (λ (e : Option ExpressionFault). Made (xs ++ rest.symbols) e) (sym ending)
 
--- ---- what the parser promises is what the run gives
+-- ---- what is read is what the run gives
 
 pub reads_settles : (level : ℕ) (old new : Line) (v : ℤ) → level ≤ 10 → Reads level level old new v → Settles (Level level) old (Ok (v, new))
 reads_settles level old new v h r =

@@ -4,4 +4,6 @@ pub mod Trees
 pub mod Lines
 pub mod FirstFault
 pub mod Parsing
+pub mod Pending
+pub mod Evaluator
 pub mod ExpressionLaws

@@ -1,36 +1,31 @@
 -- What the evaluator's own functions promise each other: steps along a line, and an answer or a fault seen from within. What is promised to callers is in FirstFault.
-use Rattle.std.specs.Prelude.{ℕ, ◌==◌, if◌then◌else◌, drop, Option, Some, None, Result, Ok, Err, ℤ, MatchResult}
+use Rattle.std.specs.Prelude.{ℕ, drop, Option, Some, None, Result, Ok, Err}
 use Rattle.pp_expression.specs.declared.operator.Unary.{Unary}
 use Rattle.pp_expression.specs.declared.operator.Binary.{Binary}
 use Rattle.pp_expression.specs.declared.symbol.Symbol.{Symbol}
 use Rattle.pp_expression.specs.declared.symbol.Symbol.TheVariants as symbol
 use Rattle.pp_expression.specs.declared.symbol.ExpressionFault.{ExpressionFault}
 use Rattle.pp_expression.specs.declared.symbol.Found.{Found}
-use Rattle.pp_expression.specs.Operators.{binary_of, level_of}
+use Rattle.pp_expression.specs.Operators.{binary_of}
 use Rattle.pp_expression.specs.Trees.{HasValue, ◌>>=◌}
-use Rattle.pp_expression.specs.Lines.{Line, next, Reads}
+use Rattle.pp_expression.specs.Lines.{Line, next}
 use Rattle.pp_expression.specs.FirstFault.{sign_of, atom_of, closing, Possible}
 
 -- the line without its next symbol
 abbrev pub behind_next : Line → Line
 behind_next line = record { symbols = drop 1 line.symbols; ending = line.ending }
 
--- the operator, if it is of the level
-abbrev pub of_level : ℕ → Option Binary → Option Binary
-of_level level (Some operator) = if level_of operator == level then Some operator else None
-of_level level None = None
+-- the operator between operands that a symbol is
+abbrev pub binary_sign_of : Option Symbol → Option Binary
+binary_sign_of (Some (symbol.Punct punct)) = binary_of punct
+binary_sign_of (Some (symbol.Number number)) = None
+binary_sign_of (Some symbol.Fault) = None
+binary_sign_of (Some symbol.Other) = None
+binary_sign_of None = None
 
--- the operator between operands that a symbol is, if it is of the level
-abbrev pub operator_of : ℕ → Option Symbol → Option Binary
-operator_of level (Some (symbol.Punct punct)) = of_level level (binary_of punct)
-operator_of level (Some (symbol.Number number)) = None
-operator_of level (Some symbol.Fault) = None
-operator_of level (Some symbol.Other) = None
-operator_of level None = None
-
--- the operator of the level between operands that comes next, if one does
-abbrev pub operator_at : ℕ → Line → Result (Option Binary) ExpressionFault
-operator_at level line = next line >>= λ ahead. Ok (operator_of level ahead)
+-- the operator between operands that comes next, if one does
+abbrev pub binary_at : Line → Result (Option Binary) ExpressionFault
+binary_at line = next line >>= λ ahead. Ok (binary_sign_of ahead)
 
 -- the operator in front of an operand that comes next, if one does
 abbrev pub sign_at : Line → Result (Option Unary) ExpressionFault
@@ -53,7 +48,3 @@ located left (Err kind) = Err (record { kind = kind; left = left })
 pub record IsFault (level : ℕ) (line : Line) (found : Found) : Type 0 where
   pub order : ℕ
   pub possible : Possible HasValue level line found.left order found.kind
-
--- what a read of an expression of the level gives
-abbrev pub Gives : ℕ → Line → Line → Result ℤ Found → Type 0
-Gives level old new result = MatchResult result (λ number. Reads level level old new number) (λ found. IsFault level old found)

@@ -1,34 +1,41 @@
-//! The value of an expression, by levels of precedence: it is computed as it is read.
+//! The value of an expression, computed as it is read. What is pending is kept in a list, so that
+//! depth, of parentheses or of operators, takes none of the native stack.
 
-ghost use Rattle.std.specs.Prelude.{◌≡◌, ◌+◌, ◌^◌, ◌<◌, ◌≤◌, length, Ok, None};
-ghost use Rattle.pp_expression.specs.Lines.{next};
+ghost use Rattle.std.specs.Prelude.{◌≡◌, ◌+◌, ◌^◌, ◌<◌, ◌≤◌, [], length, Ok, Some, None, IfOk, IfErr};
+ghost use Rattle.pp_expression.specs.Lines.{Line, next, Stops, Reads};
 ghost use Rattle.pp_expression.specs.FirstFault.{Evaluates};
 ghost use Rattle.pp_expression.specs.FirstFault as spec;
-ghost use Rattle.pp_expression.specs.Parsing.{behind_next, operator_at, sign_at, atom_at, closing_at, located, Gives};
+ghost use Rattle.pp_expression.specs.Parsing.{behind_next, binary_at, sign_at, atom_at, closing_at, located};
+ghost use Rattle.pp_expression.specs.Pending.{computed_at, wanted_in};
+ghost use Rattle.pp_expression.specs.Evaluator.{Leads, Computes, GetsOn, IsHalt};
 
 use crate::arithmetic;
+use crate::halt::Halt;
 use crate::operator::{Binary, Unary, binary_of, level_of, unary_of};
+use crate::pending::{Operator, Pending, PendingList};
 use crate::symbol::{ExpressionFault, Found, Symbol, Value};
 use pp_lexer::token::Punct;
+use std::alloc::{AllocError, Global};
 use std::marker::Model;
 
 /// The symbols of a line that are still to come, and the fault that ends their reading.
 #[derive(Drop)]
-struct Parser<'a> {
+struct Reader<'a> {
     symbols: &'a [Symbol],
     ending: Option<ExpressionFault>,
 }
 
-impl<'a> Model for Parser<'a> {
+impl<'a> Model for Reader<'a> {
     ghost use Rattle.pp_expression.specs.Lines.{Line};
 
     ghost Value = { Line };
 
-    ghost view = { λ parser. record { symbols = parser.symbols.now; ending = parser.ending } };
+    ghost view = { λ reader. record { symbols = reader.symbols.now; ending = reader.ending } };
 }
 
-/// The level of an operand.
-const OPERAND: u8 = 10;
+/// The level of products. They, and operators in front of their operand, are computed before it is
+/// known what comes after their right operand.
+const PRODUCT: u8 = 9;
 
 /// What a symbol begins where an operand without an operator in front is wanted: a number, or `None`
 /// at an opening parenthesis.
@@ -65,7 +72,7 @@ fn at<T>(left: usize, answer: Result<T, ExpressionFault>) -> Result<T, Found>
     }
 }
 
-impl<'a> Parser<'a> {
+impl<'a> Reader<'a> {
     /// How many symbols are left.
     fn left(&self) -> usize
         ensures value { result ≡ length self.now.symbols }
@@ -106,24 +113,22 @@ impl<'a> Parser<'a> {
         }
     }
 
-    /// The operator of the level between operands that comes next, if one does.
-    fn operator(&self, level: u8) -> Result<Option<Binary>, Found>
-        ensures { result ≡ located (length self.now.symbols) (operator_at level self.now) }
+    /// The operator between operands that comes next, if one does.
+    fn operator(&self) -> Result<Option<Binary>, Found>
+        ensures { result ≡ located (length self.now.symbols) (binary_at self.now) }
     {
         match at(self.left(), self.peek())? {
-            Some(Symbol::Punct(punct)) => {
-                Ok(binary_of(punct).filter(|operator| level_of(*operator) == level))
-            }
+            Some(Symbol::Punct(punct)) => Ok(binary_of(punct)),
             _ => Ok(None),
         }
     }
 
-    /// How many symbols there are from the one at which an operator is computed, behind its right
+    /// How many symbols there are from the one at which an operator is computed, after its right
     /// operand.
-    fn left_at(&self, operator: Binary) -> usize
-        ensures { result ≡ spec.unread_at operator self.now }
+    fn left_at(&self, operator: Operator) -> usize
+        ensures { result ≡ computed_at operator self.now }
     {
-        if level_of(operator) < 9 {
+        if operator.level() < PRODUCT {
             self.left()
         } else {
             self.left() + 1
@@ -151,55 +156,118 @@ impl<'a> Parser<'a> {
         self.pass();
         at(left, closing(at(left, last)?))
     }
+}
 
-    /// The value of a number or of an expression in parentheses. `Operand`, `Unexpected` or
-    /// `UnexpectedEndOfInput` where neither begins, or where no `)` closes.
-    #[cycle(expression)]
-    fn parse_atom(&mut self) -> Result<i64, Found>
-        requires { sign_at self.old ≡ Ok None }
-        ensures { Gives 10 self.old self.new result }
+/// Where an evaluation stands.
+#[derive(Clone, Copy)]
+enum State {
+    /// An operand is wanted.
+    OperandWanted,
+    /// An operand of this value was read.
+    OperandRead(i64),
+    /// The expression is over, and has this value.
+    Ended(i64),
+}
+
+/// The evaluation of an expression: what is still to come of its line, and what is pending.
+#[derive(Drop)]
+struct Evaluator<'a> {
+    line: Reader<'a>,
+    pending: PendingList,
+}
+
+impl<'a> Evaluator<'a> {
+    /// Computes the pending operators that bind at least as tightly as the level, from the
+    /// innermost outwards. `operand` is the right operand of the innermost.
+    fn compute_from(&mut self, level: u8, operand: i64) -> Result<i64, Halt>
+        requires low { level ≤ 9 }
+        requires over { Stops (level + 1) self.old.line }
+        ensures computes { Computes level operand self.old result self.new }
+        ensures loose { IfOk result (λ number. wanted_in self.new.pending ≤ level) }
+        ensures line { self.new.line ≡ self.old.line }
     {
-        if let Some(number) = self.take_atom()? {
-            return Ok(arithmetic::literal(number));
+        let mut value = operand;
+        while let Some(operator) = self.pending.take_from(level) {
+            value = at(self.line.left_at(operator), operator.apply(value))?;
         }
-        let value = self.parse_level(0)?;
-        self.take_closing()?;
         Ok(value)
     }
 
-    /// The value of an operand, with the operators in front of it.
-    #[cycle(expression)]
-    fn parse_unary(&mut self) -> Result<i64, Found>
-        ensures { Gives 10 self.old self.new result }
+    /// Takes an operator in front of the operand that is wanted, a parenthesis, or a number.
+    fn take_operand(&mut self) -> Result<State, Halt>
+        ensures leads { Leads State.OperandWanted self.old result self.new }
+        ensures gets_on { GetsOn self.old result self.new }
     {
-        match self.sign()? {
-            Some(sign) => {
-                self.pass();
-                let operand = self.parse_unary()?;
-                at(self.left() + 1, arithmetic::unary(sign, operand))
+        if let Some(operator) = self.line.sign()? {
+            self.line.pass();
+            self.pending
+                .push(Pending::Operator(Operator::Prefix(operator)))?;
+            return Ok(State::OperandWanted);
+        }
+        match self.line.take_atom()? {
+            Some(number) => Ok(State::OperandRead(arithmetic::literal(number))),
+            None => {
+                self.pending.push(Pending::Group)?;
+                Ok(State::OperandWanted)
             }
-            None => self.parse_atom(),
         }
     }
 
-    /// The value of the expression whose operators bind at least as tightly as the level. An operand
-    /// alone is read without a look at what comes behind it.
-    #[cycle(expression)]
-    fn parse_level(&mut self, level: u8) -> Result<i64, Found>
-        requires { level ≤ 10 }
-        ensures { Gives level self.old self.new result }
+    /// Takes the operator that comes next. `operand` is what stands before it.
+    fn take_operator(&mut self, operator: Binary, operand: i64) -> Result<State, Halt>
+        requires { binary_at self.old.line ≡ Ok (Some operator) }
+        ensures leads { Leads (State.OperandRead operand) self.old result self.new }
+        ensures gets_on { GetsOn self.old result self.new }
     {
-        if level == OPERAND {
-            return self.parse_unary();
+        let left = self.compute_from(level_of(operator), operand)?;
+        self.line.pass();
+        self.pending
+            .push(Pending::Operator(Operator::Infix(operator, left)))?;
+        Ok(State::OperandWanted)
+    }
+
+    /// Ends the innermost parentheses, or the whole expression. `operand` is the last in it.
+    fn end_expression(&mut self, operand: i64) -> Result<State, Halt>
+        requires { binary_at self.old.line ≡ Ok None }
+        ensures leads { Leads (State.OperandRead operand) self.old result self.new }
+        ensures gets_on { GetsOn self.old result self.new }
+    {
+        let value = self.compute_from(0, operand)?;
+        match self.pending.pop() {
+            None => Ok(State::Ended(value)),
+            Some(_) => {
+                self.line.take_closing()?;
+                Ok(State::OperandRead(value))
+            }
         }
-        let mut value = self.parse_level(level + 1)?;
-        while let Some(operator) = self.operator(level)? {
-            self.pass();
-            let right = self.parse_level(level + 1)?;
-            let combined = arithmetic::binary(operator, value, right);
-            value = at(self.left_at(operator), combined)?;
+    }
+
+    /// Goes on after an operand: to the operator that comes next, or out of what is over.
+    fn go_on(&mut self, operand: i64) -> Result<State, Halt>
+        ensures leads { Leads (State.OperandRead operand) self.old result self.new }
+        ensures gets_on { GetsOn self.old result self.new }
+    {
+        let value = self.compute_from(PRODUCT, operand)?;
+        match self.line.operator()? {
+            Some(operator) => self.take_operator(operator, value),
+            None => self.end_expression(value),
         }
-        Ok(value)
+    }
+
+    /// The value of the expression at the front of the line.
+    fn run(&mut self) -> Result<i64, Halt>
+        requires { self.old.pending ≡ [] }
+        ensures value { IfOk result (Reads 0 0 self.old.line self.new.line) }
+        ensures halt { IfErr result (IsHalt self.old.line) }
+    {
+        let mut state = State::OperandWanted;
+        loop {
+            state = match state {
+                State::OperandWanted => self.take_operand()?,
+                State::OperandRead(value) => self.go_on(value)?,
+                State::Ended(value) => return Ok(value),
+            };
+        }
     }
 }
 
@@ -210,20 +278,32 @@ impl<'a> Parser<'a> {
 /// the line ends there. It is the expression's only where it has to be known what comes behind
 /// `symbols`.
 ///
-/// An `Err` is the first fault: `Unexpected`, `UnexpectedEndOfInput` or `Operand` where an operand or
-/// a `)` is wanted, `IntegerOverflow` or `DivisionByZero` of an operator, or `ending`. An operator in
-/// front of its operand, `*`, `/` and `%` are computed once the last symbol of their right operand is
-/// read, the others once the symbol behind it is known.
+/// An `Err` within is the first fault: `Unexpected`, `UnexpectedEndOfInput` or `Operand` where an
+/// operand or a `)` is wanted, `IntegerOverflow` or `DivisionByZero` of an operator, or `ending`. An
+/// operator in front of its operand, `*`, `/` and `%` are computed once the last symbol of their right
+/// operand is read, the others once the symbol behind it is known.
+///
+/// What is pending is kept in memory of `alloc`. The outer `Err` says that it was refused.
 #[tactic(auto, using(crate::proofs::PossibleFaults::is_first, crate::proofs::PossibleFaults::is_value))]
-pub fn evaluate(symbols: &[Symbol], ending: Option<ExpressionFault>) -> Result<Value, Found>
-    ensures { Evaluates (record { symbols = symbols.now; ending = ending }) result }
+pub fn evaluate(
+    alloc: Global,
+    symbols: &[Symbol],
+    ending: Option<ExpressionFault>,
+) -> Result<Result<Value, Found>, AllocError>
+    ensures { IfOk result (Evaluates (record { symbols = symbols.now; ending = ending })) }
 {
-    let mut parser = Parser { symbols, ending };
-    let value = parser.parse_level(0)?;
-    Ok(Value {
-        value,
-        left: parser.left(),
-    })
+    let mut evaluator = Evaluator {
+        line: Reader { symbols, ending },
+        pending: PendingList::new(alloc),
+    };
+    match evaluator.run() {
+        Ok(value) => Ok(Ok(Value {
+            value,
+            left: evaluator.line.left(),
+        })),
+        Err(Halt::Fault(found)) => Ok(Err(found)),
+        Err(Halt::Refused(error)) => Err(error),
+    }
 }
 
 #[cfg(test)]
@@ -262,7 +342,7 @@ mod tests {
     }
 
     #[test]
-    fn values(rt: HostRuntime) {
+    fn values(rt: HostRuntime) -> Result<(), Fail> {
         let line = [
             Number(1),
             PLUS,
@@ -274,79 +354,154 @@ mod tests {
             MINUS,
             Number(5),
         ];
-        assert_eq!(rt; evaluate(&line, None), value(1, 0));
+        assert_eq!(rt; evaluate(rt.alloc(), &line, None)?, value(1, 0));
         let line = [Number(1), MINUS, Number(2), MINUS, Number(3)];
-        assert_eq!(rt; evaluate(&line, None), value(-4, 0));
+        assert_eq!(rt; evaluate(rt.alloc(), &line, None)?, value(-4, 0));
         let line = [Number(8), RIGHT_SHIFT, Number(1), PLUS, Number(1)];
-        assert_eq!(rt; evaluate(&line, None), value(2, 0));
+        assert_eq!(rt; evaluate(rt.alloc(), &line, None)?, value(2, 0));
         let line = [MINUS, Number(7), SLASH, Number(2), Number(9), COMMA];
-        assert_eq!(rt; evaluate(&line, None), value(-3, 2));
+        assert_eq!(rt; evaluate(rt.alloc(), &line, None)?, value(-3, 2));
+        Ok(())
     }
 
     #[test]
-    fn faults(rt: HostRuntime) {
+    fn faults(rt: HostRuntime) -> Result<(), Fail> {
         let line = [Number(1), SLASH, Number(0), COMMA];
         assert_eq!(rt;
-            evaluate(&line, None),
+            evaluate(rt.alloc(), &line, None)?,
             fault(ExpressionFault::DivisionByZero, 2)
         );
         let line = [Number(1), LEFT_SHIFT, Number(64)];
         assert_eq!(rt;
-            evaluate(&line, None),
+            evaluate(rt.alloc(), &line, None)?,
             fault(ExpressionFault::IntegerOverflow, 0)
         );
         let line = [MINUS, Number(1 << 63)];
         assert_eq!(rt;
-            evaluate(&line, None),
+            evaluate(rt.alloc(), &line, None)?,
             fault(ExpressionFault::IntegerOverflow, 1)
         );
         let line = [Number(1), PLUS, Other, COMMA];
         assert_eq!(rt;
-            evaluate(&line, None),
+            evaluate(rt.alloc(), &line, None)?,
             fault(ExpressionFault::Unexpected, 2)
         );
         let line = [OPENING, Number(1)];
         assert_eq!(rt;
-            evaluate(&line, None),
+            evaluate(rt.alloc(), &line, None)?,
             fault(ExpressionFault::UnexpectedEndOfInput, 0)
         );
+        Ok(())
     }
 
     #[test]
-    fn reading_before_arithmetic(rt: HostRuntime) {
+    fn reading_before_arithmetic(rt: HostRuntime) -> Result<(), Fail> {
         let line = [Number((1 << 63) - 1), PLUS, Number(1)];
         assert_eq!(rt;
-            evaluate(&line, None),
+            evaluate(rt.alloc(), &line, None)?,
             fault(ExpressionFault::IntegerOverflow, 0)
         );
         let unread = Some(ExpressionFault::Unread);
-        assert_eq!(rt; evaluate(&line, unread), fault(ExpressionFault::Unread, 0));
+        assert_eq!(rt;
+            evaluate(rt.alloc(), &line, unread)?,
+            fault(ExpressionFault::Unread, 0)
+        );
+        Ok(())
     }
 
     #[test]
-    fn faulty_operand(rt: HostRuntime) {
+    fn faulty_operand(rt: HostRuntime) -> Result<(), Fail> {
         let line = [Number(1), PLUS, Fault];
-        assert_eq!(rt; evaluate(&line, None), fault(ExpressionFault::Operand, 1));
+        assert_eq!(rt;
+            evaluate(rt.alloc(), &line, None)?,
+            fault(ExpressionFault::Operand, 1)
+        );
         let line = [Number(1), Fault];
-        assert_eq!(rt; evaluate(&line, None), value(1, 1));
+        assert_eq!(rt; evaluate(rt.alloc(), &line, None)?, value(1, 1));
         let line = [OPENING, Number(1), Fault];
         assert_eq!(rt;
-            evaluate(&line, None),
+            evaluate(rt.alloc(), &line, None)?,
             fault(ExpressionFault::Unexpected, 1)
         );
+        Ok(())
     }
 
-    #[test]
-    fn deep(rt: HostRuntime) -> Result<(), Fail> {
-        let mut line = Vec::new(rt.alloc());
-        for _ in 0..200 {
+    /// A number in as many parentheses.
+    fn in_parentheses(alloc: Global, depth: u32) -> Result<Vec<Symbol>, AllocError> {
+        let mut line = Vec::new(alloc);
+        for _ in 0..depth {
             line.push(OPENING)?;
         }
         line.push(Number(7))?;
-        for _ in 0..200 {
+        for _ in 0..depth {
             line.push(CLOSING)?;
         }
-        assert_eq!(rt; evaluate(&line, None), value(7, 0));
+        Ok(line)
+    }
+
+    /// A number with as many signs in front.
+    fn signed(alloc: Global, count: u32) -> Result<Vec<Symbol>, AllocError> {
+        let mut line = Vec::new(alloc);
+        for _ in 0..count {
+            line.push(MINUS)?;
+        }
+        line.push(Number(7))?;
+        Ok(line)
+    }
+
+    /// `1 + - ( 1 + - ( ..`, with `7` in as many parentheses.
+    fn nested_sums(alloc: Global, depth: u32) -> Result<Vec<Symbol>, AllocError> {
+        let mut line = Vec::new(alloc);
+        for _ in 0..depth {
+            line.push(Number(1))?;
+            line.push(PLUS)?;
+            line.push(MINUS)?;
+            line.push(OPENING)?;
+        }
+        line.push(Number(7))?;
+        for _ in 0..depth {
+            line.push(CLOSING)?;
+        }
+        Ok(line)
+    }
+
+    #[test]
+    fn deep_parentheses(rt: HostRuntime) -> Result<(), Fail> {
+        let line = in_parentheses(rt.alloc(), 200)?;
+        assert_eq!(rt; evaluate(rt.alloc(), &line, None)?, value(7, 0));
+        let mut line = in_parentheses(rt.alloc(), 100_000)?;
+        assert_eq!(rt; evaluate(rt.alloc(), &line, None)?, value(7, 0));
+        line.push(CLOSING)?;
+        assert_eq!(rt; evaluate(rt.alloc(), &line, None)?, value(7, 1));
+        Ok(())
+    }
+
+    #[test]
+    fn unclosed_parentheses(rt: HostRuntime) -> Result<(), Fail> {
+        let mut line = in_parentheses(rt.alloc(), 100_000)?;
+        assert_eq!(rt; line.pop().is_some(), true);
+        assert_eq!(rt;
+            evaluate(rt.alloc(), &line, None)?,
+            fault(ExpressionFault::UnexpectedEndOfInput, 0)
+        );
+        Ok(())
+    }
+
+    #[test]
+    fn long_chains_of_signs(rt: HostRuntime) -> Result<(), Fail> {
+        let line = signed(rt.alloc(), 200)?;
+        assert_eq!(rt; evaluate(rt.alloc(), &line, None)?, value(7, 0));
+        let line = signed(rt.alloc(), 100_001)?;
+        assert_eq!(rt; evaluate(rt.alloc(), &line, None)?, value(-7, 0));
+        Ok(())
+    }
+
+    #[test]
+    fn deep_sums(rt: HostRuntime) -> Result<(), Fail> {
+        let line = nested_sums(rt.alloc(), 100_000)?;
+        assert_eq!(rt; evaluate(rt.alloc(), &line, None)?, value(7, 0));
+        let line = nested_sums(rt.alloc(), 100_001)?;
+        assert_eq!(rt; evaluate(rt.alloc(), &line, None)?, value(-6, 0));
         Ok(())
     }
 

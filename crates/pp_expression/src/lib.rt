@@ -4,6 +4,8 @@
 
 mod arithmetic;
 pub mod evaluator;
+mod halt;
 pub mod laws;
 pub mod operator;
+mod pending;
 pub mod symbol;

@@ -54,7 +54,7 @@ fn evaluation(alloc: Global, words: &Words) -> Result<Result<Value, Found>, Stop
 {
     let symbols = symbols_of(alloc, &words.words)?;
     let ending = words.ending.as_ref().map(|_| ExpressionFault::Unread);
-    Ok(evaluate(&symbols, ending))
+    Ok(evaluate(alloc, &symbols, ending)?)
 }
 
 // The word with which so many words of the line end.
