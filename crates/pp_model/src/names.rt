@@ -2,7 +2,7 @@
 
 ghost use Rattle.std.specs.Prelude.{◌≡◌};
 ghost use Rattle.std.specs.Str.{chars};
-ghost use Rattle.pp_model.specs.Names.{is_same_name, is_identifier, line_name};
+ghost use Rattle.pp_model.specs.Names.{is_same_name, is_identifier, line_name, defined_name};
 
 use pp_lexer::token::{Text, TokenValue};
 
@@ -21,4 +21,11 @@ pub fn is_line_name(value: &TokenValue) -> bool
         TokenValue::Ident(text) => is_spelled(text, "__LINE__"),
         _ => false,
     }
+}
+
+/// Whether the name is `defined`.
+pub fn is_defined_name(name: &Text) -> bool
+    ensures { result ≡ is_same_name name.now defined_name }
+{
+    is_spelled(name, "defined")
 }

@@ -20,3 +20,14 @@ pub enum LineKind {
     /// A `#line` line, where an unknown identifier is refused.
     LineNumber,
 }
+
+/// What a token of an expanded line is.
+#[derive(Drop)]
+pub enum WordReading {
+    /// The operator `defined`, as the token that it was read from.
+    Operator(Token),
+    /// A word.
+    Word(Token),
+    /// An unknown name where it is refused.
+    Refused(Fault),
+}

@@ -8,7 +8,7 @@ use Rattle.pp_model.specs.Taking.{Takes}
 use Rattle.pp_model.specs.Calls.{Fault, Answers}
 use Rattle.pp_model.specs.LineWords.{Words, word_before, Operand, is_open_paren}
 use Rattle.pp_model.specs.LineWords as line
-use Rattle.pp_plain.specs.WordsRead.{unclosed, closed, Parenthesized, no_name, named}
+use Rattle.pp_model.specs.WordsRead.{unclosed, closed, Parenthesized, no_name, named}
 use Rattle.pp_model.specs.declared.outcome.Outcome.{Outcome}
 use Rattle.pp_model.specs.declared.word.LineKind.{LineKind}
 use Rattle.pp_model.specs.declared.word.Word.{Word}

@@ -2,7 +2,6 @@ pub mod Changes
 pub mod Nested
 pub mod Seen
 pub mod SeenList
-pub mod WordsRead
 pub mod Halting
 pub mod ReaderState
 pub mod Acting

@@ -6,7 +6,7 @@ ghost use Rattle.pp_model.specs.Emitting.{answers_at};
 ghost use Rattle.pp_model.specs.LineWords.{LineWords, Operand, reading, unknown_name, unexpected, name_in, name_in_value, is_open_paren, is_close_paren, is_defined, unwanted, unwanted_word};
 ghost use Rattle.pp_model.specs.Names.{is_identifier, defined_name};
 ghost use Rattle.pp_model.specs.Reading.{reading_of};
-ghost use Rattle.pp_plain.specs.WordsRead.{reading_named, unwanted_read, IsOf, Closes, Parenthesized};
+ghost use Rattle.pp_model.specs.WordsRead.{reading_named, unwanted_read, IsOf, Closes, Parenthesized};
 ghost use Rattle.pp_plain.specs.Seen.{seen};
 ghost use Rattle.pp_plain.specs.SeenList.{line_state};
 
@@ -14,25 +14,14 @@ use crate::calls::{is_left_paren, is_right_paren};
 use crate::definitions::Definitions;
 use crate::expand::emit;
 use crate::expander::Expander;
-use crate::names::is_defined_name;
+use pp_model::names::is_defined_name;
 use crate::reader::LineReader;
 use crate::stop::{Budget, Stop};
 use pp_lexer::token::{Integer, Location, PreprocessorError, Text, Token, TokenValue};
 use pp_model::outcome::{Fault, Outcome};
-use pp_model::word::{LineKind, Word};
+use pp_model::word::{LineKind, Word, WordReading};
 use std::alloc::Global;
 use std::marker::Model;
-
-/// What a token of an expanded line is.
-#[derive(Drop)]
-pub enum WordReading {
-    /// The operator `defined`, as the token that it was read from.
-    Operator(Token),
-    /// A word.
-    Word(Token),
-    /// An unknown name where it is refused.
-    Refused(Fault),
-}
 
 /// The words of a line, and the fault of reading that ends them, if one does.
 #[derive(Drop)]

@@ -6,7 +6,7 @@ ghost use Rattle.pp_model.specs.Reading.{first_listed, behind_listed};
 
 use crate::definitions::Definitions;
 use crate::list::take_first;
-use crate::names::is_defined_name;
+use pp_model::names::is_defined_name;
 use crate::stop::{Budget, Stop};
 use pp_lexer::token::{Text, Token};
 use pp_model::outcome::Outcome;

@@ -18,12 +18,12 @@ use crate::pp::definitions::Definitions;
 use crate::pp::halt::Halt;
 use crate::pp::list_lexer::ListLexer;
 use crate::pp::list_step::{step_list, take_list};
+use crate::pp::open_around::OpenAround;
 use crate::pp::step::{StepExit, is_out_of_memory};
 use crate::token::{Integer, Location, PreprocessorError, Text, Token, TokenValue};
-use pp_model::line_words::WordReading;
 use pp_model::names::is_defined_name;
 use pp_model::outcome::Fault;
-use pp_model::word::{LineKind, Word};
+use pp_model::word::{LineKind, Word, WordReading};
 use std::alloc::{AllocError, Global};
 use std::marker::Model;
 
@@ -178,7 +178,7 @@ impl<'a> IfParser<'a> {
         ensures reads { GivesItem self.now line.old result line.new }
         ensures less { TakesOff self.now line.old result line.new }
     {
-        let hidden = [];
+        let hidden = OpenAround::nothing(self.alloc);
         'items: loop {
             match step_list(&mut line.caller, &mut line.lexer) {
                 Ok(Taken::Token(token)) => return Ok(Some(token)),
@@ -337,9 +337,10 @@ pub fn line_words(
         definitions,
         levels,
     };
+    let around = OpenAround::nothing(alloc);
     let mut line = LineExpander {
         caller: Caller::new(alloc),
-        lexer: ListLexer::line(alloc, tokens, definitions),
+        lexer: ListLexer::line(alloc, tokens, definitions, &around),
     };
     parser.read_words(&mut line)
 }

@@ -17,7 +17,6 @@ use crate::pp::limit::expansion_limit;
 use crate::token::{Location, PreprocessorError, Text, Token, TokenValue};
 use pp_expression::evaluator::evaluate;
 use pp_expression::symbol::{ExpressionFault, Found, Symbol, Value};
-use pp_model::copies::copy_token;
 use pp_model::outcome::Fault;
 use pp_model::word::{LineKind, Word};
 use std::alloc::{AllocError, Global};
@@ -54,7 +53,7 @@ fn evaluation(alloc: Global, words: &Words) -> Result<Result<Value, Found>, Allo
 {
     let symbols = symbols_of(alloc, &words.words)?;
     let ending = words.ending.as_ref().map(|_| ExpressionFault::Unread);
-    Ok(evaluate(&symbols, ending))
+    Ok(evaluate(alloc, &symbols, ending)?)
 }
 
 // The word with which so many words of the line end.
@@ -72,6 +71,16 @@ fn copy_of(alloc: Global, fault: &Fault) -> Result<Fault, AllocError>
         return Err(AllocError);
     };
     Ok((error, fault.1))
+}
+
+// A copy of a token.
+fn copy_token(alloc: Global, token: &Token) -> Result<Token, AllocError>
+    ensures { IfOk result (λ copy. copy ≡ token.now) }
+{
+    match token.clone(alloc) {
+        Ok(copy) => Ok(copy),
+        Err(_) => Err(AllocError),
+    }
 }
 
 // The fault of a word that can't stand where it does.

@@ -69,16 +69,21 @@ impl<'a> ListLexer<'a> {
     }
 
     /// The line of an `#if`, `#elif` or `#line`, where `defined` is reserved.
-    pub fn line(alloc: Global, tokens: &'a [Token], definitions: &'a Definitions) -> Self
+    pub fn line(
+        alloc: Global,
+        tokens: &'a [Token],
+        definitions: &'a Definitions,
+        hidden: &'a OpenAround<'a>,
+    ) -> Self
         requires { AllHoldOrdinary tokens.now }
-        ensures { result ≡ record { tokens = tokens.now; definitions = definitions.now; hidden = []; is_line = true } }
+        ensures { result ≡ record { tokens = tokens.now; definitions = definitions.now; hidden = hidden.now; is_line = true } }
     {
         ListLexer {
             alloc,
             tokens,
             position: 0,
             definitions,
-            hidden: &[],
+            hidden,
             is_line: true,
         }
     }

@@ -1,4 +1,4 @@
--- The plain program's values that say what a token of an expanded line is, and the parts of a `defined`.
+-- What a token of an expanded line is, as a program says it, and the parts of a `defined`.
 use Rattle.std.specs.Prelude.{◌≡◌, Bool, true, false, Some, None, Result, Ok, Err}
 use Rattle.pp_lexer.specs.declared.token.Location.{Location}
 use Rattle.pp_lexer.specs.declared.token.Token.{Token}
@@ -11,8 +11,8 @@ use Rattle.pp_model.specs.LineWords.{unexpected, unwanted, unwanted_word, name_i
 use Rattle.pp_model.specs.LineWords as line
 use Rattle.pp_model.specs.declared.outcome.Outcome.{Outcome}
 use Rattle.pp_model.specs.declared.word.LineKind.{LineKind}
-use Rattle.pp_plain.specs.declared.line_words.WordReading.{WordReading}
-use Rattle.pp_plain.specs.declared.line_words.WordReading.TheVariants.{Operator, Word, Refused}
+use Rattle.pp_model.specs.declared.word.WordReading.{WordReading}
+use Rattle.pp_model.specs.declared.word.WordReading.TheVariants.{Operator, Word, Refused}
 
 abbrev pub reading_named : WordReading → line.Reading
 reading_named (Operator token) = line.operator
