@@ -12,6 +12,7 @@ ghost use Rattle.pp_lexer.specs.Words.{is_blank};
 ghost use Rattle.pp_lexer.specs.Lexed.{start_of, first_item, behind_first_item, IsNext};
 ghost use Rattle.pp_lexer.specs.Items.{is_newline_result};
 ghost use Rattle.pp_lexer.specs.Passing.{seen_of, newline_seen, lexeme_seen, comments_at_end, IsLexed};
+ghost use Rattle.pp_lexer.specs.PlainWords.{IsPlainLexed, IsNewlineLexed};
 
 use crate::token::{Location, NOWHERE, PreprocessorError, out_of_memory};
 use std::alloc::{AllocError, Global};
@@ -24,6 +25,7 @@ mod item;
 pub mod laws;
 mod look_ahead;
 mod number;
+mod plain;
 mod punctuation;
 mod replace_comments;
 mod skip_backslash_newline;
@@ -32,7 +34,9 @@ mod word;
 pub use char_iterator::NONE_CONSUMED_SENTINEL_VALUE;
 use char_iterator::{LexerCharIterator, Spot};
 pub use chars_and_line::CharsAndLine;
+use chars_and_line::Left;
 pub use item::{LexerItem, Token, TokenValue};
+use plain::{Word, begins_line_feed, plain_word, spaces_length};
 pub use replace_comments::{COMMENT_SENTINEL_VALUE, ReplaceComments};
 pub use skip_backslash_newline::SkipBackslashNewline;
 use word::parse_word;
@@ -69,6 +73,113 @@ fn skip_blanks(inner: &mut LexerCharIterator<'_>, flags: &mut Flags)
         flags.leading_whitespace = true;
         flags.had_comments |= c == COMMENT_SENTINEL_VALUE;
     }
+}
+
+// Passes the spaces of plain text before the next item.
+#[inline(always)]
+fn skip_spaces(inner: &mut LexerCharIterator<'_>, flags: &mut Flags)
+    ensures same { seen_of flags.new inner.new ≡ seen_of flags.old inner.old }
+    ensures at_end { comments_at_end flags.new inner.new ≡ comments_at_end flags.old inner.old }
+{
+    let left = inner.left();
+    let bytes = left.text.as_bytes();
+    let count = spaces_length(bytes);
+    if count == 0 {
+        return;
+    }
+    let end = left.at + count;
+    let last = Spot {
+        c: bytes[count - 1] as char,
+        line: left.line,
+        begin: (end - 1) as u32,
+        end: end as u32,
+    };
+    flags.leading_whitespace = true;
+    let rest = Left {
+        text: &left.text[count..],
+        line: left.line,
+        at: end,
+    };
+    inner.go(rest, last);
+}
+
+// The next item, where it is a word of plain text, or nothing.
+#[inline(always)]
+fn lex_plain(
+    alloc: Global,
+    inner: &mut LexerCharIterator<'_>,
+    flags: &mut Flags,
+) -> Result<Option<LexerItem>, AllocError>
+    ensures { IsPlainLexed flags.old inner.old result flags.new inner.new }
+{
+    let left = inner.left();
+    let Some(word) = plain_word(alloc, left.text)? else {
+        return Ok(None);
+    };
+    let Word { value, taken } = word;
+    let end = left.at + taken;
+    let last = Spot {
+        c: left.text.as_bytes()[taken - 1] as char,
+        line: left.line,
+        begin: (end - 1) as u32,
+        end: end as u32,
+    };
+    let token = Token {
+        value,
+        location: Location {
+            start: left.at as u32,
+            end: last.end,
+            line: left.line,
+        },
+        leading_whitespace: flags.leading_whitespace,
+        start_of_line: flags.start_of_line,
+    };
+    flags.leading_whitespace = false;
+    flags.start_of_line = false;
+    let rest = Left {
+        text: &left.text[taken..],
+        line: left.line,
+        at: end,
+    };
+    inner.go(rest, last);
+    Ok(Some(Ok(token)))
+}
+
+// The next item, where it is a newline of plain text, or nothing.
+#[inline(always)]
+fn lex_newline(inner: &mut LexerCharIterator<'_>, flags: &mut Flags) -> Option<LexerItem>
+    ensures { IsNewlineLexed flags.old inner.old result flags.new inner.new }
+{
+    let left = inner.left();
+    if !begins_line_feed(left.text.as_bytes()) {
+        return None;
+    }
+    let end = left.at + 1;
+    let last = Spot {
+        c: '\n',
+        line: left.line,
+        begin: left.at as u32,
+        end: end as u32,
+    };
+    let token = Token {
+        value: TokenValue::NewLine,
+        location: Location {
+            start: last.begin,
+            end: last.end,
+            line: left.line,
+        },
+        leading_whitespace: flags.leading_whitespace,
+        start_of_line: flags.start_of_line,
+    };
+    flags.leading_whitespace = true;
+    flags.start_of_line = true;
+    let rest = Left {
+        text: &left.text[1..],
+        line: left.line + 1,
+        at: end,
+    };
+    inner.go(rest, last);
+    Some(Ok(token))
 }
 
 // The newline that ends a last line which has none.
@@ -128,8 +239,8 @@ fn item_of(
     })
 }
 
-// The next item, or none at the end.
-fn lex(
+// The next item, or none at the end, character by character.
+fn lex_by_characters(
     alloc: Global,
     inner: &mut LexerCharIterator<'_>,
     flags: &mut Flags,
@@ -146,6 +257,24 @@ fn lex(
     flags.leading_whitespace = at_line_end;
     flags.start_of_line = at_line_end;
     Ok(Some(item_of(value, before, first, inner.last_consumed())))
+}
+
+// The next item, or none at the end.
+fn lex(
+    alloc: Global,
+    inner: &mut LexerCharIterator<'_>,
+    flags: &mut Flags,
+) -> Result<Option<LexerItem>, AllocError>
+    ensures { IsLexed flags.old inner.old result flags.new inner.new }
+{
+    skip_spaces(inner, flags);
+    if let Some(item) = lex_plain(alloc, inner, flags)? {
+        return Ok(Some(item));
+    }
+    if let Some(newline) = lex_newline(inner, flags) {
+        return Ok(Some(newline));
+    }
+    lex_by_characters(alloc, inner, flags)
 }
 
 /// The items of a source, one a call of `next`: tokens with places and flags, and errors.
