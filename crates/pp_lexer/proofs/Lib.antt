@@ -29,7 +29,11 @@ pub mod WordsLemmas
 pub mod WordAtLemmas
 pub mod SegmentsLemmas
 pub mod PassingLemmas
+pub mod PlainFrontsLemmas
+pub mod SpacesLemmas
 pub mod PlainWordsLemmas
+pub mod PlainPunctuationLemmas
+pub mod PlainNumbersLemmas
 pub mod StraightLemmas
 pub mod LexLemmas
 pub mod PlainLexLemmas

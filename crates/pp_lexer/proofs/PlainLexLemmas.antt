@@ -1,5 +1,5 @@
 -- What a lexer gives at a plain word, and how it passes spaces.
-use Rattle.std.proofs.Common.{◌≡◌, ℕ, zero, suc, ◌+◌, ◌-◌, ◌<◌, ◌≤◌, List, [], ◌∷◌, ◌++◌, length, take, drop, get_or, Bool, true, false, ◌||◌, ◌&&◌, refl, sym, ◌∙◌, ap, subst, arith, inl, inr, Option, Some, None, Result, Ok, Err, IsErr, MatchOption}
+use Rattle.std.proofs.Common.{◌≡◌, ℕ, zero, suc, ◌+◌, ◌-◌, ◌<◌, ◌≤◌, List, [], ◌∷◌, ◌++◌, length, take, drop, get_or, true, false, ◌||◌, refl, sym, ◌∙◌, ap, subst, arith, inl, inr, Option, Some, None, Result, Ok, Err, IsErr, MatchOption}
 use Rattle.std.specs.Bool.{⊤}
 use Rattle.std.specs.List.{list_all, list_any}
 use Rattle.std.specs.Str.{IsUtf8}
@@ -7,30 +7,26 @@ use Rattle.std.specs.declared.alloc.AllocError.{AllocError}
 use Rattle.pp_lexer.specs.declared.lexer.char_iterator.Spot.{Spot}
 use Rattle.pp_lexer.specs.declared.lexer.item.TokenValue.{TokenValue}
 use Rattle.pp_lexer.specs.declared.lexer.Flags.{Flags}
-use Rattle.pp_lexer.specs.Fronts.{spots_from, is_plain, run}
+use Rattle.pp_lexer.specs.Fronts.{spots_from, run}
 use Rattle.pp_lexer.specs.Items.{Lexeme, is_comment}
 use Rattle.pp_lexer.specs.Lexed.{first_item}
 use Rattle.pp_lexer.specs.Passing.{seen_from, seen_of, comments_at_end, IsLexed}
-use Rattle.pp_lexer.specs.PlainWords.{is_space, IsPlainWord, TakesMemory, IsPlainLexed}
+use Rattle.pp_lexer.specs.LexerToken.{holds_memory}
+use Rattle.pp_lexer.specs.PlainWords.{is_space, IsPlainWord, IsPlainLexed}
 use Rattle.pp_lexer.specs.Reading.{Reading, letters, first_char, advanced_of, advanced}
 use Rattle.pp_lexer.specs.Segments.{segments}
 use Rattle.pp_lexer.specs.Words.{is_blank, word_at}
 use Rattle.pp_lexer.specs.Outcome.{takes_memory}
-use Rattle.std.proofs.lemmas.Bool.{and_parts}
 use Rattle.std.proofs.lemmas.List.{length-take-le}
 use Rattle.pp_lexer.proofs.FrontsLemmas.{plain_front}
 use Rattle.pp_lexer.proofs.LexLemmas.{lexed_front, lexed_refused}
-use Rattle.pp_lexer.proofs.PlainWordsLemmas.{all_plain, space_plain, split_at, advanced_run, spaced, spaces_seen, spaces_at_end, first_spot, behind_plain, passes_at}
+use Rattle.pp_lexer.proofs.PlainFrontsLemmas.{all_plain, split_at, advanced_run, front_plain, front_first, after_front}
+use Rattle.pp_lexer.proofs.SpacesLemmas.{space_plain, spaced, spaces_seen, spaces_at_end}
 
 -- the first character of a text is no blank
 pub no_blank_first : (first : Spot) (o : Option Spot) → Some first ≡ o → is_blank first.c ≡ false → MatchOption o ⊤ (λ s. is_blank s.c ≡ false)
 no_blank_first first None e h = tt
 no_blank_first first (Some s) e h = let k : first ≡ s = cc in ap (λ x. is_blank x.c) (sym k) ∙ h
-
-first_plain : (p : ℕ → Bool) (n : ℕ) (text : List ℕ) → 0 < n → 0 < length text → list_all p (take n text) ≡ true → p (get_or text 0 0) ≡ true
-first_plain p zero text h l k = absurd (omega arith)
-first_plain p (suc n) [] h l k = absurd (omega arith)
-first_plain p (suc n) (c ∷ text) h l k = passes_at p 0 (c ∷ text) l (ap (λ t. t && true) (and_parts (p c) (list_all p (take n text)) k).0)
 
 -- where a reader went, by the bytes that were read
 pub gone : (q : Reading) (line at n : ℕ) (text bytes rest : List ℕ)
@@ -40,7 +36,7 @@ gone q line at n text bytes rest e f g =
     e ∙ ap (λ t. record { rest = spots_from line (at + n) t; last = record { c = get_or bytes (n - 1) 0; line = line; begin = at + n - 1; end = at + n } }) g
     ∙ ap (λ t. record { rest = spots_from line (at + n) (drop n text); last = record { c = get_or t (n - 1) 0; line = line; begin = at + n - 1; end = at + n } }) f
 
--- behind spaces
+-- after spaces
 record Behind (f : Flags) (line at n : ℕ) (text : List ℕ) (last : Spot) : Type 0 where
   seen : seen_from f last (segments (spots_from line at text))
       ≡ seen_from (spaced f) (advanced_of n (spots_from line at text) last).last (segments (advanced_of n (spots_from line at text) last).rest)
@@ -66,34 +62,39 @@ behind_spaces f line at (suc n) (c ∷ text) last u some le h =
           ∙ sym (ap (λ x. f.had_comments || list_any (λ g. is_comment g.kind) (segments x.rest)) there);
     }
 
-module _ (f : Flags) (r : Reading) (line at : ℕ) (text : List ℕ) (u : IsUtf8 text) (e : r.rest ≡ spots_from line at text) where
-  -- a plain word is taken
-  pub lexed_plain : (q : Reading) (value : TokenValue) (n : ℕ) → IsPlainWord text value n
-      → q ≡ record { rest = spots_from line (at + n) (drop n text); last = record { c = get_or text (n - 1) 0; line = line; begin = at + n - 1; end = at + n } }
-      → IsLexed f r (Ok (Some (Ok (record { value = value; location = record { start = at; end = at + n; line = line }; leading_whitespace = f.leading_whitespace; start_of_line = f.start_of_line }))))
-      (record { leading_whitespace = false; start_of_line = false; had_comments = f.had_comments }) q
-  lexed_plain q value n w k =
-      let first : Spot = record { c = get_or text 0 0; line = line; begin = at; end = at + 1 } in
-      let last : Spot = record { c = get_or text (n - 1) 0; line = line; begin = at + n - 1; end = at + n } in
-      let some : 0 < length text = omega (arith, w.some, w.within) in
-      let here : Some first ≡ first_char r = first_spot line at text r.rest u some (first_plain is_plain n text w.some some w.plain) e in
-      let word : word_at (letters r.rest) ≡ record { value = Ok value; taken = n } = ap (λ ss. word_at (letters ss)) e ∙ w.word line at in
-      let there : q ≡ advanced (word_at (letters r.rest)).taken r =
-      k ∙ sym (behind_plain n line at text r.last u w.some w.within w.plain) ∙ ap (λ ss. advanced_of n ss r.last) (sym e) ∙ ap (λ o. advanced o.taken r) (sym word) in
-      lexed_front f r r q first last (Ok value) _ false here (no_blank_first first (first_char r) here w.no_blank) refl (inl (ap (λ o. Ok o.value) (sym word))) there (ap (λ x. x.last) (sym k)) refl (sym w.no_newline)
+module _ (f : Flags) (r : Reading) (line at : ℕ) (text : List ℕ) (e : r.rest ≡ spots_from line at text) where
+  module _ (value : TokenValue) (n : ℕ) (w : IsPlainWord text value n) where
+    first : Spot
+    first = record { c = get_or text 0 0; line = line; begin = at; end = at + 1 }
 
-  -- memory was refused
-  pub refused_plain : (err : AllocError) (answer : Result (Option Lexeme) AllocError) → IsErr answer → TakesMemory text → IsLexed f r answer f r
-  refused_plain err answer h m =
-      let first : Spot = record { c = get_or text 0 0; line = line; begin = at; end = at + 1 } in
-      let here : Some first ≡ first_char r = first_spot line at text r.rest u m.some m.plain e in
-      lexed_refused f r r r first err answer here (no_blank_first first (first_char r) here m.no_blank) refl h
-      (inr (refl, ap (λ ss. takes_memory (word_at (letters ss)).value) e ∙ m.memory line at))
+    here : Some first ≡ first_char r
+    unfolding first
+    here = front_first n line at text r.rest w.some w.within w.front e
 
-  module _ (q : Reading) (n : ℕ) (more : 0 < n) (le : n ≤ length text) (passes : list_all is_space (take n text) ≡ true)
+    -- a plain word is taken
+    pub lexed_plain : (q : Reading)
+        → q ≡ record { rest = spots_from line (at + n) (drop n text); last = record { c = get_or text (n - 1) 0; line = line; begin = at + n - 1; end = at + n } }
+        → IsLexed f r (Ok (Some (Ok (record { value = value; location = record { start = at; end = at + n; line = line }; leading_whitespace = f.leading_whitespace; start_of_line = f.start_of_line }))))
+        (record { leading_whitespace = false; start_of_line = false; had_comments = f.had_comments }) q
+    unfolding first
+    lexed_plain q k =
+        let last : Spot = record { c = get_or text (n - 1) 0; line = line; begin = at + n - 1; end = at + n } in
+        let word : word_at (letters r.rest) ≡ record { value = Ok value; taken = n } = ap (λ ss. word_at (letters ss)) e ∙ w.word line at in
+        let there : q ≡ advanced (word_at (letters r.rest)).taken r =
+        k ∙ sym (after_front n line at text r.last w.some w.within w.front) ∙ ap (λ ss. advanced_of n ss r.last) (sym e) ∙ ap (λ o. advanced o.taken r) (sym word) in
+        lexed_front f r r q first last (Ok value) _ false here (no_blank_first first (first_char r) here w.no_blank) refl (inl (ap (λ o. Ok o.value) (sym word))) there (ap (λ x. x.last) (sym k)) refl (sym w.no_newline)
+
+    -- memory was refused
+    pub refused_plain : (err : AllocError) (answer : Result (Option Lexeme) AllocError) → IsErr answer → holds_memory value ≡ true → IsLexed f r answer f r
+    unfolding first
+    refused_plain err answer h m =
+        lexed_refused f r r r first err answer here (no_blank_first first (first_char r) here w.no_blank) refl h
+        (inr (refl, ap (λ ss. takes_memory (word_at (letters ss)).value) e ∙ ap (λ o. takes_memory o.value) (w.word line at) ∙ m))
+
+  module _ (u : IsUtf8 text) (q : Reading) (n : ℕ) (more : 0 < n) (le : n ≤ length text) (passes : list_all is_space (take n text) ≡ true)
       (k : q ≡ record { rest = spots_from line (at + n) (drop n text); last = record { c = get_or text (n - 1) 0; line = line; begin = at + n - 1; end = at + n } }) where
     moved : q ≡ advanced_of n (spots_from line at text) r.last
-    moved = k ∙ sym (behind_plain n line at text r.last u more le (all_plain is_space space_plain (take n text) passes))
+    moved = k ∙ sym (after_front n line at text r.last more le (front_plain n text u le (all_plain is_space space_plain (take n text) passes)))
 
     pub spaces_same : seen_of (spaced f) q ≡ seen_of f r
     spaces_same =

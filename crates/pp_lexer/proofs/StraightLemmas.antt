@@ -13,7 +13,7 @@ use Rattle.pp_lexer.specs.Lines.{is_newline, pieces}
 use Rattle.pp_lexer.specs.Readers.{placed_from, joined, past_line}
 use Rattle.pp_lexer.proofs.ContinuationsLemmas.{continued-plain}
 use Rattle.pp_lexer.proofs.FrontsLemmas.{ascii_chars, below, negated, pieces_plain, utf8_behind}
-use Rattle.pp_lexer.proofs.PlainWordsLemmas.{passes_at, split_at}
+use Rattle.pp_lexer.proofs.PlainFrontsLemmas.{passes_at, split_at}
 
 record Straight (c : ℕ) : Type 0 where
   small : c < 128

@@ -36,7 +36,7 @@ use char_iterator::{LexerCharIterator, Spot};
 pub use chars_and_line::CharsAndLine;
 use chars_and_line::Left;
 pub use item::{LexerItem, Token, TokenValue};
-use plain::{Word, begins_line_feed, plain_word, spaces_length};
+use plain::{newline_length, plain_value, plain_word, spaces_length};
 pub use replace_comments::{COMMENT_SENTINEL_VALUE, ReplaceComments};
 pub use skip_backslash_newline::SkipBackslashNewline;
 use word::parse_word;
@@ -113,10 +113,11 @@ fn lex_plain(
     ensures { IsPlainLexed flags.old inner.old result flags.new inner.new }
 {
     let left = inner.left();
-    let Some(word) = plain_word(alloc, left.text)? else {
+    let Some(word) = plain_word(left.text) else {
         return Ok(None);
     };
-    let Word { value, taken } = word;
+    let taken = word.taken;
+    let value = plain_value(alloc, word.form, &left.text[..taken])?;
     let end = left.at + taken;
     let last = Spot {
         c: left.text.as_bytes()[taken - 1] as char,
@@ -151,15 +152,14 @@ fn lex_newline(inner: &mut LexerCharIterator<'_>, flags: &mut Flags) -> Option<L
     ensures { IsNewlineLexed flags.old inner.old result flags.new inner.new }
 {
     let left = inner.left();
-    if !begins_line_feed(left.text.as_bytes()) {
+    let Some(taken) = newline_length(left.text.as_bytes()) else {
         return None;
-    }
-    let end = left.at + 1;
+    };
     let last = Spot {
         c: '\n',
         line: left.line,
         begin: left.at as u32,
-        end: end as u32,
+        end: (left.at + 1) as u32,
     };
     let token = Token {
         value: TokenValue::NewLine,
@@ -174,9 +174,9 @@ fn lex_newline(inner: &mut LexerCharIterator<'_>, flags: &mut Flags) -> Option<L
     flags.leading_whitespace = true;
     flags.start_of_line = true;
     let rest = Left {
-        text: &left.text[1..],
+        text: &left.text[taken..],
         line: left.line + 1,
-        at: end,
+        at: left.at + taken,
     };
     inner.go(rest, last);
     Some(Ok(token))

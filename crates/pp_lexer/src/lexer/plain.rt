@@ -1,19 +1,39 @@
-//! Words and blanks of plain text, read byte by byte.
+//! Words, spaces and newlines of plain text, read byte by byte.
 
 ghost use Rattle.std.specs.Prelude.{⊤, ◌≡◌, ◌<◌, ◌≤◌, true, false, length, take, slice_index, IsTrue, MatchOption, MatchResult};
 ghost use Rattle.std.specs.List.{list_all};
-ghost use Rattle.std.specs.Str.{IsCharBoundary};
-ghost use Rattle.pp_lexer.specs.Fronts.{is_plain};
-ghost use Rattle.pp_lexer.specs.PlainWords.{is_space, begins, continues, lone, operator, EndsPlainly, StandsAlone, IsLoneNewline, IsPlainWord, TakesMemory};
+ghost use Rattle.std.specs.Str.{chars, IsUtf8};
+ghost use Rattle.pp_lexer.specs.LexerToken.{holds_memory};
+ghost use Rattle.pp_lexer.specs.PlainWords.{is_space, begins, continues, value_of, Stops, IsFirstWord, IsPlainNewline};
 
 use crate::lexer::item::TokenValue;
-use crate::token::{Punct, Text};
+use crate::token::{Float, Integer, Punct, Text};
+use number::plain_number;
+use punctuation::plain_punctuation;
 use std::alloc::{AllocError, Global};
 
+mod number;
+mod punctuation;
+
+/// What a word of plain text is.
+#[derive(Clone, Copy)]
+pub enum Form {
+    /// An identifier.
+    Identifier,
+    /// A signed integer of this value.
+    Integer(u64),
+    /// A float.
+    Float,
+    /// A punctuator.
+    Punct(Punct),
+    /// A `#`.
+    Hash,
+}
+
 /// A word at the front of a text, and how many bytes it takes.
-#[derive(Drop)]
+#[derive(Clone, Copy)]
 pub struct Word {
-    pub value: TokenValue,
+    pub form: Form,
     pub taken: usize,
 }
 
@@ -55,18 +75,25 @@ pub fn spaces_length(bytes: &[u8]) -> usize
     bytes.len()
 }
 
-/// Whether a line feed stands at the front that is in no pair, as the next byte shows.
+/// How many bytes the newline at the front takes, if these bytes alone say that one stands there.
 #[inline(always)]
-pub fn begins_line_feed(bytes: &[u8]) -> bool
-    ensures { IsTrue result → IsLoneNewline bytes.now }
+pub fn newline_length(bytes: &[u8]) -> Option<usize>
+    requires { IsUtf8 bytes.now }
+    ensures { MatchOption result ⊤ (IsPlainNewline bytes.now) }
 {
-    if bytes.len() == 0 || bytes[0] != 10 {
-        return false;
+    if bytes.len() == 0 {
+        return None;
     }
     if bytes.len() == 1 {
-        return true;
+        return if bytes[0] == 10 { Some(1) } else { None };
     }
-    bytes[1] < 128 && bytes[1] != 13
+    if bytes[0] == 13 && bytes[1] == 10 {
+        return Some(2);
+    }
+    if bytes[0] == 10 && bytes[1] < 128 && bytes[1] != 13 {
+        return Some(1);
+    }
+    None
 }
 
 // How many bytes at the front continue an identifier.
@@ -84,10 +111,10 @@ fn continued_length(bytes: &[u8]) -> usize
     bytes.len()
 }
 
-// Whether the text ends there, or goes on with a byte that says what follows.
+// Whether the text ends there, or goes on with an ASCII byte that is no backslash.
 #[inline(always)]
 fn ends_plainly(bytes: &[u8], at: usize) -> bool
-    ensures { IsTrue result → EndsPlainly bytes.now at }
+    ensures { IsTrue result → Stops (λ _. false) bytes.now at }
 {
     if at >= bytes.len() {
         return true;
@@ -95,95 +122,62 @@ fn ends_plainly(bytes: &[u8], at: usize) -> bool
     bytes[at] < 128 && bytes[at] != 92
 }
 
-// The punctuator that no other begins with.
+// The identifier at the front, if the byte after it says that it ends there.
 #[inline(always)]
-fn lone(byte: u8) -> Option<Punct>
-    ensures { result ≡ lone byte }
+fn plain_identifier(bytes: &[u8]) -> Option<Word>
+    requires utf8 { IsUtf8 bytes.now }
+    requires some { 0 < length bytes.now }
+    requires begins { begins (slice_index bytes.now 0) ≡ true }
+    ensures { MatchOption result ⊤ (IsFirstWord bytes.now) }
 {
-    match byte {
-        123 => Some(Punct::LeftBrace),
-        125 => Some(Punct::RightBrace),
-        40 => Some(Punct::LeftParen),
-        41 => Some(Punct::RightParen),
-        91 => Some(Punct::LeftBracket),
-        93 => Some(Punct::RightBracket),
-        59 => Some(Punct::Semicolon),
-        44 => Some(Punct::Comma),
-        58 => Some(Punct::Colon),
-        126 => Some(Punct::Tilde),
-        63 => Some(Punct::Question),
-        _ => None,
+    let taken = continued_length(bytes);
+    if !ends_plainly(bytes, taken) {
+        return None;
     }
+    Some(Word {
+        form: Form::Identifier,
+        taken,
+    })
 }
 
-// The punctuator of this byte, which may begin a longer one.
+/// The word at the front, if its bytes and the next ones alone say what it is.
 #[inline(always)]
-fn operator(byte: u8) -> Option<Punct>
-    ensures { result ≡ operator byte }
-{
-    match byte {
-        43 => Some(Punct::Plus),
-        45 => Some(Punct::Minus),
-        42 => Some(Punct::Star),
-        37 => Some(Punct::Percent),
-        60 => Some(Punct::LeftAngle),
-        62 => Some(Punct::RightAngle),
-        61 => Some(Punct::Equal),
-        33 => Some(Punct::Bang),
-        38 => Some(Punct::Ampersand),
-        124 => Some(Punct::Pipe),
-        94 => Some(Punct::Caret),
-        _ => None,
-    }
-}
-
-// Whether no longer punctuator begins with the first byte here.
-#[inline(always)]
-fn stands_alone(bytes: &[u8], first: u8) -> bool
-    ensures { IsTrue result → StandsAlone bytes.now first }
-{
-    if bytes.len() < 2 {
-        return true;
-    }
-    let next = bytes[1];
-    next < 128 && next != 92 && 61 != next && first != next
-}
-
-/// The word at the front, if its bytes alone say what it is. The one error is that an identifier found no memory.
-#[inline(always)]
-pub fn plain_word(alloc: Global, text: &str) -> Result<Option<Word>, AllocError>
-    ensures { MatchResult result (λ o. MatchOption o ⊤ (λ w. IsPlainWord text.now w.value w.taken)) (λ _. TakesMemory text.now) }
+pub fn plain_word(text: &str) -> Option<Word>
+    ensures { MatchOption result ⊤ (IsFirstWord text.now) }
 {
     let bytes = text.as_bytes();
     if bytes.len() == 0 {
-        return Ok(None);
+        return None;
     }
     let first = bytes[0];
     if begins(first) {
-        let taken = continued_length(bytes);
-        if !ends_plainly(bytes, taken) {
-            return Ok(None);
+        return plain_identifier(bytes);
+    }
+    if first.is_ascii_digit() || first == 46 {
+        if let Some(number) = plain_number(bytes) {
+            return Some(number);
         }
-        let name = String::from_str(alloc, &text[..taken])?;
-        return Ok(Some(Word {
-            value: TokenValue::Ident(Text::from(name)),
-            taken,
-        }));
     }
-    if let Some(punct) = lone(first) {
-        return Ok(Some(Word {
-            value: TokenValue::Punct(punct),
-            taken: 1,
-        }));
-    }
-    let Some(punct) = operator(first) else {
-        return Ok(None);
-    };
-    if !stands_alone(bytes, first) {
-        return Ok(None);
-    }
-    Ok(Some(Word {
-        value: TokenValue::Punct(punct),
-        taken: 1,
-    }))
+    plain_punctuation(bytes)
+}
+
+/// The value of a word of this form that is spelled so. The error is that an identifier or a float found no memory.
+#[inline(always)]
+pub fn plain_value(alloc: Global, form: Form, spelling: &str) -> Result<TokenValue, AllocError>
+    ensures { MatchResult result (λ value. value ≡ value_of form (chars spelling.now)) (λ _. (w : _) → holds_memory (value_of form w) ≡ true) }
+{
+    Ok(match form {
+        Form::Identifier => TokenValue::Ident(Text::from(String::from_str(alloc, spelling)?)),
+        Form::Integer(value) => TokenValue::Integer(Integer {
+            value,
+            signed: true,
+            width: 32,
+        }),
+        Form::Float => TokenValue::Float(Float {
+            text: Text::from(String::from_str(alloc, spelling)?),
+            width: 32,
+        }),
+        Form::Punct(punct) => TokenValue::Punct(punct),
+        Form::Hash => TokenValue::Hash,
+    })
 }

@@ -2,7 +2,8 @@ use Rattle.std.proofs.Common.{◌≡◌, ◌<◌, ◌≤◌, ◌∙◌, sym, ap,
 use Rattle.std.specs.Str.{IsUtf8}
 use Rattle.std.specs.List.{list_all}
 use Rattle.pp_lexer.specs.PlainWords.{is_space}
-use Rattle.pp_lexer.proofs.PlainWordsLemmas.{all_plain, space_plain, cut_behind_plain}
+use Rattle.pp_lexer.proofs.PlainFrontsLemmas.{all_plain, cut_after_plain}
+use Rattle.pp_lexer.proofs.SpacesLemmas.{space_plain}
 use Rattle.pp_lexer.proofs.PlainLexLemmas.{gone, spaces_same, spaces_comments}
 use Rattle.pp_lexer.proofs.lexer.skip_spaces.Goals as goal
 
@@ -13,7 +14,7 @@ range_from-requires c = λ some.
     let u : IsUtf8 text = subst IsUtf8 c.as_bytes-bytes.ensures.value c.as_bytes-bytes.ensures.utf8 in
     let le : n ≤ length text = omega (arith, ap length c.as_bytes-bytes.ensures.value) in
     let passes : list_all is_space (take n text) ≡ true = ap (λ t. list_all is_space (take n t)) (sym c.as_bytes-bytes.ensures.value) ∙ c.spaces_length-count.ensures.passes in
-    cut_behind_plain n text u some le (all_plain is_space space_plain (take n text) passes)
+    cut_after_plain n text u some le (all_plain is_space space_plain (take n text) passes)
 
 pub returns-clause-same : goal.returns-clause-same
 returns-clause-same c =
@@ -23,7 +24,7 @@ returns-clause-same c =
     let le : n ≤ length text = omega (arith, ap length c.as_bytes-bytes.ensures.value) in
     let some : 0 < n = omega arith in
     let passes : list_all is_space (take n text) ≡ true = ap (λ t. list_all is_space (take n t)) (sym c.as_bytes-bytes.ensures.value) ∙ c.spaces_length-count.ensures.passes in
-    spaces_same c.args.flags.now c.args.inner.now c.left-left.result.line c.left-left.result.at text u c.left-left.ensures.rest_is c.go.new.self n some le passes
+    spaces_same c.args.flags.now c.args.inner.now c.left-left.result.line c.left-left.result.at text c.left-left.ensures.rest_is u c.go.new.self n some le passes
     (gone c.go.new.self c.left-left.result.line c.left-left.result.at n text c.as_bytes-bytes.result.now c.range_from.result.now c.go.ensures c.as_bytes-bytes.ensures.value c.range_from.ensures.value)
 
 pub returns-clause-at_end : goal.returns-clause-at_end
@@ -34,5 +35,5 @@ returns-clause-at_end c =
     let le : n ≤ length text = omega (arith, ap length c.as_bytes-bytes.ensures.value) in
     let some : 0 < n = omega arith in
     let passes : list_all is_space (take n text) ≡ true = ap (λ t. list_all is_space (take n t)) (sym c.as_bytes-bytes.ensures.value) ∙ c.spaces_length-count.ensures.passes in
-    spaces_comments c.args.flags.now c.args.inner.now c.left-left.result.line c.left-left.result.at text u c.left-left.ensures.rest_is c.go.new.self n some le passes
+    spaces_comments c.args.flags.now c.args.inner.now c.left-left.result.line c.left-left.result.at text c.left-left.ensures.rest_is u c.go.new.self n some le passes
     (gone c.go.new.self c.left-left.result.line c.left-left.result.at n text c.as_bytes-bytes.result.now c.range_from.result.now c.go.ensures c.as_bytes-bytes.ensures.value c.range_from.ensures.value)
