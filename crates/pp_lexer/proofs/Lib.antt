@@ -39,6 +39,7 @@ pub mod LexLemmas
 pub mod PlainLexLemmas
 pub mod NewlinesLemmas
 pub mod ItemsLemmas
+pub mod ItemPlacesLemmas
 pub mod PlacesLemmas
 pub mod TokenLinesLemmas
 pub mod CountLemmas

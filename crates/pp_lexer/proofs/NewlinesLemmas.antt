@@ -2,6 +2,7 @@
 use Rattle.std.proofs.Common.{◌≡◌, ℕ, ◌+◌, ◌<◌, List, [], ◌∷◌, length, drop, get_or, true, false, ◌==◌, refl, sym, ◌∙◌, ap, subst, arith, inl, Some, Ok}
 use Rattle.std.specs.Str.{chars, IsUtf8}
 use Rattle.std.proofs.lemmas.Str.{IsCharBoundary-after_ascii, chars-nil}
+use Rattle.pp_lexer.specs.declared.token.Location.{Location}
 use Rattle.pp_lexer.specs.declared.lexer.char_iterator.Spot.{Spot}
 use Rattle.pp_lexer.specs.declared.lexer.item.TokenValue.TheVariants.{NewLine}
 use Rattle.pp_lexer.specs.declared.lexer.Flags.{Flags}
@@ -10,7 +11,7 @@ use Rattle.pp_lexer.specs.Continuations.{continued}
 use Rattle.pp_lexer.specs.Cursor.{Placed}
 use Rattle.pp_lexer.specs.Fronts.{spots_from}
 use Rattle.pp_lexer.specs.Lines.{newline_piece, pieces}
-use Rattle.pp_lexer.specs.Passing.{IsLexed}
+use Rattle.pp_lexer.specs.Passing.{IsPlaced, IsLexed}
 use Rattle.pp_lexer.specs.PlainWords.{IsPlainNewline}
 use Rattle.pp_lexer.specs.Readers.{placed_from}
 use Rattle.pp_lexer.specs.Reading.{Reading, letters, spots, first_of, first_char, advanced_of, advanced}
@@ -19,7 +20,7 @@ use Rattle.pp_lexer.proofs.AdvancedLemmas.{advanced_zero}
 use Rattle.pp_lexer.proofs.CommentsLemmas.{replaced-plain, no_slash}
 use Rattle.pp_lexer.proofs.ContinuationsLemmas.{continued-plain}
 use Rattle.pp_lexer.proofs.FrontsLemmas.{ascii_chars, utf8_behind}
-use Rattle.pp_lexer.proofs.LexLemmas.{lexed_front}
+use Rattle.pp_lexer.proofs.LexLemmas.{lexed_front, placed_front}
 use Rattle.pp_lexer.proofs.PlainLexLemmas.{no_blank_first}
 use Rattle.pp_lexer.proofs.WordAtLemmas.{newline_first}
 
@@ -91,6 +92,19 @@ return_feed (b ∷ d ∷ text) u some e f = record {
       ap (spots_from line at) same ∙ pair_at line at text (subst IsUtf8 same u)
       ∙ ap (λ t. record { c = 10; line = line; begin = at; end = at + 1 } ∷ spots_from (line + 1) (at + 2) t) (sym none);
 }
+
+-- a newline is taken, and its place noted
+pub placed_newline : (f : Flags) (r q : Reading) (line at n : ℕ) (text rest : List ℕ) (old : Location) → r.rest ≡ spots_from line at text → IsPlainNewline text n → rest ≡ drop n text
+    → q ≡ record { rest = spots_from (line + 1) (at + n) rest; last = record { c = 10; line = line; begin = at; end = at + 1 } }
+    → IsPlaced f r old (record { leading_whitespace = true; start_of_line = true; had_comments = f.had_comments }) q (record { start = at; end = at + 1; line = line })
+placed_newline f r q line at n text rest old e w g k =
+    let first : Spot = record { c = 10; line = line; begin = at; end = at + 1 } in
+    let front : r.rest ≡ first ∷ spots_from (line + 1) (at + n) rest = e ∙ w.front line at ∙ ap (λ t. first ∷ spots_from (line + 1) (at + n) t) (sym g) in
+    let here : Some first ≡ first_char r = sym (ap first_of front) in
+    let word : word_at (letters r.rest) ≡ record { value = Ok NewLine; taken = 1 } = ap (λ ss. word_at (letters ss)) front ∙ newline_first (10 ∷ letters (spots_from (line + 1) (at + n) rest)) refl in
+    let there : q ≡ advanced (word_at (letters r.rest)).taken r =
+    k ∙ sym (advanced_zero (spots_from (line + 1) (at + n) rest) first) ∙ ap (λ ss. advanced_of 1 ss r.last) (sym front) ∙ ap (λ o. advanced o.taken r) (sym word) in
+    placed_front f r r q first first (Ok NewLine) true old here (no_blank_first first (first_char r) here refl) refl (inl (ap (λ o. Ok o.value) (sym word))) there (ap (λ x. x.last) (sym k)) refl
 
 -- a newline is taken
 pub lexed_newline : (f : Flags) (r q : Reading) (line at n : ℕ) (text rest : List ℕ) → r.rest ≡ spots_from line at text → IsPlainNewline text n → rest ≡ drop n text

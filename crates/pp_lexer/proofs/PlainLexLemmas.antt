@@ -4,13 +4,14 @@ use Rattle.std.specs.Bool.{⊤}
 use Rattle.std.specs.List.{list_all, list_any}
 use Rattle.std.specs.Str.{IsUtf8}
 use Rattle.std.specs.declared.alloc.AllocError.{AllocError}
+use Rattle.pp_lexer.specs.declared.token.Location.{Location}
 use Rattle.pp_lexer.specs.declared.lexer.char_iterator.Spot.{Spot}
 use Rattle.pp_lexer.specs.declared.lexer.item.TokenValue.{TokenValue}
 use Rattle.pp_lexer.specs.declared.lexer.Flags.{Flags}
 use Rattle.pp_lexer.specs.Fronts.{spots_from, run}
 use Rattle.pp_lexer.specs.Items.{Lexeme, is_comment}
 use Rattle.pp_lexer.specs.Lexed.{first_item}
-use Rattle.pp_lexer.specs.Passing.{seen_from, seen_of, comments_at_end, IsLexed}
+use Rattle.pp_lexer.specs.Passing.{seen_from, seen_of, comments_at_end, places_from, places_left, IsPlaced, IsLexed}
 use Rattle.pp_lexer.specs.LexerToken.{holds_memory}
 use Rattle.pp_lexer.specs.PlainWords.{is_space, IsPlainWord, IsPlainLexed}
 use Rattle.pp_lexer.specs.Reading.{Reading, letters, first_char, advanced_of, advanced}
@@ -19,9 +20,9 @@ use Rattle.pp_lexer.specs.Words.{is_blank, word_at}
 use Rattle.pp_lexer.specs.Outcome.{takes_memory}
 use Rattle.std.proofs.lemmas.List.{length-take-le}
 use Rattle.pp_lexer.proofs.FrontsLemmas.{plain_front}
-use Rattle.pp_lexer.proofs.LexLemmas.{lexed_front, lexed_refused}
+use Rattle.pp_lexer.proofs.LexLemmas.{lexed_front, lexed_refused, placed_front}
 use Rattle.pp_lexer.proofs.PlainFrontsLemmas.{all_plain, split_at, advanced_run, front_plain, front_first, after_front}
-use Rattle.pp_lexer.proofs.SpacesLemmas.{space_plain, spaced, spaces_seen, spaces_at_end}
+use Rattle.pp_lexer.proofs.SpacesLemmas.{space_plain, spaced, spaces_seen, spaces_places, spaces_at_end}
 
 -- the first character of a text is no blank
 pub no_blank_first : (first : Spot) (o : Option Spot) → Some first ≡ o → is_blank first.c ≡ false → MatchOption o ⊤ (λ s. is_blank s.c ≡ false)
@@ -42,6 +43,8 @@ record Behind (f : Flags) (line at n : ℕ) (text : List ℕ) (last : Spot) : Ty
       ≡ seen_from (spaced f) (advanced_of n (spots_from line at text) last).last (segments (advanced_of n (spots_from line at text) last).rest)
   at_end : (f.had_comments || list_any (λ g. is_comment g.kind) (segments (spots_from line at text)))
       ≡ (f.had_comments || list_any (λ g. is_comment g.kind) (segments (advanced_of n (spots_from line at text) last).rest))
+  places : places_from f last (segments (spots_from line at text))
+      ≡ places_from (spaced f) (advanced_of n (spots_from line at text) last).last (segments (advanced_of n (spots_from line at text) last).rest)
 
 behind_spaces : (f : Flags) (line at n : ℕ) (text : List ℕ) (last : Spot) → IsUtf8 text → 0 < n → n ≤ length text → list_all is_space (take n text) ≡ true → Behind f line at n text last
 behind_spaces f line at zero text last u some le h = absurd (omega arith)
@@ -60,6 +63,7 @@ behind_spaces f line at (suc n) (c ∷ text) last u some le h =
       seen = ap (λ ss. seen_from f last (segments ss)) front ∙ spaces_seen f line at c w more last h ∙ sym (ap (λ x. seen_from (spaced f) x.last (segments x.rest)) there);
       at_end = ap (λ ss. f.had_comments || list_any (λ g. is_comment g.kind) (segments ss)) front ∙ spaces_at_end f line at (c ∷ w) more h
           ∙ sym (ap (λ x. f.had_comments || list_any (λ g. is_comment g.kind) (segments x.rest)) there);
+      places = ap (λ ss. places_from f last (segments ss)) front ∙ spaces_places f line at c w more last h ∙ sym (ap (λ x. places_from (spaced f) x.last (segments x.rest)) there);
     }
 
 module _ (f : Flags) (r : Reading) (line at : ℕ) (text : List ℕ) (e : r.rest ≡ spots_from line at text) where
@@ -71,6 +75,12 @@ module _ (f : Flags) (r : Reading) (line at : ℕ) (text : List ℕ) (e : r.rest
     unfolding first
     here = front_first n line at text r.rest w.some w.within w.front e
 
+    there : (q : Reading)
+        → q ≡ record { rest = spots_from line (at + n) (drop n text); last = record { c = get_or text (n - 1) 0; line = line; begin = at + n - 1; end = at + n } } → q ≡ advanced (word_at (letters r.rest)).taken r
+    there q k =
+        let word : word_at (letters r.rest) ≡ record { value = Ok value; taken = n } = ap (λ ss. word_at (letters ss)) e ∙ w.word line at in
+        k ∙ sym (after_front n line at text r.last w.some w.within w.front) ∙ ap (λ ss. advanced_of n ss r.last) (sym e) ∙ ap (λ o. advanced o.taken r) (sym word)
+
     -- a plain word is taken
     pub lexed_plain : (q : Reading)
         → q ≡ record { rest = spots_from line (at + n) (drop n text); last = record { c = get_or text (n - 1) 0; line = line; begin = at + n - 1; end = at + n } }
@@ -80,9 +90,17 @@ module _ (f : Flags) (r : Reading) (line at : ℕ) (text : List ℕ) (e : r.rest
     lexed_plain q k =
         let last : Spot = record { c = get_or text (n - 1) 0; line = line; begin = at + n - 1; end = at + n } in
         let word : word_at (letters r.rest) ≡ record { value = Ok value; taken = n } = ap (λ ss. word_at (letters ss)) e ∙ w.word line at in
-        let there : q ≡ advanced (word_at (letters r.rest)).taken r =
-        k ∙ sym (after_front n line at text r.last w.some w.within w.front) ∙ ap (λ ss. advanced_of n ss r.last) (sym e) ∙ ap (λ o. advanced o.taken r) (sym word) in
-        lexed_front f r r q first last (Ok value) _ false here (no_blank_first first (first_char r) here w.no_blank) refl (inl (ap (λ o. Ok o.value) (sym word))) there (ap (λ x. x.last) (sym k)) refl (sym w.no_newline)
+        lexed_front f r r q first last (Ok value) _ false here (no_blank_first first (first_char r) here w.no_blank) refl (inl (ap (λ o. Ok o.value) (sym word))) (there q k) (ap (λ x. x.last) (sym k)) refl (sym w.no_newline)
+
+    -- and its place noted
+    pub placed_plain : (q : Reading) (old : Location)
+        → q ≡ record { rest = spots_from line (at + n) (drop n text); last = record { c = get_or text (n - 1) 0; line = line; begin = at + n - 1; end = at + n } }
+        → IsPlaced f r old (record { leading_whitespace = false; start_of_line = false; had_comments = f.had_comments }) q (record { start = at; end = at + n; line = line })
+    unfolding first
+    placed_plain q old k =
+        let last : Spot = record { c = get_or text (n - 1) 0; line = line; begin = at + n - 1; end = at + n } in
+        let word : word_at (letters r.rest) ≡ record { value = Ok value; taken = n } = ap (λ ss. word_at (letters ss)) e ∙ w.word line at in
+        placed_front f r r q first last (Ok value) false old here (no_blank_first first (first_char r) here w.no_blank) refl (inl (ap (λ o. Ok o.value) (sym word))) (there q k) (ap (λ x. x.last) (sym k)) (sym w.no_newline)
 
     -- memory was refused
     pub refused_plain : (err : AllocError) (answer : Result (Option Lexeme) AllocError) → IsErr answer → holds_memory value ≡ true → IsLexed f r answer f r
@@ -99,6 +117,10 @@ module _ (f : Flags) (r : Reading) (line at : ℕ) (text : List ℕ) (e : r.rest
     pub spaces_same : seen_of (spaced f) q ≡ seen_of f r
     spaces_same =
         ap (seen_of (spaced f)) moved ∙ sym (behind_spaces f line at n text r.last u more le passes).seen ∙ ap (λ ss. seen_from f r.last (segments ss)) (sym e)
+
+    pub spaces_placed : places_left (spaced f) q ≡ places_left f r
+    spaces_placed =
+        ap (places_left (spaced f)) moved ∙ sym (behind_spaces f line at n text r.last u more le passes).places ∙ ap (λ ss. places_from f r.last (segments ss)) (sym e)
 
     pub spaces_comments : comments_at_end (spaced f) q ≡ comments_at_end f r
     spaces_comments =

@@ -336,7 +336,7 @@ unfolding punct_of
 pair_none c d h n =
     let e : (61 == d) ≡ false = swapped 61 d ∙ h in
     let f : (k : ℕ) → ((k == c) && (k == d)) ≡ false = λ k. apart c d k n in
-    simp (e, and_false, and_true, f 43, f 45, f 38, f 124, f 94, f 61, f 60, f 62)
+    simp (e, and_false, and_true, f 43, f 45, f 38, f 124, f 94, f 60, f 62)
 
 -- two of the three are of one character twice
 triple_none : (c d e : ℕ) → ((60 == c) && ((60 == d) && (61 == e))) ≡ false → ((62 == c) && ((62 == d) && (61 == e))) ≡ false → punct_of (c ∷ d ∷ e ∷ []) ≡ None

@@ -5,7 +5,7 @@ use Rattle.std.proofs.lemmas.Str.{chars-IsAscii}
 use Rattle.pp_lexer.specs.Passing.{IsLexed}
 use Rattle.pp_lexer.specs.PlainWords.{value_of, IsFirstWord, IsPlainWord}
 use Rattle.pp_lexer.proofs.PlainFrontsLemmas.{range_front}
-use Rattle.pp_lexer.proofs.PlainLexLemmas.{gone, lexed_plain, refused_plain, plain_refused}
+use Rattle.pp_lexer.proofs.PlainLexLemmas.{gone, lexed_plain, placed_plain, refused_plain, plain_refused}
 use Rattle.pp_lexer.proofs.lexer.lex_plain.Goals as goal
 
 pub range-requires : goal.range-requires
@@ -14,8 +14,8 @@ range-requires c =
     let cut = w.cut in
     search (rules, cut)
 
-pub returns-in_err-value : goal.returns-in_err-value
-returns-in_err-value c =
+pub returns-in_err-value-clause-lexed : goal.returns-in_err-value-clause-lexed
+returns-in_err-value-clause-lexed c =
     let text = c.left-left.result.text.now in
     let n = c.in-Some.word.taken in
     let w : IsFirstWord text c.in-Some.word = c.in-Some.ensures in
@@ -29,8 +29,8 @@ range_from-requires c = λ some.
     let w : IsFirstWord c.left-left.result.text.now c.in-Some.word = c.in-Some.ensures in
     w.cut
 
-pub returns : goal.returns
-returns c =
+pub returns-clause-lexed : goal.returns-clause-lexed
+returns-clause-lexed c =
     let text = c.left-left.result.text.now in
     let n = c.in-Some.word.taken in
     let w : IsFirstWord text c.in-Some.word = c.in-Some.ensures in
@@ -39,4 +39,12 @@ returns c =
     c.in_ok-value.ensures ∙ ap (λ t. value_of c.in-Some.word.form (chars t)) spelled ∙ ap (value_of c.in-Some.word.form) (chars-IsAscii (take n text) w.ascii) in
     let v : IsPlainWord text c.in_ok-value.value n = subst (λ x. IsPlainWord text x n) (sym value) w in
     lexed_plain c.args.flags.now c.args.inner.now c.left-left.result.line c.left-left.result.at text c.left-left.ensures.rest_is c.in_ok-value.value n v c.go.new.self
+    (gone c.go.new.self c.left-left.result.line c.left-left.result.at n text c.as_bytes.result.now c.range_from.result.now c.go.ensures c.as_bytes.ensures.value c.range_from.ensures.value)
+
+pub returns-clause-placed : goal.returns-clause-placed
+returns-clause-placed c =
+    let text = c.left-left.result.text.now in
+    let n = c.in-Some.word.taken in
+    let w : IsFirstWord text c.in-Some.word = c.in-Some.ensures in
+    placed_plain c.args.flags.now c.args.inner.now c.left-left.result.line c.left-left.result.at text c.left-left.ensures.rest_is (value_of c.in-Some.word.form (take n text)) n w c.go.new.self c.args.place.now
     (gone c.go.new.self c.left-left.result.line c.left-left.result.at n text c.as_bytes.result.now c.range_from.result.now c.go.ensures c.as_bytes.ensures.value c.range_from.ensures.value)
