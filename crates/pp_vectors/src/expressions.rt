@@ -175,51 +175,75 @@ fn come_to_their_values_and_faults(rt: HostRuntime) -> Result<(), Fail> {
     Ok(())
 }
 
-// Symbols that stand before a 7, so many times, and others that stand after it as often.
+// Symbols that stand before a 7, so many times, and others that stand after it.
 struct Nested {
     before: &'static [Symbol],
     times: u32,
     after: &'static [Symbol],
-    value: i64,
+    times_after: u32,
+    expected: Result<Value, Found>,
 }
 
 // Depth takes no native stack: parentheses inside each other, signs before one number, and sums in parentheses.
-const DEEP: [Nested; 6] = [
+const DEEP: [Nested; 8] = [
     Nested {
         before: &[OPENING],
         times: 200,
         after: &[CLOSING],
-        value: 7,
+        times_after: 200,
+        expected: Ok(Value { value: 7, left: 0 }),
     },
     Nested {
         before: &[OPENING],
         times: 100_000,
         after: &[CLOSING],
-        value: 7,
+        times_after: 100_000,
+        expected: Ok(Value { value: 7, left: 0 }),
+    },
+    Nested {
+        before: &[OPENING],
+        times: 100_000,
+        after: &[CLOSING],
+        times_after: 100_001,
+        expected: Ok(Value { value: 7, left: 1 }),
+    },
+    Nested {
+        before: &[OPENING],
+        times: 100_000,
+        after: &[CLOSING],
+        times_after: 99_999,
+        expected: Err(Found {
+            kind: ExpressionFault::UnexpectedEndOfInput,
+            left: 0,
+        }),
     },
     Nested {
         before: &[MINUS],
         times: 200,
         after: &[],
-        value: 7,
+        times_after: 0,
+        expected: Ok(Value { value: 7, left: 0 }),
     },
     Nested {
         before: &[MINUS],
         times: 100_001,
         after: &[],
-        value: -7,
+        times_after: 0,
+        expected: Ok(Value { value: -7, left: 0 }),
     },
     Nested {
         before: &[ONE, PLUS, MINUS, OPENING],
         times: 100_000,
         after: &[CLOSING],
-        value: 7,
+        times_after: 100_000,
+        expected: Ok(Value { value: 7, left: 0 }),
     },
     Nested {
         before: &[ONE, PLUS, MINUS, OPENING],
         times: 100_001,
         after: &[CLOSING],
-        value: -6,
+        times_after: 100_001,
+        expected: Ok(Value { value: -6, left: 0 }),
     },
 ];
 
@@ -236,7 +260,7 @@ fn line_of(alloc: Global, nested: &Nested) -> Result<Vec<Symbol>, AllocError> {
     let mut line = Vec::new(alloc);
     add_times(&mut line, nested.times, nested.before)?;
     line.push(Symbol::Number(7))?;
-    add_times(&mut line, nested.times, nested.after)?;
+    add_times(&mut line, nested.times_after, nested.after)?;
     Ok(line)
 }
 
@@ -244,11 +268,7 @@ fn line_of(alloc: Global, nested: &Nested) -> Result<Vec<Symbol>, AllocError> {
 fn deep_difference(alloc: Global, rows: &[Nested]) -> Result<Option<usize>, AllocError> {
     for (index, row) in rows.iter().enumerate() {
         let line = line_of(alloc, row)?;
-        let expected = Ok(Value {
-            value: row.value,
-            left: 0,
-        });
-        if evaluate(alloc, &line, None)? != expected {
+        if evaluate(alloc, &line, None)? != row.expected {
             return Ok(Some(index));
         }
     }
