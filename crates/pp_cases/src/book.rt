@@ -11,8 +11,6 @@ use std::io;
 #[derive(Drop)]
 pub struct Book {
     alloc: Global,
-    // What does not act in the preprocessor yet.
-    without: Vec<String>,
     heading: String,
     under_heading: u32,
     cases: u32,
@@ -24,7 +22,6 @@ impl Book {
     pub fn new(alloc: Global) -> Book {
         Book {
             alloc,
-            without: Vec::new(alloc),
             heading: String::new(alloc),
             under_heading: 0,
             cases: 0,
@@ -61,19 +58,10 @@ impl Book {
         if line.is_empty() || line.starts_with("//") {
             return Ok(true);
         }
-        if let Some(part) = line.strip_prefix("without ") {
-            self.without.push(String::from_str(self.alloc, part)?)?;
-            return Ok(true);
-        }
         let alloc = self.alloc;
         let Some(case) = &mut self.case else {
             return Ok(false);
         };
-        if let Some(part) = line.strip_prefix("needs ") {
-            let acts = !self.without.iter().any(|other| other.as_str() == part);
-            case.acts_whole = case.acts_whole && acts;
-            return Ok(true);
-        }
         takes_part(alloc, case, line)
     }
 
@@ -161,8 +149,6 @@ fn takes_answer(alloc: Global, case: &mut Case, line: &str) -> Result<bool, Allo
         more(alloc, &mut case.expected, part)?;
     } else if let Some(part) = line.strip_prefix("~ ") {
         more(alloc, &mut case.after, part)?;
-    } else if let Some(part) = line.strip_prefix("! ") {
-        more(alloc, &mut case.so_far, part)?;
     } else {
         return Ok(false);
     }
@@ -184,8 +170,13 @@ fn compare(
     }
 }
 
-// Says where the preprocessor gives something else than the plain program should.
-fn check_whole(rt: &impl Print, alloc: Global, case: &Case, calls: &[Call<'_>]) -> io::Result<()> {
+// Says where the preprocessor gives something else than it should.
+fn by_the_preprocessor(
+    rt: &impl Print,
+    alloc: Global,
+    case: &Case,
+    calls: &[Call<'_>],
+) -> io::Result<()> {
     let replies = by_replies(alloc, case.source.as_str(), calls)?;
     compare(
         rt,
@@ -213,20 +204,6 @@ fn check_whole(rt: &impl Print, alloc: Global, case: &Case, calls: &[Call<'_>]) 
     )
 }
 
-// Says where the preprocessor gives something else than it does so far.
-fn check_so_far(rt: &impl Print, alloc: Global, case: &Case) -> io::Result<()> {
-    let mut items = by_items(alloc, case)?;
-    items.first.append(&mut items.after)?;
-    let found = joined(alloc, &items.first)?;
-    compare(
-        rt,
-        case,
-        "so far the preprocessor",
-        found.as_str(),
-        case.so_far.as_ref(),
-    )
-}
-
 // Says where the case comes to something else.
 fn check(rt: &impl Print, alloc: Global, case: &Case) -> io::Result<()> {
     if case.expected.is_none() {
@@ -241,9 +218,5 @@ fn check(rt: &impl Print, alloc: Global, case: &Case) -> io::Result<()> {
         plain.as_str(),
         case.expected.as_ref(),
     )?;
-    if case.acts_whole {
-        check_whole(rt, alloc, case, &calls)
-    } else {
-        check_so_far(rt, alloc, case)
-    }
+    by_the_preprocessor(rt, alloc, case, &calls)
 }

@@ -25,14 +25,10 @@ pub struct Case {
     pub source: String,
     /// What is done before the items that are left are asked for.
     pub acts: Vec<Act>,
-    /// Whether the preprocessor acts on all that it needs.
-    pub acts_whole: bool,
     /// What it comes to, up to the end or its first error.
     pub expected: Option<String>,
     /// What the preprocessor gives after the error.
     pub after: Option<String>,
-    /// What the preprocessor gives as long as something that the case needs doesn't act.
-    pub so_far: Option<String>,
     has_line: bool,
 }
 
@@ -43,10 +39,8 @@ impl Case {
             name: String::from_str(alloc, name)?,
             source: String::new(alloc),
             acts: Vec::new(alloc),
-            acts_whole: true,
             expected: None,
             after: None,
-            so_far: None,
             has_line: false,
         })
     }

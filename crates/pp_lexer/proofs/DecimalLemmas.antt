@@ -79,7 +79,7 @@ module _ (n : ℕ) (w : List ℕ) (t : IsDecimalText n w) where
           let s : nat_lt (digits_value_after 10 0 (c ∷ w)) (2 ^ 64) ≡ true = lt-ltb _ _ (omega (arith, v, t.small)) in
           ap (λ b. if b then Some (digits_value_after 10 0 (c ∷ w)) else None) (both (list_all is_decimal (c ∷ w)) _ d s) ∙ ap Some v
 
-  digits_value : (signed : Bool) → integer_value signed w ≡ Ok (Integer (record { value = n; signed = signed; width = pos 32 }))
+  pub digits_value : (signed : Bool) → integer_value signed w ≡ Ok (Integer (record { value = n; signed = signed; width = pos 32 }))
   digits_value signed = by (begins_hex w) (begins_octal w) (no_hex w t.digits) t.no_octal
     where
       by : (x o : Bool) → x ≡ false → o ≡ false → integer_of signed (whole (if x then 16 else if o then 8 else 10) (if x then drop 2 w else w)) ≡ Ok (Integer (record { value = n; signed = signed; width = pos 32 }))
@@ -87,7 +87,7 @@ module _ (n : ℕ) (w : List ℕ) (t : IsDecimalText n w) where
       by false true e f = cc
       by false false e f = ap (integer_of signed) digits_whole
 
-  digits_outcome : (cs : List ℕ) → number_outcome w cs ≡ integer_outcome w cs
+  pub digits_outcome : (cs : List ℕ) → number_outcome w cs ≡ integer_outcome w cs
   digits_outcome cs = rw (no_marks (begins_hex w) w t.digits) refl
 
 no_refusal : (is_short : ℕ → Bool) (cs : List ℕ) → is_short 32 ≡ false → IsBreak cs → width_refusal is_short cs ≡ None

@@ -47,7 +47,7 @@ all_kept (c ∷ w) h =
 pub float_text_same : (w : List ℕ) → is_float_text w ≡ true → float_text w ≡ w
 float_text_same w h = all_kept w (made_float_text is_kept decimal_kept point_kept mark_kept sign_kept w h)
 
-value_same : (w : List ℕ) → is_float_text w ≡ true → float_value w ≡ Ok (Float (record { text = w; width = pos 32 }))
+pub value_same : (w : List ℕ) → is_float_text w ≡ true → float_value w ≡ Ok (Float (record { text = w; width = pos 32 }))
 value_same w h =
     ap (λ x. if is_float_text x then Ok (Float (record { text = x; width = pos 32 })) else Err FloatParsingError) (float_text_same w h)
     ∙ ap (λ b. if b then Ok (Float (record { text = w; width = pos 32 })) else Err FloatParsingError) h

@@ -8,12 +8,13 @@ use Rattle.std.proofs.lemmas.List.Concat.{flat_map-cons}
 use Rattle.std.proofs.lemmas.Bool.Decides.{nat_tests}
 use Rattle.pp_lexer.specs.declared.lexer.char_iterator.Spot.{Spot}
 use Rattle.pp_lexer.specs.declared.lexer.Flags.{Flags}
+use Rattle.pp_lexer.specs.Location.{nowhere}
 use Rattle.pp_lexer.specs.Reading.{Reading}
 use Rattle.pp_lexer.specs.Surroundings.{surrounded_from, surrounded}
 use Rattle.pp_lexer.specs.Segments.{Kind, blank, comment, item, Segment, segments}
-use Rattle.pp_lexer.specs.Items.{is_comment, is_newline_result, leading_whitespace, start_of_line, comments_in, item_at, final_newline, item_of, items_of, Item}
+use Rattle.pp_lexer.specs.Items.{is_comment, is_newline_result, leading_whitespace, start_of_line, comments_in, item_at, final_newline, item_of, items_of, Item, places_at, final_place, places_of}
 use Rattle.pp_lexer.specs.Lexed.{seen, start_of}
-use Rattle.pp_lexer.specs.Passing.{passed, lexeme_seen, item_seen, newline_seen, seen_from, lexed}
+use Rattle.pp_lexer.specs.Passing.{passed, lexeme_seen, item_seen, newline_seen, seen_from, places_from, lexed}
 
 -- the items of the segments from a place on, and of the end
 unfoldable pub items_from : List Segment → List Segment → List Item
@@ -42,7 +43,7 @@ abbrev pub last_before : List Segment → Spot → Spot
 last_before [] s = s
 last_before (g ∷ gs) s = g.last
 
-flags_step : (k : Kind) (first last : Spot) (before : List Segment) → flags_behind (record { kind = k; first = first; last = last } ∷ before) ≡ passed (flags_behind before) k
+pub flags_step : (k : Kind) (first last : Spot) (before : List Segment) → flags_behind (record { kind = k; first = first; last = last } ∷ before) ≡ passed (flags_behind before) k
 flags_step blank first last before = refl
 flags_step comment first last before = refl
 flags_step (item r) first last before = by (is_newline_result r)
@@ -85,8 +86,23 @@ items_seen (g ∷ gs) before s =
     ∙ ap (λ xs. xs ++ map seen (items_from (g ∷ before) gs)) (item_step g.kind g.first g.last before)
     ∙ ap (λ xs. item_seen (flags_behind before) g g.kind ++ xs) (items_seen gs (g ∷ before) s ∙ ap (λ f. seen_from f g.last gs) (flags_step g.kind g.first g.last before))
 
+places_surrounded : (gs before : List Segment) (s : Spot) → flat_map (λ g. places_at g g.kind) gs ++ final_place (reverse gs ++ before) ≡ places_from (flags_behind before) (last_before before s) gs
+places_surrounded [] [] s = refl
+places_surrounded [] (g ∷ gs) s = refl
+places_surrounded (g ∷ gs) before s =
+    let r : reverse (g ∷ gs) ++ before ≡ reverse gs ++ g ∷ before = ap (λ xs. xs ++ before) (reverse-append (g ∷ []) gs) ∙ append_assoc (reverse gs) (g ∷ []) before in
+    ap (λ xs. xs ++ final_place (reverse (g ∷ gs) ++ before)) (flat_map-cons (λ g. places_at g g.kind) g gs)
+    ∙ append_assoc (places_at g g.kind) (flat_map (λ g. places_at g g.kind) gs) (final_place (reverse (g ∷ gs) ++ before))
+    ∙ ap (λ xs. places_at g g.kind ++ (flat_map (λ g. places_at g g.kind) gs ++ final_place xs)) r
+    ∙ ap (λ xs. places_at g g.kind ++ xs) (places_surrounded gs (g ∷ before) s ∙ ap (λ f. places_from f g.last gs) (flags_step g.kind g.first g.last before))
+
+pub places_at_start : (ss : List Spot) (s : Spot) → places_of ss ≡ places_from (flags_behind []) s (segments ss)
+places_at_start ss s = ap (λ xs. flat_map (λ g. places_at g g.kind) (segments ss) ++ final_place xs) (sym (append-nil (reverse (segments ss)))) ∙ places_surrounded (segments ss) [] s
+
 pub start_seen : (r : Reading) (ss : List Spot) (last : Spot) → r ≡ record { rest = ss; last = last }
-    → lexed (record { leading_whitespace = true; start_of_line = true; had_comments = false }) r false ≡ start_of ss
+    → lexed (record { leading_whitespace = true; start_of_line = true; had_comments = false }) r nowhere false ≡ start_of ss
 start_seen r ss last e =
-    rw e (ap (λ xs. record { rest = xs; had_comments = false; at_end = list_any (λ g. is_comment g.kind) (segments ss); spent = false }) (sym (ap (map seen) (items_at_start ss) ∙ items_seen (segments ss) [] last))
-    ∙ ap (λ b. record { rest = map seen (items_of ss); had_comments = false; at_end = b; spent = false }) (sym (comments_some (segments ss))))
+    let at_end = list_any (λ g. is_comment g.kind) (segments ss) in
+    rw e (ap (λ ps. record { rest = seen_from (flags_behind []) last (segments ss); had_comments = false; at_end = at_end; spent = false; place = nowhere; places = ps }) (sym (places_at_start ss last))
+    ∙ ap (λ xs. record { rest = xs; had_comments = false; at_end = at_end; spent = false; place = nowhere; places = places_of ss }) (sym (ap (map seen) (items_at_start ss) ∙ items_seen (segments ss) [] last))
+    ∙ ap (λ b. record { rest = map seen (items_of ss); had_comments = false; at_end = b; spent = false; place = nowhere; places = places_of ss }) (sym (comments_some (segments ss))))

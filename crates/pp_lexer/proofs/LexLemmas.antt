@@ -1,9 +1,10 @@
 -- What a lexer gives at a token, at an error and at the end, behind the blanks.
-use Rattle.std.proofs.Common.{◌≡◌, List, [], ◌∷◌, Bool, true, false, ◌||◌, refl, sym, ◌∙◌, ap, inl, inr, IsTrue, Option, Some, None, Result, Ok, Err, IsErr, MatchOption, subst}
+use Rattle.std.proofs.Common.{◌≡◌, List, [], ◌∷◌, Bool, true, false, ◌||◌, refl, sym, ◌∙◌, ap, inl, inr, IsTrue, Option, Some, None, Result, OnOk, Ok, Err, IsErr, MatchOption, subst}
 use Rattle.std.specs.Bool.{⊤}
 use Rattle.std.specs.List.{list_any}
 use Rattle.std.proofs.lemmas.Bool.{false≢true}
 use Rattle.std.specs.declared.alloc.AllocError.{AllocError}
+use Rattle.pp_lexer.specs.declared.token.Location.{Location}
 use Rattle.pp_lexer.specs.declared.token.PreprocessorError.{PreprocessorError}
 use Rattle.pp_lexer.specs.declared.lexer.item.TokenValue.{TokenValue}
 use Rattle.pp_lexer.specs.declared.lexer.char_iterator.Spot.{Spot}
@@ -14,8 +15,8 @@ use Rattle.pp_lexer.specs.Outcome.{Answer, takes_memory, IsGiven}
 use Rattle.pp_lexer.specs.Segments.{item}
 use Rattle.pp_lexer.specs.Words.{is_blank}
 use Rattle.pp_lexer.specs.Items.{Lexeme, is_comment, is_newline_result}
-use Rattle.pp_lexer.specs.Lexed.{first_item, behind_first_item, comments_before, lexeme_takes_memory, first_takes_memory}
-use Rattle.pp_lexer.specs.Passing.{passed, lexeme_seen, newline_seen, seen_from, seen_of, comments_at_end, IsLexRefused, IsLexed}
+use Rattle.pp_lexer.specs.Lexed.{first_item, behind_first_item, comments_before, lexeme_takes_memory, first_takes_memory, first_place, places_after_first}
+use Rattle.pp_lexer.specs.Passing.{passed, lexeme_seen, newline_seen, seen_from, seen_of, comments_at_end, newline_places, places_from, places_left, IsPlaced, IsLexRefused, IsLexed}
 use Rattle.pp_lexer.proofs.WordAtLemmas.{word_at-some}
 use Rattle.pp_lexer.proofs.SegmentsLemmas.{segments_none, advanced-rest}
 use Rattle.pp_lexer.proofs.PassingLemmas.{front_first, last_same}
@@ -48,6 +49,13 @@ module _ (f : Flags) (last s : Spot) (ss : List Spot) (plain : is_blank s.c ≡ 
       let l = last_same (word_at (letters (s ∷ ss))).taken last s ss (word_at-some s.c (letters ss)) in
       let r = advanced-rest (word_at (letters (s ∷ ss))).taken (s ∷ ss) last in
       ap (seen_from f last) (front_first s ss plain) ∙ rw (l, ← r) refl
+
+  places_front : places_left f (record { rest = s ∷ ss; last = last }) ≡ record { start = s.begin; end = behind.last.end; line = s.line } ∷ places_left (passed f (item value)) behind
+  unfolding value behind
+  places_front =
+      let l = last_same (word_at (letters (s ∷ ss))).taken last s ss (word_at-some s.c (letters ss)) in
+      let r = advanced-rest (word_at (letters (s ∷ ss))).taken (s ∷ ss) last in
+      ap (places_from f last) (front_first s ss plain) ∙ rw (l, ← r) refl
 
   at_end_front : comments_at_end f (record { rest = s ∷ ss; last = last }) ≡ comments_at_end (passed f (item value)) behind
   unfolding value behind
@@ -141,3 +149,48 @@ lexed_end f g r p last answer e same l a n c =
     let k : last ≡ r.last = l ∙ ap (λ x. x.last) same in
     subst (λ x. IsLexed f r (Ok answer) g x) (sym same)
     (end_at f g r.rest r.last answer e (a ∙ ap (λ x. first_item (newline_seen f x)) k) (ap (newline_seen g) (sym k) ∙ n ∙ ap (λ x. behind_first_item (newline_seen f x)) k) c)
+
+-- Where the item that was taken stands
+
+-- what was skipped before makes no difference
+pub placed_before : (f g h : Flags) (r p q : Reading) (old mid new : Location) → places_left g p ≡ places_left f r → mid ≡ old → IsPlaced g p mid h q new → IsPlaced f r old h q new
+placed_before f g h r p q old mid new same e x = record { place = x.place ∙ ap (first_place (places_left g p)) e ∙ ap (λ ps. first_place ps old) same; rest = x.rest ∙ ap places_after_first same }
+
+-- nor does it where memory may be refused
+pub on_ok_placed : {T E : Type 0} (answer : Result T E) (P Q : Type 0) → (P → Q) → OnOk answer P → OnOk answer Q
+on_ok_placed (Ok value) P Q go h = go h
+on_ok_placed (Err error) P Q go h = tt
+
+placed_at : (f : Flags) (ss : List Spot) (last : Spot) (q : Reading) (first : Spot) (r : Answer) (old : Location) → Some first ≡ first_of ss → MatchOption (first_of ss) ⊤ (λ s. is_blank s.c ≡ false)
+    → r ≡ (word_at (letters ss)).value → q ≡ advanced (word_at (letters ss)).taken (record { rest = ss; last = last })
+    → IsPlaced f (record { rest = ss; last = last }) old (passed f (item r)) q (record { start = first.begin; end = q.last.end; line = first.line })
+unfolding value behind
+placed_at f [] last q first r old e plain v n = cc
+placed_at f (s ∷ ss) last q first r old e plain v n =
+    let k : first ≡ s = cc in
+    let olds = places_front f last s ss plain in
+    record { place = rw (olds, k, n) refl; rest = rw (olds, v, n) refl }
+
+-- a token or an error
+pub placed_front : (f : Flags) (r p q : Reading) (first last : Spot) (v : Answer) (line : Bool) (old : Location) → Some first ≡ first_char r → MatchOption (first_char r) ⊤ (λ s. is_blank s.c ≡ false)
+    → p ≡ r → IsGiven (Ok v) (word_at (letters p.rest)).value → q ≡ advanced (word_at (letters p.rest)).taken p → last ≡ q.last → line ≡ is_newline_result v
+    → IsPlaced f r old (record { leading_whitespace = line; start_of_line = line; had_comments = f.had_comments }) q (record { start = first.begin; end = last.end; line = first.line })
+placed_front f r p q first last v line old e plain same h k l n =
+    rw (l, n)
+    (placed_at f r.rest r.last q first v old e plain (given_value v (word_at (letters p.rest)).value h ∙ ap (λ x. (word_at (letters x.rest)).value) same) (k ∙ ap (λ x. advanced (word_at (letters x.rest)).taken x) same))
+
+placed_at_end : (f g : Flags) (ss : List Spot) (last : Spot) (old : Location) → None ≡ first_of ss → newline_places g last ≡ places_after_first (newline_places f last)
+    → IsPlaced f (record { rest = ss; last = last }) old g (record { rest = ss; last = last }) (first_place (newline_places f last) old)
+placed_at_end f g [] last old e n =
+    let none : places_left f (record { rest = []; last = last }) ≡ newline_places f last = ap (places_from f last) segments_none in
+    let more : places_left g (record { rest = []; last = last }) ≡ newline_places g last = ap (places_from g last) segments_none in
+    record { place = ap (λ ps. first_place ps old) (sym none); rest = more ∙ n ∙ ap places_after_first (sym none) }
+placed_at_end f g (s ∷ ss) last old e n = cc
+
+-- the end
+pub placed_end : (f g : Flags) (r p : Reading) (last : Spot) (old : Location) → None ≡ first_char r → p ≡ r → last ≡ p.last → newline_places g last ≡ places_after_first (newline_places f last)
+    → IsPlaced f r old g p (first_place (newline_places f last) old)
+placed_end f g r p last old e same l n =
+    let k : last ≡ r.last = l ∙ ap (λ x. x.last) same in
+    subst (λ x. IsPlaced f r old g x (first_place (newline_places f last) old)) (sym same)
+    (rw k (placed_at_end f g r.rest r.last old e (rw k at n)))

@@ -12,6 +12,7 @@ pub mod RisingLemmas
 pub mod ReplacedLemmas
 pub mod PhaseLemmas
 pub mod SpotsLemmas
+pub mod FrontsLemmas
 pub mod AdvancedLemmas
 pub mod LongestLemmas
 pub mod UnionLemmas
@@ -28,8 +29,17 @@ pub mod WordsLemmas
 pub mod WordAtLemmas
 pub mod SegmentsLemmas
 pub mod PassingLemmas
+pub mod PlainFrontsLemmas
+pub mod SpacesLemmas
+pub mod PlainWordsLemmas
+pub mod PlainPunctuationLemmas
+pub mod PlainNumbersLemmas
+pub mod StraightLemmas
 pub mod LexLemmas
+pub mod PlainLexLemmas
+pub mod NewlinesLemmas
 pub mod ItemsLemmas
+pub mod ItemPlacesLemmas
 pub mod PlacesLemmas
 pub mod TokenLinesLemmas
 pub mod CountLemmas

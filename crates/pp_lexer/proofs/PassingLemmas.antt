@@ -8,7 +8,8 @@ use Rattle.pp_lexer.specs.Words.{word_at}
 use Rattle.pp_lexer.specs.Segments.{blank, comment, item, is_mark, last_of, kind_of, taken_by, segments}
 use Rattle.pp_lexer.specs.Words.{is_blank}
 use Rattle.pp_lexer.specs.Items.{is_comment}
-use Rattle.pp_lexer.specs.Passing.{passed, item_seen, seen_from, seen_of, comments_at_end}
+use Rattle.pp_lexer.specs.Items.{places_at}
+use Rattle.pp_lexer.specs.Passing.{passed, item_seen, seen_from, seen_of, comments_at_end, places_from, places_left}
 use Rattle.pp_lexer.proofs.SegmentsLemmas.{segments_first, advanced-last}
 
 -- the flags behind a blank
@@ -51,6 +52,17 @@ blank_seen f last s ss e =
     ∙ ap (λ xs. xs ++ seen_from (passed f (cond (is_mark s.c) comment blank)) s (segments ss)) (none_seen f s s (is_mark s.c))
     ∙ ap (λ g. seen_from g s (segments ss)) (passed_blank f s.c)
 
+none_placed : (first last : Spot) (b : Bool) → places_at (record { kind = cond b comment blank; first = first; last = last }) (cond b comment blank) ≡ []
+none_placed first last true = refl
+none_placed first last false = refl
+
+pub blank_places : (f : Flags) (last s : Spot) (ss : List Spot) → is_blank s.c ≡ true
+    → places_from f last (segments (s ∷ ss)) ≡ places_from (blanked f s.c) s (segments ss)
+blank_places f last s ss e =
+    ap (places_from f last) (blank_first s ss e)
+    ∙ ap (λ xs. xs ++ places_from (passed f (cond (is_mark s.c) comment blank)) s (segments ss)) (none_placed s s (is_mark s.c))
+    ∙ ap (λ g. places_from g s (segments ss)) (passed_blank f s.c)
+
 pub blank_at_end : (f : Flags) (s : Spot) (ss : List Spot) → is_blank s.c ≡ true
     → (f.had_comments || list_any (λ g. is_comment g.kind) (segments (s ∷ ss))) ≡ ((f.had_comments || is_mark s.c) || list_any (λ g. is_comment g.kind) (segments ss))
 blank_at_end f s ss e =
@@ -66,6 +78,7 @@ blank_at_end f s ss e =
 pub record IsBlanked (f g : Flags) (r q : Reading) : Type 0 where
   pub same : seen_of g q ≡ seen_of f r
   pub at_end : comments_at_end g q ≡ comments_at_end f r
+  pub places : places_left g q ≡ places_left f r
 
 blanked_at : (f : Flags) (last : Spot) (ss : List Spot) (c : ℕ) (q : Reading) → Some c ≡ option_map (λ s. s.c) (first_of ss) → true ≡ is_blank c → q ≡ past ss last
     → IsBlanked f (blanked f c) (record { rest = ss; last = last }) q
@@ -73,7 +86,7 @@ blanked_at f last [] c q e b h = cc
 blanked_at f last (s ∷ ss) c q e b h =
     let k : c ≡ s.c = cc in
     let k' : is_blank s.c ≡ true = sym (b ∙ ap is_blank k) in
-    rw (h, k) (record { same = sym (blank_seen f last s ss k'); at_end = sym (blank_at_end f s ss k') })
+    rw (h, k) (record { same = sym (blank_seen f last s ss k'); at_end = sym (blank_at_end f s ss k'); places = sym (blank_places f last s ss k') })
 
 pub blank_passed : (f : Flags) (r p q : Reading) (c : ℕ) → Some c ≡ option_map (λ s. s.c) (first_char r) → true ≡ is_blank c → p ≡ r → q ≡ after_first p → IsBlanked f (blanked f c) r q
 blank_passed f r p q c e b h k = blanked_at f r.last r.rest c q e b (k ∙ ap after_first h)

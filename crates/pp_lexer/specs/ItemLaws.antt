@@ -1,8 +1,9 @@
 -- Laws of the items of a text.
-use Rattle.std.specs.Prelude.{ℕ, ◌+◌, ◌≤◌, List, Ok, Err, All, length}
+use Rattle.std.specs.Prelude.{◌≡◌, ℕ, ◌+◌, ◌≤◌, List, [], ◌∷◌, Ok, Err, All, length}
 use Rattle.std.specs.Str.{IsUtf8}
 use Rattle.pp_lexer.specs.Spots.{spots_of}
-use Rattle.pp_lexer.specs.Items.{Lexeme, items_of}
+use Rattle.pp_lexer.specs.declared.token.Location.{Location}
+use Rattle.pp_lexer.specs.Items.{Lexeme, Item, items_of, places_of}
 
 -- a token lies in a source of that many bytes; an error has no place
 abbrev pub IsWithin : ℕ → Lexeme → Type 0
@@ -25,3 +26,19 @@ HasLineWithin total (Err e) = Unit {0}
 -- Every token of a source has a line that is at least 1, and at most one more than the source's bytes.
 abbrev pub TokensHaveLines : Type 0
 TokensHaveLines = (source : List ℕ) → IsUtf8 source → All (λ i. HasLineWithin (length source) i.item) (items_of (spots_of source))
+
+-- a token stands where it says; an error says no place
+abbrev pub IsAt : Lexeme → Location → Type 0
+IsAt (Ok t) place = t.location ≡ place
+IsAt (Err e) place = Unit {0}
+
+-- each item stands at the place of the same number, and there are no more places
+abbrev pub StandAt : List Item → List Location → Type 0
+StandAt [] [] = Unit {0}
+StandAt [] (place ∷ places) = ⊥
+StandAt (i ∷ items) [] = ⊥
+StandAt (i ∷ items) (place ∷ places) = IsAt i.item place × StandAt items places
+
+-- Each item of a source has one place, which is that of a token's location.
+abbrev pub PlacesAreOfItems : Type 0
+PlacesAreOfItems = (source : List ℕ) → StandAt (items_of (spots_of source)) (places_of (spots_of source))

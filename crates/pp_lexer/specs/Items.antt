@@ -65,6 +65,10 @@ comments_in gs = count_by (λ g. is_comment g.kind) gs
 abbrev pub place_of : Segment → Location
 place_of g = record { start = g.first.begin; end = g.last.end; line = g.first.line }
 
+-- the place after a character
+abbrev pub place_after : Spot → Location
+place_after last = record { start = last.end; end = last.end; line = last.line }
+
 -- an error of the lexer has no place of its own
 abbrev pub lexeme : List Segment → Segment → Result TokenValue PreprocessorError → Lexeme
 lexeme before g (Ok v) = Ok (record {
@@ -103,6 +107,21 @@ item_of s = item_at s.before s.here s.here.kind
 -- the items of a text, by its characters behind the phases: those of its segments, and that of its end
 abbrev pub items_of : List Spot → List Item
 items_of ss = flat_map item_of (surrounded (segments ss)) ++ final_newline (reverse (segments ss))
+
+-- where the item of a segment stands, an error too
+abbrev pub places_at : Segment → Kind → List Location
+places_at g blank = []
+places_at g comment = []
+places_at g (item r) = place_of g ∷ []
+
+-- where the newline stands that ends a last line which has none
+abbrev pub final_place : List Segment → List Location
+final_place [] = []
+final_place (g ∷ gs) = if start_of_line (g ∷ gs) then [] else place_after g.last ∷ []
+
+-- where the items of a text stand, errors too: one place for each item
+abbrev pub places_of : List Spot → List Location
+places_of ss = flat_map (λ g. places_at g g.kind) (segments ss) ++ final_place (reverse (segments ss))
 
 -- how many comments were passed as blanks by the end of the text
 abbrev pub comments_of : List Spot → ℕ

@@ -1,28 +1,33 @@
 -- What a lexer stands for, and what a call of `next` gives.
 use Rattle.std.specs.Prelude.{◌≡◌, Bool, true, false, ◌⊎◌, IsTrue, nat_lt, List, [], ◌∷◌, map, Option, Some, None, Ok, Err, MatchBool}
 use Rattle.pp_lexer.specs.declared.lexer.char_iterator.Spot.{Spot}
+use Rattle.pp_lexer.specs.declared.token.Location.{Location}
 use Rattle.pp_lexer.specs.LexerToken.{holds_memory}
 use Rattle.pp_lexer.specs.PreprocessorError.{out_of_memory}
-use Rattle.pp_lexer.specs.Items.{Lexeme, Item, items_of, comments_of}
+use Rattle.pp_lexer.specs.Location.{nowhere}
+use Rattle.pp_lexer.specs.Items.{Lexeme, Item, items_of, comments_of, places_of}
 
 -- an item, and whether a comment stands before it that was passed as a blank
 pub record Seen : Type 0 where
   pub item : Lexeme
   pub had_comments : Bool
 
--- the items to come, whether comments were passed so far and will have been at the end, and whether memory was refused
+-- the items to come, whether comments were passed so far and will have been at the end, whether memory was refused, where the item given last stands,
+-- and where those to come do
 pub record Lexed : Type 0 where
   pub rest : List Seen
   pub had_comments : Bool
   pub at_end : Bool
   pub spent : Bool
+  pub place : Location
+  pub places : List Location
 
 abbrev pub seen : Item → Seen
 seen i = record { item = i.item; had_comments = nat_lt 0 i.comments }
 
 -- a lexer at the start of a text
 abbrev pub start_of : List Spot → Lexed
-start_of ss = record { rest = map seen (items_of ss); had_comments = false; at_end = nat_lt 0 (comments_of ss); spent = false }
+start_of ss = record { rest = map seen (items_of ss); had_comments = false; at_end = nat_lt 0 (comments_of ss); spent = false; place = nowhere; places = places_of ss }
 
 -- the first item to come
 abbrev pub first_item : List Seen → Option Lexeme
@@ -39,9 +44,24 @@ abbrev pub comments_before : List Seen → Bool → Bool
 comments_before [] at_end = at_end
 comments_before (s ∷ ss) at_end = s.had_comments
 
+-- where the first item to come stands, or where the last one did
+abbrev pub first_place : List Location → Location → Location
+first_place [] last = last
+first_place (place ∷ places) last = place
+
+-- where the items after it stand
+abbrev pub places_after_first : List Location → List Location
+places_after_first [] = []
+places_after_first (place ∷ places) = places
+
 -- the lexer once the first item is taken, or its end is met
 abbrev pub behind_first : Lexed → Lexed
-behind_first l = record l { rest = behind_first_item l.rest; had_comments = comments_before l.rest l.at_end }
+behind_first l = record l {
+  rest = behind_first_item l.rest;
+  had_comments = comments_before l.rest l.at_end;
+  place = first_place l.places l.place;
+  places = places_after_first l.places;
+}
 
 -- identifiers and floats are kept in memory, and nothing else is
 abbrev pub lexeme_takes_memory : Lexeme → Bool

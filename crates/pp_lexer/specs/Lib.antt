@@ -16,6 +16,7 @@ pub mod Readers
 pub mod PhaseLaws
 pub mod Reading
 pub mod Spots
+pub mod Fronts
 pub mod Spellings
 pub mod Longest
 pub mod Identifiers
@@ -30,5 +31,6 @@ pub mod Segments
 pub mod Items
 pub mod Lexed
 pub mod Passing
+pub mod PlainWords
 pub mod ItemLaws
 pub mod Respelling

@@ -7,11 +7,12 @@ use Rattle.pp_lexer.specs.declared.lexer.item.TokenValue.{TokenValue}
 use Rattle.pp_lexer.specs.declared.lexer.item.TokenValue.TheVariants.{NewLine}
 use Rattle.pp_lexer.specs.declared.lexer.char_iterator.Spot.{Spot}
 use Rattle.pp_lexer.specs.declared.lexer.Flags.{Flags}
+use Rattle.pp_lexer.specs.declared.token.Location.{Location}
 use Rattle.pp_lexer.specs.Location.{nowhere}
 use Rattle.pp_lexer.specs.Reading.{Reading}
 use Rattle.pp_lexer.specs.Segments.{Kind, blank, comment, item, Segment, segments}
-use Rattle.pp_lexer.specs.Items.{Lexeme, is_comment, is_newline_result}
-use Rattle.pp_lexer.specs.Lexed.{Seen, Lexed, first_item, behind_first_item, comments_before, first_takes_memory}
+use Rattle.pp_lexer.specs.Items.{Lexeme, is_comment, is_newline_result, place_after, places_at}
+use Rattle.pp_lexer.specs.Lexed.{Seen, Lexed, first_item, behind_first_item, comments_before, first_takes_memory, first_place, places_after_first}
 
 -- the flags behind a segment
 abbrev pub passed : Flags → Kind → Flags
@@ -59,9 +60,33 @@ seen_of f r = seen_from f r.last (segments r.rest)
 abbrev pub comments_at_end : Flags → Reading → Bool
 comments_at_end f r = f.had_comments || list_any (λ g. is_comment g.kind) (segments r.rest)
 
+abbrev pub newline_places : Flags → Spot → List Location
+newline_places f last = if f.start_of_line then [] else place_after last ∷ []
+
+-- where the items of the segments stand, after this character
+abbrev pub places_from : Flags → Spot → List Segment → List Location
+places_from f last [] = newline_places f last
+places_from f last (g ∷ gs) = places_at g g.kind ++ places_from (passed f g.kind) g.last gs
+
+-- where the items to come stand
+abbrev pub places_left : Flags → Reading → List Location
+places_left f r = places_from f r.last (segments r.rest)
+
 -- a lexer in the midst of a text
-abbrev pub lexed : Flags → Reading → Bool → Lexed
-lexed f r spent = record { rest = seen_of f r; had_comments = f.had_comments; at_end = comments_at_end f r; spent = spent }
+abbrev pub lexed : Flags → Reading → Location → Bool → Lexed
+lexed f r place spent = record {
+  rest = seen_of f r;
+  had_comments = f.had_comments;
+  at_end = comments_at_end f r;
+  spent = spent;
+  place = place;
+  places = places_left f r;
+}
+
+-- the place of the first item was noted, or the end was met
+pub record IsPlaced (f : Flags) (r : Reading) (old : Location) (g : Flags) (q : Reading) (new : Location) : Type 0 where
+  pub place : new ≡ first_place (places_left f r) old
+  pub rest : places_left g q ≡ places_after_first (places_left f r)
 
 -- memory was refused, where the first item needs it
 pub record IsLexRefused (f : Flags) (r : Reading) (g : Flags) (answer : Result (Option Lexeme) AllocError) : Type 0 where

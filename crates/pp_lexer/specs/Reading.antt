@@ -1,5 +1,5 @@
 -- What the reader of characters stands for: the characters behind the phases, each with its line and its place.
-use Rattle.std.specs.Prelude.{ℕ, zero, suc, ◌+◌, List, [], ◌∷◌, Option, Some, None}
+use Rattle.std.specs.Prelude.{◌≡◌, ℕ, zero, suc, ◌+◌, List, [], ◌∷◌, Option, Some, None}
 use Rattle.std.specs.Char.{len_utf8}
 use Rattle.pp_lexer.specs.Cursor.{Placed}
 use Rattle.pp_lexer.specs.declared.lexer.char_iterator.Spot.{Spot}
@@ -14,10 +14,6 @@ abbrev pub spots : ℕ → List Placed → List Spot
 spots at [] = []
 spots at (p ∷ ps) = record { c = p.char; line = p.line; begin = at; end = at + len_utf8 p.char } ∷ spots p.end ps
 
-abbrev pub ahead : Option Spot → List Spot → List Spot
-ahead None ss = ss
-ahead (Some s) ss = s ∷ ss
-
 abbrev pub first_of : List Spot → Option Spot
 first_of [] = None
 first_of (s ∷ ss) = Some s
@@ -25,6 +21,11 @@ first_of (s ∷ ss) = Some s
 abbrev pub behind_first : List Spot → List Spot
 behind_first [] = []
 behind_first (s ∷ ss) = ss
+
+-- the first of these characters, and those behind it
+pub record IsAhead (spot : Spot) (rest all : List Spot) : Type 0 where
+  pub first : Some spot ≡ first_of all
+  pub behind : rest ≡ behind_first all
 
 abbrev pub first_char : Reading → Option Spot
 first_char r = first_of r.rest

@@ -3,15 +3,16 @@
 //! [`CharsAndLine`], [`SkipBackslashNewline`] and [`ReplaceComments`] give the characters behind phases 4 and 5, 6 and 7,
 //! each with its line. [`Lexer`] gives the tokens. The rules are those of docs/RULES.md, Characters and Tokens.
 
-ghost use Rattle.std.specs.Prelude.{◌≡◌, ◌-◌, ◌^◌, ◌<◌, ◌+◌, ◌⊎◌, length, false, if◌then◌else◌, ⊤, MatchOption};
+ghost use Rattle.std.specs.Prelude.{◌≡◌, ◌-◌, ◌^◌, ◌<◌, ◌+◌, ◌⊎◌, length, false, if◌then◌else◌, ⊤, OnOk, IfOk, MatchOption};
 ghost use Rattle.std.specs.Iterator.{at_most};
 ghost use Rattle.pp_lexer.specs.Reading.{first_char};
 ghost use Rattle.pp_lexer.specs.Spots.{spots_of};
 ghost use Rattle.pp_lexer.specs.Segments.{is_mark};
 ghost use Rattle.pp_lexer.specs.Words.{is_blank};
-ghost use Rattle.pp_lexer.specs.Lexed.{start_of, first_item, behind_first_item, IsNext};
+ghost use Rattle.pp_lexer.specs.Lexed.{start_of, first_item, behind_first_item, first_place, places_after_first, IsNext};
 ghost use Rattle.pp_lexer.specs.Items.{is_newline_result};
-ghost use Rattle.pp_lexer.specs.Passing.{seen_of, newline_seen, lexeme_seen, comments_at_end, IsLexed};
+ghost use Rattle.pp_lexer.specs.Passing.{seen_of, newline_seen, lexeme_seen, comments_at_end, newline_places, places_left, IsPlaced, IsLexed};
+ghost use Rattle.pp_lexer.specs.PlainWords.{IsPlainLexed, IsNewlineLexed};
 
 use crate::token::{Location, NOWHERE, PreprocessorError, out_of_memory};
 use std::alloc::{AllocError, Global};
@@ -24,6 +25,7 @@ mod item;
 pub mod laws;
 mod look_ahead;
 mod number;
+mod plain;
 mod punctuation;
 mod replace_comments;
 mod skip_backslash_newline;
@@ -32,7 +34,9 @@ mod word;
 pub use char_iterator::NONE_CONSUMED_SENTINEL_VALUE;
 use char_iterator::{LexerCharIterator, Spot};
 pub use chars_and_line::CharsAndLine;
+use chars_and_line::Left;
 pub use item::{LexerItem, Token, TokenValue};
+use plain::{newline_length, plain_value, plain_word, spaces_length};
 pub use replace_comments::{COMMENT_SENTINEL_VALUE, ReplaceComments};
 pub use skip_backslash_newline::SkipBackslashNewline;
 use word::parse_word;
@@ -56,6 +60,7 @@ fn is_blank_char(c: char) -> bool
 fn skip_blanks(inner: &mut LexerCharIterator<'_>, flags: &mut Flags)
     ensures same { seen_of flags.new inner.new ≡ seen_of flags.old inner.old }
     ensures at_end { comments_at_end flags.new inner.new ≡ comments_at_end flags.old inner.old }
+    ensures places { places_left flags.new inner.new ≡ places_left flags.old inner.old }
     ensures stops { MatchOption (first_char inner.new) ⊤ (λ s. is_blank s.c ≡ false) }
 {
     'blanks: loop {
@@ -71,10 +76,130 @@ fn skip_blanks(inner: &mut LexerCharIterator<'_>, flags: &mut Flags)
     }
 }
 
+// Passes the spaces of plain text before the next item.
+#[inline(always)]
+fn skip_spaces(inner: &mut LexerCharIterator<'_>, flags: &mut Flags)
+    ensures same { seen_of flags.new inner.new ≡ seen_of flags.old inner.old }
+    ensures at_end { comments_at_end flags.new inner.new ≡ comments_at_end flags.old inner.old }
+    ensures places { places_left flags.new inner.new ≡ places_left flags.old inner.old }
+{
+    let left = inner.left();
+    let bytes = left.text.as_bytes();
+    let count = spaces_length(bytes);
+    if count == 0 {
+        return;
+    }
+    let end = left.at + count;
+    let last = Spot {
+        c: bytes[count - 1] as char,
+        line: left.line,
+        begin: (end - 1) as u32,
+        end: end as u32,
+    };
+    flags.leading_whitespace = true;
+    let rest = Left {
+        text: &left.text[count..],
+        line: left.line,
+        at: end,
+    };
+    inner.go(rest, last);
+}
+
+// The next item, where it is a word of plain text, or nothing.
+#[inline(always)]
+fn lex_plain(
+    alloc: Global,
+    inner: &mut LexerCharIterator<'_>,
+    flags: &mut Flags,
+    place: &mut Location,
+) -> Result<Option<LexerItem>, AllocError>
+    ensures lexed { IsPlainLexed flags.old inner.old result flags.new inner.new }
+    ensures placed { IfOk result (λ o. MatchOption o (place.new ≡ place.old)
+        (λ _. IsPlaced flags.old inner.old place.old flags.new inner.new place.new)) }
+{
+    let left = inner.left();
+    let Some(word) = plain_word(left.text) else {
+        return Ok(None);
+    };
+    let taken = word.taken;
+    let value = plain_value(alloc, word.form, &left.text[..taken])?;
+    let end = left.at + taken;
+    let last = Spot {
+        c: left.text.as_bytes()[taken - 1] as char,
+        line: left.line,
+        begin: (end - 1) as u32,
+        end: end as u32,
+    };
+    *place = Location {
+        start: left.at as u32,
+        end: last.end,
+        line: left.line,
+    };
+    let token = Token {
+        value,
+        location: *place,
+        leading_whitespace: flags.leading_whitespace,
+        start_of_line: flags.start_of_line,
+    };
+    flags.leading_whitespace = false;
+    flags.start_of_line = false;
+    let rest = Left {
+        text: &left.text[taken..],
+        line: left.line,
+        at: end,
+    };
+    inner.go(rest, last);
+    Ok(Some(Ok(token)))
+}
+
+// The next item, where it is a newline of plain text, or nothing.
+#[inline(always)]
+fn lex_newline(
+    inner: &mut LexerCharIterator<'_>,
+    flags: &mut Flags,
+    place: &mut Location,
+) -> Option<LexerItem>
+    ensures lexed { IsNewlineLexed flags.old inner.old result flags.new inner.new }
+    ensures placed { MatchOption result (place.new ≡ place.old)
+        (λ _. IsPlaced flags.old inner.old place.old flags.new inner.new place.new) }
+{
+    let left = inner.left();
+    let Some(taken) = newline_length(left.text.as_bytes()) else {
+        return None;
+    };
+    let last = Spot {
+        c: '\n',
+        line: left.line,
+        begin: left.at as u32,
+        end: (left.at + 1) as u32,
+    };
+    *place = Location {
+        start: last.begin,
+        end: last.end,
+        line: left.line,
+    };
+    let token = Token {
+        value: TokenValue::NewLine,
+        location: *place,
+        leading_whitespace: flags.leading_whitespace,
+        start_of_line: flags.start_of_line,
+    };
+    flags.leading_whitespace = true;
+    flags.start_of_line = true;
+    let rest = Left {
+        text: &left.text[taken..],
+        line: left.line + 1,
+        at: left.at + taken,
+    };
+    inner.go(rest, last);
+    Some(Ok(token))
+}
+
 // The newline that ends a last line which has none.
 fn final_newline(last: Spot, flags: &mut Flags) -> Option<LexerItem>
     ensures value { result ≡ first_item (newline_seen flags.old last) }
     ensures rest { newline_seen flags.new last ≡ behind_first_item (newline_seen flags.old last) }
+    ensures places { newline_places flags.new last ≡ places_after_first (newline_places flags.old last) }
     ensures comments { flags.new.had_comments ≡ flags.old.had_comments }
 {
     if flags.start_of_line {
@@ -91,6 +216,21 @@ fn final_newline(last: Spot, flags: &mut Flags) -> Option<LexerItem>
         leading_whitespace: flags.leading_whitespace,
         start_of_line: false,
     }))
+}
+
+// Where that newline stands, or where the last item does if there is none.
+fn place_at_end(flags: Flags, last: Spot, place: Location) -> Location
+    ensures { result ≡ first_place (newline_places flags last) place }
+{
+    let is_newline_due = !flags.start_of_line;
+    if is_newline_due {
+        return Location {
+            start: last.end,
+            end: last.end,
+            line: last.line,
+        };
+    }
+    place
 }
 
 // Whether the next item stands at the start of a line.
@@ -128,24 +268,54 @@ fn item_of(
     })
 }
 
-// The next item, or none at the end.
-fn lex(
+// The next item, or none at the end, character by character.
+fn lex_by_characters(
     alloc: Global,
     inner: &mut LexerCharIterator<'_>,
     flags: &mut Flags,
+    place: &mut Location,
 ) -> Result<Option<LexerItem>, AllocError>
-    ensures { IsLexed flags.old inner.old result flags.new inner.new }
+    ensures lexed { IsLexed flags.old inner.old result flags.new inner.new }
+    ensures placed { OnOk result (IsPlaced flags.old inner.old place.old flags.new inner.new place.new) }
 {
     skip_blanks(inner, flags);
     let Some(first) = inner.peek_spot() else {
-        return Ok(final_newline(inner.last_consumed(), flags));
+        let last = inner.last_consumed();
+        *place = place_at_end(*flags, last, *place);
+        return Ok(final_newline(last, flags));
     };
     let value = parse_word(alloc, inner)?;
     let before = *flags;
     let at_line_end = ends_line(&value);
     flags.leading_whitespace = at_line_end;
     flags.start_of_line = at_line_end;
-    Ok(Some(item_of(value, before, first, inner.last_consumed())))
+    let last = inner.last_consumed();
+    *place = Location {
+        start: first.begin,
+        end: last.end,
+        line: first.line,
+    };
+    Ok(Some(item_of(value, before, first, last)))
+}
+
+// The next item, or none at the end.
+fn lex(
+    alloc: Global,
+    inner: &mut LexerCharIterator<'_>,
+    flags: &mut Flags,
+    place: &mut Location,
+) -> Result<Option<LexerItem>, AllocError>
+    ensures lexed { IsLexed flags.old inner.old result flags.new inner.new }
+    ensures placed { OnOk result (IsPlaced flags.old inner.old place.old flags.new inner.new place.new) }
+{
+    skip_spaces(inner, flags);
+    if let Some(item) = lex_plain(alloc, inner, flags, place)? {
+        return Ok(Some(item));
+    }
+    if let Some(newline) = lex_newline(inner, flags, place) {
+        return Ok(Some(newline));
+    }
+    lex_by_characters(alloc, inner, flags, place)
 }
 
 /// The items of a source, one a call of `next`: tokens with places and flags, and errors.
@@ -154,8 +324,9 @@ fn lex(
 /// number or a punctuator; behind the last one a [`TokenValue::NewLine`] is added where the last line has none.
 /// Places are byte offsets and 1-based lines of the source.
 ///
-/// The errors, each at (0, 0, line 1): [`PreprocessorError::UnexpectedCharacter`], which takes its character and up to two
-/// more; of a number [`PreprocessorError::NotSupported64BitLiteral`], [`PreprocessorError::NotSupported16BitLiteral`],
+/// The errors, each with (0, 0, line 1), while [`Lexer::place`] says where it stands:
+/// [`PreprocessorError::UnexpectedCharacter`], which takes its character and up to two more; of a number
+/// [`PreprocessorError::NotSupported64BitLiteral`], [`PreprocessorError::NotSupported16BitLiteral`],
 /// [`PreprocessorError::IntegerOverflow`] and [`PreprocessorError::FloatParsingError`]; and
 /// [`PreprocessorError::OutOfMemory`], which can come only in place of an identifier or of a float. Behind an
 /// `OutOfMemory` it gives `None` for good, and behind each other error it goes on.
@@ -168,6 +339,7 @@ pub struct Lexer<'a> {
     inner: LexerCharIterator<'a>,
     flags: Flags,
     spent: bool,
+    place: Location,
 }
 
 impl<'a> Model for Lexer<'a> {
@@ -177,7 +349,7 @@ impl<'a> Model for Lexer<'a> {
 
     ghost use Rattle.pp_lexer.specs.Passing.{lexed};
 
-    ghost view = { λ s. lexed s.flags s.inner s.spent };
+    ghost view = { λ s. lexed s.flags s.inner s.place s.spent };
 }
 
 impl<'a> Lexer<'a> {
@@ -195,6 +367,7 @@ impl<'a> Lexer<'a> {
                 had_comments: false,
             },
             spent: false,
+            place: NOWHERE,
         }
     }
 
@@ -206,6 +379,15 @@ impl<'a> Lexer<'a> {
         self.flags.had_comments
     }
 
+    /// Where the item stands that was given last, an error too: the byte offsets and the line of what it took. Before the
+    /// first item it is [`NOWHERE`], the `None` at the end leaves it as it is, and once memory was refused nothing is said
+    /// of it.
+    pub fn place(&self) -> Location
+        ensures { result ≡ self.now.place }
+    {
+        self.place
+    }
+
     // The next item.
     fn next_item(&mut self) -> Option<LexerItem>
         ensures { IsNext self.old result self.new }
@@ -213,7 +395,12 @@ impl<'a> Lexer<'a> {
         if self.spent {
             return None;
         }
-        let Ok(item) = lex(self.alloc, &mut self.inner, &mut self.flags) else {
+        let Ok(item) = lex(
+            self.alloc,
+            &mut self.inner,
+            &mut self.flags,
+            &mut self.place,
+        ) else {
             self.spent = true;
             return Some(Err(out_of_memory()));
         };

@@ -14,8 +14,6 @@ mod ends;
 mod input;
 pub mod laws;
 mod output;
-#[cfg(test)]
-mod tests;
 mod words;
 
 pub use devices::{DeviceFailed, OverRead, OverWrite, Sink, Source};

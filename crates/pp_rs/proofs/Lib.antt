@@ -23,6 +23,7 @@ pub mod FrameLemmas
 pub mod OpenMacroLemmas
 pub mod OpenNamesLemmas
 pub mod OpenAroundLemmas
+pub mod PieceLemmas
 pub mod Walk
 pub mod UnspentLemmas
 pub mod ItemThereLemmas

@@ -1,11 +1,14 @@
 -- What the reader of the words of an `#if`, `#elif` or `#line` line gives (docs/RULES.md, Expressions 1 to 3).
-use Rattle.std.specs.Prelude.{◌≡◌, Bool, Option, Some, None, Result, MatchResult, IfOk, IfSome}
+use Rattle.std.specs.Prelude.{◌≡◌, ℕ, List, [], Bool, Option, Some, None, Result, MatchResult, IfOk, IfSome}
 use Rattle.pp_lexer.specs.declared.token.Location.{Location}
 use Rattle.pp_lexer.specs.declared.token.Token.{Token}
 use Rattle.pp_model.specs.Names.{Name}
 use Rattle.pp_model.specs.Calls.{Fault}
 use Rattle.pp_model.specs.Emitting.{answers_at}
 use Rattle.pp_model.specs.LineWords.{Words, LineWords, name_in, unwanted}
+use Rattle.pp_model.specs.Reading.{reading_of}
+use Rattle.pp_model.specs.declared.word.LineKind.{LineKind}
+use Rattle.pp_rs.specs.Defined.{Defined, meaning_of}
 use Rattle.pp_rs.specs.LineItems.{IsOnLine, IsWorkLess, ReadsItem, ReadsTaken, ReadsOperand, ReadsParenthesized, ReadsClosed, expander_of, outcome_of}
 use Rattle.pp_rs.specs.declared.pp.halt.Halt.{Halt}
 use Rattle.pp_rs.specs.declared.pp.if_parser.IfParser.{IfParser}
@@ -45,3 +48,7 @@ GivesClosed parser name old result new = ReadsClosed parser.kind parser.directiv
 -- the words that the rest of the line comes to
 abbrev pub AreWordsOf : IfParser → LineExpander → Words → Type 0
 AreWordsOf parser line words = LineWords parser.kind parser.directive (answers_at parser.levels) (expander_of line.caller line.lexer) words
+
+-- the words that the whole line comes to
+abbrev pub AreWordsOfLine : LineKind → Location → ℕ → List Token → List Defined → Words → Type 0
+AreWordsOfLine kind directive levels tokens definitions words = LineWords kind directive (answers_at levels) (reading_of tokens (meaning_of definitions) []) words

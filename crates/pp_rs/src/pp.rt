@@ -43,6 +43,3 @@ pub use pp_model::outcome::Outcome;
 
 /// How many expansions of arguments may stand inside each other.
 pub const EXPANSION_LIMIT: u32 = 128;
-
-#[cfg(test)]
-mod tests;

@@ -1,8 +1,8 @@
 //! Ten thousand blocks inside each other.
 
-use crate::shown::item;
 use pp_rs::pp::Preprocessor;
 use pp_rs::token::{Location, PreprocessorError};
+use pp_shown::item;
 use std::test::Fail;
 
 #[test]

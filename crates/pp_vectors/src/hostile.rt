@@ -1,124 +1,35 @@
-//! Hostile texts: errors where they do most harm, sources that are cut off, definitions that are added without end, and
-//! long chains. Each run comes to its end.
+//! Hostile texts: sources that are cut off, definitions that are added without end, and long chains. Each run comes to
+//! its end.
 
-use crate::added::{all_items, rest, start};
-use pp_rs::pp::{Preprocessor, PreprocessorItem};
+use pp_rs::pp::{Preprocessor, PreprocessorItem, preprocess_all};
+use pp_shown::{item, joined};
 use std::alloc::{AllocError, Global};
 use std::test::Fail;
 
-#[test]
-fn errors_in_dead_text(rt: HostRuntime) -> Result<(), Fail> {
-    for (source, expected) in [
-        (
-            "#ifdef Q\n08\n1.0e\n#endif\nx",
-            "Error IntegerOverflow 0..0 L1, Error FloatParsingError 0..0 L1, x 24..25 L5",
-        ),
-        // A block opens in dead text, whatever stands on its line.
-        (
-            "#ifdef Q\n#ifdef @ a\n#endif\nx\n#endif\ny",
-            "Error UnexpectedCharacter 0..0 L1, y 36..37 L6",
-        ),
-        (
-            "#ifdef Q\n#if 08 l #\n#endif\nx\n#endif\ny",
-            "Error IntegerOverflow 0..0 L1, y 36..37 L6",
-        ),
-        // A bad character takes the number sign of an `#endif` with it.
-        (
-            "#ifdef Q\n#ifdef @\n#endif\nx",
-            "Error UnexpectedCharacter 0..0 L1, Error UnfinishedBlock 10..15 L2, Error UnfinishedBlock 1..6 L1",
-        ),
-        // Behind an error in place of its word a line is dead text.
-        (
-            "#ifdef Q\n#08 ifdef R\n#endif\nx",
-            "Error IntegerOverflow 0..0 L1, x 28..29 L4",
-        ),
-    ] {
-        let mut pp = start(rt.alloc(), source)?;
-        let found = rest(rt.alloc(), &mut pp)?;
-        assert_eq!(rt; found.as_str(), expected, "of {source:?}");
+// A preprocessor of a source of fewer than a million bytes.
+fn start<'a>(alloc: Global, source: &'a str) -> Result<Preprocessor<'a>, Fail> {
+    if source.len() >= 1_000_000 {
+        return Err(Fail::from("a long source"));
     }
-    Ok(())
+    Ok(Preprocessor::new(alloc, source))
 }
 
-#[test]
-fn lines_at_fault(rt: HostRuntime) -> Result<(), Fail> {
-    for (source, expected) in [
-        // An `#endif` closes its block, whatever stands behind it.
-        (
-            "#ifdef A\n#endif %\nx",
-            "Error UnexpectedToken(Percent) 16..17 L2, x 18..19 L3",
-        ),
-        (
-            "#ifdef A\n#endif 08\nx",
-            "Error IntegerOverflow 0..0 L1, x 19..20 L3",
-        ),
-        (
-            "#ifndef A\n#endif # %\nx",
-            "Error UnexpectedHash 17..18 L2, Percent 19..20 L2, x 21..22 L3",
-        ),
-        (
-            "#ifdef Q\n#ifdef R\n#endif 1s %\nx\n#endif\ny",
-            "Error NotSupported16BitLiteral 0..0 L1, y 39..40 L6",
-        ),
-        // In live text a line at fault opens no block, and defines and undefines nothing.
-        (
-            "#ifdef A 08\nx\n#endif",
-            "Error IntegerOverflow 0..0 L1, x 12..13 L2, Error EndifOutsideOfBlock 15..20 L3",
-        ),
-        (
-            "#define A 1 @\nA\nA",
-            "Error UnexpectedCharacter 0..0 L1, A 16..17 L3",
-        ),
-        (
-            "#define A 1\n#define A @ 2\n#undef A 08\nA",
-            "Error UnexpectedCharacter 0..0 L1, Error IntegerOverflow 0..0 L1, 1 10..11 L1",
-        ),
-    ] {
-        let mut pp = start(rt.alloc(), source)?;
-        let found = rest(rt.alloc(), &mut pp)?;
-        assert_eq!(rt; found.as_str(), expected, "of {source:?}");
-    }
-    Ok(())
-}
-
-// An error's name and a source that meets it, for each error that can come.
-const ERRORS: [(&str, &str); 15] = [
-    ("UnexpectedCharacter", "@"),
-    ("IntegerOverflow", "08"),
-    ("FloatParsingError", "1.0e"),
-    ("NotSupported16BitLiteral", "1s"),
-    ("NotSupported64BitLiteral", "1.0l"),
-    ("UnexpectedToken", "#undef 1"),
-    ("UnexpectedHash", "a #"),
-    ("UnexpectedNewLine", "#"),
-    ("UnknownDirective", "#nope"),
-    ("ErrorDirective", "#error"),
-    ("DefineRedefined", "#define A 1\n#define A 2"),
-    ("ElseOutsideOfBlock", "#else"),
-    ("EndifOutsideOfBlock", "#endif"),
-    ("MoreThanOneElse", "#ifdef A\n#else\n#else"),
-    ("UnfinishedBlock", "#ifdef A"),
-];
-
-// Whether the item is an error of this name.
-fn is_error(item: &PreprocessorItem, name: &str) -> bool {
-    match item {
-        Ok(_) => false,
-        Err((error, _)) => error.name() == name,
+// All items that are left.
+fn all_items(alloc: Global, pp: &mut Preprocessor<'_>) -> Result<Vec<PreprocessorItem>, Fail> {
+    match preprocess_all(alloc, pp) {
+        Ok(items) => Ok(items),
+        Err(_) => Err(Fail::from("memory")),
     }
 }
 
-#[test]
-fn each_error_comes_and_then_the_end(rt: HostRuntime) -> Result<(), Fail> {
-    for (name, source) in ERRORS {
-        let mut pp = start(rt.alloc(), source)?;
-        let items = all_items(rt.alloc(), &mut pp)?;
-        let is_there = items.iter().any(|item| is_error(item, name));
-        assert!(rt; is_there, "{name} of {source:?}");
-        assert!(rt; pp.next().is_none(), "the end of {source:?}");
-        assert!(rt; pp.next().is_none(), "the end of {source:?}");
+// All items that are left, as text.
+fn rest(alloc: Global, pp: &mut Preprocessor<'_>) -> Result<String, Fail> {
+    let items = all_items(alloc, pp)?;
+    let mut parts = Vec::new(alloc);
+    for given in &items {
+        parts.push(item(alloc, given)?)?;
     }
-    Ok(())
+    Ok(joined(alloc, &parts)?)
 }
 
 // Sources of many kinds.
@@ -204,5 +115,27 @@ fn a_chain_of_two_thousand_macros(rt: HostRuntime) -> Result<(), Fail> {
     let mut pp = start(rt.alloc(), source.as_str())?;
     let found = rest(rt.alloc(), &mut pp)?;
     assert_eq!(rt; found.as_str(), "n2000 37777..37782 L2000");
+    Ok(())
+}
+
+// Lets each of three hundred names stand for the next.
+fn add_chain(alloc: Global, pp: &mut Preprocessor<'_>) -> Result<bool, AllocError> {
+    for index in 0..300 {
+        let next = index + 1;
+        let name = format!(in alloc; "n{index}")?;
+        let content = format!(in alloc; "n{next}")?;
+        if content.len() >= 1000 || pp.add_define(name.as_str(), content.as_str()).is_err() {
+            return Ok(false);
+        }
+    }
+    Ok(true)
+}
+
+#[test]
+fn a_chain_of_three_hundred_added_names(rt: HostRuntime) -> Result<(), Fail> {
+    let mut pp = start(rt.alloc(), "n0")?;
+    assert!(rt; add_chain(rt.alloc(), &mut pp)?);
+    let found = rest(rt.alloc(), &mut pp)?;
+    assert_eq!(rt; found.as_str(), "n300 0..4 L1");
     Ok(())
 }

@@ -1,250 +1,634 @@
 //! Runs of the printing program over sources and outputs that fail, or give and take little at a time.
 
-ghost use Rattle.std.specs.Prelude.{◌≡◌, None, false};
-
-use pp_print::{DeviceFailed, RunEnd, RunFault, Sink, Source, message, run, status};
+use crate::devices::{FakeSink, FakeSource};
+use pp_print::{RunEnd, RunFault, Sink, Source, message, run, split_word, status};
 use pp_rs::token::{Location, PreprocessorError};
-use std::alloc::Global;
-use std::process::Abort;
+use std::alloc::{AllocError, Global};
 use std::test::Fail;
 
-// Bytes that come at most `step` at a time, where after `reads` reads each further one fails.
-#[derive(Drop)]
-struct FakeSource<'a> {
-    left: &'a [u8],
-    step: usize,
-    reads: usize,
-    failed: bool,
+/// A source and definitions, and what the program prints, answers and says of them.
+struct Row {
+    source: &'static str,
+    defs: &'static [(&'static str, &'static str)],
+    printed: &'static str,
+    status: u8,
+    said: &'static str,
 }
 
-impl<'a> FakeSource<'a> {
-    fn new(left: &'a [u8], step: usize, reads: usize) -> FakeSource<'a>
-        ensures { result.failed ≡ false }
-    {
-        FakeSource {
-            left,
-            step,
-            reads,
-            failed: false,
+const ROWS: [Row; 28] = [
+    Row {
+        source: "",
+        defs: &[],
+        printed: "",
+        status: 0,
+        said: "",
+    },
+    Row {
+        source: "// note",
+        defs: &[],
+        printed: "",
+        status: 0,
+        said: "",
+    },
+    Row {
+        source: "// é, no token",
+        defs: &[],
+        printed: "",
+        status: 0,
+        said: "",
+    },
+    Row {
+        source: "a = b+1; // note",
+        defs: &[],
+        printed: "a = b + 1 ;\n",
+        status: 0,
+        said: "",
+    },
+    Row {
+        source: "a\n\nb\n",
+        defs: &[],
+        printed: "a b\n",
+        status: 0,
+        said: "",
+    },
+    Row {
+        source: "int x=0x1Fu+2; // note\n/* */y<<=1.5f\n\\\n;",
+        defs: &[],
+        printed: "int x = 31u + 2 ; y <<= 1.5 ;\n",
+        status: 0,
+        said: "",
+    },
+    Row {
+        source: "a # b",
+        defs: &[],
+        printed: "a\n",
+        status: 1,
+        said: "error UnexpectedHash 2 3",
+    },
+    Row {
+        source: "@ x",
+        defs: &[],
+        printed: "",
+        status: 1,
+        said: "error UnexpectedCharacter 0 0",
+    },
+    Row {
+        source: "a b\nc @ d",
+        defs: &[],
+        printed: "a b c\n",
+        status: 1,
+        said: "error UnexpectedCharacter 0 0",
+    },
+    Row {
+        source: "#define A 1\nA",
+        defs: &[],
+        printed: "1\n",
+        status: 0,
+        said: "",
+    },
+    Row {
+        source: "#define A B +\nA\nA C",
+        defs: &[],
+        printed: "B + B + C\n",
+        status: 0,
+        said: "",
+    },
+    Row {
+        source: "#define A B + A\n#define B 2\nA;\n#undef B\nA;",
+        defs: &[],
+        printed: "2 + A ; B + A ;\n",
+        status: 0,
+        said: "",
+    },
+    Row {
+        source: "#version 300 es\nx",
+        defs: &[],
+        printed: "#version 300 es\nx\n",
+        status: 0,
+        said: "",
+    },
+    Row {
+        source: "#pragma\nx\n#version 300",
+        defs: &[],
+        printed: "#pragma\nx\n#version 300\n",
+        status: 0,
+        said: "",
+    },
+    Row {
+        source: "x\n#error A",
+        defs: &[],
+        printed: "x\n",
+        status: 1,
+        said: "error ErrorDirective 3 8",
+    },
+    Row {
+        source: "A\n#error",
+        defs: &[],
+        printed: "A\n",
+        status: 1,
+        said: "error ErrorDirective 3 8",
+    },
+    Row {
+        source: "a\n#if 1\nb\n#endif",
+        defs: &[],
+        printed: "a\n",
+        status: 1,
+        said: "error UnknownDirective 3 5",
+    },
+    Row {
+        source: "A",
+        defs: &[("A", "7")],
+        printed: "7\n",
+        status: 0,
+        said: "",
+    },
+    Row {
+        source: "#version 300 es\nA + B",
+        defs: &[("A", "7")],
+        printed: "#version 300 es\n7 + B\n",
+        status: 0,
+        said: "",
+    },
+    Row {
+        source: "a A b",
+        defs: &[("A", "")],
+        printed: "a b\n",
+        status: 0,
+        said: "",
+    },
+    Row {
+        source: "A;\nA B",
+        defs: &[("A", "7"), ("A", "B + 1")],
+        printed: "B + 1 ; B + 1 B\n",
+        status: 0,
+        said: "",
+    },
+    Row {
+        source: "A",
+        defs: &[("A", "7"), ("A", "8\n+ B"), ("B", "9")],
+        printed: "8 + 9\n",
+        status: 0,
+        said: "",
+    },
+    Row {
+        source: "a b + c",
+        defs: &[("a b", "7"), ("", "8"), ("+", "9")],
+        printed: "a b + c\n",
+        status: 0,
+        said: "",
+    },
+    Row {
+        source: "A b",
+        defs: &[("", "1"), ("A b", "2"), ("1", "3")],
+        printed: "A b\n",
+        status: 0,
+        said: "",
+    },
+    Row {
+        source: "#undef A\nA",
+        defs: &[("A", "7")],
+        printed: "A\n",
+        status: 0,
+        said: "",
+    },
+    Row {
+        source: "#define A 7\nA\n#undef A\nA",
+        defs: &[("A", "7")],
+        printed: "7 A\n",
+        status: 0,
+        said: "",
+    },
+    Row {
+        source: "A\n#define A 8\nA",
+        defs: &[("A", "7")],
+        printed: "7\n",
+        status: 1,
+        said: "error DefineRedefined 10 11",
+    },
+    Row {
+        source: "#define A 8\nA",
+        defs: &[("A", "7")],
+        printed: "",
+        status: 1,
+        said: "error DefineRedefined 8 9",
+    },
+];
+
+// Whether the run comes to what the row says, where so many bytes come a read and are taken a write.
+fn is_as_wanted(alloc: Global, row: &Row, step: usize) -> Result<bool, AllocError> {
+    let mut reader = FakeSource::new(row.source.as_bytes(), step, 1000);
+    let mut writer = FakeSink::new(alloc, step, 1000);
+    let end = run(alloc, row.defs, &mut reader, &mut writer);
+    let said = message(alloc, &end)?;
+    Ok(
+        writer.taken.as_slice() == row.printed.as_bytes()
+            && status(&end) == row.status
+            && said.as_str() == row.said
+            && !reader.has_failed()
+            && !writer.has_failed(),
+    )
+}
+
+// The sources of the rows that come to something else.
+fn differences(alloc: Global, rows: &[Row]) -> Result<String, AllocError> {
+    let mut faulty = String::new(alloc);
+    for row in rows {
+        for step in [1, 2, 3, 20000] {
+            if !is_as_wanted(alloc, row, step)? {
+                faulty.push_str(row.source)?;
+                faulty.push('\n')?;
+            }
         }
     }
-}
-
-impl<'a> Source for FakeSource<'a> {
-    ghost remaining = { λ _. None };
-
-    ghost failed = { λ s. s.failed };
-
-    fn read(&mut self, buf: &mut [u8]) -> Result<usize, DeviceFailed> {
-        if self.reads == 0 {
-            self.failed = true;
-            return Err(DeviceFailed);
-        }
-        self.reads -= 1;
-        let count = self.step.min(buf.len()).min(self.left.len());
-        buf[..count].copy_from_slice(&self.left[..count]);
-        self.left = &self.left[count..];
-        Ok(count)
-    }
-
-    fn has_failed(&self) -> bool {
-        self.failed
-    }
-}
-
-// Takes at most `step` bytes a write, and at least one. After `writes` writes each further one fails.
-#[derive(Drop)]
-struct FakeSink {
-    taken: Vec<u8>,
-    step: usize,
-    writes: usize,
-    failed: bool,
-}
-
-impl FakeSink {
-    fn new(alloc: Global, step: usize, writes: usize) -> FakeSink
-        ensures { result.failed ≡ false }
-    {
-        FakeSink {
-            taken: Vec::new(alloc),
-            step,
-            writes,
-            failed: false,
-        }
-    }
-}
-
-impl Sink for FakeSink {
-    ghost contents = { λ _. None };
-
-    ghost failed = { λ s. s.failed };
-
-    fn write(&mut self, bytes: &[u8]) -> Result<usize, DeviceFailed> {
-        let count = self.step.max(1).min(bytes.len());
-        if self.writes == 0 || self.taken.extend_from_slice(&bytes[..count]).is_err() {
-            self.failed = true;
-            return Err(DeviceFailed);
-        }
-        self.writes -= 1;
-        Ok(count)
-    }
-
-    fn has_failed(&self) -> bool {
-        self.failed
-    }
-}
-
-// Runs over a source that gives `step` bytes a read and an output that takes as many a write.
-fn expect_output(
-    rt: &(impl Abort + AllocGlobal),
-    source: &str,
-    defs: &[(&str, &str)],
-    step: usize,
-    output: &str,
-    end: &Result<RunEnd, RunFault>,
-) {
-    let mut reader = FakeSource::new(source.as_bytes(), step, 1000);
-    let mut writer = FakeSink::new(rt.alloc(), step, 1000);
-    let came = run(rt.alloc(), defs, &mut reader, &mut writer);
-    assert_eq!(rt; &came, end, "at {source} by {step}");
-    assert_eq!(rt;
-        writer.taken.as_slice(),
-        output.as_bytes(),
-        "at {source} by {step}"
-    );
-    assert!(rt; !reader.has_failed());
-    assert!(rt; !writer.has_failed());
-}
-
-fn stopped(error: PreprocessorError, start: u32, end: u32, line: u32) -> Result<RunEnd, RunFault> {
-    Ok(RunEnd::Stopped {
-        error,
-        location: Location { start, end, line },
-    })
+    Ok(faulty)
 }
 
 #[test]
-fn prints_up_to_the_first_error(rt: HostRuntime) {
-    for step in [1, 3, 20000] {
-        expect_output(&rt, "", &[], step, "", &Ok(RunEnd::Done));
-        expect_output(&rt, "// note", &[], step, "", &Ok(RunEnd::Done));
-        let done = Ok(RunEnd::Done);
-        expect_output(&rt, "a = b+1; // note", &[], step, "a = b + 1 ;\n", &done);
-        expect_output(&rt, "a\n\nb\n", &[], step, "a b\n", &done);
-        let hash = stopped(PreprocessorError::UnexpectedHash, 2, 3, 1);
-        expect_output(&rt, "a # b", &[], step, "a\n", &hash);
-        let character = stopped(PreprocessorError::UnexpectedCharacter, 0, 0, 1);
-        expect_output(&rt, "@ x", &[], step, "", &character);
-        expect_output(
-            &rt,
-            "#define A B +\nA\nA C",
-            &[],
-            step,
-            "B + B + C\n",
-            &done,
-        );
-        expect_output(
-            &rt,
-            "#version 300 es\nx",
-            &[],
-            step,
-            "#version 300 es\nx\n",
-            &done,
-        );
-        let directive = stopped(PreprocessorError::ErrorDirective, 3, 8, 2);
-        expect_output(&rt, "x\n#error A", &[], step, "x\n", &directive);
-    }
-}
-
-#[test]
-fn prints_what_definitions_stand_for(rt: HostRuntime) {
-    for step in [1, 3, 20000] {
-        let done = Ok(RunEnd::Done);
-        expect_output(&rt, "A", &[("A", "7")], step, "7\n", &done);
-        let both = [("A", "7"), ("A", "B + 1")];
-        expect_output(&rt, "A;\nA B", &both, step, "B + 1 ; B + 1 B\n", &done);
-        let unmet = [("a b", "7"), ("", "8"), ("+", "9")];
-        expect_output(&rt, "a b + c", &unmet, step, "a b + c\n", &done);
-        expect_output(&rt, "#undef A\nA", &[("A", "7")], step, "A\n", &done);
-        let redefined = stopped(PreprocessorError::DefineRedefined, 10, 11, 2);
-        expect_output(
-            &rt,
-            "A\n#define A 8\nA",
-            &[("A", "7")],
-            step,
-            "7\n",
-            &redefined,
-        );
-    }
-}
-
-#[test]
-fn gives_up_at_a_failed_write(rt: HostRuntime) {
-    // `a = b + 1 ;` and LF are twelve bytes.
-    for writes in 0..12 {
-        let mut reader = FakeSource::new(b"a = b+1;", 3, 1000);
-        let mut writer = FakeSink::new(rt.alloc(), 1, writes);
-        let end = run(rt.alloc(), &[], &mut reader, &mut writer);
-        assert_eq!(rt; end, Err(RunFault::WriteFailed), "after {writes}");
-        assert!(rt; writer.has_failed());
-    }
-    let mut reader = FakeSource::new(b"a = b+1;", 3, 1000);
-    let mut writer = FakeSink::new(rt.alloc(), 1, 12);
-    let end = run(rt.alloc(), &[], &mut reader, &mut writer);
-    assert_eq!(rt; end, Ok(RunEnd::Done));
-}
-
-#[test]
-fn writes_nothing_after_a_failed_read(rt: HostRuntime) {
-    // Eight reads give a byte each, and the ninth says that none is left.
-    for reads in 0..9 {
-        let mut reader = FakeSource::new(b"a = b+1;", 1, reads);
-        let mut writer = FakeSink::new(rt.alloc(), 1, 1000);
-        let end = run(rt.alloc(), &[], &mut reader, &mut writer);
-        assert_eq!(rt; end, Err(RunFault::ReadFailed), "after {reads}");
-        assert!(rt; reader.has_failed());
-        assert!(rt; writer.taken.is_empty());
-    }
-}
-
-#[test]
-fn writes_nothing_of_what_is_no_source(rt: HostRuntime) {
-    let mut reader = FakeSource::new(b"\xff", 1, 1000);
-    let mut writer = FakeSink::new(rt.alloc(), 1, 1000);
-    let end = run(rt.alloc(), &[], &mut reader, &mut writer);
-    assert_eq!(rt; end, Err(RunFault::NotUtf8));
-    assert!(rt; writer.taken.is_empty());
-}
-
-// What a run with these definitions says and answers, where nothing may be written.
-fn expect_bad_word(rt: &(impl Abort + AllocGlobal), defs: &[(&str, &str)]) -> Result<(), Fail> {
-    let mut reader = FakeSource::new(b"a = A;", 1, 1000);
-    let mut writer = FakeSink::new(rt.alloc(), 1, 1000);
-    let end = run(rt.alloc(), defs, &mut reader, &mut writer);
-    assert_eq!(rt; end, Err(RunFault::BadWord));
-    assert_eq!(rt; status(&end), 2);
-    let said = message(rt.alloc(), &end)?;
-    assert_eq!(rt; said.as_str(), "pp_print: bad word");
-    assert!(rt; writer.taken.is_empty());
+fn rows_are_printed(rt: HostRuntime) -> Result<(), Fail> {
+    let found = differences(rt.alloc(), &ROWS)?;
+    assert_eq!(rt; found.as_str(), "");
     Ok(())
 }
 
-#[test]
-fn writes_nothing_behind_a_bad_word(rt: HostRuntime) -> Result<(), Fail> {
-    expect_bad_word(&rt, &[("A", "1 #")])?;
-    expect_bad_word(&rt, &[("A", "1"), ("B", "@")])?;
-    expect_bad_word(&rt, &[("A", "1\n#"), ("A", "1")])?;
-    expect_bad_word(&rt, &[("a b", "18446744073709551616")])
+/// Bytes that come `step` at a time and fail after `reads` reads, and definitions: what refuses them.
+struct Refusal {
+    source: &'static [u8],
+    step: usize,
+    reads: usize,
+    defs: &'static [(&'static str, &'static str)],
+    fault: RunFault,
+}
+
+const REFUSALS: [Refusal; 38] = [
+    Refusal {
+        source: b"a = b;",
+        step: 1,
+        reads: 0,
+        defs: &[("A", "1 #")],
+        fault: RunFault::ReadFailed,
+    },
+    Refusal {
+        source: b"a = b;",
+        step: 1,
+        reads: 1,
+        defs: &[("A", "1 #")],
+        fault: RunFault::ReadFailed,
+    },
+    Refusal {
+        source: b"a = b;",
+        step: 1,
+        reads: 2,
+        defs: &[("A", "1 #")],
+        fault: RunFault::ReadFailed,
+    },
+    Refusal {
+        source: b"a = b;",
+        step: 1,
+        reads: 3,
+        defs: &[("A", "1 #")],
+        fault: RunFault::ReadFailed,
+    },
+    Refusal {
+        source: b"a = b;",
+        step: 1,
+        reads: 4,
+        defs: &[("A", "1 #")],
+        fault: RunFault::ReadFailed,
+    },
+    Refusal {
+        source: b"a = b;",
+        step: 1,
+        reads: 5,
+        defs: &[("A", "1 #")],
+        fault: RunFault::ReadFailed,
+    },
+    Refusal {
+        source: b"a = b;",
+        step: 1,
+        reads: 6,
+        defs: &[("A", "1 #")],
+        fault: RunFault::ReadFailed,
+    },
+    Refusal {
+        source: b"a = b;",
+        step: 1,
+        reads: 7,
+        defs: &[("A", "1 #")],
+        fault: RunFault::BadWord,
+    },
+    Refusal {
+        source: b"a = b;",
+        step: 100,
+        reads: 2,
+        defs: &[("A", "1 #")],
+        fault: RunFault::BadWord,
+    },
+    Refusal {
+        source: b"\xff",
+        step: 1,
+        reads: 1,
+        defs: &[("A", "1 #")],
+        fault: RunFault::ReadFailed,
+    },
+    Refusal {
+        source: b"\xff",
+        step: 1,
+        reads: 2,
+        defs: &[("A", "1 #")],
+        fault: RunFault::NotUtf8,
+    },
+    Refusal {
+        source: b"a\xc3",
+        step: 1,
+        reads: 3,
+        defs: &[],
+        fault: RunFault::NotUtf8,
+    },
+    Refusal {
+        source: b"\xff",
+        step: 1,
+        reads: 1000,
+        defs: &[],
+        fault: RunFault::NotUtf8,
+    },
+    Refusal {
+        source: b"a = b+1;",
+        step: 1,
+        reads: 0,
+        defs: &[],
+        fault: RunFault::ReadFailed,
+    },
+    Refusal {
+        source: b"a = b+1;",
+        step: 1,
+        reads: 1,
+        defs: &[],
+        fault: RunFault::ReadFailed,
+    },
+    Refusal {
+        source: b"a = b+1;",
+        step: 1,
+        reads: 2,
+        defs: &[],
+        fault: RunFault::ReadFailed,
+    },
+    Refusal {
+        source: b"a = b+1;",
+        step: 1,
+        reads: 3,
+        defs: &[],
+        fault: RunFault::ReadFailed,
+    },
+    Refusal {
+        source: b"a = b+1;",
+        step: 1,
+        reads: 4,
+        defs: &[],
+        fault: RunFault::ReadFailed,
+    },
+    Refusal {
+        source: b"a = b+1;",
+        step: 1,
+        reads: 5,
+        defs: &[],
+        fault: RunFault::ReadFailed,
+    },
+    Refusal {
+        source: b"a = b+1;",
+        step: 1,
+        reads: 6,
+        defs: &[],
+        fault: RunFault::ReadFailed,
+    },
+    Refusal {
+        source: b"a = b+1;",
+        step: 1,
+        reads: 7,
+        defs: &[],
+        fault: RunFault::ReadFailed,
+    },
+    Refusal {
+        source: b"a = b+1;",
+        step: 1,
+        reads: 8,
+        defs: &[],
+        fault: RunFault::ReadFailed,
+    },
+    Refusal {
+        source: b"a = b;",
+        step: 100,
+        reads: 2,
+        defs: &[("A", "#"), ("B", "1")],
+        fault: RunFault::BadWord,
+    },
+    Refusal {
+        source: b"a = b;",
+        step: 100,
+        reads: 2,
+        defs: &[("B", "1"), ("A", "#")],
+        fault: RunFault::BadWord,
+    },
+    Refusal {
+        source: b"a = b;",
+        step: 100,
+        reads: 2,
+        defs: &[("A", "#"), ("A", "1")],
+        fault: RunFault::BadWord,
+    },
+    Refusal {
+        source: b"a = b;",
+        step: 100,
+        reads: 2,
+        defs: &[("A", "1\n# 2"), ("B", "1")],
+        fault: RunFault::BadWord,
+    },
+    Refusal {
+        source: b"a = b;",
+        step: 100,
+        reads: 2,
+        defs: &[("B", "1"), ("A", "1\n# 2")],
+        fault: RunFault::BadWord,
+    },
+    Refusal {
+        source: b"a = b;",
+        step: 100,
+        reads: 2,
+        defs: &[("A", "1\n# 2"), ("A", "1")],
+        fault: RunFault::BadWord,
+    },
+    Refusal {
+        source: b"a = b;",
+        step: 100,
+        reads: 2,
+        defs: &[("A", "08"), ("B", "1")],
+        fault: RunFault::BadWord,
+    },
+    Refusal {
+        source: b"a = b;",
+        step: 100,
+        reads: 2,
+        defs: &[("B", "1"), ("A", "08")],
+        fault: RunFault::BadWord,
+    },
+    Refusal {
+        source: b"a = b;",
+        step: 100,
+        reads: 2,
+        defs: &[("A", "08"), ("A", "1")],
+        fault: RunFault::BadWord,
+    },
+    Refusal {
+        source: b"a = b;",
+        step: 100,
+        reads: 2,
+        defs: &[("A", "@"), ("B", "1")],
+        fault: RunFault::BadWord,
+    },
+    Refusal {
+        source: b"a = b;",
+        step: 100,
+        reads: 2,
+        defs: &[("B", "1"), ("A", "@")],
+        fault: RunFault::BadWord,
+    },
+    Refusal {
+        source: b"a = b;",
+        step: 100,
+        reads: 2,
+        defs: &[("A", "@"), ("A", "1")],
+        fault: RunFault::BadWord,
+    },
+    Refusal {
+        source: b"a = A;",
+        step: 1,
+        reads: 1000,
+        defs: &[("A", "1 #")],
+        fault: RunFault::BadWord,
+    },
+    Refusal {
+        source: b"a = A;",
+        step: 1,
+        reads: 1000,
+        defs: &[("A", "1"), ("B", "@")],
+        fault: RunFault::BadWord,
+    },
+    Refusal {
+        source: b"a = A;",
+        step: 1,
+        reads: 1000,
+        defs: &[("A", "1\n#"), ("A", "1")],
+        fault: RunFault::BadWord,
+    },
+    Refusal {
+        source: b"a = A;",
+        step: 1,
+        reads: 1000,
+        defs: &[("a b", "18446744073709551616")],
+        fault: RunFault::BadWord,
+    },
+];
+
+// Whether the fault comes, and nothing was to be written.
+fn is_refused(alloc: Global, row: &Refusal) -> bool {
+    let mut reader = FakeSource::new(row.source, row.step, row.reads);
+    let mut writer = FakeSink::new(alloc, 1, 0);
+    let end = run(alloc, row.defs, &mut reader, &mut writer);
+    end == Err(row.fault)
+        && !writer.has_failed()
+        && reader.has_failed() == (row.fault == RunFault::ReadFailed)
+}
+
+// The first row that comes to something else.
+fn unrefused(alloc: Global, rows: &[Refusal]) -> Option<usize> {
+    for (index, row) in rows.iter().enumerate() {
+        if !is_refused(alloc, row) {
+            return Some(index);
+        }
+    }
+    None
 }
 
 #[test]
-fn tells_a_redefinition(rt: HostRuntime) -> Result<(), Fail> {
-    let mut reader = FakeSource::new(b"#define A 8\nA", 1, 1000);
-    let mut writer = FakeSink::new(rt.alloc(), 1, 1000);
-    let end = run(rt.alloc(), &[("A", "7")], &mut reader, &mut writer);
-    assert_eq!(rt; status(&end), 1);
-    let said = message(rt.alloc(), &end)?;
-    assert_eq!(rt; said.as_str(), "error DefineRedefined 8 9");
-    assert!(rt; writer.taken.is_empty());
+fn refusals_come_before_anything_is_written(rt: HostRuntime) {
+    assert_eq!(rt; unrefused(rt.alloc(), &REFUSALS), None);
+}
+
+// Sources without errors with the number of bytes that are printed of each, one a write.
+const PRINTED_BYTES: [(&str, usize); 2] = [
+    ("a = b+1;", 12),
+    ("int x=0x1Fu+2; // note\n/* */y<<=1.5f\n\\\n;", 30),
+];
+
+// How a run ends where so many writes succeed, each of one byte, and whether the output failed.
+fn written(alloc: Global, source: &str, writes: usize) -> (Result<RunEnd, RunFault>, bool) {
+    let mut reader = FakeSource::new(source.as_bytes(), 3, 1000);
+    let mut writer = FakeSink::new(alloc, 1, writes);
+    let end = run(alloc, &[], &mut reader, &mut writer);
+    (end, writer.has_failed())
+}
+
+#[test]
+fn a_failed_write_ends_the_run(rt: HostRuntime) {
+    for (source, bytes) in PRINTED_BYTES {
+        for writes in 0..bytes {
+            let wanted = (Err(RunFault::WriteFailed), true);
+            assert_eq!(rt;
+                written(rt.alloc(), source, writes),
+                wanted,
+                "after {writes}"
+            );
+        }
+        assert_eq!(rt;
+            written(rt.alloc(), source, bytes),
+            (Ok(RunEnd::Done), false)
+        );
+    }
+}
+
+const WORDS: [(&str, Option<(&str, &str)>); 6] = [
+    ("A=7", Some(("A", "7"))),
+    ("A=b=c", Some(("A", "b=c"))),
+    ("A=", Some(("A", ""))),
+    ("==", Some(("", "="))),
+    ("A", None),
+    ("", None),
+];
+
+#[test]
+fn words_are_cut(rt: HostRuntime) {
+    for (word, parts) in WORDS {
+        assert_eq!(rt; split_word(word), parts);
+    }
+}
+
+// Each end with its status and what is said of it.
+const ENDS: [(Result<RunEnd, RunFault>, u8, &str); 8] = [
+    (Ok(RunEnd::Done), 0, ""),
+    (
+        Ok(RunEnd::Stopped {
+            error: PreprocessorError::ErrorDirective,
+            location: Location {
+                start: 3,
+                end: 4294967294,
+                line: 2,
+            },
+        }),
+        1,
+        "error ErrorDirective 3 4294967294",
+    ),
+    (Err(RunFault::ReadFailed), 2, "pp_print: read failed"),
+    (Err(RunFault::TooLong), 2, "pp_print: input too long"),
+    (Err(RunFault::NotUtf8), 2, "pp_print: not UTF-8"),
+    (Err(RunFault::BadWord), 2, "pp_print: bad word"),
+    (Err(RunFault::WriteFailed), 2, "pp_print: write failed"),
+    (Err(RunFault::OutOfMemory), 2, "pp_print: out of memory"),
+];
+
+#[test]
+fn it_is_said_how_a_run_ended(rt: HostRuntime) -> Result<(), Fail> {
+    for (end, code, line) in &ENDS {
+        let said = message(rt.alloc(), end)?;
+        assert_eq!(rt; (status(end), said.as_str()), (*code, *line));
+    }
     Ok(())
 }

@@ -1,10 +1,12 @@
 //! The characters behind the phases, with their places and one of them looked at ahead.
 
-ghost use Rattle.std.specs.Prelude.{◌≡◌, ◌-◌, ◌^◌, ◌<◌, length, option_map};
-ghost use Rattle.std.specs.Str.{chars};
-ghost use Rattle.pp_lexer.specs.Reading.{first_char, first_of, behind_first, after_first, spots};
+ghost use Rattle.std.specs.Prelude.{⊤, ◌≡◌, ◌+◌, ◌-◌, ◌^◌, ◌<◌, ◌≤◌, length, option_map, MatchOption};
+ghost use Rattle.std.specs.Str.{chars, IsUtf8};
+ghost use Rattle.pp_lexer.specs.Reading.{IsAhead, first_char, first_of, behind_first, after_first, spots};
 ghost use Rattle.pp_lexer.specs.Spots.{spots_of};
+ghost use Rattle.pp_lexer.specs.Fronts.{spots_from, is_plain, IsLeft};
 
+use crate::lexer::chars_and_line::Left;
 use crate::lexer::replace_comments::ReplaceComments;
 use std::marker::Model;
 
@@ -24,23 +26,66 @@ pub struct Spot {
     pub end: u32,
 }
 
+// A character that was looked at, and the reader behind it.
+#[derive(Drop)]
+struct Ahead<'a> {
+    spot: Spot,
+    behind: ReplaceComments<'a>,
+}
+
 /// The characters behind the phases, with one looked at before it is taken.
 #[derive(Drop)]
 pub struct LexerCharIterator<'a> {
     inner: ReplaceComments<'a>,
-    peeked: Option<Spot>,
+    ahead: Option<Ahead<'a>>,
     last: Spot,
 }
 
 impl<'a> Model for LexerCharIterator<'a> {
-    ghost use Rattle.std.specs.Prelude.{◌<◌, ◌^◌, length};
-    ghost use Rattle.pp_lexer.specs.Reading.{Reading, ahead, spots};
+    ghost use Rattle.std.specs.Prelude.{⊤, ◌<◌, ◌^◌, length, MatchOption};
+    ghost use Rattle.pp_lexer.specs.Reading.{Reading, IsAhead, spots};
 
     ghost Value = { Reading };
 
-    ghost view = { λ s. record { rest = ahead s.peeked (spots s.inner.offset s.inner.rest); last = s.last } };
+    ghost view = { λ s. record { rest = spots s.inner.offset s.inner.rest; last = s.last } };
 
-    ghost invariant = { λ s. length (ahead s.peeked (spots s.inner.offset s.inner.rest)) < 2 ^ 32 };
+    ghost invariant = { λ s. (length (spots s.inner.offset s.inner.rest) < 2 ^ 32)
+        × MatchOption s.ahead ⊤ (λ a. IsAhead a.spot (spots a.behind.offset a.behind.rest) (spots s.inner.offset s.inner.rest)) };
+}
+
+// Whether no phase looks at the byte.
+#[inline(always)]
+fn is_plain(byte: u8) -> bool
+    ensures { result ≡ is_plain byte }
+{
+    byte < 128 && (byte != 10 && (byte != 13 && (byte != 92 && byte != 47)))
+}
+
+// Takes the next character, if it is plain.
+#[inline(always)]
+fn take_plain(inner: &mut ReplaceComments<'_>) -> Option<Spot>
+    ensures { MatchOption result (inner.new ≡ inner.old) (λ s. IsAhead s (spots inner.new.offset inner.new.rest) (spots inner.old.offset inner.old.rest)) }
+{
+    let left = inner.left();
+    let bytes = left.text.as_bytes();
+    if bytes.len() == 0 {
+        return None;
+    }
+    let byte = bytes[0];
+    if !is_plain(byte) {
+        return None;
+    }
+    *inner = ReplaceComments::at(Left {
+        text: &left.text[1..],
+        line: left.line,
+        at: left.at + 1,
+    });
+    Some(Spot {
+        c: byte as char,
+        line: left.line,
+        begin: left.at as u32,
+        end: (left.at + 1) as u32,
+    })
 }
 
 // The next character behind the phases.
@@ -48,6 +93,9 @@ fn next_spot(inner: &mut ReplaceComments<'_>) -> Option<Spot>
     ensures value { result ≡ first_of (spots inner.old.offset inner.old.rest) }
     ensures state { spots inner.new.offset inner.new.rest ≡ behind_first (spots inner.old.offset inner.old.rest) }
 {
+    if let Some(spot) = take_plain(inner) {
+        return Some(spot);
+    }
     let begin = inner.get_current_offset();
     let (c, line) = inner.next_item()?;
     let behind = inner.get_current_offset();
@@ -68,7 +116,7 @@ impl<'a> LexerCharIterator<'a> {
     {
         LexerCharIterator {
             inner: ReplaceComments::new(input),
-            peeked: None,
+            ahead: None,
             last: Spot {
                 c: NONE_CONSUMED_SENTINEL_VALUE,
                 line: 0,
@@ -83,13 +131,14 @@ impl<'a> LexerCharIterator<'a> {
         ensures value { result ≡ option_map (λ s. s.c) (first_char self.old) }
         ensures state { self.new ≡ after_first self.old }
     {
-        let spot = match self.peeked {
-            Some(spot) => {
-                self.peeked = None;
-                spot
-            }
-            None => next_spot(&mut self.inner)?,
-        };
+        if let Some(ahead) = &self.ahead {
+            let taken = ahead.spot;
+            self.inner = ahead.behind.duplicate();
+            self.ahead = None;
+            self.last = taken;
+            return Some(taken.c);
+        }
+        let spot = next_spot(&mut self.inner)?;
         self.last = spot;
         Some(spot.c)
     }
@@ -99,11 +148,12 @@ impl<'a> LexerCharIterator<'a> {
         ensures value { result ≡ first_char self.old }
         ensures same { self.new ≡ self.old }
     {
-        if let Some(spot) = self.peeked {
-            return Some(spot);
+        if let Some(ahead) = &self.ahead {
+            return Some(ahead.spot);
         }
-        let spot = next_spot(&mut self.inner)?;
-        self.peeked = Some(spot);
+        let mut behind = self.inner.duplicate();
+        let spot = next_spot(&mut behind)?;
+        self.ahead = Some(Ahead { spot, behind });
         Some(spot)
     }
 
@@ -123,9 +173,28 @@ impl<'a> LexerCharIterator<'a> {
     {
         LexerCharIterator {
             inner: self.inner.duplicate(),
-            peeked: self.peeked,
+            ahead: None,
             last: self.last,
         }
+    }
+
+    // What is left to read.
+    pub(crate) fn left(&self) -> Left<'a>
+        ensures { IsLeft result.line result.at result.text.now self.now.rest }
+    {
+        self.inner.left()
+    }
+
+    // Goes to where this is left, behind this last character.
+    pub(crate) fn go(&mut self, rest: Left<'a>, last: Spot)
+        requires room { rest.at + length rest.text.now < 2 ^ 32 - 1 }
+        requires lines { rest.line ≤ rest.at + 1 }
+        requires utf8 { IsUtf8 rest.text.now }
+        ensures { self.new ≡ record { rest = spots_from rest.entry.line rest.entry.at rest.entry.text.now; last = last } }
+    {
+        self.inner = ReplaceComments::at(rest);
+        self.ahead = None;
+        self.last = last;
     }
 
     /// The character that was taken last.

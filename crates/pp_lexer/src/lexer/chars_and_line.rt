@@ -5,6 +5,7 @@ ghost use Rattle.std.specs.Iterator.{at_most};
 ghost use Rattle.pp_lexer.specs.Cursor.{start_of, first, after, is_item};
 ghost use Rattle.pp_lexer.specs.Lines.{lines};
 ghost use Rattle.pp_lexer.specs.Readers.{IsFirstPiece, IsAtEnd, IsSkipped};
+ghost use Rattle.pp_lexer.specs.Fronts.{left};
 
 use std::alloc::AllocError;
 use std::marker::Model;
@@ -39,6 +40,14 @@ impl<'a> Model for CharsAndLine<'a> {
 
     ghost invariant = { λ s. (length s.text.now ≤ s.total)
         × (s.total < 2 ^ 32 - 1) × (s.line + length s.text.now ≤ s.total + 1) };
+}
+
+/// What is left of a source, with the line and the offset of its first byte.
+#[derive(Clone, Copy)]
+pub(crate) struct Left<'a> {
+    pub(crate) text: &'a str,
+    pub(crate) line: u32,
+    pub(crate) at: usize,
 }
 
 // Whether the item is this character.
@@ -105,6 +114,34 @@ impl<'a> CharsAndLine<'a> {
             text: self.text,
             line: self.line,
             total: self.total,
+        }
+    }
+
+    // What is left to read.
+    pub(crate) fn left(&self) -> Left<'a>
+        ensures value { self.now ≡ left result.line result.at result.text.now }
+        ensures room { result.at + length result.text.now < 2 ^ 32 - 1 }
+        ensures lines { result.line ≤ result.at + 1 }
+    {
+        let at = self.get_current_offset();
+        let line = self.line;
+        Left {
+            text: self.text,
+            line,
+            at,
+        }
+    }
+
+    // A reader of what is left.
+    pub(crate) fn at(rest: Left<'a>) -> Self
+        requires room { rest.at + length rest.text.now < 2 ^ 32 - 1 }
+        requires lines { rest.line ≤ rest.at + 1 }
+        ensures { result ≡ left rest.entry.line rest.entry.at rest.entry.text.now }
+    {
+        CharsAndLine {
+            text: rest.text,
+            line: rest.line,
+            total: rest.at + rest.text.len(),
         }
     }
 

@@ -1,7 +1,7 @@
 //! Laws of the character phases and of the items, over their definitions alone: each function's contract states one,
 //! for every source. The bodies do nothing.
 
-ghost use Rattle.pp_lexer.specs.ItemLaws.{TokensLieWithin, TokensHaveLines, ItemsAreFinite};
+ghost use Rattle.pp_lexer.specs.ItemLaws.{TokensLieWithin, TokensHaveLines, ItemsAreFinite, PlacesAreOfItems};
 ghost use Rattle.pp_lexer.specs.PhaseLaws.{PairsCountOnce, LinesCountNewlines, SourcesNeverFall, SourcesAreTiled, SourcesShorten};
 ghost use Rattle.pp_lexer.specs.Respelling.{ValuesAreSpelled, SpellingsAreReadBack};
 
@@ -27,11 +27,12 @@ pub fn phase_lengths()
 
 /// Each token of a source starts at or before its end, and ends within the source. Its line is at
 /// least 1, and at most one more than the source's bytes. A source has at most one item for each
-/// byte, and one more.
+/// byte, and one more. Each item, an error too, has one place, and that of a token is its location.
 pub fn places()
     ensures within { TokensLieWithin }
     ensures lines { TokensHaveLines }
     ensures finite { ItemsAreFinite }
+    ensures of_items { PlacesAreOfItems }
 {}
 
 /// Each token of a source is a newline, a `#`, or a value that can be spelled.

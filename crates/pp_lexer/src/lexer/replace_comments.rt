@@ -1,4 +1,4 @@
-ghost use Rattle.std.specs.Prelude.{⊤, ◌≡◌, ◌+◌, ◌-◌, ◌^◌, ◌<◌, ◌≤◌, length, MatchOption};
+ghost use Rattle.std.specs.Prelude.{⊤, ◌≡◌, ◌+◌, ◌-◌, ◌^◌, ◌<◌, ◌≤◌, true, length, take, MatchOption};
 ghost use Rattle.std.specs.Str.{chars};
 ghost use Rattle.std.specs.Char.{len_utf8};
 ghost use Rattle.std.specs.Iterator.{at_most};
@@ -6,9 +6,11 @@ ghost use Rattle.pp_lexer.specs.Cursor.{start_of, first, after};
 ghost use Rattle.pp_lexer.specs.Lines.{lines};
 ghost use Rattle.pp_lexer.specs.Continuations.{continued};
 ghost use Rattle.pp_lexer.specs.Comments.{replaced};
-ghost use Rattle.pp_lexer.specs.Readers.{uncommented, past_line, past_block};
+ghost use Rattle.std.specs.List.{list_all};
+ghost use Rattle.pp_lexer.specs.Fronts.{left, is_straight};
+ghost use Rattle.pp_lexer.specs.Readers.{joined, uncommented, past_line, past_block};
 
-use crate::lexer::chars_and_line::is_char;
+use crate::lexer::chars_and_line::{Left, is_char};
 use crate::lexer::skip_backslash_newline::SkipBackslashNewline;
 use std::alloc::AllocError;
 use std::marker::Model;
@@ -39,11 +41,44 @@ impl<'a> Model for ReplaceComments<'a> {
     ghost view = { λ s. uncommented s.inner };
 }
 
+// How many bytes at the front go on with a line comment.
+#[inline(always)]
+fn straight_length(bytes: &[u8]) -> usize
+    ensures within { result ≤ length bytes.now }
+    ensures passes { list_all is_straight (take result bytes.now) ≡ true }
+{
+    for (i, byte) in bytes.iter().enumerate() {
+        if !(*byte < 128 && *byte != 10 && *byte != 13 && *byte != 92) {
+            return i;
+        }
+    }
+    bytes.len()
+}
+
+// Passes the plain front of the rest of a line comment.
+fn skip_straight(inner: &mut SkipBackslashNewline<'_>)
+    ensures state { past_line inner.new ≡ past_line inner.old }
+    ensures forward { inner.old.offset ≤ inner.new.offset }
+{
+    let left = inner.left();
+    let bytes = left.text.as_bytes();
+    let count = straight_length(bytes);
+    if count == 0 {
+        return;
+    }
+    *inner = SkipBackslashNewline::at(Left {
+        text: &left.text[count..],
+        line: left.line,
+        at: left.at + count,
+    });
+}
+
 // Passes the rest of a line comment.
 fn skip_line(inner: &mut SkipBackslashNewline<'_>)
     ensures state { inner.new ≡ past_line inner.old }
     ensures forward { inner.old.offset ≤ inner.new.offset }
 {
+    skip_straight(inner);
     'line: loop {
         let mut peek = inner.duplicate();
         let Some((next, _)) = peek.next_item() else {
@@ -125,6 +160,26 @@ impl<'a> ReplaceComments<'a> {
     {
         ReplaceComments {
             inner: self.inner.duplicate(),
+        }
+    }
+
+    // What is left to read.
+    pub(crate) fn left(&self) -> Left<'a>
+        ensures value { self.now ≡ uncommented (joined (left result.line result.at result.text.now)) }
+        ensures room { result.at + length result.text.now < 2 ^ 32 - 1 }
+        ensures lines { result.line ≤ result.at + 1 }
+    {
+        self.inner.left()
+    }
+
+    // A reader of what is left.
+    pub(crate) fn at(rest: Left<'a>) -> Self
+        requires room { rest.at + length rest.text.now < 2 ^ 32 - 1 }
+        requires lines { rest.line ≤ rest.at + 1 }
+        ensures { result ≡ uncommented (joined (left rest.entry.line rest.entry.at rest.entry.text.now)) }
+    {
+        Self {
+            inner: SkipBackslashNewline::at(rest),
         }
     }
 

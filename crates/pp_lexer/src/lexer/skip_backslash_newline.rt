@@ -5,9 +5,10 @@ ghost use Rattle.std.specs.Iterator.{at_most};
 ghost use Rattle.pp_lexer.specs.Cursor.{start_of, first, after};
 ghost use Rattle.pp_lexer.specs.Lines.{lines};
 ghost use Rattle.pp_lexer.specs.Continuations.{continued};
+ghost use Rattle.pp_lexer.specs.Fronts.{left};
 ghost use Rattle.pp_lexer.specs.Readers.{joined};
 
-use crate::lexer::chars_and_line::{CharsAndLine, is_char};
+use crate::lexer::chars_and_line::{CharsAndLine, Left, is_char};
 use std::alloc::AllocError;
 use std::marker::Model;
 
@@ -79,6 +80,26 @@ impl<'a> SkipBackslashNewline<'a> {
     {
         SkipBackslashNewline {
             inner: self.inner.duplicate(),
+        }
+    }
+
+    // What is left to read.
+    pub(crate) fn left(&self) -> Left<'a>
+        ensures value { self.now ≡ joined (left result.line result.at result.text.now) }
+        ensures room { result.at + length result.text.now < 2 ^ 32 - 1 }
+        ensures lines { result.line ≤ result.at + 1 }
+    {
+        self.inner.left()
+    }
+
+    // A reader of what is left.
+    pub(crate) fn at(rest: Left<'a>) -> Self
+        requires room { rest.at + length rest.text.now < 2 ^ 32 - 1 }
+        requires lines { rest.line ≤ rest.at + 1 }
+        ensures { result ≡ joined (left rest.entry.line rest.entry.at rest.entry.text.now) }
+    {
+        Self {
+            inner: CharsAndLine::at(rest),
         }
     }
 

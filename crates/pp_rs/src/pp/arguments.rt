@@ -56,9 +56,9 @@ fn nesting_behind(depth: usize, value: &TokenValue) -> usize
 }
 
 // The tokens of a call cut at the commas that stand outside inner parentheses.
-fn arguments_of(alloc: Global, tokens: &[Token]) -> Result<ExpandedArguments, AllocError>
-    requires { AllHoldOrdinary tokens.now }
-    ensures { IfOk result (λ arguments. arguments ≡ arguments_of tokens.now) }
+fn arguments_of(alloc: Global, tokens: Vec<Token>) -> Result<ExpandedArguments, AllocError>
+    requires { AllHoldOrdinary tokens.items }
+    ensures { IfOk result (λ arguments. arguments ≡ arguments_of tokens.items) }
 {
     let mut pieces = Vec::new(alloc);
     let mut piece = Vec::new(alloc);
@@ -70,10 +70,7 @@ fn arguments_of(alloc: Global, tokens: &[Token]) -> Result<ExpandedArguments, Al
             continue;
         }
         depth = nesting_behind(depth, &token.value);
-        let Ok(copy) = token.clone(alloc) else {
-            return Err(AllocError);
-        };
-        piece.push(copy)?;
+        piece.push(token)?;
     }
     pieces.push(TokenList::new(piece))?;
     Ok(ExpandedArguments::new(pieces))
@@ -111,14 +108,14 @@ fn misfit(define: &Define, arguments: &ExpandedArguments) -> Option<Preprocessor
 pub fn finish_call(
     alloc: Global,
     caller: &mut Caller,
-    call: Call,
+    mut call: Call,
     definitions: &Definitions,
     hidden: &OpenAround<'_>,
     levels: u32,
 ) -> Result<(), Halt>
     ensures { Finishes levels definitions.now hidden.now call caller.old result caller.new }
 {
-    let arguments = arguments_of(alloc, call.tokens())?;
+    let arguments = arguments_of(alloc, call.take_tokens(alloc))?;
     match misfit(call.define(), &arguments) {
         Some(error) => return Err(Halt::Fault((error, call.paren()))),
         None => {}

@@ -23,6 +23,7 @@ use crate::pp::step::{Step, StepExit, is_out_of_memory};
 use crate::token::{Location, PreprocessorError, Punct, Text, Token, TokenValue, out_of_memory};
 use std::alloc::{AllocError, Global};
 use std::marker::Model;
+use std::mem;
 use std::rc::Rc;
 
 /// A call whose `)` has been taken.
@@ -47,12 +48,13 @@ impl Model for Call {
 }
 
 impl Call {
-    /// What stands between its parentheses.
-    pub fn tokens(&self) -> &[Token]
-        ensures is { result.now ≡ self.now.tokens }
-        ensures holds { AllHoldOrdinary result.now }
+    /// Takes out what stands between its parentheses.
+    pub fn take_tokens(&mut self, alloc: Global) -> Vec<Token>
+        ensures taken { result.items ≡ self.old.tokens }
+        ensures holds { AllHoldOrdinary result.items }
+        ensures left { self.new ≡ record self.old { tokens = [] } }
     {
-        &self.tokens
+        mem::replace(&mut self.tokens, Vec::new(alloc))
     }
 
     /// What its macro stood for.

@@ -1,15 +1,13 @@
 //! The words of an `#if`, `#elif` or `#line` line.
 
-ghost use Rattle.std.specs.Prelude.{◌≡◌, [], IfOk, is_some};
-ghost use Rattle.pp_model.specs.Emitting.{answers_at};
-ghost use Rattle.pp_model.specs.LineWords.{LineWords, reading, unknown_name, unexpected, name_in_value, unwanted_word, is_open_paren, is_close_paren};
+ghost use Rattle.std.specs.Prelude.{◌≡◌, IfOk, is_some};
+ghost use Rattle.pp_model.specs.LineWords.{reading, unknown_name, unexpected, name_in_value, unwanted_word, is_open_paren, is_close_paren};
 ghost use Rattle.pp_model.specs.Names.{is_identifier, defined_name};
-ghost use Rattle.pp_model.specs.Reading.{reading_of};
 ghost use Rattle.pp_model.specs.WordsRead.{reading_named, unwanted_read, IsOf};
 ghost use Rattle.pp_rs.specs.Defined.{meaning_of};
 ghost use Rattle.pp_rs.specs.Halting.{halt_of};
 ghost use Rattle.pp_rs.specs.Held.{AllHoldOrdinary};
-ghost use Rattle.pp_rs.specs.IfParsing.{Stands, GivesItem, TakesOff, GivesTaken, IsNameOrFault, GivesOperand, GivesParenthesized, GivesClosed, AreWordsOf};
+ghost use Rattle.pp_rs.specs.IfParsing.{Stands, GivesItem, TakesOff, GivesTaken, IsNameOrFault, GivesOperand, GivesParenthesized, GivesClosed, AreWordsOf, AreWordsOfLine};
 ghost use Rattle.pp_rs.specs.LineItems.{outcome_of};
 
 use crate::pp::arguments::finish_call;
@@ -328,7 +326,7 @@ pub fn line_words(
     levels: u32,
 ) -> Result<Words, AllocError>
     requires { AllHoldOrdinary tokens.now }
-    ensures { IfOk result (λ words. LineWords kind directive (answers_at levels) (reading_of tokens.now (meaning_of definitions.now) []) words) }
+    ensures { IfOk result (AreWordsOfLine kind directive levels tokens.now definitions.now) }
 {
     let parser = IfParser {
         alloc,

@@ -5,6 +5,8 @@ use Rattle.pp_lexer.proofs.ReplacedLemmas.{rising-replaced}
 use Rattle.pp_lexer.proofs.PhaseLemmas.{length-replaced_of}
 use Rattle.pp_lexer.proofs.PlacesLemmas.{items_within}
 use Rattle.pp_lexer.proofs.TokenLinesLemmas.{tokens_have_lines}
+use Rattle.pp_lexer.specs.Spots.{spots_of}
+use Rattle.pp_lexer.proofs.ItemPlacesLemmas.{places_of_items}
 use Rattle.pp_lexer.proofs.CountLemmas.{length-items_of}
 use Rattle.pp_lexer.proofs.lexer.laws.places.Goals as goal
 
@@ -16,3 +18,6 @@ returns-clause-lines c = tokens_have_lines
 
 pub returns-clause-finite : goal.returns-clause-finite
 returns-clause-finite c = λ source u. omega (arith, length-items_of 0 (replaced_of source), length-replaced_of source u)
+
+pub returns-clause-of_items : goal.returns-clause-of_items
+returns-clause-of_items c = λ source. places_of_items (spots_of source)

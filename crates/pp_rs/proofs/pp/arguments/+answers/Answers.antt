@@ -75,9 +75,10 @@ expand_arguments-returns-clause-least t c = λ n all. rw c.new.ensures (c.loop-a
 
 pub finish_call-returns : goal.finish_call-returns
 finish_call-returns t c =
-    let cut : c.in_ok-arguments.arguments ≡ arguments_of c.args.call.tokens = c.in_ok-arguments.ensures ∙ ap arguments_of c.tokens.ensures.is in
+    let left : c.take_tokens.new.self ≡ record c.args.call { tokens = [] } = c.take_tokens.ensures.left in
+    let cut : c.in_ok-arguments.arguments ≡ arguments_of c.args.call.tokens = c.in_ok-arguments.ensures ∙ ap arguments_of c.take_tokens.ensures.taken in
     let fits : misfit c.args.call.definition.parameters (arguments_of c.args.call.tokens) ≡ None =
     let known : misfit c.define.result.now.parameters c.in_ok-arguments.arguments ≡ None = sym c.misfit.ensures ∙ c.in-None.is in
-    rw (c.define.ensures, cut) at known in
+    rw (c.define.ensures, left, cut) at known in
     opens_frame c.args.levels c.args.definitions.now (names_of c.args.caller.now.frames ++ c.args.hidden.now) c.args.call c.args.caller.now c.open_call.new.self c.in_ok-expanded.expanded
-    (λ e. omega (arith, e, c.if-levels-eq0.false)) fits (rw cut at c.in_ok-expanded.ensures.each) (rw cut at c.in_ok-expanded.ensures.least) c.in_ok-open_call.ensures
+    (λ e. omega (arith, e, c.if-levels-eq0.false)) fits (rw cut at c.in_ok-expanded.ensures.each) (rw cut at c.in_ok-expanded.ensures.least) (rw left at c.in_ok-open_call.ensures)

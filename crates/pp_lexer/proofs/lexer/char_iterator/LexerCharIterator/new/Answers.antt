@@ -6,4 +6,4 @@ use Rattle.pp_lexer.proofs.lexer.char_iterator.LexerCharIterator.new.Goals as go
 pub invariant_of-result : goal.invariant_of-result
 invariant_of-result c =
     let e = ap (λ r. length (spots r.offset r.rest)) c.new.ensures in
-    omega (arith, e, length-spots_of-le c.args.input.now c.utf8.input, c.requires)
+    (omega (arith, e, length-spots_of-le c.args.input.now c.utf8.input, c.requires), tt)

@@ -1,0 +1,28 @@
+use Rattle.std.proofs.Common.{◌≡◌, ◌≤◌, sym, ◌∙◌, ap, subst, length, take, true, arith}
+use Rattle.std.specs.List.{list_all}
+use Rattle.std.specs.Str.{IsUtf8}
+use Rattle.pp_lexer.specs.Fronts.{is_straight}
+use Rattle.pp_lexer.proofs.StraightLemmas.{cut_behind_straight, straight_passed}
+use Rattle.pp_lexer.proofs.lexer.replace_comments.skip_straight.Goals as goal
+
+pub range_from-requires : goal.range_from-requires
+range_from-requires c = λ some.
+    let text = c.left-left.result.text.now in
+    let n = c.straight_length-count.result in
+    let u : IsUtf8 text = subst IsUtf8 c.as_bytes-bytes.ensures.value c.as_bytes-bytes.ensures.utf8 in
+    let le : n ≤ length text = omega (arith, ap length c.as_bytes-bytes.ensures.value) in
+    let passes : list_all is_straight (take n text) ≡ true = ap (λ t. list_all is_straight (take n t)) (sym c.as_bytes-bytes.ensures.value) ∙ c.straight_length-count.ensures.passes in
+    cut_behind_straight n text u some le passes
+
+pub returns-clause-state : goal.returns-clause-state
+returns-clause-state c =
+    let text = c.left-left.result.text.now in
+    let n = c.straight_length-count.result in
+    let u : IsUtf8 text = subst IsUtf8 c.as_bytes-bytes.ensures.value c.as_bytes-bytes.ensures.utf8 in
+    let le : n ≤ length text = omega (arith, ap length c.as_bytes-bytes.ensures.value) in
+    let passes : list_all is_straight (take n text) ≡ true = ap (λ t. list_all is_straight (take n t)) (sym c.as_bytes-bytes.ensures.value) ∙ c.straight_length-count.ensures.passes in
+    straight_passed c.args.inner.now c.at.result c.left-left.result.line c.left-left.result.at n text c.range_from.result.now u le passes c.left-left.ensures.value c.range_from.ensures.value c.at.ensures
+
+pub returns-clause-forward : goal.returns-clause-forward
+returns-clause-forward c =
+    omega (arith, ap (λ r. r.offset) c.left-left.ensures.value, ap (λ r. r.offset) c.at.ensures)

@@ -1,0 +1,100 @@
+//! Decimal integers and floats of plain text.
+
+ghost use Rattle.std.specs.Prelude.{⊤, ◌≡◌, ◌<◌, ◌≤◌, true, false, length, take, slice_index, IsTrue, IfSome, MatchOption};
+ghost use Rattle.std.specs.List.{list_all};
+ghost use Rattle.std.specs.Str.{IsUtf8};
+ghost use Rattle.std.specs.Str.Parse.{digits_value};
+ghost use Rattle.pp_lexer.specs.Numbers.{is_decimal};
+ghost use Rattle.pp_lexer.specs.PlainWords.{continues_number, Stops, IsFirstWord};
+
+use crate::lexer::plain::{Form, Word, continues};
+
+// Whether the byte is a decimal digit.
+#[inline(always)]
+fn is_digit(byte: u8) -> bool
+    ensures { result ≡ is_decimal byte }
+{
+    byte >= 48 && byte < 58
+}
+
+// How many decimal digits stand at the front.
+#[inline(always)]
+fn digits_length(bytes: &[u8]) -> usize
+    ensures within { result ≤ length bytes.now }
+    ensures passes { list_all is_decimal (take result bytes.now) ≡ true }
+{
+    for (i, byte) in bytes.iter().enumerate() {
+        if !is_digit(*byte) {
+            return i;
+        }
+    }
+    bytes.len()
+}
+
+// The value of decimal digits, unless it is too large.
+#[inline(always)]
+fn decimal_value(digits: &[u8]) -> Option<u64>
+    requires { list_all is_decimal digits.now ≡ true }
+    ensures { IfSome result (λ value. value ≡ digits_value 10 digits.now) }
+{
+    let mut value: u64 = 0;
+    for digit in digits {
+        let shifted = value.checked_mul(10)?;
+        value = shifted.checked_add((*digit - 48) as u64)?;
+    }
+    Some(value)
+}
+
+// Whether the text ends there, or goes on with a byte which shows that the number ends there and has no suffix.
+#[inline(always)]
+fn ends_number(bytes: &[u8], at: usize) -> bool
+    ensures { IsTrue result → Stops continues_number bytes.now at }
+{
+    if at >= bytes.len() {
+        return true;
+    }
+    let next = bytes[at];
+    next < 128 && next != 92 && !(continues(next) || next == 46)
+}
+
+// The integer of so many digits at the front.
+#[inline(always)]
+fn plain_integer(bytes: &[u8], taken: usize) -> Option<Word>
+    requires utf8 { IsUtf8 bytes.now }
+    requires within { taken ≤ length bytes.now }
+    requires digits { list_all is_decimal (take taken bytes.now) ≡ true }
+    ensures { MatchOption result ⊤ (IsFirstWord bytes.now) }
+{
+    if taken == 0 || !ends_number(bytes, taken) {
+        return None;
+    }
+    if bytes[0] == 48 && taken > 1 {
+        return None;
+    }
+    let value = decimal_value(&bytes[..taken])?;
+    Some(Word {
+        form: Form::Integer(value),
+        taken,
+    })
+}
+
+/// The decimal integer or float at the front, if the bytes behind it say that it ends there and has no suffix.
+#[inline(always)]
+pub fn plain_number(bytes: &[u8]) -> Option<Word>
+    requires { IsUtf8 bytes.now }
+    ensures { MatchOption result ⊤ (IsFirstWord bytes.now) }
+{
+    let whole = digits_length(bytes);
+    if whole >= bytes.len() || bytes[whole] != 46 {
+        return plain_integer(bytes, whole);
+    }
+    let fraction = digits_length(&bytes[whole + 1..]);
+    let taken = whole + 1 + fraction;
+    if taken == 1 || !ends_number(bytes, taken) {
+        return None;
+    }
+    Some(Word {
+        form: Form::Float,
+        taken,
+    })
+}
