@@ -3,7 +3,7 @@
 use pp_lexer::token::Location;
 
 /// What a line does to a block.
-#[derive(Clone, Copy, PartialEq, Eq, Debug)]
+#[derive(Clone, Copy, PartialEq, Eq)]
 pub enum Part {
     /// `#if`, `#ifdef` or `#ifndef`
     Opens,
@@ -16,7 +16,7 @@ pub enum Part {
 }
 
 /// A directive line that opens, parts or closes a block.
-#[derive(Clone, Copy, PartialEq, Eq, Debug)]
+#[derive(Clone, Copy)]
 pub struct BlockLine {
     /// The position of its `#` among the items of the source.
     pub position: usize,

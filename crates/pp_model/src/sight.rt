@@ -5,7 +5,7 @@ use crate::outcome::Fault;
 use pp_lexer::token::{Location, Token};
 
 /// What a reader of a source meets.
-#[derive(PartialEq, Eq, Debug, Drop)]
+#[derive(Drop)]
 pub enum Sight {
     /// Nothing: the source is at its end.
     End,

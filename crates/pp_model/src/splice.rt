@@ -3,7 +3,7 @@
 use pp_lexer::token::{Text, Token};
 
 /// Where a macro's replacement ends. The macro is open as long as its mark lies in the list.
-#[derive(PartialEq, Eq, Debug, Drop)]
+#[derive(Drop)]
 pub struct EndMark {
     /// The macro's name.
     pub name: Text,
@@ -12,7 +12,7 @@ pub struct EndMark {
 }
 
 /// An entry of the list.
-#[derive(PartialEq, Eq, Debug, Drop)]
+#[derive(Drop)]
 pub enum Entry {
     /// A token to read.
     Plain(Token),

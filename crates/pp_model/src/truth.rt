@@ -1,7 +1,7 @@
 //! Which conditions hold.
 
 /// A condition that was read: where the `#` of its line stands among the items of the source, and whether it holds.
-#[derive(Clone, Copy, PartialEq, Eq, Debug)]
+#[derive(Clone, Copy)]
 pub struct Truth {
     /// The position of the `#`.
     pub position: usize,

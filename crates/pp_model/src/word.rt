@@ -4,7 +4,7 @@ use crate::outcome::Fault;
 use pp_lexer::token::{Location, Token};
 
 /// A word of a line whose value is wanted (GLSL ES 3.20 section 3.4).
-#[derive(PartialEq, Eq, Debug, Drop)]
+#[derive(Drop)]
 pub enum Word {
     /// A token that is no identifier, or the number 0 in place of an unknown identifier.
     Plain(Token),
@@ -13,7 +13,7 @@ pub enum Word {
 }
 
 /// Which lines have a value.
-#[derive(Clone, Copy, PartialEq, Eq, Debug)]
+#[derive(Clone, Copy)]
 pub enum LineKind {
     /// An `#if` or `#elif` line, where an unknown identifier is 0.
     Condition,
