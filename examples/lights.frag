@@ -31,16 +31,16 @@ precision highp float;
 #endif
 
 #if !defined(NO_SHADOWS) && QUALITY > 1
-    #extension GL_EXT_texture_shadow_lod : enable
-    #define SHADOWS
-    #define TAPS (2 * QUALITY - 1)
+#   extension GL_EXT_texture_shadow_lod : enable
+#   define SHADOWS
+#   define TAPS (2 * QUALITY - 1)
 #elif defined NO_SHADOWS
-    #pragma shadows(none)
-    #if QUALITY > 1
-        #pragma shadows(the quality would allow for them)
-    #endif
+#   pragma shadows(none)
+#   if QUALITY > 1
+#       pragma shadows(the quality would allow for them)
+#   endif
 #else
-    #pragma shadows(baked)
+#   pragma shadows(baked)
 #endif
 
 // Small things. Where no `(` follows, the name of a macro with parameters is just a name.
