@@ -30,3 +30,5 @@ pub mod SourceHoldsLemmas
 pub mod SpelledRunLemmas
 pub mod RespellLemmas
 pub mod RunChainLemmas
+pub mod WordLemmas
+pub mod LineNumberLemmas

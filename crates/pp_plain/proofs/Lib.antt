@@ -1,6 +1,5 @@
 pub mod TakeLemmas
 pub mod TurnLemmas
-pub mod WordLemmas
 pub mod SourceTextLemmas
 pub mod LineNumberLemmas
 pub mod SourceStepLemmas

@@ -1,28 +1,15 @@
--- What the words of a `#line` come to, by what an evaluation gave.
-use Rattle.std.proofs.Common.{◌≡◌, ◌≢◌, ◌∙◌, ℕ, Option, Some, None, Result, Ok, Err, refl, ap, sym}
+-- What a `#line` of two words comes to in the plain program, which can be stopped.
+use Rattle.std.proofs.Common.{◌≡◌, ℕ, Result, Ok, Err, sym}
 use Rattle.pp_expression.specs.declared.symbol.Value.{Value}
 use Rattle.pp_expression.specs.declared.symbol.Found.{Found}
 use Rattle.pp_expression.specs.FirstFault.{Evaluates}
 use Rattle.pp_lexer.specs.declared.token.Location.{Location}
-use Rattle.pp_lexer.specs.declared.token.PreprocessorError.TheVariants.{LineOverflow}
 use Rattle.pp_model.specs.Calls.{Fault}
 use Rattle.pp_model.specs.LineWords.{Words}
+use Rattle.pp_model.specs.LineValues.{line_of, alone_on_line, IsFollowed}
 use Rattle.pp_plain.specs.Halting.{Meets, Satisfies}
 use Rattle.pp_plain.specs.declared.stop.Halt.{Halt}
 use Rattle.pp_plain.specs.declared.stop.Halt.TheVariants as halt
-use Rattle.pp_model.specs.LineValues.{line_of, told_fault, alone_on_line, as_line_number, words_behind, IsFollowed, Numbers, faulty, out_of_range, alone, with_source}
-
-pub numbers_faulty : (directive : Location) (words : Words) (e : Result Value Found) (found : Found) (fault : Fault) → Evaluates (line_of words) e → e ≡ Err found → fault ≡ told_fault directive words found → Numbers directive words (Err fault)
-numbers_faulty directive words e found fault evaluated is told = faulty found (Err fault) (rw is at evaluated) (ap Err told)
-
-pub numbers_out : (directive : Location) (words : Words) (e : Result Value Found) (v : Value) (n : Option ℕ) → Evaluates (line_of words) e → e ≡ Ok v → n ≡ as_line_number v.value → n ≡ None → Numbers directive words (Err (LineOverflow, directive))
-numbers_out directive words e v n evaluated is number none = out_of_range v (Err (LineOverflow, directive)) (rw is at evaluated) (sym number ∙ none) refl
-
-pub numbers_alone : (directive : Location) (words : Words) (e : Result Value Found) (v : Value) (m : Option ℕ) (n : ℕ) → Evaluates (line_of words) e → e ≡ Ok v → m ≡ as_line_number v.value → m ≡ Some n → v.left ≡ 0 → Numbers directive words (Ok n)
-numbers_alone directive words e v m n evaluated is number some none = alone v n (Ok n) (rw is at evaluated) (sym number ∙ some) none refl
-
-pub numbers_followed : (directive : Location) (words : Words) (e : Result Value Found) (v : Value) (m : Option ℕ) (n : ℕ) (behind : Words) → Evaluates (line_of words) e → e ≡ Ok v → m ≡ as_line_number v.value → m ≡ Some n → v.left ≢ 0 → behind ≡ words_behind v.left words → (result : Result ℕ Fault) → IsFollowed directive behind n result → Numbers directive words result
-numbers_followed directive words e v m n behind evaluated is number some left rest result by = with_source v n result (rw is at evaluated) (sym number ∙ some) left (rw rest at by)
 
 -- what meets the definition of an evaluation that was made
 pub followed_by : (directive : Location) (words : Words) (n : ℕ) (second : Result Value Found) (result : Result ℕ Halt) → Evaluates (line_of words) second → Meets result (alone_on_line directive words (λ value. n) second) → Satisfies result (IsFollowed directive words n)

@@ -15,7 +15,7 @@ struct Row {
     said: &'static str,
 }
 
-const ROWS: [Row; 28] = [
+const ROWS: [Row; 29] = [
     Row {
         source: "",
         defs: &[],
@@ -131,9 +131,16 @@ const ROWS: [Row; 28] = [
     Row {
         source: "a\n#if 1\nb\n#endif",
         defs: &[],
+        printed: "a b\n",
+        status: 0,
+        said: "",
+    },
+    Row {
+        source: "a\n#if_ 1\nb\n#endif",
+        defs: &[],
         printed: "a\n",
         status: 1,
-        said: "error UnknownDirective 3 5",
+        said: "error UnknownDirective 3 6",
     },
     Row {
         source: "A",

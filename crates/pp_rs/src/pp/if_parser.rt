@@ -1,6 +1,6 @@
 //! The words of an `#if`, `#elif` or `#line` line.
 
-ghost use Rattle.std.specs.Prelude.{◌≡◌, IfOk, is_some};
+ghost use Rattle.std.specs.Prelude.{◌≡◌, [], IfOk, is_some};
 ghost use Rattle.pp_model.specs.LineWords.{reading, unknown_name, unexpected, name_in_value, unwanted_word, is_open_paren, is_close_paren};
 ghost use Rattle.pp_model.specs.Names.{is_identifier, defined_name};
 ghost use Rattle.pp_model.specs.WordsRead.{reading_named, unwanted_read, IsOf};
@@ -314,6 +314,26 @@ impl<'a> IfParser<'a> {
             }
         }
     }
+
+    // The words of a line around which no macro is open.
+    fn words_of_line(
+        &self,
+        tokens: &[Token],
+        definitions: &Definitions,
+        around: &OpenAround<'_>,
+    ) -> Result<Words, AllocError>
+        requires holds { AllHoldOrdinary tokens.now }
+        requires same { self.now.definitions.now ≡ definitions.now }
+        requires alone { around.now ≡ [] }
+        ensures { IfOk result (AreWordsOfLine self.now.kind self.now.directive self.now.levels tokens.now definitions.now) }
+    {
+        let lexer = ListLexer::line(self.alloc, tokens, definitions, &*around);
+        let mut line = LineExpander {
+            caller: Caller::new(self.alloc),
+            lexer,
+        };
+        self.read_words(&mut line)
+    }
 }
 
 /// The words that a line comes to, and the fault of reading that ends them, if one does.
@@ -336,9 +356,5 @@ pub fn line_words(
         levels,
     };
     let around = OpenAround::nothing(alloc);
-    let mut line = LineExpander {
-        caller: Caller::new(alloc),
-        lexer: ListLexer::line(alloc, tokens, definitions, &around),
-    };
-    parser.read_words(&mut line)
+    parser.words_of_line(tokens, definitions, &around)
 }

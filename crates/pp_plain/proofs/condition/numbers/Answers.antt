@@ -1,4 +1,5 @@
-use Rattle.pp_plain.proofs.LineNumberLemmas.{numbers_faulty, numbers_out, numbers_alone, numbers_followed, satisfies_more}
+use Rattle.pp_model.proofs.LineNumberLemmas.{numbers_faulty, numbers_out, numbers_alone, numbers_followed}
+use Rattle.pp_plain.proofs.LineNumberLemmas.{satisfies_more}
 use Rattle.pp_plain.proofs.condition.numbers.Goals as goal
 
 pub returns-in-Err : goal.returns-in-Err

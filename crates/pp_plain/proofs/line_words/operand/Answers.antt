@@ -4,7 +4,7 @@ use Rattle.std.proofs.lemmas.Result.{IfOk-weaker}
 use Rattle.pp_model.specs.Calls.{Fault}
 use Rattle.pp_model.specs.Emitting.{answers_at}
 use Rattle.pp_model.specs.LineWords.{name, neither}
-use Rattle.pp_plain.proofs.WordLemmas.{operand_parenthesized}
+use Rattle.pp_model.proofs.WordLemmas.{operand_parenthesized}
 use Rattle.pp_plain.proofs.line_words.operand.Goals as goal
 
 pub returns-then-is_open_paren-clause-operand : goal.returns-then-is_open_paren-clause-operand

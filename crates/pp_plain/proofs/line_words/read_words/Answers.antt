@@ -2,7 +2,7 @@ use Rattle.std.proofs.Common.{◌∷◌, [], refl, arith}
 use Rattle.std.specs.Prelude.{Ok, Err, Some, None}
 use Rattle.pp_model.specs.LineWords.{word_before, ended, failed, refused, plain, answered, faulty}
 use Rattle.pp_model.specs.declared.word.Word.TheVariants.{Plain, Defined}
-use Rattle.pp_plain.proofs.WordLemmas.{behind_words-before, behind_words-end}
+use Rattle.pp_model.proofs.WordLemmas.{behind_words-before, behind_words-end}
 use Rattle.pp_plain.proofs.line_words.read_words.Goals as goal
 
 pub returns-in-Fault-clause-words : goal.returns-in-Fault-clause-words

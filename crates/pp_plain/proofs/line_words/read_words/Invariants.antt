@@ -3,7 +3,7 @@ use Rattle.pp_model.specs.Emitting.{answers_at}
 use Rattle.pp_model.specs.LineWords.{LineWords, Words}
 use Rattle.pp_plain.specs.Seen.{seen}
 use Rattle.pp_plain.specs.SeenList.{line_state}
-use Rattle.pp_plain.proofs.WordLemmas.{behind_words}
+use Rattle.pp_model.proofs.WordLemmas.{behind_words}
 use Rattle.pp_plain.proofs.line_words.read_words.Given as goal
 
 abbrev pub invariant-words : goal.invariant-words
