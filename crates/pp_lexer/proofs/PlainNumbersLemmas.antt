@@ -292,18 +292,18 @@ begins_pointed (c ∷ v) w cs h =
     ap (λ b. b || (is_point c && begins_with is_decimal ((v ++ 46 ∷ w) ++ cs))) (and_parts (is_decimal c) (list_all is_decimal v) h.whole).0
 
 module _ (cs : List ℕ) (e : NoMore cs) where
-  behind_point : (w : List ℕ) → list_all is_decimal w ≡ true → longest fraction (w ++ cs) ≡ length w
-  behind_point w d = fraction_of cs e.decimal w d e.mark
+  after_point : (w : List ℕ) → list_all is_decimal w ≡ true → longest fraction (w ++ cs) ≡ length w
+  after_point w d = fraction_of cs e.decimal w d e.mark
 
   pointed_len : (v w : List ℕ) → IsPointed v w → longest is_number ((v ++ 46 ∷ w) ++ cs) ≡ length (v ++ 46 ∷ w)
   pointed_len [] w p =
       let n = point_number_len (46 ∷ (w ++ cs)) (begins_pointed [] w cs p) refl in
-      n ∙ ap (λ k. 1 + k) (behind_point w p.fraction) ∙ omega arith
+      n ∙ ap (λ k. 1 + k) (after_point w p.fraction) ∙ omega arith
   pointed_len (c ∷ v) w p =
       let b = and_parts (is_decimal c) (list_all is_decimal v) p.whole in
       let n = number_len (46 ∷ (w ++ cs)) refl c v b.0 b.1 refl in
       let t = decimal_tail_len (46 ∷ (w ++ cs)) refl in
-      ap (longest is_number) (append_assoc (c ∷ v) (46 ∷ w) cs) ∙ n ∙ ap (λ k. suc (length v) + k) (t ∙ ap (λ k. 1 + k) (behind_point w p.fraction))
+      ap (longest is_number) (append_assoc (c ∷ v) (46 ∷ w) cs) ∙ n ∙ ap (λ k. suc (length v) + k) (t ∙ ap (λ k. 1 + k) (after_point w p.fraction))
       ∙ omega (arith, length-append (c ∷ v) (46 ∷ w))
 
   pointed_word : (v w : List ℕ) → IsPointed v w → word_at ((v ++ 46 ∷ w) ++ cs) ≡ float_outcome (v ++ 46 ∷ w) cs

@@ -30,7 +30,7 @@ begins c = is_ascii_alphabetic c || (c == 95)
 abbrev pub continues : ℕ → Bool
 continues c = is_ascii_alphanumeric c || (c == 95)
 
--- an ASCII character with which a number may go on, or its suffix begin, behind a digit or a point
+-- an ASCII character with which a number may go on, or its suffix begin, after a digit or a point
 abbrev pub continues_number : ℕ → Bool
 continues_number c = continues c || is_point c
 

@@ -98,7 +98,7 @@ fn plain_integer(bytes: &[u8], digits: usize) -> Option<Word>
     None
 }
 
-/// The decimal integer or float at the front, if the bytes behind it say that it ends there.
+/// The decimal integer or float at the front, if the bytes after it say that it ends there.
 #[inline(always)]
 pub fn plain_number(bytes: &[u8]) -> Option<Word>
     requires { IsUtf8 bytes.now }
