@@ -1,4 +1,4 @@
--- A plain front of a text, and what stands behind it.
+-- A plain front of a text, and what stands after it.
 use Rattle.std.proofs.Common.{◌≡◌, ℕ, ◌+◌, ◌<◌, List, [], ◌∷◌, ◌++◌, length, Bool, true, false, not, ◌==◌, nat_lt, refl, ◌∙◌, ap, arith, ◌⊎◌, inl, inr, suc, ◌≤◌, if◌then◌else◌}
 use Rattle.std.specs.List.{list_all}
 use Rattle.std.specs.Char.{len_utf8}
@@ -49,7 +49,7 @@ pub pieces_plain : (c : ℕ) (cs : List ℕ) → (c == 10) ≡ false → (c == 1
 pieces_plain c [] a b = rw (a, b) refl
 pieces_plain c (d ∷ cs) a b = rw (a, b) refl
 
--- a text behind an ASCII character
+-- a text after an ASCII character
 pub ascii_chars : (c : ℕ) (text : List ℕ) → c < 128 → IsUtf8 (c ∷ text) → chars (c ∷ text) ≡ c ∷ chars text
 ascii_chars c text h u = chars_past_char (c ∷ text) text c u (rw (encode_ascii c h) refl)
 
@@ -74,8 +74,8 @@ plain_first line at c text h u =
     ∙ ap (λ n. here ∷ replaced n (continued more)) total in
     ap (spots at) phases ∙ rw one refl
 
-pub utf8_behind : (c : ℕ) (text : List ℕ) → c < 128 → IsUtf8 (c ∷ text) → IsUtf8 text
-utf8_behind c text h u = IsUtf8-past_char (c ∷ text) text c u (rw (encode_ascii c h) refl)
+pub utf8_after : (c : ℕ) (text : List ℕ) → c < 128 → IsUtf8 (c ∷ text) → IsUtf8 text
+utf8_after c text h u = IsUtf8-past_char (c ∷ text) text c u (rw (encode_ascii c h) refl)
 
 -- a plain front
 pub plain_front : (line at : ℕ) (w text : List ℕ) → list_all is_plain w ≡ true → IsUtf8 (w ++ text)
@@ -86,7 +86,7 @@ plain_front line at (c ∷ w) text h u =
     let n : at + 1 + length w ≡ at + length (c ∷ w) = omega arith in
     plain_first line at c (w ++ text) b.0 u
     ∙ ap (λ ss. record { c = c; line = line; begin = at; end = at + 1 } ∷ ss)
-    (plain_front line (at + 1) w text b.1 (utf8_behind c (w ++ text) (plain_parts c b.0).small u) ∙ ap (λ k. run line (at + 1) w ++ spots_from line k text) n)
+    (plain_front line (at + 1) w text b.1 (utf8_after c (w ++ text) (plain_parts c b.0).small u) ∙ ap (λ k. run line (at + 1) w ++ spots_from line k text) n)
 
 pub nothing_left : (line at : ℕ) → spots_from line at [] ≡ []
 unfolding spots_from
@@ -102,9 +102,9 @@ module _ (P : ℕ → Bool) (feed : P 10 ≡ false) (mark : P 13 ≡ false) wher
   marked total at p ps h (inl e) = rw e h
   marked total at p ps h (inr m) = rw m.is (ap P m.char ∙ mark)
 
-  behind_phases : (total at : ℕ) (p : Placed) (ps : List Placed) → is_backslash p ≡ false → P p.char ≡ false
+  after_phases : (total at : ℕ) (p : Placed) (ps : List Placed) → is_backslash p ≡ false → P p.char ≡ false
       → begins_with P (letters (spots at (replaced total (continued (p ∷ ps))))) ≡ false
-  behind_phases total at p ps h k = rw (continued-plain p ps h) (marked total at p (continued ps) k (front total p (continued ps)))
+  after_phases total at p ps h k = rw (continued-plain p ps h) (marked total at p (continued ps) k (front total p (continued ps)))
 
   pub first_is_not : (line at b : ℕ) (text : List ℕ) → b < 128 → (b == 92) ≡ false → P b ≡ false → IsUtf8 (b ∷ text)
       → begins_with P (letters (spots_from line at (b ∷ text))) ≡ false
@@ -113,7 +113,7 @@ module _ (P : ℕ → Bool) (feed : P 10 ≡ false) (mark : P 13 ≡ false) wher
     where
       plain_case : (q : Piece) (ps : List Piece) → (q.char == 92) ≡ false → P q.char ≡ false
           → begins_with P (letters (spots at (replaced (at + length (b ∷ text)) (continued (placed_from line at (q ∷ ps)))))) ≡ false
-      plain_case q ps e f = behind_phases (at + length (b ∷ text)) at (record { char = q.char; line = line; end = at + q.bytes }) _ e f
+      plain_case q ps e f = after_phases (at + length (b ∷ text)) at (record { char = q.char; line = line; end = at + q.bytes }) _ e f
 
       piece_case : (ps : List Piece) → begins_with P (letters (spots at (replaced (at + length (b ∷ text)) (continued (placed_from line at (piece b ∷ ps)))))) ≡ false
       piece_case ps = by_break (is_line_break b) refl

@@ -1,9 +1,9 @@
 -- Each item of a text has one place, which is that of a token's location.
-use Rattle.std.proofs.Common.{◌≡◌, List, [], ◌∷◌, ◌++◌, Bool, true, false, refl, sym, ap, subst, Ok, Err}
+use Rattle.std.proofs.Common.{◌≡◌, List, [], ◌∷◌, ◌++◌, Bool, true, false, refl, sym, subst, Ok, Err}
 use Rattle.pp_lexer.specs.declared.token.Location.{Location}
 use Rattle.pp_lexer.specs.declared.lexer.char_iterator.Spot.{Spot}
 use Rattle.pp_lexer.specs.Segments.{Kind, blank, comment, item, Segment, segments}
-use Rattle.pp_lexer.specs.Items.{Item, start_of_line, item_at, final_newline, items_of, places_at, final_place, places_of}
+use Rattle.pp_lexer.specs.Items.{Item, start_of_line, item_at, final_newline, items_of, places_at, places_of}
 use Rattle.pp_lexer.specs.ItemLaws.{StandAt}
 use Rattle.pp_lexer.specs.Passing.{places_from}
 use Rattle.pp_lexer.proofs.ItemsLemmas.{items_from, items_at_start, places_at_start, flags_behind, last_before, flags_step}

@@ -19,7 +19,7 @@ use Rattle.pp_lexer.specs.Words.{word_at}
 use Rattle.pp_lexer.proofs.AdvancedLemmas.{advanced_zero}
 use Rattle.pp_lexer.proofs.CommentsLemmas.{replaced-plain, no_slash}
 use Rattle.pp_lexer.proofs.ContinuationsLemmas.{continued-plain}
-use Rattle.pp_lexer.proofs.FrontsLemmas.{ascii_chars, utf8_behind}
+use Rattle.pp_lexer.proofs.FrontsLemmas.{ascii_chars, utf8_after}
 use Rattle.pp_lexer.proofs.LexLemmas.{lexed_front, placed_front}
 use Rattle.pp_lexer.proofs.PlainLexLemmas.{no_blank_first}
 use Rattle.pp_lexer.proofs.WordAtLemmas.{newline_first}
@@ -40,7 +40,7 @@ newline_at line at text u h =
     let small : 10 < 128 = omega arith in
     let total : at + length (10 ∷ text) ≡ at + 1 + length text = omega arith in
     ap (λ cs. spots at (replaced (at + length (10 ∷ text)) (continued (placed_from line at (pieces cs))))) (ascii_chars 10 text small u)
-    ∙ ap (λ ps. spots at (replaced (at + length (10 ∷ text)) (continued (placed_from line at ps)))) (pieces_newline text (utf8_behind 10 text small u) h)
+    ∙ ap (λ ps. spots at (replaced (at + length (10 ∷ text)) (continued (placed_from line at ps)))) (pieces_newline text (utf8_after 10 text small u) h)
     ∙ ap (λ ps. spots at (replaced (at + length (10 ∷ text)) ps)) (continued-plain here more refl)
     ∙ ap (spots at) (replaced-plain (at + length (10 ∷ text)) here (continued more) (no_slash here (continued more) refl))
     ∙ ap (λ n. spots at (here ∷ replaced n (continued more))) total
@@ -73,7 +73,7 @@ pair_at line at text u =
     let low : 10 < 128 = omega arith in
     let total : at + length (13 ∷ 10 ∷ text) ≡ at + 2 + length text = omega arith in
     ap (λ cs. spots at (replaced (at + length (13 ∷ 10 ∷ text)) (continued (placed_from line at (pieces cs)))))
-    (ascii_chars 13 (10 ∷ text) small u ∙ ap (λ cs. 13 ∷ cs) (ascii_chars 10 text low (utf8_behind 13 (10 ∷ text) small u)))
+    (ascii_chars 13 (10 ∷ text) small u ∙ ap (λ cs. 13 ∷ cs) (ascii_chars 10 text low (utf8_after 13 (10 ∷ text) small u)))
     ∙ ap (λ ps. spots at (replaced (at + length (13 ∷ 10 ∷ text)) ps)) (continued-plain here more refl)
     ∙ ap (spots at) (replaced-plain (at + length (13 ∷ 10 ∷ text)) here (continued more) (no_slash here (continued more) refl))
     ∙ ap (λ n. spots at (here ∷ replaced n (continued more))) total

@@ -34,13 +34,13 @@ pub plain_ascii : (w : List ℕ) → list_all is_plain w ≡ true → IsAscii w
 plain_ascii [] h = λ i. omega arith
 plain_ascii (c ∷ w) h = let b = and_parts (is_plain c) (list_all is_plain w) h in IsAscii-cons c w (plain_parts c b.0).small (plain_ascii w b.1)
 
--- a text may be cut behind a plain front
+-- a text may be cut after a plain front
 pub cut_after_plain : (n : ℕ) (text : List ℕ) → IsUtf8 text → 0 < n → n ≤ length text → list_all is_plain (take n text) ≡ true → IsCharBoundary text n
 cut_after_plain zero text u some le h = absurd (omega arith)
 cut_after_plain (suc n) text u some le h =
     subst (IsCharBoundary text) (add-one n) (IsCharBoundary-after_ascii text n u (omega arith) (plain_parts (get_or text n 0) (passes_at is_plain n text (omega arith) h)).small)
 
--- the reader behind a run
+-- the reader after a run
 pub advanced_run : (line at c : ℕ) (w : List ℕ) (more : List Spot) (last : Spot)
     → advanced_of (length (c ∷ w)) (run line at (c ∷ w) ++ more) last
     ≡ record { rest = more; last = record { c = get_or (c ∷ w) (length w) 0; line = line; begin = at + length w; end = at + length w + 1 } }
@@ -61,7 +61,7 @@ letters-run line at (c ∷ w) more = ap (λ cs. c ∷ cs) (letters-run line (at 
 pub split_at : (n : ℕ) (text : List ℕ) → text ≡ take n text ++ drop n text
 split_at n text = sym (take-append-drop n text)
 
--- what stands behind a word is no part of it
+-- what stands after a word is no part of it
 module _ (P : ℕ → Bool) (feed : P 10 ≡ false) (mark : P 13 ≡ false) where
   pub after_is_not : (line at : ℕ) (rest : List ℕ) → IsUtf8 rest → (0 < length rest → (get_or rest 0 0 < 128) × ((get_or rest 0 0 == 92) ≡ false)) → (0 < length rest → P (get_or rest 0 0) ≡ false)
       → begins_with P (letters (spots_from line at rest)) ≡ false

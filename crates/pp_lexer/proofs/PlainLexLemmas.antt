@@ -38,7 +38,7 @@ gone q line at n text bytes rest e f g =
     ∙ ap (λ t. record { rest = spots_from line (at + n) (drop n text); last = record { c = get_or t (n - 1) 0; line = line; begin = at + n - 1; end = at + n } }) f
 
 -- after spaces
-record Behind (f : Flags) (line at n : ℕ) (text : List ℕ) (last : Spot) : Type 0 where
+record PassesSpaces (f : Flags) (line at n : ℕ) (text : List ℕ) (last : Spot) : Type 0 where
   seen : seen_from f last (segments (spots_from line at text))
       ≡ seen_from (spaced f) (advanced_of n (spots_from line at text) last).last (segments (advanced_of n (spots_from line at text) last).rest)
   at_end : (f.had_comments || list_any (λ g. is_comment g.kind) (segments (spots_from line at text)))
@@ -46,10 +46,10 @@ record Behind (f : Flags) (line at n : ℕ) (text : List ℕ) (last : Spot) : Ty
   places : places_from f last (segments (spots_from line at text))
       ≡ places_from (spaced f) (advanced_of n (spots_from line at text) last).last (segments (advanced_of n (spots_from line at text) last).rest)
 
-behind_spaces : (f : Flags) (line at n : ℕ) (text : List ℕ) (last : Spot) → IsUtf8 text → 0 < n → n ≤ length text → list_all is_space (take n text) ≡ true → Behind f line at n text last
-behind_spaces f line at zero text last u some le h = absurd (omega arith)
-behind_spaces f line at (suc n) [] last u some le h = absurd (omega arith)
-behind_spaces f line at (suc n) (c ∷ text) last u some le h =
+spaces_passed : (f : Flags) (line at n : ℕ) (text : List ℕ) (last : Spot) → IsUtf8 text → 0 < n → n ≤ length text → list_all is_space (take n text) ≡ true → PassesSpaces f line at n text last
+spaces_passed f line at zero text last u some le h = absurd (omega arith)
+spaces_passed f line at (suc n) [] last u some le h = absurd (omega arith)
+spaces_passed f line at (suc n) (c ∷ text) last u some le h =
     let w = take n text in
     let whole : c ∷ text ≡ (c ∷ w) ++ drop n text = ap (λ t. c ∷ t) (split_at n text) in
     let more = spots_from line (at + length (c ∷ w)) (drop n text) in
@@ -116,15 +116,15 @@ module _ (f : Flags) (r : Reading) (line at : ℕ) (text : List ℕ) (e : r.rest
 
     pub spaces_same : seen_of (spaced f) q ≡ seen_of f r
     spaces_same =
-        ap (seen_of (spaced f)) moved ∙ sym (behind_spaces f line at n text r.last u more le passes).seen ∙ ap (λ ss. seen_from f r.last (segments ss)) (sym e)
+        ap (seen_of (spaced f)) moved ∙ sym (spaces_passed f line at n text r.last u more le passes).seen ∙ ap (λ ss. seen_from f r.last (segments ss)) (sym e)
 
     pub spaces_placed : places_left (spaced f) q ≡ places_left f r
     spaces_placed =
-        ap (places_left (spaced f)) moved ∙ sym (behind_spaces f line at n text r.last u more le passes).places ∙ ap (λ ss. places_from f r.last (segments ss)) (sym e)
+        ap (places_left (spaced f)) moved ∙ sym (spaces_passed f line at n text r.last u more le passes).places ∙ ap (λ ss. places_from f r.last (segments ss)) (sym e)
 
     pub spaces_comments : comments_at_end (spaced f) q ≡ comments_at_end f r
     spaces_comments =
-        ap (comments_at_end (spaced f)) moved ∙ sym (behind_spaces f line at n text r.last u more le passes).at_end
+        ap (comments_at_end (spaced f)) moved ∙ sym (spaces_passed f line at n text r.last u more le passes).at_end
         ∙ ap (λ ss. f.had_comments || list_any (λ g. is_comment g.kind) (segments ss)) (sym e)
 
 -- an error stays one

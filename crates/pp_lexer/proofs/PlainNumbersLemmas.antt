@@ -1,5 +1,5 @@
 -- Decimal integers and floats at the front of a plain text.
-use Rattle.std.proofs.Common.{◌≡◌, ℕ, zero, suc, ◌+◌, ◌-◌, ◌*◌, ◌^◌, ◌<◌, ◌≤◌, List, [], ◌∷◌, ◌++◌, length, take, drop, get_or, Bool, true, false, ◌&&◌, ◌||◌, ◌==◌, append_assoc, length-append, length-drop, add-one, add-zero, refl, sym, ◌∙◌, ap, arith, Ok, None, pos}
+use Rattle.std.proofs.Common.{◌≡◌, ℕ, zero, suc, ◌+◌, ◌-◌, ◌*◌, ◌^◌, ◌<◌, ◌≤◌, List, [], ◌∷◌, ◌++◌, length, take, drop, get_or, Bool, true, false, ◌&&◌, ◌||◌, ◌==◌, append_assoc, length-append, length-drop, add-one, add-zero, refl, sym, ◌∙◌, ap, subst, arith, inl, inr, Ok, None, pos}
 use Rattle.std.specs.List.{list_all, list_any}
 use Rattle.std.specs.Str.{IsUtf8}
 use Rattle.std.specs.Str.Parse.{digits_value_after}
@@ -8,7 +8,7 @@ use Rattle.std.specs.Int.{IsInRange}
 use Rattle.std.proofs.lemmas.Int.Digits.{digits_value_more}
 use Rattle.std.proofs.lemmas.Str.{digit_value_digit}
 use Rattle.std.proofs.lemmas.Str.Parse.{digit_from_value}
-use Rattle.std.proofs.lemmas.Bool.{and_parts, eqb-true, or_left, or_right}
+use Rattle.std.proofs.lemmas.Bool.{and_parts, eqb-true, or_cases, or_left, or_right}
 use Rattle.std.proofs.lemmas.Bool.Decides.{nat_tests}
 use Rattle.std.proofs.lemmas.List.{length-take-le, drop_at}
 use Rattle.pp_lexer.specs.declared.lexer.item.TokenValue.TheVariants.{Integer, Float}
@@ -16,7 +16,7 @@ use Rattle.pp_lexer.specs.Fronts.{is_plain}
 use Rattle.pp_lexer.specs.Longest.{longest, front_len}
 use Rattle.pp_lexer.specs.Numbers.{is_zero, is_x, is_point, is_e, is_decimal, decimal_tail, exponent, fraction, is_number, begins_number}
 use Rattle.pp_lexer.specs.NumberValue.{is_l, is_h, is_s, is_f, is_u, begins_octal, is_float_mark, is_float_text, float_tail, float_exponent, width_refusal, number_outcome, float_outcome, number_at, begins_hex}
-use Rattle.pp_lexer.specs.PlainWords.{continues_number, Stops, IsPlainWord}
+use Rattle.pp_lexer.specs.PlainWords.{continues_number, without_suffix, Stops, IsSuffixed, IsPlainWord}
 use Rattle.pp_lexer.specs.Spellings.{many, begins_with}
 use Rattle.pp_lexer.specs.Words.{is_blank, word_at}
 use Rattle.pp_lexer.proofs.DecimalLemmas.{IsDecimalText, digits_value, digits_outcome}
@@ -107,22 +107,61 @@ number_of w cs b n =
 
 -- Integers
 
+-- no number goes on here
+record NoMore (cs : List ℕ) : Type 0 where
+  decimal : begins_with is_decimal cs ≡ false
+  x : begins_with is_x cs ≡ false
+  point : begins_with is_point cs ≡ false
+  mark : begins_with is_e cs ≡ false
+
+digits_word : (cs w : List ℕ) → NoMore cs → 0 < length w → list_all is_decimal w ≡ true → word_at (w ++ cs) ≡ number_outcome w cs
+digits_word cs [] e l d = absurd (omega arith)
+digits_word cs (c ∷ w) e l d =
+    let b = and_parts (is_decimal c) (list_all is_decimal w) d in
+    let none : longest decimal_tail cs ≡ 0 = decimal_tail_none cs e.point ∙ exponent_none cs e.mark in
+    number_of (c ∷ w) cs (ap (λ t. t || (is_point c && begins_with is_decimal (w ++ cs))) b.0)
+    (number_len cs e.decimal c w b.0 b.1 e.x ∙ ap (λ k. suc (length w) + k) none ∙ add-zero (suc (length w)))
+
+-- a suffix letter, each also as a capital
+
+either_letter : (P : ℕ → Type 0) (c a b : ℕ) → ((c == a) || (c == b)) ≡ true → P a → P b → P c
+either_letter P c a b h x y =
+    elim (or_cases (c == a) (c == b) h) [
+      | inl e ↦ subst P (sym (eqb-true c a e)) x
+      | inr e ↦ subst P (sym (eqb-true c b e)) y
+    ]
+
+unsigned_ends : (u : ℕ) (cs : List ℕ) → is_u u ≡ true → NoMore (u ∷ cs)
+unsigned_ends u cs h =
+    either_letter (λ c. NoMore (c ∷ cs)) u 117 85 h (record { decimal = refl; x = refl; point = refl; mark = refl }) (record { decimal = refl; x = refl; point = refl; mark = refl })
+
+float_ends : (f : ℕ) (cs : List ℕ) → is_f f ≡ true → NoMore (f ∷ cs)
+float_ends f cs h =
+    either_letter (λ c. NoMore (c ∷ cs)) f 102 70 h (record { decimal = refl; x = refl; point = refl; mark = refl }) (record { decimal = refl; x = refl; point = refl; mark = refl })
+
+float_letter : (f : ℕ) (cs : List ℕ) → is_f f ≡ true → width_refusal is_h (f ∷ cs) ≡ None
+float_letter f cs h = either_letter (λ c. width_refusal is_h (c ∷ cs) ≡ None) f 102 70 h refl refl
+
 module _ (cs : List ℕ) (h : begins_with continues_number cs ≡ false) where
-  tail_none : longest decimal_tail cs ≡ 0
-  tail_none = decimal_tail_none cs (ends_class is_point no_point cs h) ∙ exponent_none cs (ends_class is_e no_e cs h)
+  ended : NoMore cs
+  ended = record {
+    decimal = ends_class is_decimal no_decimal cs h;
+    x = ends_class is_x no_x cs h;
+    point = ends_class is_point no_point cs h;
+    mark = ends_class is_e no_e cs h;
+  }
 
   no_refusal : (is_short : ℕ → Bool) → ((c : ℕ) → continues_number c ≡ false → is_short c ≡ false) → width_refusal is_short cs ≡ None
   no_refusal is_short f = rw (ends_class is_l no_l cs h, ends_class is_short f cs h) refl
 
   integer_at : (n : ℕ) (w : List ℕ) → IsDecimalText n w → word_at (w ++ cs) ≡ record { value = Ok (Integer (record { value = n; signed = true; width = pos 32 })); taken = length w }
-  integer_at n w t = spelled w t.some t.digits ∙ digits_outcome n w t cs ∙ rw (ends_class is_u no_u cs h, no_refusal is_s no_s, digits_value n w t true, add-zero (length w)) refl
-    where
-      spelled : (w : List ℕ) → 0 < length w → list_all is_decimal w ≡ true → word_at (w ++ cs) ≡ number_outcome w cs
-      spelled [] l d = absurd (omega arith)
-      spelled (c ∷ w) l d =
-          let b = and_parts (is_decimal c) (list_all is_decimal w) d in
-          number_of (c ∷ w) cs (ap (λ t. t || (is_point c && begins_with is_decimal (w ++ cs))) b.0)
-          (number_len cs (ends_class is_decimal no_decimal cs h) c w b.0 b.1 (ends_class is_x no_x cs h) ∙ ap (λ k. suc (length w) + k) tail_none ∙ add-zero (suc (length w)))
+  integer_at n w t = digits_word cs w ended t.some t.digits ∙ digits_outcome n w t cs ∙ rw (ends_class is_u no_u cs h, no_refusal is_s no_s, digits_value n w t true, add-zero (length w)) refl
+
+  unsigned_at : (n u : ℕ) (w : List ℕ) → IsDecimalText n w → is_u u ≡ true
+      → word_at ((w ++ u ∷ []) ++ cs) ≡ record { value = Ok (Integer (record { value = n; signed = false; width = pos 32 })); taken = length w + 1 }
+  unsigned_at n u w t e =
+      ap word_at (append_assoc w (u ∷ []) cs) ∙ digits_word (u ∷ cs) w (unsigned_ends u cs e) t.some t.digits ∙ digits_outcome n w t (u ∷ cs)
+      ∙ rw (e, no_refusal is_s no_s, digits_value n w t false) refl
 
 pub take_whole : (n : ℕ) (xs : List ℕ) → length xs ≤ n → take n xs ≡ xs
 take_whole zero [] h = refl
@@ -186,6 +225,36 @@ plain_integer text n value u some le digits octal small e stops =
     (decimal_no_blank (get_or text 0 0) (first_decimal n text some le digits)) refl
     (λ cs h. integer_at cs h value (take n text) t ∙ ap (λ k. record { value = Ok (Integer (record { value = value; signed = true; width = pos 32 })); taken = k }) size)
 
+-- a front with the character after it
+take_more : (n : ℕ) (text : List ℕ) → n < length text → take (n + 1) text ≡ take n text ++ get_or text n 0 ∷ []
+take_more n text l = ap (λ k. take k text) (add-one n) ∙ by n text l
+  where
+    by : (n : ℕ) (text : List ℕ) → n < length text → take (suc n) text ≡ take n text ++ get_or text n 0 ∷ []
+    by n [] l = absurd (omega arith)
+    by zero (c ∷ []) l = refl
+    by zero (c ∷ d ∷ text) l = refl
+    by (suc n) (c ∷ text) l = ap (λ t. c ∷ t) (by n text (omega arith))
+
+plain_more : (c : ℕ) (w : List ℕ) → list_all is_plain w ≡ true → is_plain c ≡ true → list_all is_plain (w ++ c ∷ []) ≡ true
+plain_more c [] h p = ap (λ t. t && true) p
+plain_more c (d ∷ w) h p =
+    let b = and_parts (is_plain d) (list_all is_plain w) h in
+    both (is_plain d) (list_all is_plain (w ++ c ∷ [])) b.0 (plain_more c w b.1 p)
+
+pub plain_unsigned : (text : List ℕ) (n value : ℕ) → IsUtf8 text → 0 < n → n ≤ length text → list_all is_decimal (take n text) ≡ true → (get_or text 0 0 ≡ 48 → n ≤ 1) → value < 2 ^ 64
+    → digits_value_after 10 0 (take n text) ≡ value → IsSuffixed 117 85 text n → IsPlainWord text (Integer (record { value = value; signed = false; width = pos 32 })) (n + 1)
+plain_unsigned text n value u some le digits octal small e suffix =
+    let size : length (take n text) ≡ n = length-take-le n text le in
+    let t : IsDecimalText value (take n text) = record { small = small; some = omega arith; digits = digits; value = e; no_octal = no_octal n text le octal } in
+    let letter = get_or text n 0 in
+    let more : take (n + 1) text ≡ take n text ++ letter ∷ [] = take_more n text suffix.within in
+    let plain : is_plain letter ≡ true = either_letter (λ c. is_plain c ≡ true) letter 117 85 suffix.letter refl refl in
+    plain_before continues_number refl refl text (n + 1) u (omega arith) (omega (arith, suffix.within)) suffix.stops (Integer (record { value = value; signed = false; width = pos 32 }))
+    (ap (list_all is_plain) more ∙ plain_more letter (take n text) (all_plain is_decimal decimal_plain (take n text) digits) plain)
+    (decimal_no_blank (get_or text 0 0) (first_decimal n text some le digits)) refl
+    (λ cs h. ap (λ x. word_at (x ++ cs)) more ∙ unsigned_at cs h value letter (take n text) t suffix.letter
+    ∙ ap (λ k. record { value = Ok (Integer (record { value = value; signed = false; width = pos 32 })); taken = k + 1 }) size)
+
 -- Floats
 
 any_point : (hex : Bool) (v w : List ℕ) → list_any (is_float_mark hex) (v ++ 46 ∷ w) ≡ true
@@ -222,27 +291,38 @@ begins_pointed [] (d ∷ w) cs h = (and_parts (is_decimal d) (list_all is_decima
 begins_pointed (c ∷ v) w cs h =
     ap (λ b. b || (is_point c && begins_with is_decimal ((v ++ 46 ∷ w) ++ cs))) (and_parts (is_decimal c) (list_all is_decimal v) h.whole).0
 
-module _ (cs : List ℕ) (h : begins_with continues_number cs ≡ false) where
-  behind_point : (w : List ℕ) → list_all is_decimal w ≡ true → longest fraction (w ++ cs) ≡ length w
-  behind_point w d = fraction_of cs (ends_class is_decimal no_decimal cs h) w d (ends_class is_e no_e cs h)
+module _ (cs : List ℕ) (e : NoMore cs) where
+  after_point : (w : List ℕ) → list_all is_decimal w ≡ true → longest fraction (w ++ cs) ≡ length w
+  after_point w d = fraction_of cs e.decimal w d e.mark
 
   pointed_len : (v w : List ℕ) → IsPointed v w → longest is_number ((v ++ 46 ∷ w) ++ cs) ≡ length (v ++ 46 ∷ w)
   pointed_len [] w p =
       let n = point_number_len (46 ∷ (w ++ cs)) (begins_pointed [] w cs p) refl in
-      n ∙ ap (λ k. 1 + k) (behind_point w p.fraction) ∙ omega arith
+      n ∙ ap (λ k. 1 + k) (after_point w p.fraction) ∙ omega arith
   pointed_len (c ∷ v) w p =
       let b = and_parts (is_decimal c) (list_all is_decimal v) p.whole in
       let n = number_len (46 ∷ (w ++ cs)) refl c v b.0 b.1 refl in
       let t = decimal_tail_len (46 ∷ (w ++ cs)) refl in
-      ap (longest is_number) (append_assoc (c ∷ v) (46 ∷ w) cs) ∙ n ∙ ap (λ k. suc (length v) + k) (t ∙ ap (λ k. 1 + k) (behind_point w p.fraction))
+      ap (longest is_number) (append_assoc (c ∷ v) (46 ∷ w) cs) ∙ n ∙ ap (λ k. suc (length v) + k) (t ∙ ap (λ k. 1 + k) (after_point w p.fraction))
       ∙ omega (arith, length-append (c ∷ v) (46 ∷ w))
 
-  float_at : (v w : List ℕ) → IsPointed v w → word_at ((v ++ 46 ∷ w) ++ cs) ≡ record { value = Ok (Float (record { text = v ++ 46 ∷ w; width = pos 32 })); taken = length (v ++ 46 ∷ w) }
-  float_at v w p =
+  pointed_word : (v w : List ℕ) → IsPointed v w → word_at ((v ++ 46 ∷ w) ++ cs) ≡ float_outcome (v ++ 46 ∷ w) cs
+  pointed_word v w p =
       let u = v ++ 46 ∷ w in
       let here : number_outcome u cs ≡ float_outcome u cs = rw (any_point (begins_hex u) v w) refl in
       number_of u cs (begins_pointed v w cs p) (pointed_len v w p) ∙ here
-      ∙ rw (no_refusal cs h is_h no_h, value_same u (pointed_text v w p), ends_class is_f no_f cs h, add-zero (length u)) refl
+
+module _ (cs : List ℕ) (h : begins_with continues_number cs ≡ false) (v w : List ℕ) (p : IsPointed v w) where
+  float_at : word_at ((v ++ 46 ∷ w) ++ cs) ≡ record { value = Ok (Float (record { text = v ++ 46 ∷ w; width = pos 32 })); taken = length (v ++ 46 ∷ w) }
+  float_at =
+      let u = v ++ 46 ∷ w in
+      pointed_word cs (ended cs h) v w p ∙ rw (no_refusal cs h is_h no_h, value_same u (pointed_text v w p), ends_class is_f no_f cs h, add-zero (length u)) refl
+
+  suffixed_at : (f : ℕ) → is_f f ≡ true
+      → word_at (((v ++ 46 ∷ w) ++ f ∷ []) ++ cs) ≡ record { value = Ok (Float (record { text = v ++ 46 ∷ w; width = pos 32 })); taken = length (v ++ 46 ∷ w) + 1 }
+  suffixed_at f e =
+      let u = v ++ 46 ∷ w in
+      ap word_at (append_assoc u (f ∷ []) cs) ∙ pointed_word (f ∷ cs) (float_ends f cs e) v w p ∙ rw (float_letter f cs e, value_same u (pointed_text v w p), e) refl
 
 -- the spelling by its parts
 split_point : (n m : ℕ) (text : List ℕ) → n < length text → get_or text n 0 ≡ 46 → take (suc (n + m)) text ≡ take n text ++ 46 ∷ take m (drop (suc n) text)
@@ -268,19 +348,48 @@ point_no_blank : (n : ℕ) (text : List ℕ) → n < length text → get_or text
 point_no_blank zero text l e d = ap is_blank e
 point_no_blank (suc n) text l e d = decimal_no_blank (get_or text 0 0) (first_decimal (suc n) text (omega arith) (omega arith) d)
 
+pointed_split : (n m : ℕ) (text : List ℕ) → n < length text → get_or text n 0 ≡ 46 → take (n + 1 + m) text ≡ take n text ++ 46 ∷ take m (drop (n + 1) text)
+pointed_split n m text l point =
+    let size : n + 1 + m ≡ suc (n + m) = omega arith in
+    ap (λ k. take k text) size ∙ split_point n m text l point ∙ ap (λ k. take n text ++ 46 ∷ take m (drop k text)) (sym (add-one n))
+
 pub plain_float : (text : List ℕ) (n m : ℕ) → IsUtf8 text → n < length text → get_or text n 0 ≡ 46 → list_all is_decimal (take n text) ≡ true → m ≤ length (drop (n + 1) text)
     → list_all is_decimal (take m (drop (n + 1) text)) ≡ true → 0 < n + m → Stops continues_number text (n + 1 + m)
     → IsPlainWord text (Float (record { text = take (n + 1 + m) text; width = pos 32 })) (n + 1 + m)
 plain_float text n m u l point whole le fraction some stops =
-    let size : n + 1 + m ≡ suc (n + m) = omega arith in
     let v = take n text in
     let w = take m (drop (n + 1) text) in
     let within : n + 1 + m ≤ length text = omega (arith, length-drop (n + 1) text) in
-    let split : take (n + 1 + m) text ≡ v ++ 46 ∷ w =
-    ap (λ k. take k text) size ∙ split_point n m text l point ∙ ap (λ k. v ++ 46 ∷ take m (drop k text)) (sym (add-one n)) in
+    let split : take (n + 1 + m) text ≡ v ++ 46 ∷ w = pointed_split n m text l point in
     let p : IsPointed v w = record { whole = whole; fraction = fraction; some = omega (arith, length-take-le n text (omega arith), length-take-le m (drop (n + 1) text) le) } in
     plain_before continues_number refl refl text (n + 1 + m) u (omega arith) within stops (Float (record { text = take (n + 1 + m) text; width = pos 32 }))
     (ap (list_all is_plain) split ∙ all_joined v w whole fraction) (point_no_blank n text l point whole) refl
     (λ cs h. ap (λ t. word_at (t ++ cs)) split ∙ float_at cs h v w p
     ∙ ap (λ t. record { value = Ok (Float (record { text = t; width = pos 32 })); taken = length t }) (sym split)
     ∙ ap (λ k. record { value = Ok (Float (record { text = take (n + 1 + m) text; width = pos 32 })); taken = k }) (length-take-le (n + 1 + m) text within))
+
+without_more : (c : ℕ) (w : List ℕ) → without_suffix (w ++ c ∷ []) ≡ w
+without_more c w =
+    let n : length (w ++ c ∷ []) - 1 ≡ length w = omega (arith, length-append w (c ∷ [])) in
+    ap (λ k. take k (w ++ c ∷ [])) n ∙ take_seam w (c ∷ [])
+
+pub plain_suffixed : (text : List ℕ) (n m : ℕ) → IsUtf8 text → n < length text → get_or text n 0 ≡ 46 → list_all is_decimal (take n text) ≡ true → m ≤ length (drop (n + 1) text)
+    → list_all is_decimal (take m (drop (n + 1) text)) ≡ true → 0 < n + m → IsSuffixed 102 70 text (n + 1 + m)
+    → IsPlainWord text (Float (record { text = without_suffix (take (n + 1 + m + 1) text); width = pos 32 })) (n + 1 + m + 1)
+plain_suffixed text n m u l point whole le fraction some suffix =
+    let v = take n text in
+    let w = take m (drop (n + 1) text) in
+    let spelled = n + 1 + m in
+    let letter = get_or text spelled 0 in
+    let within : spelled ≤ length text = omega (arith, length-drop (n + 1) text) in
+    let split : take spelled text ≡ v ++ 46 ∷ w = pointed_split n m text l point in
+    let more : take (spelled + 1) text ≡ (v ++ 46 ∷ w) ++ letter ∷ [] = take_more spelled text suffix.within ∙ ap (λ t. t ++ letter ∷ []) split in
+    let p : IsPointed v w = record { whole = whole; fraction = fraction; some = omega (arith, length-take-le n text (omega arith), length-take-le m (drop (n + 1) text) le) } in
+    let plain : is_plain letter ≡ true = either_letter (λ c. is_plain c ≡ true) letter 102 70 suffix.letter refl refl in
+    let size : length (v ++ 46 ∷ w) ≡ spelled = ap length (sym split) ∙ length-take-le spelled text within in
+    let bare : v ++ 46 ∷ w ≡ without_suffix (take (spelled + 1) text) = sym (ap without_suffix more ∙ without_more letter (v ++ 46 ∷ w)) in
+    plain_before continues_number refl refl text (spelled + 1) u (omega arith) (omega (arith, suffix.within)) suffix.stops (Float (record { text = without_suffix (take (spelled + 1) text); width = pos 32 }))
+    (ap (list_all is_plain) more ∙ plain_more letter (v ++ 46 ∷ w) (all_joined v w whole fraction) plain) (point_no_blank n text l point whole) refl
+    (λ cs h. ap (λ t. word_at (t ++ cs)) more ∙ suffixed_at cs h v w p letter suffix.letter
+    ∙ ap (λ t. record { value = Ok (Float (record { text = t; width = pos 32 })); taken = length (v ++ 46 ∷ w) + 1 }) bare
+    ∙ ap (λ k. record { value = Ok (Float (record { text = without_suffix (take (spelled + 1) text); width = pos 32 })); taken = k + 1 }) size)

@@ -21,7 +21,7 @@ use Rattle.pp_lexer.specs.Reading.{letters}
 use Rattle.pp_lexer.specs.Spellings.{begins_with}
 use Rattle.pp_lexer.specs.Surroundings.{begins_with as placed_begins}
 use Rattle.pp_lexer.specs.Words.{is_blank, word_at}
-use Rattle.pp_lexer.proofs.FrontsLemmas.{below, negated, utf8_behind, plain_parts, joined_is_not, slash_first, nothing_begins}
+use Rattle.pp_lexer.proofs.FrontsLemmas.{below, negated, utf8_after, plain_parts, joined_is_not, slash_first, nothing_begins}
 use Rattle.pp_lexer.proofs.PlainFrontsLemmas.{plain_ascii, front_plain}
 use Rattle.pp_lexer.proofs.PlainWordsLemmas.{word_always, word_before}
 use Rattle.pp_lexer.proofs.PunctuationLemmas.{at_hash, at_punct}
@@ -71,7 +71,7 @@ first_of c cs p h =
 passes_of : (c : ℕ) (cs : List ℕ) (p : Punctuator) → punct_of (c ∷ cs) ≡ Some p → passes c cs ≡ true
 passes_of c cs p h = (and_parts (first_fits c) (passes c cs) (spelling_fits (c ∷ cs) p h)).1
 
--- no punctuator has such a character behind another
+-- no punctuator has such a character after another
 unspelled : (c d : ℕ) (ds : List ℕ) → is_plain d ≡ false → is_some (punct_of (c ∷ d ∷ ds)) ≡ false
 unspelled c d ds n = by (punct_of (c ∷ d ∷ ds)) refl
   where
@@ -167,7 +167,7 @@ before_none P feed line at (b ∷ text) u h = let k = h (omega arith) in joined_
 slash_front : (n : ℕ) (text : List ℕ) → IsUtf8 (47 ∷ text) → (0 < length text → (get_or text 0 0 < 128) × ((get_or text 0 0 == 92) ≡ false) × (((get_or text 0 0 == 47) || (get_or text 0 0 == 42)) ≡ false)) → IsFront text n
     → IsFront (47 ∷ text) (suc n)
 slash_front n text u h f line at =
-    let v : IsUtf8 text = utf8_behind 47 text (omega arith) u in
+    let v : IsUtf8 text = utf8_after 47 text (omega arith) u in
     let there : at + 1 + n ≡ at + suc n = omega arith in
     slash_first line at text u
     (before_none (λ c. c == 47) refl line (at + 1) text v (λ l. let k = h l in (k.0, k.1, (or_parts (get_or text 0 0 == 47) (get_or text 0 0 == 42) k.2).0)))
@@ -251,7 +251,7 @@ long_front c d n text u le h p all = elim (or_cases (is_plain c) ((c == 47) && (
       let a : c ≡ 47 = eqb-true c 47 k.0 in
       let b : d ≡ 61 = eqb-true d 61 k.1 in
       let w : IsUtf8 (47 ∷ d ∷ text) = subst (λ x. IsUtf8 (x ∷ d ∷ text)) a u in
-      let v : IsUtf8 (d ∷ text) = utf8_behind 47 (d ∷ text) (omega arith) w in
+      let v : IsUtf8 (d ∷ text) = utf8_after 47 (d ∷ text) (omega arith) w in
       subst (λ x. IsFront (x ∷ d ∷ text) (suc (suc n))) (sym a)
       (slash_front (suc n) (d ∷ text) w (λ l. (plain_small d p, ap (λ x. x == 92) b, ap (λ x. (x == 47) || (x == 42)) b)) (front_plain (suc n) (d ∷ text) v (omega arith) (both (is_plain d) (list_all is_plain (take n text)) p all)))
 ]

@@ -12,7 +12,7 @@ use Rattle.pp_lexer.specs.Fronts.{left, is_straight}
 use Rattle.pp_lexer.specs.Lines.{is_newline, pieces}
 use Rattle.pp_lexer.specs.Readers.{placed_from, joined, past_line}
 use Rattle.pp_lexer.proofs.ContinuationsLemmas.{continued-plain}
-use Rattle.pp_lexer.proofs.FrontsLemmas.{ascii_chars, below, negated, pieces_plain, utf8_behind}
+use Rattle.pp_lexer.proofs.FrontsLemmas.{ascii_chars, below, negated, pieces_plain, utf8_after}
 use Rattle.pp_lexer.proofs.PlainFrontsLemmas.{passes_at, split_at}
 
 record Straight (c : ℕ) : Type 0 where
@@ -28,9 +28,9 @@ straight_parts c h =
     let d = and_parts (not (c == 13)) _ b.1 in
     record { small = below c 128 a.0; no_feed = negated _ b.0; no_return = negated _ d.0; no_backslash = negated _ d.1 }
 
-pub cut_behind_straight : (n : ℕ) (text : List ℕ) → IsUtf8 text → 0 < n → n ≤ length text → list_all is_straight (take n text) ≡ true → IsCharBoundary text n
-cut_behind_straight zero text u some le h = absurd (omega arith)
-cut_behind_straight (suc n) text u some le h =
+pub cut_after_straight : (n : ℕ) (text : List ℕ) → IsUtf8 text → 0 < n → n ≤ length text → list_all is_straight (take n text) ≡ true → IsCharBoundary text n
+cut_after_straight zero text u some le h = absurd (omega arith)
+cut_after_straight (suc n) text u some le h =
     subst (IsCharBoundary text) (add-one n) (IsCharBoundary-after_ascii text n u (omega arith) (straight_parts (get_or text n 0) (passes_at is_straight n text (omega arith) h)).small)
 
 past_step : (p : Placed) (ps : List Placed) (offset total : ℕ) → is_newline p ≡ false → past_line (record { rest = p ∷ ps; offset = offset; total = total }) ≡ past_line (record { rest = ps; offset = p.end; total = total })
@@ -58,10 +58,10 @@ straight_past line at (c ∷ w) text h u =
     let b = and_parts (is_straight c) (list_all is_straight w) h in
     let n : at + 1 + length w ≡ at + length (c ∷ w) = omega arith in
     straight_first line at c (w ++ text) b.0 u
-    ∙ straight_past line (at + 1) w text b.1 (utf8_behind c (w ++ text) (straight_parts c b.0).small u)
+    ∙ straight_past line (at + 1) w text b.1 (utf8_after c (w ++ text) (straight_parts c b.0).small u)
     ∙ ap (λ k. past_line (joined (left line k text))) n
 
--- the reader behind a straight front ends the line at the same place
+-- the reader after a straight front ends the line at the same place
 pub straight_passed : (old new : Cursor) (line at n : ℕ) (text rest : List ℕ) → IsUtf8 text → n ≤ length text → list_all is_straight (take n text) ≡ true
     → old ≡ joined (left line at text) → rest ≡ drop n text → new ≡ joined (left line (at + n) rest) → past_line new ≡ past_line old
 straight_passed old new line at n text rest u le h e g k =

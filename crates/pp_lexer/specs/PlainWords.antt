@@ -1,5 +1,5 @@
 -- Words, spaces and newlines at the front of a plain text, by their bytes.
-use Rattle.std.specs.Prelude.{◌≡◌, ℕ, ◌+◌, ◌<◌, ◌≤◌, Bool, true, false, ◌||◌, ◌&&◌, ◌==◌, List, [], ◌∷◌, ◌++◌, length, take, drop, slice_index, is_some, if◌then◌else◌, Option, Some, None, Result, Ok, Err, MatchResult, MatchOption, pos}
+use Rattle.std.specs.Prelude.{◌≡◌, ℕ, ◌+◌, ◌-◌, ◌<◌, ◌≤◌, Bool, true, false, ◌||◌, ◌&&◌, ◌==◌, List, [], ◌∷◌, ◌++◌, length, take, drop, slice_index, is_some, if◌then◌else◌, Option, Some, None, Result, Ok, Err, MatchResult, MatchOption, pos}
 use Rattle.std.specs.Char.{is_ascii_alphabetic, is_ascii_alphanumeric}
 use Rattle.std.specs.Str.{IsAscii, IsCharBoundary}
 use Rattle.std.specs.declared.alloc.AllocError.{AllocError}
@@ -8,7 +8,7 @@ use Rattle.pp_lexer.specs.declared.token.Punct.TheVariants.{AddAssign, SubAssign
 use Rattle.pp_lexer.specs.declared.lexer.item.TokenValue.{TokenValue}
 use Rattle.pp_lexer.specs.declared.lexer.item.TokenValue.TheVariants.{Hash, Ident, Integer, Float, Punct}
 use Rattle.pp_lexer.specs.declared.lexer.plain.Form.{Form}
-use Rattle.pp_lexer.specs.declared.lexer.plain.Form.TheVariants.{Identifier, Integer as IntegerForm, Float as FloatForm, Punct as PunctForm, Hash as HashForm}
+use Rattle.pp_lexer.specs.declared.lexer.plain.Form.TheVariants.{Identifier, Integer as IntegerForm, Unsigned as UnsignedForm, Float as FloatForm, SuffixedFloat as SuffixedForm, Punct as PunctForm, Hash as HashForm}
 use Rattle.pp_lexer.specs.declared.lexer.plain.Word.{Word}
 use Rattle.pp_lexer.specs.declared.lexer.Flags.{Flags}
 use Rattle.pp_lexer.specs.Fronts.{spots_from, run}
@@ -30,7 +30,7 @@ begins c = is_ascii_alphabetic c || (c == 95)
 abbrev pub continues : ℕ → Bool
 continues c = is_ascii_alphanumeric c || (c == 95)
 
--- an ASCII character with which a number may go on, or its suffix begin, behind a digit or a point
+-- an ASCII character with which a number may go on, or its suffix begin, after a digit or a point
 abbrev pub continues_number : ℕ → Bool
 continues_number c = continues c || is_point c
 
@@ -87,11 +87,23 @@ doubled c =
 abbrev pub Stops : (ℕ → Bool) → List ℕ → ℕ → Type 0
 Stops P text at = at < length text → (slice_index text at < 128) × ((slice_index text at == 92) ≡ false) × (P (slice_index text at) ≡ false)
 
+-- one of the two letters stands there, and the number ends after it
+pub record IsSuffixed (small capital : ℕ) (text : List ℕ) (at : ℕ) : Type 0 where
+  pub within : at < length text
+  pub letter : ((slice_index text at == small) || (slice_index text at == capital)) ≡ true
+  pub stops : Stops continues_number text (at + 1)
+
+-- a spelling without its last character
+abbrev pub without_suffix : List ℕ → List ℕ
+without_suffix w = take (length w - 1) w
+
 -- the value of a word of this form that is spelled so
 abbrev pub value_of : Form → List ℕ → TokenValue
 value_of Identifier w = Ident w
 value_of (IntegerForm n) w = Integer (record { value = n; signed = true; width = pos 32 })
+value_of (UnsignedForm n) w = Integer (record { value = n; signed = false; width = pos 32 })
 value_of FloatForm w = Float (record { text = w; width = pos 32 })
+value_of SuffixedForm w = Float (record { text = without_suffix w; width = pos 32 })
 value_of (PunctForm p) w = Punct p
 value_of HashForm w = Hash
 

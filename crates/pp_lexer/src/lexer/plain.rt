@@ -1,10 +1,10 @@
 //! Words, spaces and newlines of plain text, read byte by byte.
 
-ghost use Rattle.std.specs.Prelude.{⊤, ◌≡◌, ◌<◌, ◌≤◌, true, false, length, take, slice_index, IsTrue, MatchOption, MatchResult};
+ghost use Rattle.std.specs.Prelude.{⊤, ◌≡◌, ◌<◌, ◌≤◌, true, false, length, take, slice_index, IsTrue, IfOk, MatchOption, MatchResult};
 ghost use Rattle.std.specs.List.{list_all};
-ghost use Rattle.std.specs.Str.{chars, IsUtf8};
+ghost use Rattle.std.specs.Str.{IsAscii, IsUtf8};
 ghost use Rattle.pp_lexer.specs.LexerToken.{holds_memory};
-ghost use Rattle.pp_lexer.specs.PlainWords.{is_space, begins, continues, value_of, Stops, IsFirstWord, IsPlainNewline};
+ghost use Rattle.pp_lexer.specs.PlainWords.{is_space, begins, continues, value_of, without_suffix, Stops, IsFirstWord, IsPlainNewline};
 
 use crate::lexer::item::TokenValue;
 use crate::token::{Float, Integer, Punct, Text};
@@ -22,8 +22,12 @@ pub enum Form {
     Identifier,
     /// A signed integer of this value.
     Integer(u64),
+    /// An unsigned integer of this value, whose last byte is its suffix.
+    Unsigned(u64),
     /// A float.
     Float,
+    /// A float whose last byte is its suffix.
+    SuffixedFloat,
     /// A punctuator.
     Punct(Punct),
     /// A `#`.
@@ -161,20 +165,52 @@ pub fn plain_word(text: &str) -> Option<Word>
     plain_punctuation(bytes)
 }
 
+// The spelling without its last byte.
+#[inline(always)]
+fn without_suffix(spelling: &str) -> &str
+    requires { IsAscii spelling.now }
+    ensures value { result.now ≡ without_suffix spelling.now }
+    ensures ascii { IsAscii result.now }
+{
+    if spelling.is_empty() {
+        return spelling;
+    }
+    &spelling[..spelling.len() - 1]
+}
+
+// The text that is spelled so.
+#[inline(always)]
+fn ascii_text(alloc: Global, spelling: &str) -> Result<Text, AllocError>
+    requires { IsAscii spelling.now }
+    ensures { IfOk result (λ text. text ≡ spelling.now) }
+{
+    Ok(Text::from(String::from_str(alloc, spelling)?))
+}
+
 /// The value of a word of this form that is spelled so. The error is that an identifier or a float found no memory.
 #[inline(always)]
 pub fn plain_value(alloc: Global, form: Form, spelling: &str) -> Result<TokenValue, AllocError>
-    ensures { MatchResult result (λ value. value ≡ value_of form (chars spelling.now)) (λ _. (w : _) → holds_memory (value_of form w) ≡ true) }
+    requires { IsAscii spelling.now }
+    ensures { MatchResult result (λ value. value ≡ value_of form spelling.now) (λ _. (w : _) → holds_memory (value_of form w) ≡ true) }
 {
     Ok(match form {
-        Form::Identifier => TokenValue::Ident(Text::from(String::from_str(alloc, spelling)?)),
+        Form::Identifier => TokenValue::Ident(ascii_text(alloc, spelling)?),
         Form::Integer(value) => TokenValue::Integer(Integer {
             value,
             signed: true,
             width: 32,
         }),
+        Form::Unsigned(value) => TokenValue::Integer(Integer {
+            value,
+            signed: false,
+            width: 32,
+        }),
         Form::Float => TokenValue::Float(Float {
-            text: Text::from(String::from_str(alloc, spelling)?),
+            text: ascii_text(alloc, spelling)?,
+            width: 32,
+        }),
+        Form::SuffixedFloat => TokenValue::Float(Float {
+            text: ascii_text(alloc, without_suffix(spelling))?,
             width: 32,
         }),
         Form::Punct(punct) => TokenValue::Punct(punct),

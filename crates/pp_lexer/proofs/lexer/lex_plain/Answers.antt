@@ -1,7 +1,6 @@
 use Rattle.std.proofs.Common.{◌≡◌, ◌∙◌, sym, ap, subst, refl, take, rules, Err}
-use Rattle.std.specs.Str.{chars}
+use Rattle.std.specs.Str.{IsAscii}
 use Rattle.std.specs.declared.alloc.AllocError.{AllocError}
-use Rattle.std.proofs.lemmas.Str.{chars-IsAscii}
 use Rattle.pp_lexer.specs.Passing.{IsLexed}
 use Rattle.pp_lexer.specs.PlainWords.{value_of, IsFirstWord, IsPlainWord}
 use Rattle.pp_lexer.proofs.PlainFrontsLemmas.{range_front}
@@ -13,6 +12,12 @@ range-requires c =
     let w : IsFirstWord c.left-left.result.text.now c.in-Some.word = c.in-Some.ensures in
     let cut = w.cut in
     search (rules, cut)
+
+pub plain_value-requires : goal.plain_value-requires
+plain_value-requires c =
+    let text = c.left-left.result.text.now in
+    let w : IsFirstWord text c.in-Some.word = c.in-Some.ensures in
+    subst IsAscii (sym (c.range.ensures.value ∙ range_front c.in-Some.word.taken text)) w.ascii
 
 pub returns-in_err-value-clause-lexed : goal.returns-in_err-value-clause-lexed
 returns-in_err-value-clause-lexed c =
@@ -36,7 +41,7 @@ returns-clause-lexed c =
     let w : IsFirstWord text c.in-Some.word = c.in-Some.ensures in
     let spelled : c.range.result.now ≡ take n text = c.range.ensures.value ∙ range_front n text in
     let value : c.in_ok-value.value ≡ value_of c.in-Some.word.form (take n text) =
-    c.in_ok-value.ensures ∙ ap (λ t. value_of c.in-Some.word.form (chars t)) spelled ∙ ap (value_of c.in-Some.word.form) (chars-IsAscii (take n text) w.ascii) in
+    c.in_ok-value.ensures ∙ ap (value_of c.in-Some.word.form) spelled in
     let v : IsPlainWord text c.in_ok-value.value n = subst (λ x. IsPlainWord text x n) (sym value) w in
     lexed_plain c.args.flags.now c.args.inner.now c.left-left.result.line c.left-left.result.at text c.left-left.ensures.rest_is c.in_ok-value.value n v c.go.new.self
     (gone c.go.new.self c.left-left.result.line c.left-left.result.at n text c.as_bytes.result.now c.range_from.result.now c.go.ensures c.as_bytes.ensures.value c.range_from.ensures.value)

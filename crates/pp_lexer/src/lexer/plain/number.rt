@@ -5,7 +5,7 @@ ghost use Rattle.std.specs.List.{list_all};
 ghost use Rattle.std.specs.Str.{IsUtf8};
 ghost use Rattle.std.specs.Str.Parse.{digits_value};
 ghost use Rattle.pp_lexer.specs.Numbers.{is_decimal};
-ghost use Rattle.pp_lexer.specs.PlainWords.{continues_number, Stops, IsFirstWord};
+ghost use Rattle.pp_lexer.specs.PlainWords.{continues_number, Stops, IsSuffixed, IsFirstWord};
 
 use crate::lexer::plain::{Form, Word, continues};
 
@@ -57,28 +57,48 @@ fn ends_number(bytes: &[u8], at: usize) -> bool
     next < 128 && next != 92 && !(continues(next) || next == 46)
 }
 
-// The integer of so many digits at the front.
+// Whether one of the two letters stands there, and the number ends after it.
 #[inline(always)]
-fn plain_integer(bytes: &[u8], taken: usize) -> Option<Word>
-    requires utf8 { IsUtf8 bytes.now }
-    requires within { taken ≤ length bytes.now }
-    requires digits { list_all is_decimal (take taken bytes.now) ≡ true }
-    ensures { MatchOption result ⊤ (IsFirstWord bytes.now) }
+fn ends_in_suffix(bytes: &[u8], at: usize, small: u8, capital: u8) -> bool
+    ensures { IsTrue result → IsSuffixed small capital bytes.now at }
 {
-    if taken == 0 || !ends_number(bytes, taken) {
-        return None;
+    if at >= bytes.len() || !(bytes[at] == small || bytes[at] == capital) {
+        return false;
     }
-    if bytes[0] == 48 && taken > 1 {
-        return None;
-    }
-    let value = decimal_value(&bytes[..taken])?;
-    Some(Word {
-        form: Form::Integer(value),
-        taken,
-    })
+    ends_number(bytes, at + 1)
 }
 
-/// The decimal integer or float at the front, if the bytes behind it say that it ends there and has no suffix.
+// The integer of so many digits at the front, and of a `u` after them.
+#[inline(always)]
+fn plain_integer(bytes: &[u8], digits: usize) -> Option<Word>
+    requires utf8 { IsUtf8 bytes.now }
+    requires within { digits ≤ length bytes.now }
+    requires digits { list_all is_decimal (take digits bytes.now) ≡ true }
+    ensures { MatchOption result ⊤ (IsFirstWord bytes.now) }
+{
+    if digits == 0 {
+        return None;
+    }
+    if bytes[0] == 48 && digits > 1 {
+        return None;
+    }
+    let value = decimal_value(&bytes[..digits])?;
+    if ends_number(bytes, digits) {
+        return Some(Word {
+            form: Form::Integer(value),
+            taken: digits,
+        });
+    }
+    if ends_in_suffix(bytes, digits, b'u', b'U') {
+        return Some(Word {
+            form: Form::Unsigned(value),
+            taken: digits + 1,
+        });
+    }
+    None
+}
+
+/// The decimal integer or float at the front, if the bytes after it say that it ends there.
 #[inline(always)]
 pub fn plain_number(bytes: &[u8]) -> Option<Word>
     requires { IsUtf8 bytes.now }
@@ -89,12 +109,21 @@ pub fn plain_number(bytes: &[u8]) -> Option<Word>
         return plain_integer(bytes, whole);
     }
     let fraction = digits_length(&bytes[whole + 1..]);
-    let taken = whole + 1 + fraction;
-    if taken == 1 || !ends_number(bytes, taken) {
+    let spelled = whole + 1 + fraction;
+    if spelled == 1 {
         return None;
     }
-    Some(Word {
-        form: Form::Float,
-        taken,
-    })
+    if ends_number(bytes, spelled) {
+        return Some(Word {
+            form: Form::Float,
+            taken: spelled,
+        });
+    }
+    if ends_in_suffix(bytes, spelled, b'f', b'F') {
+        return Some(Word {
+            form: Form::SuffixedFloat,
+            taken: spelled + 1,
+        });
+    }
+    None
 }

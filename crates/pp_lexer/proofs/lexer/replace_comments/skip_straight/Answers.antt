@@ -2,7 +2,7 @@ use Rattle.std.proofs.Common.{◌≡◌, ◌≤◌, sym, ◌∙◌, ap, subst, l
 use Rattle.std.specs.List.{list_all}
 use Rattle.std.specs.Str.{IsUtf8}
 use Rattle.pp_lexer.specs.Fronts.{is_straight}
-use Rattle.pp_lexer.proofs.StraightLemmas.{cut_behind_straight, straight_passed}
+use Rattle.pp_lexer.proofs.StraightLemmas.{cut_after_straight, straight_passed}
 use Rattle.pp_lexer.proofs.lexer.replace_comments.skip_straight.Goals as goal
 
 pub range_from-requires : goal.range_from-requires
@@ -12,7 +12,7 @@ range_from-requires c = λ some.
     let u : IsUtf8 text = subst IsUtf8 c.as_bytes-bytes.ensures.value c.as_bytes-bytes.ensures.utf8 in
     let le : n ≤ length text = omega (arith, ap length c.as_bytes-bytes.ensures.value) in
     let passes : list_all is_straight (take n text) ≡ true = ap (λ t. list_all is_straight (take n t)) (sym c.as_bytes-bytes.ensures.value) ∙ c.straight_length-count.ensures.passes in
-    cut_behind_straight n text u some le passes
+    cut_after_straight n text u some le passes
 
 pub returns-clause-state : goal.returns-clause-state
 returns-clause-state c =
