@@ -6,9 +6,9 @@ ghost use Rattle.pp_model.specs.Reading.{first_listed, behind_listed};
 
 use crate::definitions::Definitions;
 use crate::list::take_first;
-use pp_model::names::is_defined_name;
 use crate::stop::{Budget, Stop};
 use pp_lexer::token::{Text, Token};
+use pp_model::names::is_defined_name;
 use pp_model::outcome::Outcome;
 
 /// A reader of tokens. `State` is what contracts see of it, and `reading` is its kind.

@@ -101,8 +101,8 @@ module _ (old : Preprocessing) (name content : List ℕ) (new : Source) where
   unfolding Stands is_spent most_items
   added_now tokens e h = added tokens e refl (record {
     stands = λ state stands. stands_added (chars name) tokens old.source new h old.machine state stands;
-      spent = refl;
-      ended = λ none. none_left_added (chars name) tokens old.source new h old.machine old.spent none;
+    spent = refl;
+    ended = λ none. none_left_added (chars name) tokens old.source new h old.machine old.spent none;
   })
 
   pub faulty_now : (fault : Fault) → content_tokens (items_of content) ≡ Err fault → new ≡ old.source → IsAdded old name content (Err fault) (record old { source = new })

@@ -39,12 +39,12 @@ module _ {old : Source} {r : SourceReader} (s : StandsForReader old r) {live : B
       let a = act_here s alive e ∙ is in
       let there = stands value pauses in
       let same : IsCondition (answers_at expansion_limit) word tokens r.definitions (Ok value) =
-          subst (λ (m : Definitions). IsCondition (answers_at expansion_limit) word tokens m (Ok value)) (sym s.definitions) condition in
+      subst (λ (m : Definitions). IsCondition (answers_at expansion_limit) word tokens m (Ok value)) (sym s.definitions) condition in
       rw there.0 (record { after = decided r value; steps = decides word tokens value None r (decided r value) (ap (λ x. x.step) a) same refl refl; stands = there.1 })
   condition_simulates blocks is stands (faulty fault condition failed left) =
       let a = act_here s alive e ∙ is in
       let same : IsCondition (answers_at expansion_limit) word tokens r.definitions (Err fault) =
-          subst (λ (m : Definitions). IsCondition (answers_at expansion_limit) word tokens m (Err fault)) (sym s.definitions) condition in
+      subst (λ (m : Definitions). IsCondition (answers_at expansion_limit) word tokens m (Err fault)) (sym s.definitions) condition in
       rw failed (record { after = r; steps = undecided word tokens fault (Some (outcome.Fault fault)) r r (ap (λ x. x.step) a) same refl refl })
 
 -- an `#if` is the reader's step
@@ -126,7 +126,7 @@ module _ {old : Source} {r : SourceReader} (s : StandsForReader old r) (alive : 
   number_of_line tokens is (numbers n number pauses) =
       let a = act_here s alive e ∙ is in
       let same : IsLineNumber (answers_at expansion_limit) word tokens r.definitions (Ok n) =
-          subst (λ (m : Definitions). IsLineNumber (answers_at expansion_limit) word tokens m (Ok n)) (sym s.definitions) number in
+      subst (λ (m : Definitions). IsLineNumber (answers_at expansion_limit) word tokens m (Ok n)) (sym s.definitions) number in
       rw pauses.0 (record {
         after = renumbered r word n;
         steps = renumbers word tokens n None r (renumbered r word n) (ap (λ x. x.step) a) same refl refl;
@@ -135,7 +135,7 @@ module _ {old : Source} {r : SourceReader} (s : StandsForReader old r) (alive : 
   number_of_line tokens is (faulty_number fault number failed left) =
       let a = act_here s alive e ∙ is in
       let same : IsLineNumber (answers_at expansion_limit) word tokens r.definitions (Err fault) =
-          subst (λ (m : Definitions). IsLineNumber (answers_at expansion_limit) word tokens m (Err fault)) (sym s.definitions) number in
+      subst (λ (m : Definitions). IsLineNumber (answers_at expansion_limit) word tokens m (Err fault)) (sym s.definitions) number in
       rw failed (record { after = r; steps = unnumbered word tokens fault (Some (outcome.Fault fault)) r r (ap (λ x. x.step) a) same refl refl })
 
   -- a `#line` is the reader's step

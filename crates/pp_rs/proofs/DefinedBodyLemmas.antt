@@ -29,7 +29,7 @@ no_longer (Ok definition) m n low h = omega arith
 -- with parameters, where a `(` stands directly after the name, or without
 definition_by : (word : Location) (item : Lexeme) (had : Bool) (rest : List Seen) (attached : Bool) → is_attached_paren item ≡ attached
     → IfOk (if attached then function_at word rest else (line_tokens (record { item = item; had_comments = had } ∷ rest) >>= λ body. Ok (object_like body)))
-        (λ definition. length definition.body ≤ line_length (record { item = item; had_comments = had } ∷ rest))
+    (λ definition. length definition.body ≤ line_length (record { item = item; had_comments = had } ∷ rest))
 definition_by word item had rest true e =
     no_longer (function_at word rest) (line_length rest) (line_length (record { item = item; had_comments = had } ∷ rest)) (paren_goes_on item had rest e).shorter (function_least word rest)
 definition_by word item had rest false e =

@@ -34,12 +34,11 @@ mod words;
 pub use all_items::preprocess_all;
 pub use call_list::replies;
 pub use convert::{convert_lexer_token, convert_lexer_token_to_step};
+pub use pp_model::call::{Call, Reply};
+pub use pp_model::outcome::Outcome;
 pub use preprocessor::{Preprocessor, PreprocessorItem};
 pub use spelling::spell_tokens;
 pub use step::{Step, StepExit};
-
-pub use pp_model::call::{Call, Reply};
-pub use pp_model::outcome::Outcome;
 
 /// How many expansions of arguments may stand inside each other.
 pub const EXPANSION_LIMIT: u32 = 128;
