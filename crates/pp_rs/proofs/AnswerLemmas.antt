@@ -60,9 +60,7 @@ pub short_more : (most : ℕ) (lists more : List (List Token)) (list : List Toke
 short_more most lists more list all low is = rw is (All-append (λ (a : List Token). length a ≤ most) lists (list ∷ []) all (All-cons (λ (a : List Token). length a ≤ most) list [] low (All-nil (λ (a : List Token). length a ≤ most))))
 
 -- what an argument came to, where no argument has more tokens than this
-pub short_list : (levels : ℕ) (definitions : List Defined) (arguments : List (List Token)) (i n : ℕ) (x tokens list : List Token) → i < length arguments → x ≡ get_or arguments i x → tokens ≡ x → All (λ (a : List Token). length a ≤ n) arguments → length list ≤ most_alone levels definitions (length tokens) → length list ≤ most_alone levels definitions n
-short_list levels definitions arguments i n x tokens list inside is same all low =
-    let here : length (get_or arguments i x) ≤ n = all i x inside in
-    let few : length tokens ≤ n = omega (arith, ap length is, ap length same, here) in
+pub short_list : (levels : ℕ) (definitions : List Defined) (n : ℕ) (tokens list : List Token) → length tokens ≤ n → length list ≤ most_alone levels definitions (length tokens) → length list ≤ most_alone levels definitions n
+short_list levels definitions n tokens list few low =
     let names = length definitions + 1 in
     le_trans low (most_level (frame_steps (body_tokens definitions) names levels) names (frame_steps_level (body_tokens definitions) names levels) (length tokens) n few)

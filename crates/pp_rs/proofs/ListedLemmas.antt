@@ -7,13 +7,12 @@ use Rattle.pp_rs.specs.Item.{Step}
 use Rattle.pp_rs.specs.Reader.{Listing, listed_step, StepsListed}
 use Rattle.pp_rs.specs.declared.pp.step.StepExit.TheVariants.{Error, Finished}
 
-pub lists_end : (old seen : Listing) → seen ≡ old → seen.tokens ≡ [] → StepsListed old (Err Finished) old
-lists_end old seen is none =
+pub lists_end : (old seen new : Listing) → seen ≡ old → seen.tokens ≡ [] → new ≡ record seen { tokens = [] } → StepsListed old (Err Finished) new
+lists_end old seen new is none at =
     let e : old.tokens ≡ [] = ap (λ (l : Listing). l.tokens) (sym is) ∙ none in
-    inl (sym (ap listed_step e), ap (λ (ts : List Token). record old { tokens = ts }) (e ∙ sym (ap behind_listed e)))
+    inl (sym (ap listed_step e), at ∙ ap (λ (l : Listing). record l { tokens = [] }) is ∙ ap (λ (ts : List Token). record old { tokens = ts }) (sym (ap behind_listed e)))
 
-pub lists_token : (old seen new : Listing) (token : Token) (rest : List Token) (step : Step Token) → seen ≡ old → seen.tokens ≡ token ∷ rest → new ≡ record seen { tokens = rest } → (step ≡ Err (Error out_of_memory)) ⊎ (step ≡ Ok token) → StepsListed old step new
-lists_token old seen new token rest step is e at (inl refused) = inr refused
-lists_token old seen new token rest step is e at (inr given) =
+pub lists_token : (old seen new : Listing) (token : Token) (rest : List Token) → seen ≡ old → seen.tokens ≡ token ∷ rest → new ≡ record seen { tokens = rest } → StepsListed old (Ok token) new
+lists_token old seen new token rest is e at =
     let found : old.tokens ≡ token ∷ rest = ap (λ (l : Listing). l.tokens) (sym is) ∙ e in
-    inl (given ∙ sym (ap listed_step found), at ∙ ap (λ (l : Listing). record l { tokens = rest }) is ∙ ap (λ (ts : List Token). record old { tokens = ts }) (sym (ap behind_listed found)))
+    inl (sym (ap listed_step found), at ∙ ap (λ (l : Listing). record l { tokens = rest }) is ∙ ap (λ (ts : List Token). record old { tokens = ts }) (sym (ap behind_listed found)))

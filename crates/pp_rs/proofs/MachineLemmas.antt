@@ -13,7 +13,7 @@ use Rattle.pp_model.proofs.GatherLemmas.{behind_tokens, behind_tokens-before, be
 use Rattle.pp_rs.specs.Reach.{total}
 use Rattle.pp_rs.specs.Reader.{Reader}
 use Rattle.pp_rs.proofs.SpendLemmas.{step_spends, next_spends, total_one_more}
-use Rattle.pp_rs.specs.Turns.{Moves, taken_in}
+use Rattle.pp_rs.specs.Turns.{Moves, taken_in, gives_line_name}
 use Rattle.pp_rs.specs.declared.pp.step.StepExit.{StepExit}
 use Rattle.pp_rs.specs.declared.pp.step.StepExit.TheVariants.{Error, Continue, Finished}
 
@@ -27,6 +27,17 @@ pub takes_exit : (m : Machine) (old new : Option (Step Token)) (frames after : L
 takes_exit m old new frames after move step exit r s e f g moves is same =
     moved (Err exit) step m (record { held = new; frames = after }) r s (ap (λ (k : Machine). k.held) e ∙ f)
     (subst (λ (x : Step Token). Moves m.frames r x after s) is (subst (λ (fs : List Layer). Moves fs r move after s) (sym (ap (λ (k : Machine). k.frames) e)) moves)) same g
+
+-- a step of the frames or the reader that gives no `__LINE__`
+pub takes_step : (m : Machine) (old new : Option (Step Token)) (frames after : List Layer) (move : Step Token) (r s : Reader) → m ≡ record { held = old; frames = frames } → old ≡ None → new ≡ None
+    → Moves frames r move after s → gives_line_name move ≡ false → StepsTaking m r move (record { held = new; frames = after }) s
+takes_step m old new frames after move r s e f g moves is =
+    moved move move m (record { held = new; frames = after }) r s (ap (λ (k : Machine). k.held) e ∙ f)
+    (subst (λ (fs : List Layer). Moves fs r move after s) (sym (ap (λ (k : Machine). k.frames) e)) moves) (same move is) g
+  where
+    same : (step : Step Token) → gives_line_name step ≡ false → step ≡ taken_as step after s
+    same (Ok token) apart = rw apart refl
+    same (Err exit) apart = refl
 
 -- a token that is taken
 pub takes_token : (m : Machine) (old new : Option (Step Token)) (frames after : List Layer) (move step : Step Token) (token : Token) (r s : Reader) → m ≡ record { held = old; frames = frames } → old ≡ None → new ≡ None

@@ -1,6 +1,6 @@
 -- One step of the frames, or of the reader behind them, and what a token that is taken becomes and opens (docs/RULES.md,
 -- Expansion 1 to 4 and 10).
-use Rattle.std.specs.Prelude.{◌≡◌, if◌then◌else◌, List, [], ◌∷◌, Option, Some, None, Ok, Err, ◌⊎◌, unwrap_or}
+use Rattle.std.specs.Prelude.{◌≡◌, Bool, false, if◌then◌else◌, List, [], ◌∷◌, Option, Some, None, Ok, Err, ◌⊎◌, unwrap_or}
 use Rattle.pp_lexer.specs.PreprocessorError.{out_of_memory}
 use Rattle.pp_lexer.specs.declared.token.Token.{Token}
 use Rattle.pp_lexer.specs.declared.token.TokenValue.{TokenValue}
@@ -39,6 +39,11 @@ taken_in frames reader token =
     if is_identifier line_name token.value
     then line_number token.location (shown_line reader (unwrap_or (outermost_frame_line frames) token.location.line))
     else outcome.Token token
+
+-- the step gives `__LINE__`
+abbrev pub gives_line_name : Step Token → Bool
+gives_line_name (Ok token) = is_identifier line_name token.value
+gives_line_name (Err exit) = false
 
 abbrev pub opened_by : Name → Option Definition → Option (Name × Definition)
 opened_by name None = None

@@ -123,7 +123,7 @@ pub fn finish_call(
     if levels == 0 {
         return Err(Halt::Fault((PreprocessorError::RecursionLimitReached, call.paren())));
     }
-    let expanded = expand_within(alloc, &*caller, &arguments, definitions, hidden, levels - 1)?;
+    let expanded = expand_within(alloc, &*caller, arguments, definitions, hidden, levels - 1)?;
     caller.open_call(call, expanded)?;
     Ok(())
 }
@@ -133,13 +133,13 @@ pub fn finish_call(
 fn expand_within(
     alloc: Global,
     caller: &Caller,
-    arguments: &ExpandedArguments,
+    arguments: ExpandedArguments,
     definitions: &Definitions,
     hidden: &OpenAround<'_>,
     levels: u32,
 ) -> Result<ExpandedArguments, Halt>
-    ensures each { Satisfies result (λ out. Each (Alone levels) (meaning_of definitions.now) (names_of caller.now.frames ++ hidden.now) arguments.now out) }
-    ensures least { IfOk result (λ outs. AreShort levels definitions.now arguments.now outs) }
+    ensures each { Satisfies result (λ out. Each (Alone levels) (meaning_of definitions.now) (names_of caller.now.frames ++ hidden.now) arguments out) }
+    ensures least { IfOk result (λ outs. AreShort levels definitions.now arguments outs) }
 {
     let around = (&*caller).around(&*hidden)?;
     expand_arguments(alloc, arguments, definitions, &around, levels)
@@ -149,17 +149,17 @@ fn expand_within(
 #[cycle(answers)]
 fn expand_arguments(
     alloc: Global,
-    arguments: &ExpandedArguments,
+    arguments: ExpandedArguments,
     definitions: &Definitions,
     hidden: &OpenAround<'_>,
     levels: u32,
 ) -> Result<ExpandedArguments, Halt>
-    ensures each { Satisfies result (λ out. Each (Alone levels) (meaning_of definitions.now) hidden.now arguments.now out) }
-    ensures least { IfOk result (λ outs. AreShort levels definitions.now arguments.now outs) }
+    ensures each { Satisfies result (λ out. Each (Alone levels) (meaning_of definitions.now) hidden.now arguments out) }
+    ensures least { IfOk result (λ outs. AreShort levels definitions.now arguments outs) }
 {
     let mut expanded = Vec::new(alloc);
-    for argument in arguments.as_slice() {
-        let list = expand_argument(alloc, argument.as_slice(), definitions, hidden, levels)?;
+    for argument in arguments.into_lists() {
+        let list = expand_argument(alloc, argument, definitions, hidden, levels)?;
         expanded.push(list)?;
     }
     Ok(ExpandedArguments::new(expanded))
@@ -169,16 +169,15 @@ fn expand_arguments(
 #[cycle(answers)]
 fn expand_argument(
     alloc: Global,
-    tokens: &[Token],
+    tokens: TokenList,
     definitions: &Definitions,
     hidden: &OpenAround<'_>,
     levels: u32,
 ) -> Result<TokenList, Halt>
-    requires { AllHoldOrdinary tokens.now }
-    ensures alone { Satisfies result (λ out. Alone levels tokens.now (meaning_of definitions.now) hidden.now out) }
-    ensures least { IfOk result (λ out. IsShort levels definitions.now (length tokens.now) out) }
+    ensures alone { Satisfies result (λ out. Alone levels tokens (meaning_of definitions.now) hidden.now out) }
+    ensures least { IfOk result (λ out. IsShort levels definitions.now (length tokens) out) }
 {
-    let mut lexer = ListLexer::argument(alloc, tokens, definitions, &*hidden);
+    let mut lexer = ListLexer::argument(tokens.into_tokens(), definitions, &*hidden);
     let mut caller = Caller::new(alloc);
     let mut items = Vec::new(alloc);
     'items: loop {

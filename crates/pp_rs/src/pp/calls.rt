@@ -14,7 +14,7 @@ ghost use Rattle.pp_lexer.specs.declared.token.TokenValue.TheVariants as value;
 ghost use Rattle.pp_rs.specs.declared.pp.step.StepExit.TheVariants.{Error, Continue};
 
 use crate::pp::define::Define;
-use crate::pp::expander::MacroProcessor;
+use crate::pp::expander::{MacroProcessor, gives_line_name};
 use crate::pp::frames::TokenList;
 use crate::pp::halt::Halt;
 use crate::pp::open_around::OpenAround;
@@ -272,7 +272,11 @@ impl Caller {
         match self.held.take() {
             Some(step) => step,
             None => {
-                let token = self.processor.advance(lexer)?;
+                let step = self.processor.advance(lexer);
+                if !gives_line_name(&step) {
+                    return step;
+                }
+                let token = step?;
                 self.processor.take_in(&*lexer, token)
             }
         }

@@ -179,7 +179,7 @@ impl<'a> DirectiveProcessor<'a> {
         ensures { Acts (moves.line_move (line_tokens self.old.rest) (moves.opens_if word) (line_length self.old.rest)) self.old result self.new }
     {
         let tokens = rest_of_line(self.alloc, &mut self.lexer)?;
-        let holds = condition(self.alloc, word, &tokens, &self.definitions)?;
+        let holds = condition(self.alloc, word, tokens, &self.definitions)?;
         self.blocks.push(OpenBlock::opened(word, holds))?;
         Ok(())
     }
@@ -211,7 +211,7 @@ impl<'a> DirectiveProcessor<'a> {
         ensures { Acts (moves.line_move (line_tokens self.old.rest) (moves.parts_if block word) (line_length self.old.rest)) self.old result self.new }
     {
         let tokens = rest_of_line(self.alloc, &mut self.lexer)?;
-        let holds = condition(self.alloc, word, &tokens, &self.definitions)?;
+        let holds = condition(self.alloc, word, tokens, &self.definitions)?;
         self.blocks.replace_last(block.decided(holds));
         Ok(())
     }
@@ -273,7 +273,7 @@ impl<'a> DirectiveProcessor<'a> {
         ensures { Acts (moves.line_move (line_tokens self.old.rest) (moves.renumbers word) (line_length self.old.rest)) self.old result self.new }
     {
         let tokens = rest_of_line(self.alloc, &mut self.lexer)?;
-        let number = line_number(self.alloc, word, &tokens, &self.definitions)?;
+        let number = line_number(self.alloc, word, tokens, &self.definitions)?;
         self.count_from(word.line, number);
         Ok(())
     }

@@ -9,7 +9,7 @@ ghost use Rattle.pp_model.specs.Names.{is_in, is_identifier, line_name};
 ghost use Rattle.pp_model.specs.declared.outcome.Outcome.TheVariants as outcome;
 ghost use Rattle.pp_rs.specs.Frames.{layer, names_of, outermost_frame_line};
 ghost use Rattle.pp_rs.specs.Held.{HoldsOrdinary};
-ghost use Rattle.pp_rs.specs.Turns.{Moves, taken_in, opens_value};
+ghost use Rattle.pp_rs.specs.Turns.{Moves, taken_in, gives_line_name, opens_value};
 ghost use Rattle.pp_rs.specs.declared.pp.step.StepExit.TheVariants.{Error, Continue};
 
 use crate::pp::define::Define;
@@ -50,6 +50,16 @@ fn is_line_name(value: &TokenValue) -> bool
     match value {
         TokenValue::Ident(name) => is_spelled(name, "__LINE__"),
         _ => false,
+    }
+}
+
+/// Whether the step gives `__LINE__`.
+pub fn gives_line_name(step: &Step<Token>) -> bool
+    ensures { result ≡ gives_line_name step.now }
+{
+    match step {
+        Ok(token) => is_line_name(&token.value),
+        Err(_) => false,
     }
 }
 

@@ -43,6 +43,14 @@ impl TokenList {
         TokenList { items }
     }
 
+    /// The tokens as a vector.
+    pub fn into_tokens(self) -> Vec<Token>
+        ensures is { result.items ≡ self }
+        ensures holds { AllHoldOrdinary result.items }
+    {
+        self.items
+    }
+
     /// The tokens.
     pub fn as_slice(&self) -> &[Token]
         ensures is { result.now ≡ self.now }

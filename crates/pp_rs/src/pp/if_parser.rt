@@ -318,16 +318,16 @@ impl<'a> IfParser<'a> {
     // The words of a line around which no macro is open.
     fn words_of_line(
         &self,
-        tokens: &[Token],
+        tokens: Vec<Token>,
         definitions: &Definitions,
         around: &OpenAround<'_>,
     ) -> Result<Words, AllocError>
-        requires holds { AllHoldOrdinary tokens.now }
+        requires holds { AllHoldOrdinary tokens.items }
         requires same { self.now.definitions.now ≡ definitions.now }
         requires alone { around.now ≡ [] }
-        ensures { IfOk result (AreWordsOfLine self.now.kind self.now.directive self.now.levels tokens.now definitions.now) }
+        ensures { IfOk result (AreWordsOfLine self.now.kind self.now.directive self.now.levels tokens.items definitions.now) }
     {
-        let lexer = ListLexer::line(self.alloc, tokens, definitions, &*around);
+        let lexer = ListLexer::line(tokens, definitions, &*around);
         let mut line = LineExpander {
             caller: Caller::new(self.alloc),
             lexer,
@@ -341,12 +341,12 @@ pub fn line_words(
     alloc: Global,
     kind: LineKind,
     directive: Location,
-    tokens: &[Token],
+    tokens: Vec<Token>,
     definitions: &Definitions,
     levels: u32,
 ) -> Result<Words, AllocError>
-    requires { AllHoldOrdinary tokens.now }
-    ensures { IfOk result (AreWordsOfLine kind directive levels tokens.now definitions.now) }
+    requires { AllHoldOrdinary tokens.items }
+    ensures { IfOk result (AreWordsOfLine kind directive levels tokens.items definitions.now) }
 {
     let parser = IfParser {
         alloc,

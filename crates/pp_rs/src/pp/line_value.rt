@@ -204,11 +204,11 @@ fn followed(alloc: Global, directive: Location, words: &Words, number: u32) -> R
 pub fn condition(
     alloc: Global,
     directive: Location,
-    tokens: &[Token],
+    tokens: Vec<Token>,
     definitions: &Definitions,
 ) -> Result<bool, Halt>
-    requires { AllHoldOrdinary tokens.now }
-    ensures { Satisfies result (IsCondition (answers_at expansion_limit) directive tokens.now (meaning_of definitions.now)) }
+    requires { AllHoldOrdinary tokens.items }
+    ensures { Satisfies result (IsCondition (answers_at expansion_limit) directive tokens.items (meaning_of definitions.now)) }
 {
     let kind = LineKind::Condition;
     let levels = expansion_limit();
@@ -260,11 +260,11 @@ fn numbers(alloc: Global, directive: Location, words: Words) -> Result<u32, Halt
 pub fn line_number(
     alloc: Global,
     directive: Location,
-    tokens: &[Token],
+    tokens: Vec<Token>,
     definitions: &Definitions,
 ) -> Result<u32, Halt>
-    requires { AllHoldOrdinary tokens.now }
-    ensures { Satisfies result (IsLineNumber (answers_at expansion_limit) directive tokens.now (meaning_of definitions.now)) }
+    requires { AllHoldOrdinary tokens.items }
+    ensures { Satisfies result (IsLineNumber (answers_at expansion_limit) directive tokens.items (meaning_of definitions.now)) }
 {
     let kind = LineKind::LineNumber;
     let levels = expansion_limit();

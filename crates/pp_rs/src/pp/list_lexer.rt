@@ -8,14 +8,13 @@ ghost use Rattle.pp_rs.specs.Reader.{of_list, is_masked};
 
 use crate::pp::define::Define;
 use crate::pp::definitions::Definitions;
-use crate::pp::frames::{give, token_at};
 use crate::pp::open_around::OpenAround;
 use crate::pp::reader::MeLexer;
 use crate::pp::step::{Step, StepExit};
 use crate::token::{Location, Token};
-use std::alloc::Global;
 use std::marker::Model;
 use std::rc::Rc;
+use std::vec::IntoIter;
 
 // Whether the name is the operator of a directive's line.
 fn is_reserved(is_line: bool, name: &str) -> bool
@@ -27,41 +26,36 @@ fn is_reserved(is_line: bool, name: &str) -> bool
 /// A list of tokens, with what is defined there and the names that are open around.
 #[derive(Drop)]
 pub struct ListLexer<'a> {
-    alloc: Global,
-    tokens: &'a [Token],
-    position: usize,
+    tokens: IntoIter<Token>,
     definitions: &'a Definitions,
     hidden: &'a OpenAround<'a>,
     is_line: bool,
 }
 
 impl<'a> Model for ListLexer<'a> {
-    ghost use Rattle.std.specs.Prelude.{drop};
+    ghost use Rattle.std.specs.Vec.Iter.{into_iter_items};
     ghost use Rattle.pp_rs.specs.Held.{AllHoldOrdinary};
     ghost use Rattle.pp_rs.specs.Reader.{Listing};
 
     ghost Value = { Listing };
 
-    ghost view = { λ l. record { tokens = drop l.position l.tokens.now; definitions = l.definitions.now; hidden = l.hidden.now; is_line = l.is_line } };
+    ghost view = { λ l. record { tokens = into_iter_items l.tokens; definitions = l.definitions.now; hidden = l.hidden.now; is_line = l.is_line } };
 
-    ghost invariant = { λ l. AllHoldOrdinary l.tokens.now };
+    ghost invariant = { λ l. AllHoldOrdinary (into_iter_items l.tokens) };
 }
 
 impl<'a> ListLexer<'a> {
     /// An argument of a call.
     pub fn argument(
-        alloc: Global,
-        tokens: &'a [Token],
+        tokens: Vec<Token>,
         definitions: &'a Definitions,
         hidden: &'a OpenAround<'a>,
     ) -> Self
-        requires { AllHoldOrdinary tokens.now }
-        ensures { result ≡ record { tokens = tokens.now; definitions = definitions.now; hidden = hidden.now; is_line = false } }
+        requires { AllHoldOrdinary tokens.items }
+        ensures { result ≡ record { tokens = tokens.items; definitions = definitions.now; hidden = hidden.now; is_line = false } }
     {
         ListLexer {
-            alloc,
-            tokens,
-            position: 0,
+            tokens: tokens.into_iter(),
             definitions,
             hidden,
             is_line: false,
@@ -70,18 +64,15 @@ impl<'a> ListLexer<'a> {
 
     /// The line of an `#if`, `#elif` or `#line`, where `defined` is reserved.
     pub fn line(
-        alloc: Global,
-        tokens: &'a [Token],
+        tokens: Vec<Token>,
         definitions: &'a Definitions,
         hidden: &'a OpenAround<'a>,
     ) -> Self
-        requires { AllHoldOrdinary tokens.now }
-        ensures { result ≡ record { tokens = tokens.now; definitions = definitions.now; hidden = hidden.now; is_line = true } }
+        requires { AllHoldOrdinary tokens.items }
+        ensures { result ≡ record { tokens = tokens.items; definitions = definitions.now; hidden = hidden.now; is_line = true } }
     {
         ListLexer {
-            alloc,
-            tokens,
-            position: 0,
+            tokens: tokens.into_iter(),
             definitions,
             hidden,
             is_line: true,
@@ -100,11 +91,10 @@ impl<'a> MeLexer for ListLexer<'a> {
     ghost reader = { λ list. of_list list };
 
     fn step(&mut self) -> Step<Token> {
-        let Some(token) = token_at(self.tokens, self.position) else {
+        let Some(token) = self.tokens.next() else {
             return Err(StepExit::Finished);
         };
-        self.position += 1;
-        give(self.alloc, token)
+        Ok(token)
     }
 
     fn get_define(&self, name: &str) -> Option<&Rc<Define>> {

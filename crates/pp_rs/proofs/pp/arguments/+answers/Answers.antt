@@ -1,14 +1,16 @@
-use Rattle.std.proofs.Common.{◌≡◌, refl, subst, arith, ◌∙◌, sym, ap, false, [], ◌++◌}
+use Rattle.std.proofs.Common.{◌≡◌, ◌≤◌, refl, subst, arith, ◌∙◌, sym, ap, false, List, [], ◌∷◌, ◌++◌, length}
 use Rattle.std.specs.Prelude.{Ok, Err, None}
+use Rattle.std.specs.Vec.Iter.{into_iter_items}
 use Rattle.pp_model.specs.Calls.{Fault, arguments_of, misfit}
 use Rattle.pp_rs.specs.Frames.{names_of}
 use Rattle.std.proofs.lemmas.Result.{err_from_is_err_and}
-use Rattle.pp_model.specs.Emitting.{Alone, list_before}
-use Rattle.pp_model.proofs.CollectLemmas.{behind_lists-before, behind_items-end, each_at-failed, each_at-more, each_at-end}
+use Rattle.pp_model.specs.Emitting.{Alone, list_before, first_failed, more, none}
+use Rattle.pp_model.proofs.CollectLemmas.{behind_lists-before, behind_items-end}
 use Rattle.pp_rs.specs.Defined.{meaning_of}
 use Rattle.pp_rs.specs.Item.{is_out_of_memory}
 use Rattle.pp_rs.specs.declared.pp.step.StepExit.TheVariants.{Error}
-use Rattle.std.proofs.lemmas.List.Elements.{All-push, All-nil}
+use Rattle.std.proofs.lemmas.List.{nil_from_length}
+use Rattle.std.proofs.lemmas.List.Elements.{All-push, All-nil, All-head, All-tail}
 use Rattle.pp_lexer.specs.declared.token.Token.{Token}
 use Rattle.pp_rs.specs.Held.{HoldsOrdinary}
 use Rattle.pp_rs.proofs.AnswerLemmas.{satisfies_exit, fault_of, finish_fault, opens_frame, short_more, short_list}
@@ -17,7 +19,7 @@ use Rattle.pp_rs.proofs.ListedLeadsLemmas.{turned}
 use Rattle.pp_rs.proofs.pp.arguments.+answers.Goals as goal
 
 pub expand_argument-items-init : goal.expand_argument-items-init
-expand_argument-items-init t c = record { reached = reached_start _ _ _ _ _ _ _ c.new-caller.ensures c.argument-lexer.ensures c.new-items.ensures.items; holds = rw c.new-items.ensures.items (All-nil (λ (t : Token). HoldsOrdinary t.value)) }
+expand_argument-items-init t c = record { reached = reached_start _ _ _ _ _ _ _ c.new-caller.ensures (rw c.into_tokens.ensures.is at c.argument-lexer.ensures) c.new-items.ensures.items; holds = rw c.new-items.ensures.items (All-nil (λ (t : Token). HoldsOrdinary t.value)) }
 
 pub expand_argument-items-smaller-in-Continue-1 : goal.expand_argument-items-smaller-in-Continue-1
 expand_argument-items-smaller-in-Continue-1 t c = token_less _ _ _ _ _ _ _ c.items.invariant.reached _ _ c.in-Ok-Token.token (turned _ _ _ _ _ (rw c.in-Ok-Token.field-0-is at c.in-Ok-Token.ensures.turns) refl)
@@ -44,7 +46,7 @@ pub expand_argument-returns-in-Err-Error-clause-alone : goal.expand_argument-ret
 expand_argument-returns-in-Err-Error-clause-alone t c =
     let heard = sym c.is_out_of_memory.ensures ∙ c.if-is_out_of_memory.false in
     let told : is_out_of_memory c.in-Err-Error.fault.0 ≡ false = ap (λ f. is_out_of_memory f.0) (sym c.in-Err-Error.fault-is) ∙ heard in
-    subst (λ (f : Fault). Alone c.args.levels c.args.tokens.now (meaning_of c.args.definitions.now) c.args.hidden.now (Err f)) (sym c.in-Err-Error.fault-is) (reached_fault _ _ _ _ _ _ _ c.items.invariant.reached _ _ c.in-Err-Error.fault (turned _ _ _ _ (Err (Error c.in-Err-Error.fault)) (rw c.in-Err-Error.field-0-is at c.in-Err-Error.ensures.turns) told) told)
+    subst (λ (f : Fault). Alone c.args.levels c.args.tokens (meaning_of c.args.definitions.now) c.args.hidden.now (Err f)) (sym c.in-Err-Error.fault-is) (reached_fault _ _ _ _ _ _ _ c.items.invariant.reached _ _ c.in-Err-Error.fault (turned _ _ _ _ (Err (Error c.in-Err-Error.fault)) (rw c.in-Err-Error.field-0-is at c.in-Err-Error.ensures.turns) told) told)
 
 pub expand_argument-returns-in_err-finish_call-in-Ok-Call-clause-alone : goal.expand_argument-returns-in_err-finish_call-in-Ok-Call-clause-alone
 expand_argument-returns-in_err-finish_call-in-Ok-Call-clause-alone t c =
@@ -56,19 +58,22 @@ pub expand_arguments-returns-in_err-list-clause-each : goal.expand_arguments-ret
 expand_arguments-returns-in_err-list-clause-each t c =
     let e = err_from_is_err_and c.from_residual.result c.from_residual.ensures.1 in
     satisfies_exit _ c.in_err-list.field-0.0 _ (e.1 ∙ ap Err e.2)
-    (λ fault is. c.loop-argument.invariant.goes_on (Err fault) (each_at-failed (Alone c.args.levels) (meaning_of c.args.definitions.now) c.args.hidden.now c.args.arguments.now c.loop-argument.argument-index c.argument-item.result c.as_slice.result.now fault (rw c.as_slice-argument-items.ensures at c.loop-argument-test.true) (rw c.as_slice-argument-items.ensures at c.argument-item.is) (c.as_slice.ensures.is) (fault_of c.in_err-list.field-0.0 fault _ is c.in_err-list.ensures.alone)))
+    (λ fault is. c.loop-argument.invariant.goes_on (Err fault) (rw c.in-Some.ensures.steps.0 (first_failed c.in-Some.argument _ fault (Err fault) (fault_of c.in_err-list.field-0.0 fault _ is c.in_err-list.ensures.alone) refl)))
 
 pub expand_arguments-loop-argument-preserved : goal.expand_arguments-loop-argument-preserved
-expand_arguments-loop-argument-preserved t c = record {
-  goes_on = λ out h.
-      rw (c.in_ok-push.ensures.items, ← behind_lists-before c.loop-argument.expanded.items c.in_ok-list.list out)
-      (c.loop-argument.invariant.goes_on (list_before c.in_ok-list.list out) (each_at-more (Alone c.args.levels) (meaning_of c.args.definitions.now) c.args.hidden.now c.args.arguments.now c.loop-argument.argument-index c.argument-item.result c.as_slice.result.now c.in_ok-list.list out (rw c.as_slice-argument-items.ensures at c.loop-argument-test.true) (rw c.as_slice-argument-items.ensures at c.argument-item.is) (c.as_slice.ensures.is) c.in_ok-list.ensures.alone h));
-  short = λ n all. short_more _ c.loop-argument.expanded.items _ c.in_ok-list.list (c.loop-argument.invariant.short n all) (short_list c.args.levels c.args.definitions.now c.args.arguments.now c.loop-argument.argument-index n c.argument-item.result c.as_slice.result.now c.in_ok-list.list (rw c.as_slice-argument-items.ensures at c.loop-argument-test.true) (rw c.as_slice-argument-items.ensures at c.argument-item.is) c.as_slice.ensures.is all c.in_ok-list.ensures.least) c.in_ok-push.ensures.items;
-}
+expand_arguments-loop-argument-preserved t c =
+    let is : into_iter_items c.loop-argument.argument-iterator ≡ c.in-Some.argument ∷ into_iter_items c.next.new.self = c.in-Some.ensures.steps.0 in
+    record {
+      goes_on = λ out h.
+          rw (c.in_ok-push.ensures.items, ← behind_lists-before c.loop-argument.expanded.items c.in_ok-list.list out)
+          (c.loop-argument.invariant.goes_on (list_before c.in_ok-list.list out) (rw is (more c.in-Some.argument c.in_ok-list.list _ out (list_before c.in_ok-list.list out) c.in_ok-list.ensures.alone h refl)));
+      left = λ n all. All-tail (λ (a : List Token). length a ≤ n) c.in-Some.argument _ (rw is at c.loop-argument.invariant.left n all);
+      short = λ n all. short_more _ c.loop-argument.expanded.items _ c.in_ok-list.list (c.loop-argument.invariant.short n all) (short_list c.args.levels c.args.definitions.now n c.in-Some.argument c.in_ok-list.list (All-head (λ (a : List Token). length a ≤ n) c.in-Some.argument _ (rw is at c.loop-argument.invariant.left n all)) c.in_ok-list.ensures.least) c.in_ok-push.ensures.items;
+    }
 
 pub expand_arguments-returns-clause-each : goal.expand_arguments-returns-clause-each
 expand_arguments-returns-clause-each t c = rw (c.new.ensures, ← behind_items-end c.loop-argument.expanded.items)
-    (c.loop-argument.invariant.goes_on (Ok []) (each_at-end (Alone c.args.levels) (meaning_of c.args.definitions.now) c.args.hidden.now c.args.arguments.now c.loop-argument.argument-index (rw c.as_slice-argument-items.ensures at c.loop-argument-test.false)))
+    (c.loop-argument.invariant.goes_on (Ok []) (rw (nil_from_length (into_iter_items c.loop-argument.argument-iterator) (sym c.loop-argument.argument-iterator.rest.ok.0 ∙ c.in-None.ensures.steps.0)) (none (Ok []) refl)))
 
 pub expand_arguments-returns-clause-least : goal.expand_arguments-returns-clause-least
 expand_arguments-returns-clause-least t c = λ n all. rw c.new.ensures (c.loop-argument.invariant.short n all)

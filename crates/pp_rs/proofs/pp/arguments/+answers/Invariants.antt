@@ -1,5 +1,6 @@
-use Rattle.std.proofs.Common.{◌+◌, ◌*◌, ◌≤◌, List, drop, length, ℕ, All}
+use Rattle.std.proofs.Common.{◌+◌, ◌*◌, ◌≤◌, List, length, ℕ, All}
 use Rattle.std.specs.Prelude.{Result}
+use Rattle.std.specs.Vec.Iter.{into_iter_items}
 use Rattle.pp_lexer.specs.declared.token.Token.{Token}
 use Rattle.pp_model.specs.Calls.{Fault}
 use Rattle.pp_model.specs.Emitting.{Each, Alone}
@@ -25,7 +26,7 @@ decreases-expand_within l = 4 * l.levels + 3
 
 abbrev pub invariant-expand_argument-items : goal.invariant-expand_argument-items
 invariant-expand_argument-items l = record {
-  reached : Reached l.levels l.definitions l.hidden l.tokens l.caller l.lexer l.items.items;
+  reached : Reached l.levels l.definitions l.hidden l.fn.tokens l.caller l.lexer l.items.items;
   holds : AllHoldOrdinary l.items.items;
 }
 
@@ -34,6 +35,7 @@ decreases-expand_argument-items l = work_of l.levels l.caller (of_list l.lexer)
 
 abbrev pub invariant-expand_arguments-loop-argument : goal.invariant-expand_arguments-loop-argument
 invariant-expand_arguments-loop-argument l = record {
-  goes_on : (out : Result (List (List Token)) Fault) → Each (Alone l.levels) (meaning_of l.definitions) l.hidden (drop l.argument-index l.arguments) out → Each (Alone l.levels) (meaning_of l.definitions) l.hidden l.arguments (behind_items l.expanded.items out);
-  short : (n : ℕ) → All (λ (a : List Token). length a ≤ n) l.arguments → All (λ (a : List Token). length a ≤ most_alone l.levels l.definitions n) l.expanded.items;
+  goes_on : (out : Result (List (List Token)) Fault) → Each (Alone l.levels) (meaning_of l.definitions) l.hidden (into_iter_items l.argument-iterator) out → Each (Alone l.levels) (meaning_of l.definitions) l.hidden l.fn.arguments (behind_items l.expanded.items out);
+  left : (n : ℕ) → All (λ (a : List Token). length a ≤ n) l.fn.arguments → All (λ (a : List Token). length a ≤ n) (into_iter_items l.argument-iterator);
+  short : (n : ℕ) → All (λ (a : List Token). length a ≤ n) l.fn.arguments → All (λ (a : List Token). length a ≤ most_alone l.levels l.definitions n) l.expanded.items;
 }

@@ -8,4 +8,4 @@ returns c =
     let e = c.in_ok-tokens.ensures in
     rw (← c.self.view_is, c.count_from.ensures)
     (line_numbers p.definitions p.blocks p.line_offset p.has_text p.has_directive p.lexer c.rest_of_line.new.lexer c.args.word c.in_ok-tokens.tokens.items e.is e.takes c.in_ok-number.number _
-    (rw c.deref.ensures.value at c.in_ok-number.ensures) refl)
+    c.in_ok-number.ensures refl)

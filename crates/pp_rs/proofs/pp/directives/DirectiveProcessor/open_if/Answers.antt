@@ -9,4 +9,4 @@ returns c =
     let e = c.in_ok-tokens.ensures in
     rw (← c.self.view_is)
     (if_opens p.definitions p.blocks p.line_offset p.has_text p.has_directive p.lexer c.rest_of_line.new.lexer c.args.word c.in_ok-tokens.tokens.items e.is e.takes c.in_ok-holds.holds c.push.new.self
-    (rw c.deref.ensures.value at c.in_ok-holds.ensures) (c.in_ok-push.ensures ∙ ap (λ (b : OpenBlock). p.blocks ++ b ∷ []) c.opened.ensures))
+    c.in_ok-holds.ensures (c.in_ok-push.ensures ∙ ap (λ (b : OpenBlock). p.blocks ++ b ∷ []) c.opened.ensures))

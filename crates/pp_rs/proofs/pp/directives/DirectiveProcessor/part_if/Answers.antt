@@ -9,4 +9,4 @@ returns c =
     let e = c.in_ok-tokens.ensures in
     rw (← c.self.view_is)
     (elif_parts p.definitions p.blocks p.line_offset p.has_text p.has_directive p.lexer c.rest_of_line.new.lexer c.args.word c.in_ok-tokens.tokens.items e.is e.takes c.args.block c.in_ok-holds.holds c.replace_last.new.self
-    (rw c.deref.ensures.value at c.in_ok-holds.ensures) (c.replace_last.ensures ∙ ap (λ (b : OpenBlock). outer_blocks p.blocks ++ b ∷ []) c.decided.ensures))
+    c.in_ok-holds.ensures (c.replace_last.ensures ∙ ap (λ (b : OpenBlock). outer_blocks p.blocks ++ b ∷ []) c.decided.ensures))
