@@ -1,5 +1,5 @@
 -- Calls that are finished, as the code finishes them.
-use Rattle.std.proofs.Common.{◌≡◌, ◌≢◌, ℕ, zero, suc, ◌+◌, ◌-◌, ◌<◌, ◌≤◌, arith, All, List, [], ◌∷◌, ◌++◌, length, get_or, refl, sym, ap, subst, Option, None, le_trans, true, false, Bool}
+use Rattle.std.proofs.Common.{◌≡◌, ◌≢◌, ℕ, zero, suc, ◌+◌, ◌-◌, ◌≤◌, arith, All, List, [], ◌∷◌, ◌++◌, length, refl, sym, subst, Option, None, le_trans, true, false, Bool}
 use Rattle.std.specs.Prelude.{Result, Ok, Err, ◌&&◌, ◌==◌}
 use Rattle.std.proofs.lemmas.List.Elements.{All-cons, All-nil, All-append}
 use Rattle.pp_lexer.specs.declared.token.Token.{Token}

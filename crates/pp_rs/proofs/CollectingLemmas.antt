@@ -3,7 +3,6 @@ use Rattle.std.proofs.Common.{◌≡◌, ◌∙◌, ◌⊎◌, inl, inr, Bool, t
 use Rattle.std.specs.Prelude.{Ok, Err, MatchBool}
 use Rattle.std.proofs.lemmas.List.Elements.{All-nil, All-push}
 use Rattle.pp_lexer.specs.declared.token.Token.{Token}
-use Rattle.pp_model.specs.Emitting.{expansion_limit}
 use Rattle.pp_model.specs.declared.outcome.Outcome.TheVariants as outcome
 use Rattle.pp_rs.specs.Collecting.{tokens_before_error, first_error, error_or_end, AreItemsFrom, AreItemsOf, StandsBehindItems, IsGivenUp}
 use Rattle.pp_rs.specs.Comes.{State, IsRunFrom}

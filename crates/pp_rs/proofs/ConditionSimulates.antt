@@ -9,9 +9,9 @@ use Rattle.pp_model.specs.Emitting.{answers_at, expansion_limit}
 use Rattle.pp_model.specs.LineValues.{IsCondition, IsLineNumber}
 use Rattle.pp_model.specs.Lines.{line_length, line_tokens}
 use Rattle.pp_model.specs.Sights.{sight_of}
-use Rattle.pp_model.specs.Blocks.{Block, blocks_at, innermost, are_surroundings_live, has_taken_branch, has_else}
+use Rattle.pp_model.specs.Blocks.{Block, innermost, are_surroundings_live, has_taken_branch, has_else}
 use Rattle.pp_model.specs.SourceReader.{SourceReader}
-use Rattle.pp_model.specs.Acts.{decided, behind_line, elif_in, elif_line}
+use Rattle.pp_model.specs.Acts.{decided, elif_in, elif_line}
 use Rattle.pp_model.specs.Reads.{renumbered, decides, undecided, renumbers, unnumbered}
 use Rattle.pp_model.specs.declared.directive.Directive.TheVariants as d
 use Rattle.pp_model.specs.declared.outcome.Outcome.TheVariants as outcome
@@ -20,7 +20,7 @@ use Rattle.pp_model.specs.declared.sight.Sight.TheVariants as sight
 use Rattle.pp_model.specs.declared.step.Step.TheVariants as step
 use Rattle.pp_rs.specs.Item.{Step}
 use Rattle.pp_rs.specs.OpenBlocks.{OpenBlock, last_block, is_live_in, block_skipped, skips_branches}
-use Rattle.pp_rs.specs.Source.{Source, Pauses, Condition, LineNumber, Decides, holds, faulty, Renumbers, numbers, unnumbered as faulty_number, Makes}
+use Rattle.pp_rs.specs.Source.{Source, Pauses, Decides, holds, faulty, Renumbers, numbers, unnumbered as faulty_number, Makes}
 use Rattle.pp_rs.specs.SourceMoves as moves
 use Rattle.pp_rs.specs.Stands.{StandsForReader}
 use Rattle.pp_rs.proofs.Simulates.{Simulates}

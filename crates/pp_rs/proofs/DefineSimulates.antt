@@ -1,12 +1,10 @@
 -- The lines of `#define` and `#undef` in live text are steps of the source's reader.
-use Rattle.std.proofs.Common.{◌≡◌, ◌∙◌, inl, inr, true, drop, refl, ap, sym, Option, Some, None}
-use Rattle.std.specs.Prelude.{Ok}
+use Rattle.std.proofs.Common.{◌≡◌, ◌∙◌, inl, inr, true, refl, ap, sym, Option, Some, None}
 use Rattle.pp_lexer.specs.declared.token.Location.{Location}
 use Rattle.pp_lexer.specs.declared.token.Token.{Token}
 use Rattle.pp_model.specs.Names.{Name}
 use Rattle.pp_model.specs.Definitions.{Definition, Definitions, changed}
-use Rattle.pp_model.specs.Calls.{Fault}
-use Rattle.pp_model.specs.Lines.{line_length, only_name}
+use Rattle.pp_model.specs.Lines.{only_name}
 use Rattle.pp_model.specs.DefineLines.{defined_on}
 use Rattle.pp_model.specs.Sights.{sight_of}
 use Rattle.pp_model.specs.SourceReader.{SourceReader}

@@ -1,22 +1,16 @@
 -- What stands in front of a directive's line.
-use Rattle.std.proofs.Common.{◌≡◌, ◌∙◌, ℕ, suc, ◌+◌, Bool, true, false, if◌then◌else◌, List, [], ◌∷◌, take, refl, ap, sym, Some, None, arith}
-use Rattle.std.specs.Prelude.{Result, Ok, Err}
+use Rattle.std.proofs.Common.{◌≡◌, ◌∙◌, ℕ, suc, ◌+◌, Bool, true, false, List, [], ◌∷◌, take, refl, ap, None, arith}
+use Rattle.std.specs.Prelude.{Ok, Err}
 use Rattle.std.specs.List.{cons_option}
 use Rattle.pp_lexer.specs.Lexed.{Seen}
 use Rattle.pp_lexer.specs.Items.{Lexeme}
 use Rattle.pp_lexer.specs.declared.lexer.item.TokenValue.{TokenValue as LexerTokenValue}
 use Rattle.pp_lexer.specs.declared.lexer.item.TokenValue.TheVariants.{Hash, NewLine, Ident as LexerIdent, Integer as LexerInteger, Float as LexerFloat, Punct as LexerPunct}
 use Rattle.pp_lexer.specs.declared.token.Location.{Location}
-use Rattle.pp_lexer.specs.declared.token.Token.{Token}
-use Rattle.pp_model.specs.Definitions.{Definition, object_like}
-use Rattle.pp_model.specs.Calls.{Fault}
-use Rattle.pp_model.specs.Conversions.{identifier_of, refused_token}
-use Rattle.pp_model.specs.Lines.{ends_line, line_tokens, first_token, behind_first_token, first_name, ◌>>=◌}
-use Rattle.pp_model.specs.DefineLines.{is_attached_paren, has_parameters, definition_at, defined_on}
+use Rattle.pp_model.specs.Conversions.{identifier_of}
+use Rattle.pp_model.specs.Lines.{ends_line, first_token}
 use Rattle.pp_model.specs.Sights.{sight_of, named_directive, directive_sight, token_sight, is_directive_hash}
 use Rattle.pp_model.specs.Blocks.{part_of, line_at, line_with, block_lines}
-use Rattle.pp_model.specs.declared.definition.Named.{Named}
-use Rattle.pp_model.specs.declared.definition.Placed.{Placed}
 use Rattle.pp_model.specs.declared.directive.Directive.{Directive}
 use Rattle.pp_model.specs.declared.sight.Sight.{Sight}
 use Rattle.pp_model.specs.declared.sight.Sight.TheVariants as sight

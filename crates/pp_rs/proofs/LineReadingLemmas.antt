@@ -2,13 +2,12 @@
 use Rattle.std.proofs.Common.{◌≡◌, ℕ, ◌+◌, ◌≤◌, Bool, true, false, if◌then◌else◌, not, List, [], ◌∷◌, ◌++◌, length, drop, Option, Some, None, Result, Ok, Err, refl, sym, ◌∙◌, ap, append_assoc, length-drop, suc, arith}
 use Rattle.pp_lexer.specs.Items.{Lexeme}
 use Rattle.pp_lexer.specs.Lexed.{Seen, Lexed}
-use Rattle.pp_lexer.specs.declared.lexer.item.Token.{Token as LexerToken}
 use Rattle.pp_lexer.specs.declared.token.Token.{Token}
 use Rattle.pp_model.specs.Calls.{Fault}
 use Rattle.pp_model.specs.Conversions.{is_newline, conversion}
 use Rattle.pp_model.specs.Emitting.{token_before}
 use Rattle.pp_model.specs.Lines.{◌>>=◌, line_tokens, line_length, line_fault}
-use Rattle.pp_rs.specs.LineReading.{HasTaken, TakesItems, line_token, some_token, next_line_token, tokens_behind, length_behind, unless_fault, skipped_line, goes_on_behind, line_goes_on}
+use Rattle.pp_rs.specs.LineReading.{HasTaken, TakesItems, some_token, next_line_token, tokens_behind, length_behind, unless_fault, skipped_line, goes_on_behind, line_goes_on}
 use Rattle.pp_rs.specs.declared.pp.halt.Halt.{Halt}
 use Rattle.pp_rs.specs.declared.pp.halt.Halt.TheVariants as halt
 

@@ -1,11 +1,9 @@
 -- One step of a list of tokens.
-use Rattle.std.proofs.Common.{◌≡◌, ◌∙◌, ◌⊎◌, inl, inr, List, [], ◌∷◌, ap, sym, Ok, Err}
-use Rattle.pp_lexer.specs.PreprocessorError.{out_of_memory}
+use Rattle.std.proofs.Common.{◌≡◌, ◌∙◌, inl, List, [], ◌∷◌, ap, sym, Ok, Err}
 use Rattle.pp_lexer.specs.declared.token.Token.{Token}
 use Rattle.pp_model.specs.Reading.{behind_listed}
-use Rattle.pp_rs.specs.Item.{Step}
 use Rattle.pp_rs.specs.Reader.{Listing, listed_step, StepsListed}
-use Rattle.pp_rs.specs.declared.pp.step.StepExit.TheVariants.{Error, Finished}
+use Rattle.pp_rs.specs.declared.pp.step.StepExit.TheVariants.{Finished}
 
 pub lists_end : (old seen new : Listing) → seen ≡ old → seen.tokens ≡ [] → new ≡ record seen { tokens = [] } → StepsListed old (Err Finished) new
 lists_end old seen new is none at =

@@ -1,5 +1,5 @@
 -- A pause of an expander: what is taken and emitted behind it is so before it.
-use Rattle.std.proofs.Common.{◌≡◌, ◌∙◌, List, [], sym, Some, None}
+use Rattle.std.proofs.Common.{◌≡◌, ◌∙◌, List, sym, Some, None}
 use Rattle.pp_model.specs.SpliceList.{behind_marks}
 use Rattle.pp_model.specs.Reading.{Reading, Expander}
 use Rattle.pp_model.specs.Taking.{Takes, held, listed, read}
