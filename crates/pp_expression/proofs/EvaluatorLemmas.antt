@@ -13,7 +13,7 @@ use Rattle.pp_expression.specs.declared.symbol.Found.{Found}
 use Rattle.pp_expression.specs.Operators.{level_of}
 use Rattle.pp_expression.specs.Arithmetic.{literal}
 use Rattle.pp_expression.specs.Lines.{Line, next, Stops, Reads}
-use Rattle.pp_expression.specs.Parsing.{behind_next, sign_at, atom_at, closing_at, binary_at, located, IsFault}
+use Rattle.pp_expression.specs.Parsing.{after_next, sign_at, atom_at, closing_at, binary_at, located, IsFault}
 use Rattle.pp_expression.specs.Pending.{innermost, outer, wanted_in, Awaits, HasOperand}
 use Rattle.pp_expression.specs.Evaluator.{IsHalt}
 use Rattle.pp_expression.proofs.Trees.{operand_stops, read_number, read_group}
@@ -35,14 +35,14 @@ halts goes whole found r is fault = ends goes whole (halt.Fault found) r is faul
 -- ---- after an operand, where the next symbol isn't read
 
 -- the symbol after an operand isn't read
-pub unread_after : (whole : Line) (waiting : List Pending) (line : Line) (v : ℤ) (found : Found) → wanted_in waiting ≤ 9
+pub unread_after_operand : (whole : Line) (waiting : List Pending) (line : Line) (v : ℤ) (found : Found) → wanted_in waiting ≤ 9
     → HasOperand 9 whole waiting line v → located (length line.symbols) (binary_at line) ≡ Err found → IsFault 0 whole found
-unread_after whole waiting line v found low h e =
+unread_after_operand whole waiting line v found low h e =
     let stopped = reads_stopped h.binding (h.binding + 1) 10 h.start line v (operand_stops line) h.reads in
     let reads = reads_looser 9 h.binding 10 h.start line v h.tight stopped in
     outwards whole waiting h.start found h.awaits
     (fault_looser (wanted_in waiting) 9 h.start found low
-    (steps.not_read_behind 9 h.start line v found (omega arith) reads (next_unread (next line) 9 (length line.symbols) found e)))
+    (steps.not_read_after 9 h.start line v found (omega arith) reads (next_unread (next line) 9 (length line.symbols) found e)))
 
 -- ---- where an operand is wanted
 
@@ -72,9 +72,9 @@ operand_read level whole waiting start line v low a r = record {
 }
 
 pub number_read : (whole : Line) (waiting : List Pending) (line : Line) (n : ℕ) → Awaits whole waiting line
-    → located (length line.symbols) (atom_at line) ≡ Ok (Some n) → HasOperand 9 whole waiting (behind_next line) (literal n)
+    → located (length line.symbols) (atom_at line) ≡ Ok (Some n) → HasOperand 9 whole waiting (after_next line) (literal n)
 number_read whole waiting line n a h =
-    operand_read 9 whole waiting line (behind_next line) (literal n) (omega arith) a (read_number line n (steps.numbers line n h))
+    operand_read 9 whole waiting line (after_next line) (literal n) (omega arith) a (read_number line n (steps.numbers line n h))
 
 -- ---- after an operand
 
@@ -95,10 +95,10 @@ whole_operand : (level : ℕ) (whole : Line) (waiting : List Pending) (line : Li
 whole_operand level whole waiting line v stop stops h =
     reads_looser level h.binding stop h.start line v h.tight (reads_stopped h.binding (h.binding + 1) stop h.start line v stops h.reads)
 
--- Behind its left operand an operator is pending.
+-- After its left operand an operator is pending.
 pub operator_taken : (whole : Line) (waiting : List Pending) (line : Line) (o : Binary) (v : ℤ) → wanted_in waiting ≤ level_of o
     → HasOperand (level_of o) whole waiting line v → binary_at line ≡ Ok (Some o)
-    → Awaits whole (pending.Operator (operator.Infix o v) ∷ waiting) (behind_next line)
+    → Awaits whole (pending.Operator (operator.Infix o v) ∷ waiting) (after_next line)
 operator_taken whole waiting line o v loose h e = (
   h.start,
   h.awaits,
@@ -123,17 +123,17 @@ nothing_waits (operator.Infix o left) low = omega arith
 
 group_end : (whole : Line) (around : List Pending) (line : Line) (v : ℤ)
     → (h : HasOperand 0 whole (pending.Group ∷ around) line v) → binary_at line ≡ Ok None
-    → Reads 0 0 (behind_next h.awaits.0) line v
+    → Reads 0 0 (after_next h.awaits.0) line v
 group_end whole around line v h e =
     let reads = whole_operand 0 whole (pending.Group ∷ around) line v 0 (end_stops line e) h in rw h.awaits.2.1 at reads
 
 -- What is in parentheses is over, and they are closed.
 pub group_closed : (whole : Line) (waiting : List Pending) (line : Line) (v : ℤ) (inner : Pending)
     → innermost waiting ≡ Some inner → wanted_in waiting ≤ 0 → HasOperand 0 whole waiting line v → binary_at line ≡ Ok None
-    → located (length line.symbols) (closing_at line) ≡ Ok tt → HasOperand 9 whole (outer waiting) (behind_next line) v
+    → located (length line.symbols) (closing_at line) ≡ Ok tt → HasOperand 9 whole (outer waiting) (after_next line) v
 group_closed whole [] line v inner is low h e close = cc
 group_closed whole (pending.Group ∷ around) line v inner is low h e close =
-    operand_read 9 whole around h.awaits.0 (behind_next line) v (omega arith) h.awaits.1
+    operand_read 9 whole around h.awaits.0 (after_next line) v (omega arith) h.awaits.1
     (read_group h.awaits.0 line v h.awaits.2.0 (group_end whole around line v h e) (steps.closes line close))
 group_closed whole (pending.Operator op ∷ around) line v inner is low h e close = absurd (nothing_waits op low)
 

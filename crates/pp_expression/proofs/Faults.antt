@@ -10,8 +10,8 @@ use Rattle.pp_expression.specs.Operators.{unary_punct, binary_punct}
 use Rattle.pp_expression.specs.Arithmetic.{unary_value, binary_value}
 use Rattle.pp_expression.specs.Trees.{Infix, spelling, value, HasValue, ◌>>=◌}
 use Rattle.pp_expression.specs.Lines.{Line, next, next_of, Reads}
-use Rattle.pp_expression.specs.FirstFault.{sign_of, atom_of, closing, Front, Here, InGroup, InPrefix, InInfix, front_spelling, FitsFront, wanted, unread_at, Fails, unread, wrong, unread_behind, unclosed, signed, operated, Possible}
-use Rattle.pp_expression.specs.Parsing.{behind_next, sign_at}
+use Rattle.pp_expression.specs.FirstFault.{sign_of, atom_of, closing, Front, Here, InGroup, InPrefix, InInfix, front_spelling, FitsFront, wanted, unread_at, Fails, unread, wrong, unread_after, unclosed, signed, operated, Possible}
+use Rattle.pp_expression.specs.Parsing.{after_next, sign_at}
 use Rattle.pp_expression.proofs.Levels.{operator_at, operator_of}
 use Rattle.pp_expression.proofs.Trees.{next_is, sign_is, operator_is, fits_looser, operation_spelled, operation_fits}
 
@@ -64,7 +64,7 @@ sign_at_next symbols ending x e h =
 pub not_begun : (old : Line) (x : Option Symbol) (e : ExpressionFault) → next old ≡ Ok x → sign_at old ≡ Ok None → atom_of x ≡ Err e → Possible HasValue 10 old (length old.symbols) 4 e
 not_begun old x e h s out = here 10 old (length old.symbols) 4 e (wrong x h (sign_at_next old.symbols old.ending x h s) out refl refl)
 
-pub in_group : (old : Line) (left order : ℕ) (e : ExpressionFault) → next old ≡ Ok (Some (symbol.Punct mark.LeftParen)) → Possible HasValue 0 (behind_next old) left order e → Possible HasValue 10 old left order e
+pub in_group : (old : Line) (left order : ℕ) (e : ExpressionFault) → next old ≡ Ok (Some (symbol.Punct mark.LeftParen)) → Possible HasValue 0 (after_next old) left order e → Possible HasValue 10 old left order e
 in_group old left order e opens h = record {
   front = InGroup h.front;
   here = h.here;
@@ -74,13 +74,13 @@ in_group old left order e opens h = record {
   fails = h.fails;
 }
 
-pub not_closed : (old mid : Line) (v : ℤ) (x : Option Symbol) (e : ExpressionFault) → next old ≡ Ok (Some (symbol.Punct mark.LeftParen)) → Reads 0 0 (behind_next old) mid v → next mid ≡ Ok x → closing x ≡ Err e → Possible HasValue 10 old (length mid.symbols) 4 e
+pub not_closed : (old mid : Line) (v : ℤ) (x : Option Symbol) (e : ExpressionFault) → next old ≡ Ok (Some (symbol.Punct mark.LeftParen)) → Reads 0 0 (after_next old) mid v → next mid ≡ Ok x → closing x ≡ Err e → Possible HasValue 10 old (length mid.symbols) 4 e
 not_closed old mid v x e opens r h not_closing =
     here 10 old (length mid.symbols) 4 e (unclosed r.tree mid x
     (next_is old.symbols old.ending (symbol.Punct mark.LeftParen) opens ∙ ap (λ (xs : List Symbol). symbol.Punct mark.LeftParen ∷ xs) r.spelled)
     r.ending r.fits (ok_is (value r.tree) v r.valued) h r.stops.over not_closing refl refl)
 
-pub in_sign : (o : Unary) (old : Line) (left order : ℕ) (e : ExpressionFault) → sign_at old ≡ Ok (Some o) → Possible HasValue 10 (behind_next old) left order e → Possible HasValue 10 old left order e
+pub in_sign : (o : Unary) (old : Line) (left order : ℕ) (e : ExpressionFault) → sign_at old ≡ Ok (Some o) → Possible HasValue 10 (after_next old) left order e → Possible HasValue 10 old left order e
 in_sign o old left order e sign h = record {
   front = InPrefix o h.front;
   here = h.here;
@@ -90,7 +90,7 @@ in_sign o old left order e sign h = record {
   fails = h.fails;
 }
 
-pub sign_fails : (o : Unary) (old new : Line) (x : ℤ) (e : ExpressionFault) → sign_at old ≡ Ok (Some o) → Reads 10 10 (behind_next old) new x → unary_value o x ≡ Err e → Possible HasValue 10 old (length new.symbols + 1) 2 e
+pub sign_fails : (o : Unary) (old new : Line) (x : ℤ) (e : ExpressionFault) → sign_at old ≡ Ok (Some o) → Reads 10 10 (after_next old) new x → unary_value o x ≡ Err e → Possible HasValue 10 old (length new.symbols + 1) 2 e
 sign_fails o old new x e sign r h =
     here 10 old (length new.symbols + 1) 2 e (signed o r.tree new x
     (sign_is old o sign ∙ ap (λ (xs : List Symbol). symbol.Punct (unary_punct o) ∷ xs) r.spelled)
@@ -101,7 +101,7 @@ sign_fails o old new x e sign r h =
 fails_looser : (level : ℕ) (line : Line) (left order : ℕ) (e : ExpressionFault) → Fails HasValue (level + 1) line left order e → Fails HasValue level line left order e
 fails_looser level line left order e (unread h a b) = unread h a b
 fails_looser level line left order e (wrong x h s out a b) = wrong x h s out a b
-fails_looser level line left order e (unread_behind t rest low spelled ending fits ok h a b) = unread_behind t rest (omega arith) spelled ending (fits_looser level t fits) ok h a b
+fails_looser level line left order e (unread_after t rest low spelled ending fits ok h a b) = unread_after t rest (omega arith) spelled ending (fits_looser level t fits) ok h a b
 fails_looser level line left order e (unclosed t rest x spelled ending fits ok h over out a b) = unclosed t rest x spelled ending fits ok h over out a b
 fails_looser level line left order e (signed o t rest x spelled ending fits ok h a b) = signed o t rest x spelled ending fits ok h a b
 fails_looser level line left order e (operated o l r rest x y spelled ending fits lv rv h stops a b) = operated o l r rest x y spelled ending (fits_looser level (Infix o l r) fits) lv rv h stops a b
@@ -135,11 +135,11 @@ operator_unread level (x ∷ xs) ending e h = cc
 operator_unread level [] None e h = cc
 operator_unread level [] (Some d) e h = cc
 
-pub not_read_behind : (level : ℕ) (old mid : Line) (v : ℤ) (e : ExpressionFault) → level ≤ 9 → Reads level (level + 1) old mid v → operator_at level mid ≡ Err e → Possible HasValue level old (length mid.symbols) 1 e
-not_read_behind level old mid v e low r h =
-    here level old (length mid.symbols) 1 e (unread_behind r.tree mid low r.spelled r.ending r.fits (ok_is (value r.tree) v r.valued) (operator_unread level mid.symbols mid.ending e h) refl refl)
+pub not_read_after : (level : ℕ) (old mid : Line) (v : ℤ) (e : ExpressionFault) → level ≤ 9 → Reads level (level + 1) old mid v → operator_at level mid ≡ Err e → Possible HasValue level old (length mid.symbols) 1 e
+not_read_after level old mid v e low r h =
+    here level old (length mid.symbols) 1 e (unread_after r.tree mid low r.spelled r.ending r.fits (ok_is (value r.tree) v r.valued) (operator_unread level mid.symbols mid.ending e h) refl refl)
 
-pub in_right : (level : ℕ) (o : Binary) (old mid : Line) (x : ℤ) (left order : ℕ) (e : ExpressionFault) → Reads level (level + 1) old mid x → operator_at level mid ≡ Ok (Some o) → Possible HasValue (level + 1) (behind_next mid) left order e → Possible HasValue level old left order e
+pub in_right : (level : ℕ) (o : Binary) (old mid : Line) (x : ℤ) (left order : ℕ) (e : ExpressionFault) → Reads level (level + 1) old mid x → operator_at level mid ≡ Ok (Some o) → Possible HasValue (level + 1) (after_next mid) left order e → Possible HasValue level old left order e
 in_right level o old mid x left order e former op h =
     let is = operator_is level mid o op in
     record {
@@ -151,7 +151,7 @@ in_right level o old mid x left order e former op h =
       fails = rw is.1 h.fails;
     }
 
-pub operation_fails : (level : ℕ) (o : Binary) (old mid new : Line) (x y : ℤ) (e : ExpressionFault) → Reads level (level + 1) old mid x → operator_at level mid ≡ Ok (Some o) → Reads (level + 1) (level + 1) (behind_next mid) new y → binary_value o x y ≡ Err e → Possible HasValue level old (unread_at o new) 2 e
+pub operation_fails : (level : ℕ) (o : Binary) (old mid new : Line) (x y : ℤ) (e : ExpressionFault) → Reads level (level + 1) old mid x → operator_at level mid ≡ Ok (Some o) → Reads (level + 1) (level + 1) (after_next mid) new y → binary_value o x y ≡ Err e → Possible HasValue level old (unread_at o new) 2 e
 operation_fails level o old mid new x y e former op latter h =
     let is = operator_is level mid o op in
     here level old (unread_at o new) 2 e (operated o former.tree latter.tree new x y

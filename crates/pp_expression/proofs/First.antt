@@ -10,7 +10,7 @@ use Rattle.pp_expression.specs.Operators.{level_of, unary_punct, binary_punct}
 use Rattle.pp_expression.specs.Arithmetic.{binary_value}
 use Rattle.pp_expression.specs.Trees.{Tree, Number, Group, Prefix, Infix, spelling, Fits, value, ◌>>=◌, HasValue}
 use Rattle.pp_expression.specs.Lines.{Line, next}
-use Rattle.pp_expression.specs.FirstFault.{sign_of, unread_at, Front, Here, InGroup, InPrefix, InInfix, front_spelling, FitsFront, wanted, Fails, unread, wrong, unread_behind, unclosed, signed, operated, Possible}
+use Rattle.pp_expression.specs.FirstFault.{sign_of, unread_at, Front, Here, InGroup, InPrefix, InInfix, front_spelling, FitsFront, wanted, Fails, unread, wrong, unread_after, unclosed, signed, operated, Possible}
 use Rattle.pp_expression.specs.Parsing.{sign_at}
 use Rattle.pp_expression.proofs.Levels.{operator_at}
 use Rattle.pp_expression.proofs.Trees.{operand_stops}
@@ -37,7 +37,7 @@ up level line e h a = descend_fault (10 - level) level 10 line e (omega arith) (
 pub down : (line : Line) (out : Outcome) → Settles (Level 10) line out → Settles Operand line out
 down line out a = record { enough = a.enough; settled = λ m le. a.settled (suc m) (omega arith) }
 
--- ---- the word behind a tree isn't read
+-- ---- the word after a tree isn't read
 
 unread_atom : (t : Tree) (level : ℕ) (rest : Line) (v : ℤ) (d : ExpressionFault) → level ≤ 9 → Settles Operand (onto (spelling t) rest) (Ok (v, rest)) → next rest ≡ Err d → Settles (Level level) (onto (spelling t) rest) (found (length rest.symbols) 1 d)
 unread_atom t level rest v d h a is =
@@ -49,7 +49,7 @@ unread_atom t level rest v d h a is =
 abbrev pub Unreads : Tree → Type 0
 Unreads t = (level : ℕ) (rest : Line) (d : ExpressionFault) → level ≤ 9 → Fits level t → IsOk (value t) → next rest ≡ Err d → Settles (Level level) (onto (spelling t) rest) (found (length rest.symbols) 1 d)
 
--- behind a left operand comes its operator
+-- after a left operand comes its operator
 pub left_goes : (o : Binary) (l : Tree) (xs : List Symbol) (level : ℕ) (rest : Line) (x : ℤ) (out : Outcome) → level ≤ level_of o → Fits (level_of o) l → value l ≡ Ok x → Settles (Loop (level_of o) x) (onto (symbol.Punct (binary_punct o) ∷ xs) rest) out → Settles (Level (level_of o)) (onto (spelling l ++ (symbol.Punct (binary_punct o) ∷ xs)) rest) out
 left_goes o l xs level rest x out h fits is loop =
     let own = level_of o in
@@ -64,14 +64,14 @@ unread_infix o l r right level rest d h fits ok is =
     let v = ok_value (value (Infix o l r)) ok in
     let x = bind_ok (value l) (λ x. value r >>= binary_value o x) v.0 v.1 in
     let y = bind_ok (value r) (binary_value o x.0) v.0 x.2 in
-    let behind = onto (symbol.Punct (binary_punct o) ∷ spelling r) rest in
+    let after = onto (symbol.Punct (binary_punct o) ∷ spelling r) rest in
     let front = operator_front own o (spelling r) rest refl in
     let e = spot (length rest.symbols) 1 d in
-    let loop : Settles (Loop own x.0) behind (Err e) = elim (dec_lt own 9) [
-      | yes below ↦ loop_right own o x.0 behind e front (right (own + 1) rest d (omega arith) fits.2 (rw y.1 refl) is)
+    let loop : Settles (Loop own x.0) after (Err e) = elim (dec_lt own 9) [
+      | yes below ↦ loop_right own o x.0 after e front (right (own + 1) rest d (omega arith) fits.2 (rw y.1 refl) is)
       | no above ↦
           let nine : own ≡ 9 = omega (arith, above, low) in
-          loop_goes own o x.0 y.0 v.0 behind rest (Err e) front
+          loop_goes own o x.0 y.0 v.0 after rest (Err e) front
           ((is_read r).whole (own + 1) rest y.0 (omega arith) fits.2 y.1 (let ten : own + 1 ≡ 10 = omega arith in rw ten (operand_stops rest)))
           y.2 (loop_unread own v.0 rest d (operator_unread own rest d is))
     ] in
@@ -95,7 +95,7 @@ fails_settles level line left order e h (unread is a b) =
     rw (a, b) (up level line (spot (length line.symbols) 1 e) h (operand_unread line e s))
 fails_settles level line left order e h (wrong x is s out a b) =
     rw (a, b) (up level line (spot (length line.symbols) 4 e) h (operand_wrong line x e (sign_none line x is s) is out))
-fails_settles level line left order e h (unread_behind t rest low spelled ending fits ok is a b) =
+fails_settles level line left order e h (unread_after t rest low spelled ending fits ok is a b) =
     rw (a, b, line_is line rest (spelling t) spelled ending) (unreads t level rest e low fits ok is)
 fails_settles level line left order e h (unclosed t rest x spelled ending fits ok is over out a b) =
     let v = ok_value (value t) ok in
@@ -112,11 +112,11 @@ fails_settles level line left order e h (operated o l r rest x y spelled ending 
     let own = level_of o in
     let low = low_operator o in
     let here = spot (unread_at o rest) 2 e in
-    let behind = onto (symbol.Punct (binary_punct o) ∷ spelling r) rest in
+    let after = onto (symbol.Punct (binary_punct o) ∷ spelling r) rest in
     rw (a, b, line_is line rest (spelling (Infix o l r)) spelled ending)
     (descend_fault (own - level) level own (onto (spelling (Infix o l r)) rest) here (omega (arith, fits.0)) (omega arith)
     (left_goes o l (spelling r) level rest x (Err here) fits.0 fits.1 lv
-    (loop_overflows own o x y behind rest e (operator_front own o (spelling r) rest refl)
+    (loop_overflows own o x y after rest e (operator_front own o (spelling r) rest refl)
     ((is_read r).whole (own + 1) rest y (omega arith) fits.2 rv s) out)))
 
 -- ---- and seen from the front of the line

@@ -59,7 +59,7 @@ not_both level line rest number fault low reads first = no_fault level line rest
 same_value : (line : Line) (a b : Value) → IsValue line a → IsValue line b → a ≡ b
 same_value line a b x y =
     let same = one_value 0 line x.rest y.rest a.value b.value (omega arith) x.reads y.reads in
-    let left : a.left ≡ b.left = x.behind ∙ ap (λ (rest : Line). length rest.symbols) same.1 ∙ sym y.behind in
+    let left : a.left ≡ b.left = x.after ∙ ap (λ (rest : Line). length rest.symbols) same.1 ∙ sym y.after in
     let of_value : ℤ → Value = λ value. record { value = value; left = a.left } in
     let of_left : ℕ → Value = λ left. record { value = b.value; left = left } in
     ap of_value same.0 ∙ ap of_left left
@@ -71,10 +71,10 @@ one_outcome line (Err a) (Err b) x y = ap Err (one_fault 0 line a b (omega arith
 one_outcome line (Ok a) (Err b) x y = absurd (not_both 0 line x.rest a.value b (omega arith) x.reads y)
 one_outcome line (Err a) (Ok b) x y = absurd (not_both 0 line y.rest b.value a (omega arith) y.reads x)
 
--- What stands behind the expression is as many symbols of the line's end as its value says.
+-- What stands after the expression is as many symbols of the line's end as its value says.
 pub rest_is : (line : Line) (found : Value) → (is : IsValue line found) → is.rest.symbols ≡ drop (length line.symbols - found.left) line.symbols
 rest_is line found is =
     let words = spelling is.reads.tree in
     let all : length line.symbols ≡ length words + length is.rest.symbols = ap length is.reads.spelled ∙ length-append words is.rest.symbols in
-    let taken : length words ≡ length line.symbols - found.left = omega (arith, all, is.behind) in
+    let taken : length words ≡ length line.symbols - found.left = omega (arith, all, is.after) in
     rw (← taken, is.reads.spelled) (sym (drop-append_seam words is.rest.symbols))

@@ -13,7 +13,7 @@ use Rattle.pp_expression.specs.declared.symbol.Found.{Found}
 use Rattle.pp_expression.specs.Operators.{level_of, binary_of}
 use Rattle.pp_expression.specs.Trees.{◌>>=◌}
 use Rattle.pp_expression.specs.Lines.{Line, next_of, goes_on, Stops, Reads}
-use Rattle.pp_expression.specs.Parsing.{behind_next, binary_sign_of, binary_at, located, IsFault}
+use Rattle.pp_expression.specs.Parsing.{after_next, binary_sign_of, binary_at, located, IsFault}
 use Rattle.pp_expression.proofs.Levels.{operator_of, operator_at}
 use Rattle.pp_expression.specs.Pending.{operator_level, operation, computed_at, right_level, wanted_in, Awaits, HasOperand}
 use Rattle.pp_expression.proofs.Trees.{operand_stops, read_looser, read_signed, read_operation}
@@ -129,7 +129,7 @@ stops_right level binary line le s = stops_above (level_of binary - level) (leve
 right_operand : (level : ℕ) (whole : Line) (binary : Binary) (left : ℤ) (around : List Pending) (line : Line) (x : ℤ)
     → level ≤ level_of binary → Stops (level + 1) line
     → (h : HasOperand level whole (pending.Operator (operator.Infix binary left) ∷ around) line x)
-    → Reads (level_of binary + 1) (level_of binary + 1) (behind_next h.awaits.2.from_operator) line x
+    → Reads (level_of binary + 1) (level_of binary + 1) (after_next h.awaits.2.from_operator) line x
 right_operand level whole binary left around line x le s h =
     let r = reads_stopped h.binding (h.binding + 1) (level_of binary + 1) h.start line x (stops_right level binary line le s) h.reads in
     let fits = reads_looser (level_of binary + 1) h.binding (level_of binary + 1) h.start line x h.wanted r in
@@ -138,7 +138,7 @@ right_operand level whole binary left around line x le s h =
 -- the operand of an operator in front of it
 signed_operand : (level : ℕ) (whole : Line) (unary : Unary) (around : List Pending) (line : Line) (x : ℤ)
     → (h : HasOperand level whole (pending.Operator (operator.Prefix unary) ∷ around) line x)
-    → Reads 10 10 (behind_next h.awaits.0) line x
+    → Reads 10 10 (after_next h.awaits.0) line x
 signed_operand level whole unary around line x h =
     let r = reads_stopped h.binding (h.binding + 1) 10 h.start line x (operand_stops line) h.reads in
     let fits = reads_looser 10 h.binding 10 h.start line x h.wanted r in

@@ -13,8 +13,8 @@ use Rattle.pp_expression.specs.Operators.{level_of, unary_punct, binary_punct}
 use Rattle.pp_expression.specs.Arithmetic.{unary_value, binary_value}
 use Rattle.pp_expression.specs.Trees.{Tree, Number, Group, Prefix, Infix, spelling, Fits, value, ◌>>=◌, HasValue}
 use Rattle.pp_expression.specs.Lines.{Line, next, Stops, Reads}
-use Rattle.pp_expression.specs.FirstFault.{unread_at, Front, Here, InGroup, InPrefix, InInfix, front_spelling, FitsFront, wanted, Possible, Any, Before, IsFirst, IsValue, Fails, unread, wrong, unread_behind, unclosed, signed, operated}
-use Rattle.pp_expression.specs.Parsing.{behind_next, IsFault}
+use Rattle.pp_expression.specs.FirstFault.{unread_at, Front, Here, InGroup, InPrefix, InInfix, front_spelling, FitsFront, wanted, Possible, Any, Before, IsFirst, IsValue, Fails, unread, wrong, unread_after, unclosed, signed, operated}
+use Rattle.pp_expression.specs.Parsing.{after_next, IsFault}
 use Rattle.pp_expression.proofs.Levels.{operator_at}
 use Rattle.pp_expression.proofs.Trees.{operand_stops}
 use Rattle.pp_expression.proofs.Run.{Halt, Outcome, Mode, Operand, Level, Loop, Settles, settles_once, loop_overflows, loop_right, operand_overflows, operand_in_sign, operand_in_group}
@@ -64,7 +64,7 @@ by_step mode line mode' line' bound go a = record { halt = a.halt; settles = go 
 abbrev AtomFails : Tree → Type 0
 AtomFails t = (rest : Line) (e : ExpressionFault) → Fits 10 t → value t ≡ Err e → FailsBy Operand (onto (spelling t) rest) (spot (length rest.symbols + 1) 2 e)
 
--- Another tree's fault is found at the symbol behind it at the latest.
+-- Another tree's fault is found at the symbol after it at the latest.
 abbrev TreeFails : Tree → Type 0
 TreeFails t = (level : ℕ) (rest : Line) (e : ExpressionFault) → level ≤ 10 → Fits level t → value t ≡ Err e → Stops (level + 1) rest → FailsBy (Level level) (onto (spelling t) rest) (spot (length rest.symbols) 2 e)
 
@@ -114,22 +114,22 @@ left_by o l xs rest x bound fits is a =
 
 right_by : (o : Binary) (x : ℤ) (xs : List Symbol) (rest : Line) (bound : Halt) → FailsBy (Level (level_of o + 1)) (onto xs rest) bound → FailsBy (Loop (level_of o) x) (onto (symbol.Punct (binary_punct o) ∷ xs) rest) bound
 right_by o x xs rest bound a =
-    let behind = onto (symbol.Punct (binary_punct o) ∷ xs) rest in
-    by_step (Level (level_of o + 1)) (onto xs rest) (Loop (level_of o) x) behind bound
-    (λ e s. loop_right (level_of o) o x behind e (operator_front (level_of o) o xs rest refl) s) a
+    let after = onto (symbol.Punct (binary_punct o) ∷ xs) rest in
+    by_step (Level (level_of o + 1)) (onto xs rest) (Loop (level_of o) x) after bound
+    (λ e s. loop_right (level_of o) o x after e (operator_front (level_of o) o xs rest refl) s) a
 
 descend_by : (level top : ℕ) (line : Line) (bound : Halt) → level ≤ top → top ≤ 10 → FailsBy (Level top) line bound → FailsBy (Level level) line bound
 descend_by level top line bound le h a =
     by_step (Level top) line (Level level) line bound (λ e s. descend_fault (top - level) level top line e (omega arith) h s) a
 
--- a left operand without a value is at fault before the symbols behind its operator
+-- a left operand without a value is at fault before the symbols after its operator
 left_fails : (o : Binary) (l : Tree) (xs : List Symbol) (rest : Line) (e : ExpressionFault) (bound : Halt) → TreeFails l → Fits (level_of o) l → value l ≡ Err e → bound.left ≤ length (xs ++ rest.symbols) → FailsBy (Level (level_of o)) (onto (spelling l ++ (symbol.Punct (binary_punct o) ∷ xs)) rest) bound
 left_fails o l xs rest e bound tree fits is within =
     let low = low_operator o in
-    let behind = onto (symbol.Punct (binary_punct o) ∷ xs) rest in
-    let a = tree (level_of o) behind e (omega arith) fits is (stops_before (level_of o) o xs rest refl) in
-    let whole = onto (spelling l) behind in
-    let b : FailsBy (Level (level_of o)) whole bound = by_earlier (Level (level_of o)) whole (spot (length behind.symbols) 2 e) bound (omega arith) a in
+    let after = onto (symbol.Punct (binary_punct o) ∷ xs) rest in
+    let a = tree (level_of o) after e (omega arith) fits is (stops_before (level_of o) o xs rest refl) in
+    let whole = onto (spelling l) after in
+    let b : FailsBy (Level (level_of o)) whole bound = by_earlier (Level (level_of o)) whole (spot (length after.symbols) 2 e) bound (omega arith) a in
     rw (onto_more (spelling l) (symbol.Punct (binary_punct o) ∷ xs) rest) b
 
 unread_near : (o : Binary) (rest : Line) (e : ExpressionFault) → Sooner (spot (unread_at o rest) 2 e) (spot (length rest.symbols) 2 e)
@@ -144,7 +144,7 @@ split : {A E : Type 0} {P : Type 0} (r : Result A E) → ((x : A) → r ≡ Ok x
 split (Ok x) a b = a x refl
 split (Err e) a b = b e refl
 
-near_fails : (o : Binary) (x y : ℤ) (line rest : Line) (e : ExpressionFault) → operator_at (level_of o) line ≡ Ok (Some o) → Settles (Level (level_of o + 1)) (behind_next line) (Ok (y, rest)) → binary_value o x y ≡ Err e → FailsBy (Loop (level_of o) x) line (spot (length rest.symbols) 2 e)
+near_fails : (o : Binary) (x y : ℤ) (line rest : Line) (e : ExpressionFault) → operator_at (level_of o) line ≡ Ok (Some o) → Settles (Level (level_of o + 1)) (after_next line) (Ok (y, rest)) → binary_value o x y ≡ Err e → FailsBy (Loop (level_of o) x) line (spot (length rest.symbols) 2 e)
 near_fails o x y line rest e h a is =
     record { halt = spot (unread_at o rest) 2 e; settles = loop_overflows (level_of o) o x y line rest e h a is; ordered = omega arith; sooner = unread_near o rest e }
 
@@ -152,14 +152,14 @@ own_fails : (o : Binary) (l r : Tree) → TreeFails l → TreeFails r → (rest 
 own_fails o l r left right rest e fl fr is s =
     let k = level_of o in
     let low = low_operator o in
-    let behind = onto (symbol.Punct (binary_punct o) ∷ spelling r) rest in
+    let after = onto (symbol.Punct (binary_punct o) ∷ spelling r) rest in
     let bound = spot (length rest.symbols) 2 e in
     bind_err (value l) (λ x. value r >>= binary_value o x) e is
     (λ none. left_fails o l (spelling r) rest e bound left fl none (omega (arith, length-append (spelling r) rest.symbols)))
     (λ x some more. left_by o l (spelling r) rest x bound fl some
     (bind_err (value r) (binary_value o x) e more
     (λ none. right_by o x (spelling r) rest bound (right (k + 1) rest e (omega arith) fr none (stops_more (k + 1) rest s)))
-    (λ y rv none. near_fails o x y behind rest e (operator_front k o (spelling r) rest refl) ((is_read r).whole (k + 1) rest y (omega arith) fr rv s) none)))
+    (λ y rv none. near_fails o x y after rest e (operator_front k o (spelling r) rest refl) ((is_read r).whole (k + 1) rest y (omega arith) fr rv s) none)))
 
 infix_fails : (o : Binary) (l r : Tree) → TreeFails l → TreeFails r → TreeFails (Infix o l r)
 infix_fails o l r left right level rest e h fits is s =
@@ -168,12 +168,12 @@ infix_fails o l r left right level rest e h fits is s =
     descend_by level k (onto (spelling (Infix o l r)) rest) (spot (length rest.symbols) 2 e) fits.0 (omega arith)
     (own_fails o l r left right rest e fits.1 fits.2 is (stops_above (k - level) (level + 1) (k + 1) rest (omega (arith, fits.0)) s))
 
--- the right operand of an operator, where the symbol behind it isn't read
+-- the right operand of an operator, where the symbol after it isn't read
 right_unread : (o : Binary) (r : Tree) → AtomFails r → UnreadFails r → (x : ℤ) (rest : Line) (e d : ExpressionFault) → Fits (level_of o + 1) r → (value r >>= binary_value o x) ≡ Err e → next rest ≡ Err d → FailsBy (Loop (level_of o) x) (onto (symbol.Punct (binary_punct o) ∷ spelling r) rest) (spot (length rest.symbols) 1 d)
 right_unread o r atom unread_r x rest e d fr is out =
     let k = level_of o in
     let low = low_operator o in
-    let behind = onto (symbol.Punct (binary_punct o) ∷ spelling r) rest in
+    let after = onto (symbol.Punct (binary_punct o) ∷ spelling r) rest in
     let front = operator_front k o (spelling r) rest refl in
     let bound = spot (length rest.symbols) 1 d in
     let sooner_bound = spot (length rest.symbols + 1) 2 e in
@@ -192,7 +192,7 @@ right_unread o r atom unread_r x rest e d fr is out =
           let tight : unread_at o rest ≡ length rest.symbols + 1 = grind (arith, common_steps) in
           record {
             halt = spot (unread_at o rest) 2 e;
-            settles = loop_overflows k o x y behind rest e front ((is_read r).whole (k + 1) rest y (omega arith) fr rv (rw ten (operand_stops rest))) none;
+            settles = loop_overflows k o x y after rest e front ((is_read r).whole (k + 1) rest y (omega arith) fr rv (rw ten (operand_stops rest))) none;
             ordered = omega arith;
             sooner = earlier (omega (arith, tight));
           })
@@ -234,7 +234,7 @@ unread_most o rest = grind (arith, common_steps)
 within : (level : ℕ) (line : Line) (left order : ℕ) (e : ExpressionFault) → Fails Any level line left order e → left ≤ length line.symbols
 within level line left order e (unread is a b) = omega arith
 within level line left order e (wrong x is s out a b) = omega arith
-within level line left order e (unread_behind t rest low spelled ending fits ok is a b) = omega (arith, ap length spelled, length-append (spelling t) rest.symbols)
+within level line left order e (unread_after t rest low spelled ending fits ok is a b) = omega (arith, ap length spelled, length-append (spelling t) rest.symbols)
 within level line left order e (unclosed t rest x spelled ending fits ok is over out a b) = omega (arith, ap length spelled, length-append (spelling t) rest.symbols)
 within level line left order e (signed o t rest x spelled ending fits is out a b) = omega (arith, ap length spelled, length-append (spelling t) rest.symbols)
 within level line left order e (operated o l r rest x y spelled ending fits lv rv out s a b) =
@@ -245,7 +245,7 @@ possible_here level line left order e h (unread is a b) = exactly (Level level) 
 possible_here level line left order e h (wrong x is s out a b) = exactly (Level level) line (spot left order e) (omega (arith, b)) (fails_settles level line left order e h (wrong x is s out a b))
 possible_here level line left order e h (signed o t rest x spelled ending fits is out a b) = exactly (Level level) line (spot left order e) (omega (arith, b)) (fails_settles level line left order e h (signed o t rest x spelled ending fits is out a b))
 possible_here level line left order e h (operated o l r rest x y spelled ending fits lv rv out s a b) = exactly (Level level) line (spot left order e) (omega (arith, b)) (fails_settles level line left order e h (operated o l r rest x y spelled ending fits lv rv out s a b))
-possible_here level line left order e h (unread_behind t rest low spelled ending fits any is a b) =
+possible_here level line left order e h (unread_after t rest low spelled ending fits any is a b) =
     rw (a, b, line_is line rest (spelling t) spelled ending)
     (split (value t)
     (λ v some. exactly (Level level) (onto (spelling t) rest) (spot (length rest.symbols) 1 e) (omega arith) (unreads t level rest e low fits (rw some refl) is))
@@ -300,7 +300,7 @@ front_any level (InInfix o l c) h = (h.0, h.1, tt, front_any (level_of o + 1) c 
 fails_any : (level : ℕ) (line : Line) (left order : ℕ) (e : ExpressionFault) → Fails HasValue level line left order e → Fails Any level line left order e
 fails_any level line left order e (unread h a b) = unread h a b
 fails_any level line left order e (wrong x h s out a b) = wrong x h s out a b
-fails_any level line left order e (unread_behind t rest low spelled ending fits ok h a b) = unread_behind t rest low spelled ending fits tt h a b
+fails_any level line left order e (unread_after t rest low spelled ending fits ok h a b) = unread_after t rest low spelled ending fits tt h a b
 fails_any level line left order e (unclosed t rest x spelled ending fits ok h over out a b) = unclosed t rest x spelled ending fits tt h over out a b
 fails_any level line left order e (signed o t rest x spelled ending fits ok h a b) = signed o t rest x spelled ending fits ok h a b
 fails_any level line left order e (operated o l r rest x y spelled ending fits lv rv h stops a b) = operated o l r rest x y spelled ending fits lv rv h stops a b
@@ -352,4 +352,4 @@ no_fault level old new v left order e low r q =
 
 -- What is read is the line's value.
 pub is_value : (old new : Line) (v : ℤ) (left : ℕ) → left ≡ length new.symbols → Reads 0 0 old new v → IsValue old (record { value = v; left = left })
-is_value old new v left same r = record { rest = new; reads = r; behind = same; faultless = λ l o d q. no_fault 0 old new v l o d (omega arith) r q }
+is_value old new v left same r = record { rest = new; reads = r; after = same; faultless = λ l o d q. no_fault 0 old new v l o d (omega arith) r q }

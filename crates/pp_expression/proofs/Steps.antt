@@ -11,7 +11,7 @@ use Rattle.pp_expression.specs.Arithmetic.{unary_value, binary_value}
 use Rattle.pp_expression.specs.Trees.{HasValue, ◌>>=◌}
 use Rattle.pp_expression.specs.Lines.{Line, next, Reads}
 use Rattle.pp_expression.specs.FirstFault.{atom_of, closing, unread_at, Possible}
-use Rattle.pp_expression.specs.Parsing.{behind_next, sign_at, atom_at, closing_at, located, IsFault}
+use Rattle.pp_expression.specs.Parsing.{after_next, sign_at, atom_at, closing_at, located, IsFault}
 use Rattle.pp_expression.proofs.Levels.{operator_at}
 use Rattle.pp_expression.proofs.Unique.{bind_ok, bind_err}
 use Rattle.pp_expression.proofs.Faults as faults
@@ -53,8 +53,8 @@ closes line h =
     let x = bind_ok (next line) closing tt (located_ok (length line.symbols) (closing_at line) tt h) in
     x.1 ∙ ap Ok (faults.at_close x.0 x.2)
 
-pub no_fault_behind : (line mid : Line) (v : ℤ) (e : ExpressionFault) → Reads 0 0 line mid v → next mid ≡ Err e → ⊥
-no_fault_behind line mid v e r h =
+pub no_fault_after : (line mid : Line) (v : ℤ) (e : ExpressionFault) → Reads 0 0 line mid v → next mid ≡ Err e → ⊥
+no_fault_after line mid v e r h =
     let known = r.stops.known (omega arith) in
     let never = rw h at known in
     cc
@@ -69,14 +69,14 @@ atom_fails line e s h =
     (λ none. absurd (unread_sign line e.kind none s))
     (λ x some out. met 10 line (length line.symbols) 4 e is.1 (faults.not_begun line x e.kind some s out))
 
-pub closing_fails : (old mid : Line) (v : ℤ) (e : Found) → next old ≡ Ok (Some (symbol.Punct mark.LeftParen)) → Reads 0 0 (behind_next old) mid v → located (length mid.symbols) (closing_at mid) ≡ Err e → IsFault 10 old e
+pub closing_fails : (old mid : Line) (v : ℤ) (e : Found) → next old ≡ Ok (Some (symbol.Punct mark.LeftParen)) → Reads 0 0 (after_next old) mid v → located (length mid.symbols) (closing_at mid) ≡ Err e → IsFault 10 old e
 closing_fails old mid v e open_paren r h =
     let is = located_err (length mid.symbols) (closing_at mid) e h in
     bind_err (next mid) closing e.kind is.0
-    (λ none. absurd (no_fault_behind (behind_next old) mid v e.kind r none))
+    (λ none. absurd (no_fault_after (after_next old) mid v e.kind r none))
     (λ x some out. met 10 old (length mid.symbols) 4 e is.1 (faults.not_closed old mid v x e.kind open_paren r some out))
 
-pub in_group : (old : Line) (e : Found) → next old ≡ Ok (Some (symbol.Punct mark.LeftParen)) → IsFault 0 (behind_next old) e → IsFault 10 old e
+pub in_group : (old : Line) (e : Found) → next old ≡ Ok (Some (symbol.Punct mark.LeftParen)) → IsFault 0 (after_next old) e → IsFault 10 old e
 in_group old e open_paren h = record { order = h.order; possible = faults.in_group old e.left h.order e.kind open_paren h.possible }
 
 pub sign_unread : (line : Line) (e : Found) → located (length line.symbols) (sign_at line) ≡ Err e → IsFault 10 line e
@@ -84,10 +84,10 @@ sign_unread line e h =
     let is = located_err (length line.symbols) (sign_at line) e h in
     met 10 line (length line.symbols) 1 e is.1 (faults.sign_unread 10 line e.kind is.0)
 
-pub in_sign : (o : Unary) (old : Line) (e : Found) → sign_at old ≡ Ok (Some o) → IsFault 10 (behind_next old) e → IsFault 10 old e
+pub in_sign : (o : Unary) (old : Line) (e : Found) → sign_at old ≡ Ok (Some o) → IsFault 10 (after_next old) e → IsFault 10 old e
 in_sign o old e sign h = record { order = h.order; possible = faults.in_sign o old e.left h.order e.kind sign h.possible }
 
-pub sign_fails : (o : Unary) (old new : Line) (x : ℤ) (e : Found) → sign_at old ≡ Ok (Some o) → Reads 10 10 (behind_next old) new x
+pub sign_fails : (o : Unary) (old new : Line) (x : ℤ) (e : Found) → sign_at old ≡ Ok (Some o) → Reads 10 10 (after_next old) new x
     → located (length new.symbols + 1) (unary_value o x) ≡ Err e → IsFault 10 old e
 sign_fails o old new x e sign reads h =
     let is = located_err (length new.symbols + 1) (unary_value o x) e h in
@@ -98,15 +98,15 @@ sign_fails o old new x e sign reads h =
 pub looser : (level : ℕ) (old : Line) (e : Found) → IsFault (level + 1) old e → IsFault level old e
 looser level old e h = record { order = h.order; possible = faults.looser level old e.left h.order e.kind h.possible }
 
-pub not_read_behind : (level : ℕ) (old mid : Line) (v : ℤ) (e : Found) → level ≤ 9 → Reads level (level + 1) old mid v → located (length mid.symbols) (operator_at level mid) ≡ Err e → IsFault level old e
-not_read_behind level old mid v e low r h =
+pub not_read_after : (level : ℕ) (old mid : Line) (v : ℤ) (e : Found) → level ≤ 9 → Reads level (level + 1) old mid v → located (length mid.symbols) (operator_at level mid) ≡ Err e → IsFault level old e
+not_read_after level old mid v e low r h =
     let is = located_err (length mid.symbols) (operator_at level mid) e h in
-    met level old (length mid.symbols) 1 e is.1 (faults.not_read_behind level old mid v e.kind low r is.0)
+    met level old (length mid.symbols) 1 e is.1 (faults.not_read_after level old mid v e.kind low r is.0)
 
-pub in_right : (level : ℕ) (o : Binary) (old mid : Line) (x : ℤ) (e : Found) → Reads level (level + 1) old mid x → operator_at level mid ≡ Ok (Some o) → IsFault (level + 1) (behind_next mid) e → IsFault level old e
+pub in_right : (level : ℕ) (o : Binary) (old mid : Line) (x : ℤ) (e : Found) → Reads level (level + 1) old mid x → operator_at level mid ≡ Ok (Some o) → IsFault (level + 1) (after_next mid) e → IsFault level old e
 in_right level o old mid x e former op h = record { order = h.order; possible = faults.in_right level o old mid x e.left h.order e.kind former op h.possible }
 
-pub operation_fails : (level : ℕ) (o : Binary) (old mid new : Line) (x y : ℤ) (e : Found) → Reads level (level + 1) old mid x → operator_at level mid ≡ Ok (Some o) → Reads (level + 1) (level + 1) (behind_next mid) new y → located (unread_at o new) (binary_value o x y) ≡ Err e → IsFault level old e
+pub operation_fails : (level : ℕ) (o : Binary) (old mid new : Line) (x y : ℤ) (e : Found) → Reads level (level + 1) old mid x → operator_at level mid ≡ Ok (Some o) → Reads (level + 1) (level + 1) (after_next mid) new y → located (unread_at o new) (binary_value o x y) ≡ Err e → IsFault level old e
 operation_fails level o old mid new x y e former op latter h =
     let is = located_err (unread_at o new) (binary_value o x y) e h in
     met level old (unread_at o new) 2 e is.1 (faults.operation_fails level o old mid new x y e.kind former op latter is.0)

@@ -15,7 +15,7 @@ use Rattle.pp_expression.specs.Arithmetic.{unary_value, binary_value, literal}
 use Rattle.pp_expression.specs.Trees.{Tree, Number, Group, Prefix, Infix, spelling, Fits, value, ◌>>=◌}
 use Rattle.pp_expression.specs.Lines.{Line, next, next_of, binds_from, goes_on, Stops, Reads}
 use Rattle.pp_expression.specs.FirstFault.{sign_of}
-use Rattle.pp_expression.specs.Parsing.{behind_next, sign_at}
+use Rattle.pp_expression.specs.Parsing.{after_next, sign_at}
 use Rattle.pp_expression.proofs.Levels.{of_level, operator_of, operator_at}
 
 same_unary : (a o : Unary) → Some a ≡ Some o → unary_punct a ≡ unary_punct o
@@ -52,7 +52,7 @@ binary_inverse mark.LogicalAnd o e = same_binary binary.LogicalAnd o e
 binary_inverse mark.LogicalOr o e = same_binary binary.LogicalOr o e
 binary_inverse _ o e = cc
 
--- the symbols behind their first, x
+-- the symbols after their first, x
 abbrev pub Begins : List Symbol → Symbol → Type 0
 Begins symbols x = symbols ≡ x ∷ drop 1 symbols
 
@@ -119,17 +119,17 @@ fits_looser level (Group t) h = h
 fits_looser level (Prefix o t) h = h
 fits_looser level (Infix o l r) h = (omega (arith, h.0), h.1, h.2)
 
-pub read_number : (old : Line) (n : ℕ) → next old ≡ Ok (Some (symbol.Number n)) → Reads 10 10 old (behind_next old) (literal n)
+pub read_number : (old : Line) (n : ℕ) → next old ≡ Ok (Some (symbol.Number n)) → Reads 10 10 old (after_next old) (literal n)
 read_number old n e = record {
   tree = Number n;
   spelled = next_is old.symbols old.ending (symbol.Number n) e;
   fits = tt;
   valued = refl;
-  stops = operand_stops (behind_next old);
+  stops = operand_stops (after_next old);
   ending = refl;
 }
 
-pub read_group : (old mid : Line) (v : ℤ) → next old ≡ Ok (Some (symbol.Punct mark.LeftParen)) → Reads 0 0 (behind_next old) mid v → next mid ≡ Ok (Some (symbol.Punct mark.RightParen)) → Reads 10 10 old (behind_next mid) v
+pub read_group : (old mid : Line) (v : ℤ) → next old ≡ Ok (Some (symbol.Punct mark.LeftParen)) → Reads 0 0 (after_next old) mid v → next mid ≡ Ok (Some (symbol.Punct mark.RightParen)) → Reads 10 10 old (after_next mid) v
 read_group old mid v opens r close =
     let first = next_is old.symbols old.ending (symbol.Punct mark.LeftParen) opens in
     let last = next_is mid.symbols mid.ending (symbol.Punct mark.RightParen) close in
@@ -138,11 +138,11 @@ read_group old mid v opens r close =
       spelled = first ∙ ap (λ (xs : List Symbol). symbol.Punct mark.LeftParen ∷ xs) (r.spelled ∙ ap (λ (xs : List Symbol). spelling r.tree ++ xs) last ∙ sym (append_assoc (spelling r.tree) (symbol.Punct mark.RightParen ∷ []) (drop 1 mid.symbols)));
       fits = r.fits;
       valued = r.valued;
-      stops = operand_stops (behind_next mid);
+      stops = operand_stops (after_next mid);
       ending = r.ending;
     }
 
-pub read_signed : (o : Unary) (old new : Line) (x v : ℤ) → sign_at old ≡ Ok (Some o) → Reads 10 10 (behind_next old) new x → unary_value o x ≡ Ok v → Reads 10 10 old new v
+pub read_signed : (o : Unary) (old new : Line) (x v : ℤ) → sign_at old ≡ Ok (Some o) → Reads 10 10 (after_next old) new x → unary_value o x ≡ Ok v → Reads 10 10 old new v
 read_signed o old new x v sign r e =
     record {
       tree = Prefix o r.tree;
@@ -168,7 +168,7 @@ joined : (o : Binary) (l r : Tree) (old mid new : List Symbol) → old ≡ spell
 joined o l r old mid new left first right =
     left ∙ ap (λ (xs : List Symbol). spelling l ++ xs) (first ∙ ap (λ (xs : List Symbol). symbol.Punct (binary_punct o) ∷ xs) right) ∙ sym (append_assoc (spelling l) (symbol.Punct (binary_punct o) ∷ spelling r) new)
 
-pub operation_spelled : (level : ℕ) (o : Binary) (old mid new : Line) (x y : ℤ) → (left : Reads level (level + 1) old mid x) → operator_at level mid ≡ Ok (Some o) → (right : Reads (level + 1) (level + 1) (behind_next mid) new y) → old.symbols ≡ spelling (Infix o left.tree right.tree) ++ new.symbols
+pub operation_spelled : (level : ℕ) (o : Binary) (old mid new : Line) (x y : ℤ) → (left : Reads level (level + 1) old mid x) → operator_at level mid ≡ Ok (Some o) → (right : Reads (level + 1) (level + 1) (after_next mid) new y) → old.symbols ≡ spelling (Infix o left.tree right.tree) ++ new.symbols
 operation_spelled level o old mid new x y left op right =
     joined o left.tree right.tree old.symbols mid.symbols new.symbols left.spelled (operator_is level mid o op).0 right.spelled
 
@@ -178,7 +178,7 @@ operation_fits level o l r e fl fr = (omega (arith, e), rw e fl, rw e fr)
 pub operation_value : (o : Binary) (l r : Tree) (x y v : ℤ) → value l ≡ Ok x → value r ≡ Ok y → binary_value o x y ≡ Ok v → value (Infix o l r) ≡ Ok v
 operation_value o l r x y v el er e = rw el (rw er e)
 
-pub read_operation : (level : ℕ) (o : Binary) (old mid new : Line) (x y v : ℤ) → Reads level (level + 1) old mid x → operator_at level mid ≡ Ok (Some o) → Reads (level + 1) (level + 1) (behind_next mid) new y → binary_value o x y ≡ Ok v → Reads level (level + 1) old new v
+pub read_operation : (level : ℕ) (o : Binary) (old mid new : Line) (x y v : ℤ) → Reads level (level + 1) old mid x → operator_at level mid ≡ Ok (Some o) → Reads (level + 1) (level + 1) (after_next mid) new y → binary_value o x y ≡ Ok v → Reads level (level + 1) old new v
 read_operation level o old mid new x y v left op right e =
     record {
       tree = Infix o left.tree right.tree;

@@ -107,7 +107,7 @@ descend_fault (suc d) level top line e is h a = level_fails level line e (omega 
 abbrev pub Whole : Tree → Type 0
 Whole t = (level : ℕ) (rest : Line) (v : ℤ) → level ≤ 10 → Fits level t → value t ≡ Ok v → Stops level rest → Settles (Level level) (onto (spelling t) rest) (Ok (v, rest))
 
--- They are read as a left operand, whatever comes of the operators behind it.
+-- They are read as a left operand, whatever comes of the operators after it.
 abbrev pub Spine : Tree → Type 0
 Spine t = (level : ℕ) (rest : Line) (v : ℤ) (out : Outcome) → level ≤ 9 → Fits level t → value t ≡ Ok v → Stops (level + 1) rest → Settles (Loop level v) rest out → Settles (Level level) (onto (spelling t) rest) out
 
@@ -157,10 +157,10 @@ infix_own o l r left right level rest v out e fl fr is s loop =
     let low = low_operator o in
     let x = bind_ok (value l) (λ x. value r >>= binary_value o x) v is in
     let y = bind_ok (value r) (binary_value o x.0) v x.2 in
-    let behind = onto (symbol.Punct (binary_punct o) ∷ spelling r) rest in
+    let after = onto (symbol.Punct (binary_punct o) ∷ spelling r) rest in
     rw (onto_more (spelling l) (symbol.Punct (binary_punct o) ∷ spelling r) rest)
-    (left level behind x.0 out (omega arith) (rw e at fl) x.1 (stops_before level o (spelling r) rest e)
-    (loop_goes level o x.0 y.0 v behind rest out (operator_front level o (spelling r) rest e)
+    (left level after x.0 out (omega arith) (rw e at fl) x.1 (stops_before level o (spelling r) rest e)
+    (loop_goes level o x.0 y.0 v after rest out (operator_front level o (spelling r) rest e)
     (right (level + 1) rest y.0 (omega arith) (rw e at fr) y.1 s) y.2 loop))
 
 infix_whole : (o : Binary) (l r : Tree) → Spine l → Whole r → Whole (Infix o l r)

@@ -1,10 +1,10 @@
 -- The first fault of an expression of `#if`, `#elif` or `#line` (GLSL ES 3.20 section 3.4), and what an evaluation gives. A line may have several faults. Each is found when so much of the line is read that it is certain: the first is the one found at the earliest symbol, and of those found at one symbol the one of the lowest order.
 --
 --   order 1   the symbol isn't read: the fault that ends the reading stands in its place
---   order 2   an operator has no value. One in front of its operand, `*`, `/` and `%` are computed at the last symbol of their right operand, the others at the symbol behind it, or at the end of the line
+--   order 2   an operator has no value. One in front of its operand, `*`, `/` and `%` are computed at the last symbol of their right operand, the others at the symbol after it, or at the end of the line
 --   order 4   the symbol, or the end of the line, can't stand there
 --
--- Order 3 is left to whoever asks something of the whole value, which is found at the symbol behind the expression.
+-- Order 3 is left to whoever asks something of the whole value, which is found at the symbol after the expression.
 use Rattle.std.specs.Prelude.{◌≡◌, ℕ, ◌+◌, ◌≤◌, ◌<◌, false, nat_lt, length, if◌then◌else◌, List, [], ◌∷◌, ◌++◌, Option, Some, None, Result, Ok, Err, ℤ, MatchResult, ◌⊎◌}
 use Rattle.pp_lexer.specs.declared.token.Punct.TheVariants as mark
 use Rattle.pp_expression.specs.declared.operator.Unary.{Unary}
@@ -47,7 +47,7 @@ abbrev pub closing : Option Symbol → Result (Unit {0}) ExpressionFault
 closing (Some (symbol.Punct mark.RightParen)) = Ok tt
 closing ahead = Err (unexpected ahead)
 
--- An expression up to a place where an operand is wanted, from the outside inwards: Here is the place; it may lie in parentheses, behind an operator in front, or behind a left operand and its operator.
+-- An expression up to a place where an operand is wanted, from the outside inwards: Here is the place; it may lie in parentheses, after an operator in front, or after a left operand and its operator.
 pub data Front : Type 0 where
   Here : Front
   InGroup : Front → Front
@@ -75,7 +75,7 @@ wanted level (InGroup front) = wanted 0 front
 wanted level (InPrefix operator front) = wanted 10 front
 wanted level (InInfix operator left front) = wanted ((level_of operator + 1)) front
 
--- how many symbols there are from the one at which an operation is computed, where rest is behind its right operand
+-- how many symbols there are from the one at which an operation is computed, where rest is after its right operand
 abbrev pub unread_at : Binary → Line → ℕ
 unread_at operator rest = if nat_lt (level_of operator) 9 then length rest.symbols else length rest.symbols + 1
 
@@ -85,8 +85,8 @@ pub data Fails (Finished : Tree → Type 0) (level : ℕ) (line : Line) (left or
   unread : next line ≡ Err kind → left ≡ length line.symbols → order ≡ 1 → Fails Finished level line left order kind
   -- no operand begins with the symbol, or at the end
   wrong : (ahead : Option Symbol) → next line ≡ Ok ahead → sign_of ahead ≡ None → atom_of ahead ≡ Err kind → left ≡ length line.symbols → order ≡ 4 → Fails Finished level line left order kind
-  -- the symbol behind the operand isn't read
-  unread_behind : (tree : Tree) (rest : Line) → level ≤ 9 → line.symbols ≡ spelling tree ++ rest.symbols → rest.ending ≡ line.ending → Fits level tree → Finished tree → next rest ≡ Err kind → left ≡ length rest.symbols → order ≡ 1 → Fails Finished level line left order kind
+  -- the symbol after the operand isn't read
+  unread_after : (tree : Tree) (rest : Line) → level ≤ 9 → line.symbols ≡ spelling tree ++ rest.symbols → rest.ending ≡ line.ending → Fits level tree → Finished tree → next rest ≡ Err kind → left ≡ length rest.symbols → order ≡ 1 → Fails Finished level line left order kind
   -- the parenthesis that begins the operand isn't closed
   unclosed : (tree : Tree) (rest : Line) (ahead : Option Symbol) → line.symbols ≡ symbol.Punct mark.LeftParen ∷ (spelling tree ++ rest.symbols) → rest.ending ≡ line.ending → Fits 0 tree → Finished tree → next rest ≡ Ok ahead → goes_on 0 rest.symbols ≡ false → closing ahead ≡ Err kind → left ≡ length rest.symbols → order ≡ 4 → Fails Finished level line left order kind
   -- the operator in front that begins the operand has no value
@@ -117,11 +117,11 @@ pub record IsFirst (level : ℕ) (line : Line) (found : Found) : Type 0 where
   pub possible : Possible Any level line found.left order found.kind
   pub first : (other_left other_order : ℕ) (kind : ExpressionFault) → Possible Any level line other_left other_order kind → Before found.left order other_left other_order
 
--- An expression of this value stands at the front of the line, with that many symbols behind it, and no fault is possible.
+-- An expression of this value stands at the front of the line, with that many symbols after it, and no fault is possible.
 pub record IsValue (line : Line) (found : Value) : Type 0 where
   pub rest : Line
   pub reads : Reads 0 0 line rest found.value
-  pub behind : found.left ≡ length rest.symbols
+  pub after : found.left ≡ length rest.symbols
   pub faultless : (left order : ℕ) (kind : ExpressionFault) → Possible Any 0 line left order kind → ⊥
 
 -- What an evaluation of a line gives: its value, or its first fault.

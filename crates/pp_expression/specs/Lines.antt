@@ -1,4 +1,4 @@
--- The symbols of a directive's line, and an expression at their front (GLSL ES 3.20 section 3.4). The reading of the words behind the symbols may end in a fault, as in a macro call without its `)`; an expression that is over before is not touched by it, where it can be known that it is over.
+-- The symbols of a directive's line, and an expression at their front (GLSL ES 3.20 section 3.4). The reading of the words after the symbols may end in a fault, as in a macro call without its `)`; an expression that is over before is not touched by it, where it can be known that it is over.
 use Rattle.std.specs.Prelude.{◌≡◌, ℕ, ◌≤◌, Bool, false, nat_le, List, [], ◌∷◌, ◌++◌, Option, Some, None, Result, Ok, Err, IsOk, ℤ}
 use Rattle.pp_expression.specs.declared.operator.Binary.{Binary}
 use Rattle.pp_expression.specs.declared.symbol.Symbol.{Symbol}

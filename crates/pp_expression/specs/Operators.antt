@@ -15,7 +15,7 @@ unary_of mark.Bang = Some unary.Not
 unary_of mark.Tilde = Some unary.Complement
 unary_of _ = None
 
--- the operator that a punctuator is behind an operand
+-- the operator that a punctuator is after an operand
 abbrev pub binary_of : Punct → Option Binary
 binary_of mark.Star = Some binary.Multiply
 binary_of mark.Slash = Some binary.Divide

@@ -12,8 +12,8 @@ use Rattle.pp_expression.specs.Lines.{Line, next}
 use Rattle.pp_expression.specs.FirstFault.{sign_of, atom_of, closing, Possible}
 
 -- the line without its next symbol
-abbrev pub behind_next : Line → Line
-behind_next line = record { symbols = drop 1 line.symbols; ending = line.ending }
+abbrev pub after_next : Line → Line
+after_next line = record { symbols = drop 1 line.symbols; ending = line.ending }
 
 -- the operator between operands that a symbol is
 abbrev pub binary_sign_of : Option Symbol → Option Binary

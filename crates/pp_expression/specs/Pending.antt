@@ -11,7 +11,7 @@ use Rattle.pp_expression.specs.declared.symbol.ExpressionFault.{ExpressionFault}
 use Rattle.pp_expression.specs.Operators.{level_of}
 use Rattle.pp_expression.specs.Arithmetic.{unary_value, binary_value}
 use Rattle.pp_expression.specs.Lines.{Line, next, Reads}
-use Rattle.pp_expression.specs.Parsing.{behind_next, binary_at, sign_at}
+use Rattle.pp_expression.specs.Parsing.{after_next, binary_at, sign_at}
 
 -- how tightly an operator binds, 10 in front of its operand
 abbrev pub operator_level : Operator → ℕ
@@ -64,12 +64,12 @@ pub record IsRightOf (level : ℕ) (binary : Binary) (left : ℤ) (around inner 
   pub binds : level ≤ level_of binary
   pub reads : Reads (level_of binary) (level_of binary + 1) around from_operator left
   pub stands : binary_at from_operator ≡ Ok (Some binary)
-  pub after : inner ≡ behind_next from_operator
+  pub after : inner ≡ after_next from_operator
 
 -- An expression of the level is wanted before the line around. It begins with what is pending, and what stands within that is wanted before the inner line.
 abbrev pub Begins : ℕ → Pending → Line → Line → Type 0
-Begins level pending.Group around inner = (next around ≡ Ok (Some (symbol.Punct mark.LeftParen))) × (inner ≡ behind_next around)
-Begins level (pending.Operator (operator.Prefix unary)) around inner = (sign_at around ≡ Ok (Some unary)) × (inner ≡ behind_next around)
+Begins level pending.Group around inner = (next around ≡ Ok (Some (symbol.Punct mark.LeftParen))) × (inner ≡ after_next around)
+Begins level (pending.Operator (operator.Prefix unary)) around inner = (sign_at around ≡ Ok (Some unary)) × (inner ≡ after_next around)
 Begins level (pending.Operator (operator.Infix binary left)) around inner = IsRightOf level binary left around inner
 
 -- The whole line was read up to the line, where an operand is wanted, and what is pending is what that operand stands in.

@@ -5,7 +5,7 @@ ghost use Rattle.std.specs.Prelude.{◌≡◌, ◌+◌, ◌^◌, ◌<◌, ◌≤
 ghost use Rattle.pp_expression.specs.Lines.{Line, next, Stops, Reads};
 ghost use Rattle.pp_expression.specs.FirstFault.{Evaluates};
 ghost use Rattle.pp_expression.specs.FirstFault as spec;
-ghost use Rattle.pp_expression.specs.Parsing.{behind_next, binary_at, sign_at, atom_at, closing_at, located};
+ghost use Rattle.pp_expression.specs.Parsing.{after_next, binary_at, sign_at, atom_at, closing_at, located};
 ghost use Rattle.pp_expression.specs.Pending.{computed_at, wanted_in};
 ghost use Rattle.pp_expression.specs.Evaluator.{Leads, Computes, GetsOn, IsHalt};
 
@@ -96,7 +96,7 @@ impl<'a> Reader<'a> {
 
     /// Passes the next symbol.
     fn pass(&mut self)
-        ensures { self.new ≡ behind_next self.old }
+        ensures { self.new ≡ after_next self.old }
     {
         if let Some((_, rest)) = self.symbols.split_first() {
             self.symbols = rest;
@@ -138,7 +138,7 @@ impl<'a> Reader<'a> {
     /// Takes a number, or a parenthesis for `None`.
     fn take_atom(&mut self) -> Result<Option<u64>, Found>
         ensures value { result ≡ located (length self.old.symbols) (atom_at self.old) }
-        ensures rest { self.new ≡ behind_next self.old }
+        ensures rest { self.new ≡ after_next self.old }
     {
         let left = self.left();
         let first = self.peek();
@@ -149,7 +149,7 @@ impl<'a> Reader<'a> {
     /// Takes the closing parenthesis.
     fn take_closing(&mut self) -> Result<(), Found>
         ensures value { result ≡ located (length self.old.symbols) (closing_at self.old) }
-        ensures rest { self.new ≡ behind_next self.old }
+        ensures rest { self.new ≡ after_next self.old }
     {
         let left = self.left();
         let last = self.peek();
@@ -272,16 +272,16 @@ impl<'a> Evaluator<'a> {
 }
 
 /// The value of the expression at the front of a line of `#if`, `#elif` or `#line` (GLSL ES 3.20
-/// section 3.4). Symbols behind it are no fault: `left` of the answer counts them.
+/// section 3.4). Symbols after it are no fault: `left` of the answer counts them.
 ///
-/// `ending` is the fault that ends the reading of the line's words behind `symbols`, or `None` where
-/// the line ends there. It is the expression's only where it has to be known what comes behind
+/// `ending` is the fault that ends the reading of the line's words after `symbols`, or `None` where
+/// the line ends there. It is the expression's only where it has to be known what comes after
 /// `symbols`.
 ///
 /// An `Err` within is the first fault: `Unexpected`, `UnexpectedEndOfInput` or `Operand` where an
 /// operand or a `)` is wanted, `IntegerOverflow` or `DivisionByZero` of an operator, or `ending`. An
 /// operator in front of its operand, `*`, `/` and `%` are computed once the last symbol of their right
-/// operand is read, the others once the symbol behind it is known.
+/// operand is read, the others once the symbol after it is known.
 ///
 /// What is pending is kept in memory of `alloc`. The outer `Err` says that it was refused.
 #[tactic(auto, using(crate::proofs::PossibleFaults::is_first, crate::proofs::PossibleFaults::is_value))]

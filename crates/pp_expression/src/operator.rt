@@ -72,7 +72,7 @@ pub fn unary_of(punct: Punct) -> Option<Unary>
     }
 }
 
-/// The operator that a punctuator is behind an operand, or `None`.
+/// The operator that a punctuator is after an operand, or `None`.
 pub fn binary_of(punct: Punct) -> Option<Binary>
     ensures { result ≡ spec.binary_of punct }
 {

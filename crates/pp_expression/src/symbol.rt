@@ -28,7 +28,7 @@ pub enum ExpressionFault {
     UnexpectedEndOfInput,
     /// A symbol stands where an operand or a `)` is wanted, and is none.
     Unexpected,
-    /// The fault that ends the reading of the line's words: what stands behind them can't be known.
+    /// The fault that ends the reading of the line's words: what stands after them can't be known.
     Unread,
     /// A `defined` whose own operand is at fault, met where an operand is wanted.
     Operand,
@@ -39,7 +39,7 @@ pub enum ExpressionFault {
 pub struct Value {
     /// The value.
     pub value: i64,
-    /// How many symbols stand behind the expression.
+    /// How many symbols stand after the expression.
     pub left: usize,
 }
 

@@ -1,4 +1,4 @@
--- A spelling with a character behind it that no spelling has, or with the end there, is the longest.
+-- A spelling with a character after it that no spelling has, or with the end there, is the longest.
 use Rattle.std.proofs.Common.{◌≡◌, ℕ, zero, suc, ◌<◌, ◌≤◌, List, [], ◌∷◌, ◌++◌, length, take, drop, Bool, true, false, ◌&&◌, not, append-nil, length-append, refl, sym, ◌∙◌, ap, arith}
 use Rattle.std.specs.List.{list_all}
 use Rattle.std.proofs.Math.Seq.{take-append_seam}
@@ -33,9 +33,9 @@ module _ (P : List ℕ → Bool) (w : List ℕ) (some : 0 < length w) (good : P 
       let front : P (take (length w) (w ++ cs)) ≡ true = ap P (take-append_seam w cs) ∙ good in
       longest_is P (w ++ cs) (length w) some front (omega (arith, length-append w cs)) (no_longer cs h)
 
-  -- what is taken, and what stands behind it
+  -- what is taken, and what stands after it
   pub taken_before : (cs : List ℕ) → EndsBefore P cs → take (longest P (w ++ cs)) (w ++ cs) ≡ w
   taken_before cs h = ap (λ n. take n (w ++ cs)) (longest_before cs h) ∙ take-append_seam w cs
 
-  pub behind_before : (cs : List ℕ) → EndsBefore P cs → drop (longest P (w ++ cs)) (w ++ cs) ≡ cs
-  behind_before cs h = ap (λ n. drop n (w ++ cs)) (longest_before cs h) ∙ drop_at w cs (length w) refl
+  pub after_before : (cs : List ℕ) → EndsBefore P cs → drop (longest P (w ++ cs)) (w ++ cs) ≡ cs
+  after_before cs h = ap (λ n. drop n (w ++ cs)) (longest_before cs h) ∙ drop_at w cs (length w) refl

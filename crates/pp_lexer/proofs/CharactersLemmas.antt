@@ -1,4 +1,4 @@
--- Behind the phases a source has characters of Unicode only.
+-- After the phases a source has characters of Unicode only.
 use Rattle.std.proofs.Common.{◌≡◌, ℕ, zero, suc, ◌+◌, ◌-◌, List, [], ◌∷◌, map, length, take, Bool, true, false, ◌&&◌, refl, ◌∙◌, ap, if◌then◌else◌}
 use Rattle.std.specs.List.{list_all}
 use Rattle.std.specs.Str.{chars, IsUtf8, all_scalars}
@@ -8,7 +8,7 @@ use Rattle.std.proofs.lemmas.Str.{scalars-chars}
 use Rattle.pp_lexer.specs.Comments.{comment_length, stand_in, replaced}
 use Rattle.pp_lexer.specs.Continuations.{is_continuation, continued}
 use Rattle.pp_lexer.specs.Cursor.{Placed}
-use Rattle.pp_lexer.specs.Cut.{cut_behind, cut}
+use Rattle.pp_lexer.specs.Cut.{cut_after, cut}
 use Rattle.pp_lexer.specs.Lines.{is_line_break, Piece, is_newline_piece, piece, pieces, lines}
 use Rattle.pp_lexer.specs.PhaseLaws.{replaced_of}
 use Rattle.pp_lexer.specs.Readers.{placed_from}
@@ -44,9 +44,9 @@ lines_scalar cs h = ap (list_all (λ (p : Placed). scalar p.char)) (lines_are cs
 continued_from_scalar : (before ps : List Placed) → list_all (λ p. scalar p.char) ps ≡ true → list_all (λ p. scalar p.char) (continued_from before ps) ≡ true
 continued_from_scalar before [] h = refl
 continued_from_scalar before (p ∷ ps) h =
-    by (is_continuation (record { before = before; here = p; behind = ps })) refl (continued_from_scalar (p ∷ before) ps (and_parts (scalar p.char) (list_all (λ q. scalar q.char) ps) h).1)
+    by (is_continuation (record { before = before; here = p; after = ps })) refl (continued_from_scalar (p ∷ before) ps (and_parts (scalar p.char) (list_all (λ q. scalar q.char) ps) h).1)
   where
-    by : (b : Bool) → is_continuation (record { before = before; here = p; behind = ps }) ≡ b
+    by : (b : Bool) → is_continuation (record { before = before; here = p; after = ps }) ≡ b
         → list_all (λ q. scalar q.char) (continued_from (p ∷ before) ps) ≡ true → list_all (λ q. scalar q.char) (continued_from before (p ∷ ps)) ≡ true
     by true e go = ap (list_all (λ (q : Placed). scalar q.char)) (continued-leaves before p ps e) ∙ go
     by false e go =
@@ -62,7 +62,7 @@ stand_in_scalar total p [] h = h
 stand_in_scalar total p (q ∷ others) h = refl
 
 cut_scalar : (total n : ℕ) (size : List Placed → ℕ) (ps : List Placed) → list_all (λ p. scalar p.char) ps ≡ true
-    → list_all (λ p. scalar p.char) (map (stand_in total) (cut_behind size n ps)) ≡ true
+    → list_all (λ p. scalar p.char) (map (stand_in total) (cut_after size n ps)) ≡ true
 cut_scalar total n size [] h = refl
 cut_scalar total zero size (p ∷ ps) h =
     let b = and_parts (scalar p.char) (list_all (λ q. scalar q.char) ps) h in

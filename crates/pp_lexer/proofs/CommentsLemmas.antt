@@ -32,7 +32,7 @@ pub no_slash : (p : Placed) (ps : List Placed) → is_slash p ≡ false → comm
 no_slash p [] e = refl
 no_slash p (q ∷ ps) e = rw e refl
 
--- nor does a slash without another slash or a star behind it
+-- nor does a slash without another slash or a star after it
 pub lone_slash : (p : Placed) (ps : List Placed) → begins_with is_slash ps ≡ false → begins_with is_star ps ≡ false → comment_length (p ∷ ps) ≡ 0
 lone_slash p [] e f = refl
 lone_slash p (q ∷ ps) e f = by_slash (is_slash p) refl
@@ -108,26 +108,26 @@ drop-unclosed (p ∷ ps) e = by_close (is_star p && begins_with is_slash ps) ref
     by_close false h k = ap (λ n. drop n (p ∷ ps)) (block_length_later p ps h) ∙ k (sym (has_close_later p ps h) ∙ e)
 
 -- the reader of a block comment's rest, where a star may stand directly before
-abbrev pub past_block_behind : Bool → Cursor → Cursor
-past_block_behind star c = if star && begins_with is_slash c.rest then passed 1 c else past_block c
+abbrev pub past_block_after : Bool → Cursor → Cursor
+past_block_after star c = if star && begins_with is_slash c.rest then passed 1 c else past_block c
 
 -- a step that does not end the comment
 module _ (total offset : ℕ) (p : Placed) (ps : List Placed) where
-  block_goes_on : past_block (record { rest = p ∷ ps; offset = offset; total = total }) ≡ past_block_behind (is_star p) (record { rest = ps; offset = p.end; total = total })
+  block_goes_on : past_block (record { rest = p ∷ ps; offset = offset; total = total }) ≡ past_block_after (is_star p) (record { rest = ps; offset = p.end; total = total })
   block_goes_on = by_close (is_star p && begins_with is_slash ps) refl
     where
       by_close : (b : Bool) → (is_star p && begins_with is_slash ps) ≡ b
-          → past_block (record { rest = p ∷ ps; offset = offset; total = total }) ≡ past_block_behind (is_star p) (record { rest = ps; offset = p.end; total = total })
+          → past_block (record { rest = p ∷ ps; offset = offset; total = total }) ≡ past_block_after (is_star p) (record { rest = ps; offset = p.end; total = total })
       by_close true h = rw (has_close_here p ps h, block_length_here p ps h, h) refl
       by_close false h = rw (has_close_later p ps h, block_length_later p ps h, h) refl
 
 pub block_step : (star : Bool) (ps : List Placed) (offset total : ℕ) (d : Cursor) (ch line : ℕ) → Some (ch, line) ≡ first_of ps → d ≡ after_of ps total → (star && (ch == 47)) ≡ false
-    → past_block_behind (ch == 42) d ≡ past_block_behind star (record { rest = ps; offset = offset; total = total })
+    → past_block_after (ch == 42) d ≡ past_block_after star (record { rest = ps; offset = offset; total = total })
 block_step star [] offset total d ch line e f h = cc
 block_step star (p ∷ ps) offset total d ch line e f h =
     let k : p.char ≡ ch = item_char p ch line e in
     let open_yet : (star && is_slash p) ≡ false = ap (λ n. star && (n == 47)) k ∙ h in
-    ap (λ n. past_block_behind (n == 42) d) (sym k) ∙ (ap (past_block_behind (is_star p)) f ∙ (sym (block_goes_on total offset p ps) ∙ rw open_yet refl))
+    ap (λ n. past_block_after (n == 42) d) (sym k) ∙ (ap (past_block_after (is_star p)) f ∙ (sym (block_goes_on total offset p ps) ∙ rw open_yet refl))
 
 -- a block comment and its mark end at the same place
 block_marked : (total : ℕ) (p q : Placed) (ps : List Placed) → is_star q ≡ true

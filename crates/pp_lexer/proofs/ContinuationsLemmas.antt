@@ -9,26 +9,26 @@ use Rattle.pp_lexer.specs.Continuations.{is_backslash, is_continuation, continue
 use Rattle.pp_lexer.specs.Readers.{joined}
 use Rattle.pp_lexer.proofs.SurroundingsLemmas.{without_first}
 
--- what is left behind these others
+-- what is left after these others
 abbrev pub continued_from : List Placed → List Placed → List Placed
 continued_from before ps = map (λ s. s.here) (filter (λ s. not (is_continuation s)) (surrounded_from before ps))
 
 continued_step : (before : List Placed) (p : Placed) (ps : List Placed)
-    → continued_from before (p ∷ ps) ≡ (if is_continuation (record { before = before; here = p; behind = ps }) then continued_from (p ∷ before) ps else p ∷ continued_from (p ∷ before) ps)
-continued_step before p ps = without_first (λ s. s.here) (is_continuation (record { before = before; here = p; behind = ps })) _ _
+    → continued_from before (p ∷ ps) ≡ (if is_continuation (record { before = before; here = p; after = ps }) then continued_from (p ∷ before) ps else p ∷ continued_from (p ∷ before) ps)
+continued_step before p ps = without_first (λ s. s.here) (is_continuation (record { before = before; here = p; after = ps })) _ _
 
 -- a character that is in no continuation stays, and the others are gone
-pub continued-stays : (before : List Placed) (p : Placed) (ps : List Placed) → is_continuation (record { before = before; here = p; behind = ps }) ≡ false
+pub continued-stays : (before : List Placed) (p : Placed) (ps : List Placed) → is_continuation (record { before = before; here = p; after = ps }) ≡ false
     → continued_from before (p ∷ ps) ≡ p ∷ continued_from (p ∷ before) ps
 continued-stays before p ps e = continued_step before p ps ∙ rw e refl
 
-pub continued-leaves : (before : List Placed) (p : Placed) (ps : List Placed) → is_continuation (record { before = before; here = p; behind = ps }) ≡ true
+pub continued-leaves : (before : List Placed) (p : Placed) (ps : List Placed) → is_continuation (record { before = before; here = p; after = ps }) ≡ true
     → continued_from before (p ∷ ps) ≡ continued_from (p ∷ before) ps
 continued-leaves before p ps e = continued_step before p ps ∙ rw e refl
 
 -- two places that agree on whether a character stays
 continued-agrees : (b c : List Placed) (p : Placed) (ps : List Placed) (t : Bool)
-    → is_continuation (record { before = b; here = p; behind = ps }) ≡ t → is_continuation (record { before = c; here = p; behind = ps }) ≡ t
+    → is_continuation (record { before = b; here = p; after = ps }) ≡ t → is_continuation (record { before = c; here = p; after = ps }) ≡ t
     → continued_from (p ∷ b) ps ≡ continued_from (p ∷ c) ps → continued_from b (p ∷ ps) ≡ continued_from c (p ∷ ps)
 continued-agrees b c p ps true e f g = continued-leaves b p ps e ∙ (g ∙ sym (continued-leaves c p ps f))
 continued-agrees b c p ps false e f g = continued-stays b p ps e ∙ (ap (λ t. p ∷ t) g ∙ sym (continued-stays c p ps f))
@@ -37,7 +37,7 @@ continued-agrees b c p ps false e f g = continued-stays b p ps e ∙ (ap (λ t. 
 continued_from_nearest : (b c ps : List Placed) → begins_with is_backslash b ≡ begins_with is_backslash c → continued_from b ps ≡ continued_from c ps
 continued_from_nearest b c [] e = refl
 continued_from_nearest b c (p ∷ ps) e =
-    continued-agrees b c p ps (is_continuation (record { before = c; here = p; behind = ps }))
+    continued-agrees b c p ps (is_continuation (record { before = c; here = p; after = ps }))
     (ap (λ t. (is_backslash p && begins_with is_newline ps) || (is_newline p && t)) e) refl (continued_from_nearest (p ∷ b) (p ∷ c) ps refl)
 
 -- where no newline is first, nothing that stands before counts
@@ -68,7 +68,7 @@ continued-plain p ps e =
 pub continued-backslash : (p : Placed) (ps : List Placed) → begins_with is_newline ps ≡ false → continued (p ∷ ps) ≡ p ∷ continued ps
 unfolding continued
 continued-backslash p ps e =
-    let alone : is_continuation (record { before = []; here = p; behind = ps }) ≡ false =
+    let alone : is_continuation (record { before = []; here = p; after = ps }) ≡ false =
     ap (λ t. (is_backslash p && t) || (is_newline p && false)) e ∙ (ap (λ t. t || (is_newline p && false)) (and_false (is_backslash p)) ∙ and_false (is_newline p)) in
     continued-stays [] p ps alone ∙ ap (λ t. p ∷ t) (no_newline_first (p ∷ []) [] ps e)
 
@@ -78,9 +78,9 @@ newline_no_backslash p e = rw (eqb-true p.char 10 e) refl
 pub continued-gone : (p q : Placed) (ps : List Placed) → is_backslash p ≡ true → is_newline q ≡ true → continued (p ∷ q ∷ ps) ≡ continued ps
 unfolding continued
 continued-gone p q ps e f =
-    let slash : is_continuation (record { before = []; here = p; behind = q ∷ ps }) ≡ true =
+    let slash : is_continuation (record { before = []; here = p; after = q ∷ ps }) ≡ true =
     ap (λ t. (t && is_newline q) || (is_newline p && false)) e ∙ ap (λ t. t || (is_newline p && false)) f in
-    let break : is_continuation (record { before = p ∷ []; here = q; behind = ps }) ≡ true =
+    let break : is_continuation (record { before = p ∷ []; here = q; after = ps }) ≡ true =
     ap (λ t. (t && begins_with is_newline ps) || (is_newline q && is_backslash p)) (newline_no_backslash q f)
     ∙ (ap (λ t. t && is_backslash p) f ∙ e) in
     continued-leaves [] p (q ∷ ps) slash
@@ -126,12 +126,12 @@ pub is_item-first_of : (c : ℕ) (ps : List Placed) → is_item (first_of ps) c 
 is_item-first_of c [] = refl
 is_item-first_of c (p ∷ ps) = refl
 
--- what a look at the item behind says of the characters there
+-- what a look at the item after says of the characters there
 pub looked : (c : ℕ) (ahead now : Cursor) (r : Option (ℕ × ℕ)) (t b : Bool) → ahead ≡ now → r ≡ first ahead → t ≡ is_item r c → t ≡ b → begins_with (λ p. p.char == c) now.rest ≡ b
 looked c ahead now r t b same e f g =
     sym (is_item-first_of c now.rest) ∙ (ap (λ o. is_item o c) (sym (e ∙ ap first same)) ∙ (sym f ∙ g))
 
--- a backslash and the newline behind it
+-- a backslash and the newline after it
 pub gone_step : (ps : List Placed) (total ch line : ℕ) (d peek : Cursor) → Some (ch, line) ≡ first_of ps → d ≡ after_of ps total → ch ≡ 92
     → begins_with is_newline d.rest ≡ true → peek ≡ after d → continued peek.rest ≡ continued ps
 gone_step [] total ch line d peek e f h n g = cc

@@ -11,7 +11,7 @@ use Rattle.pp_lexer.specs.declared.lexer.item.TokenValue.TheVariants.{Integer}
 use Rattle.pp_lexer.specs.Numbers.{is_zero, is_x, is_decimal, decimal_tail, is_number}
 use Rattle.pp_lexer.specs.NumberValue.{is_l, is_s, is_u, begins_hex, begins_octal, is_float_mark, whole, integer_of, integer_value, integer_outcome, width_refusal, number_outcome}
 use Rattle.pp_lexer.specs.Spelling.{integer_literal}
-use Rattle.pp_lexer.specs.Spellings.{many, begins_with, behind_first}
+use Rattle.pp_lexer.specs.Spellings.{many, begins_with, after_first}
 use Rattle.pp_lexer.specs.Words.{word_at}
 use Rattle.pp_lexer.proofs.NumbersLemmas.{either_apart, e_apart, point_apart}
 use Rattle.pp_lexer.proofs.NumberSetsLemmas.{decimal_number, number_lacks}
@@ -53,7 +53,7 @@ no_marks : (hex : Bool) (w : List ℕ) → list_all is_decimal w ≡ true → li
 no_marks hex [] h = refl
 no_marks hex (c ∷ w) h = let b = and_parts (is_decimal c) (list_all is_decimal w) h in rw (no_mark hex c b.0) (no_marks hex w b.1)
 
-no_x : (w : List ℕ) → list_all is_decimal w ≡ true → begins_with is_x (behind_first w) ≡ false
+no_x : (w : List ℕ) → list_all is_decimal w ≡ true → begins_with is_x (after_first w) ≡ false
 no_x [] h = refl
 no_x (c ∷ []) h = refl
 no_x (c ∷ d ∷ w) h =
@@ -61,7 +61,7 @@ no_x (c ∷ d ∷ w) h =
     either_apart 120 88 10 refl refl d (and_parts (is_decimal d) (list_all is_decimal w) b.1).0
 
 no_hex : (w : List ℕ) → list_all is_decimal w ≡ true → begins_hex w ≡ false
-no_hex w h = and_right (begins_with is_zero w) (begins_with is_x (behind_first w)) (no_x w h)
+no_hex w h = and_right (begins_with is_zero w) (begins_with is_x (after_first w)) (no_x w h)
 
 digits_number : (w : List ℕ) → 0 < length w → list_all is_decimal w ≡ true → is_number w ≡ true
 digits_number [] l h = absurd (omega arith)

@@ -6,7 +6,7 @@ use Rattle.pp_lexer.specs.Segments.{Kind, blank, comment, item, Segment, segment
 use Rattle.pp_lexer.specs.Items.{Item, start_of_line, item_at, final_newline, items_of, places_at, places_of}
 use Rattle.pp_lexer.specs.ItemLaws.{StandAt}
 use Rattle.pp_lexer.specs.Passing.{places_from}
-use Rattle.pp_lexer.proofs.ItemsLemmas.{items_from, items_at_start, places_at_start, flags_behind, last_before, flags_step}
+use Rattle.pp_lexer.proofs.ItemsLemmas.{items_from, items_at_start, places_at_start, flags_after, last_before, flags_step}
 
 stand-append : (items more : List Item) (places others : List Location) → StandAt items places → StandAt more others → StandAt (items ++ more) (places ++ others)
 stand-append [] more [] others h k = k
@@ -20,15 +20,15 @@ segment_stands comment g before = tt
 segment_stands (item (Ok v)) g before = (refl, tt)
 segment_stands (item (Err e)) g before = (tt, tt)
 
-end_stands : (before : List Segment) (s : Spot) → StandAt (final_newline before) (places_from (flags_behind before) (last_before before s) [])
+end_stands : (before : List Segment) (s : Spot) → StandAt (final_newline before) (places_from (flags_after before) (last_before before s) [])
 end_stands [] s = tt
 end_stands (g ∷ gs) s = by (start_of_line (g ∷ gs)) refl
   where
-    by : (b : Bool) → start_of_line (g ∷ gs) ≡ b → StandAt (final_newline (g ∷ gs)) (places_from (flags_behind (g ∷ gs)) g.last [])
+    by : (b : Bool) → start_of_line (g ∷ gs) ≡ b → StandAt (final_newline (g ∷ gs)) (places_from (flags_after (g ∷ gs)) g.last [])
     by true e = rw e tt
     by false e = rw e (refl, tt)
 
-items_stand : (gs before : List Segment) (s : Spot) → StandAt (items_from before gs) (places_from (flags_behind before) (last_before before s) gs)
+items_stand : (gs before : List Segment) (s : Spot) → StandAt (items_from before gs) (places_from (flags_after before) (last_before before s) gs)
 unfolding items_from
 items_stand [] before s = end_stands before s
 items_stand (g ∷ gs) before s =

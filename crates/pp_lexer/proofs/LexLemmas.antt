@@ -1,4 +1,4 @@
--- What a lexer gives at a token, at an error and at the end, behind the blanks.
+-- What a lexer gives at a token, at an error and at the end, after the blanks.
 use Rattle.std.proofs.Common.{◌≡◌, List, [], ◌∷◌, Bool, true, false, ◌||◌, refl, sym, ◌∙◌, ap, inl, inr, IsTrue, Option, Some, None, Result, OnOk, Ok, Err, IsErr, MatchOption, subst}
 use Rattle.std.specs.Bool.{⊤}
 use Rattle.std.specs.List.{list_any}
@@ -15,7 +15,7 @@ use Rattle.pp_lexer.specs.Outcome.{Answer, takes_memory, IsGiven}
 use Rattle.pp_lexer.specs.Segments.{item}
 use Rattle.pp_lexer.specs.Words.{is_blank}
 use Rattle.pp_lexer.specs.Items.{Lexeme, is_comment, is_newline_result}
-use Rattle.pp_lexer.specs.Lexed.{first_item, behind_first_item, comments_before, lexeme_takes_memory, first_takes_memory, first_place, places_after_first}
+use Rattle.pp_lexer.specs.Lexed.{first_item, after_first_item, comments_before, lexeme_takes_memory, first_takes_memory, first_place, places_after_first}
 use Rattle.pp_lexer.specs.Passing.{passed, lexeme_seen, newline_seen, seen_from, seen_of, comments_at_end, newline_places, places_from, places_left, IsPlaced, IsLexRefused, IsLexed}
 use Rattle.pp_lexer.proofs.WordAtLemmas.{word_at-some}
 use Rattle.pp_lexer.proofs.SegmentsLemmas.{segments_none, advanced-rest}
@@ -30,7 +30,7 @@ lexed_before f g h r p q answer same at_end (inl x) = inl (record {
 })
 lexed_before f g h r p q answer same at_end (inr x) = inr (record {
   value = x.value ∙ ap (λ xs. Ok (first_item xs)) same;
-  rest = x.rest ∙ ap behind_first_item same;
+  rest = x.rest ∙ ap after_first_item same;
   comments = x.comments ∙ ap (λ xs. comments_before xs (comments_at_end g p)) same ∙ ap (comments_before (seen_of f r)) at_end;
   at_end = x.at_end ∙ at_end;
 })
@@ -40,25 +40,25 @@ module _ (f : Flags) (last s : Spot) (ss : List Spot) (plain : is_blank s.c ≡ 
   value : Result TokenValue PreprocessorError
   value = (word_at (letters (s ∷ ss))).value
 
-  behind : Reading
-  behind = advanced (word_at (letters (s ∷ ss))).taken (record { rest = s ∷ ss; last = last })
+  after : Reading
+  after = advanced (word_at (letters (s ∷ ss))).taken (record { rest = s ∷ ss; last = last })
 
-  seen_front : seen_of f (record { rest = s ∷ ss; last = last }) ≡ record { item = lexeme_seen f s behind.last value; had_comments = f.had_comments } ∷ seen_of (passed f (item value)) behind
-  unfolding value behind
+  seen_front : seen_of f (record { rest = s ∷ ss; last = last }) ≡ record { item = lexeme_seen f s after.last value; had_comments = f.had_comments } ∷ seen_of (passed f (item value)) after
+  unfolding value after
   seen_front =
       let l = last_same (word_at (letters (s ∷ ss))).taken last s ss (word_at-some s.c (letters ss)) in
       let r = advanced-rest (word_at (letters (s ∷ ss))).taken (s ∷ ss) last in
       ap (seen_from f last) (front_first s ss plain) ∙ rw (l, ← r) refl
 
-  places_front : places_left f (record { rest = s ∷ ss; last = last }) ≡ record { start = s.begin; end = behind.last.end; line = s.line } ∷ places_left (passed f (item value)) behind
-  unfolding value behind
+  places_front : places_left f (record { rest = s ∷ ss; last = last }) ≡ record { start = s.begin; end = after.last.end; line = s.line } ∷ places_left (passed f (item value)) after
+  unfolding value after
   places_front =
       let l = last_same (word_at (letters (s ∷ ss))).taken last s ss (word_at-some s.c (letters ss)) in
       let r = advanced-rest (word_at (letters (s ∷ ss))).taken (s ∷ ss) last in
       ap (places_from f last) (front_first s ss plain) ∙ rw (l, ← r) refl
 
-  at_end_front : comments_at_end f (record { rest = s ∷ ss; last = last }) ≡ comments_at_end (passed f (item value)) behind
-  unfolding value behind
+  at_end_front : comments_at_end f (record { rest = s ∷ ss; last = last }) ≡ comments_at_end (passed f (item value)) after
+  unfolding value after
   at_end_front =
       let r = advanced-rest (word_at (letters (s ∷ ss))).taken (s ∷ ss) last in
       ap (λ gs. f.had_comments || list_any (λ g. is_comment g.kind) gs) (front_first s ss plain) ∙ rw (← r) refl
@@ -66,7 +66,7 @@ module _ (f : Flags) (last s : Spot) (ss : List Spot) (plain : is_blank s.c ≡ 
 front_at : (f : Flags) (ss : List Spot) (last : Spot) (q : Reading) (first : Spot) (r : Answer) → Some first ≡ first_of ss → MatchOption (first_of ss) ⊤ (λ s. is_blank s.c ≡ false)
     → r ≡ (word_at (letters ss)).value → q ≡ advanced (word_at (letters ss)).taken (record { rest = ss; last = last })
     → IsLexed f (record { rest = ss; last = last }) (Ok (Some (lexeme_seen f first q.last r))) (passed f (item r)) q
-unfolding value behind
+unfolding value after
 front_at f [] last q first r e plain v n = cc
 front_at f (s ∷ ss) last q first r e plain v n =
     let k : first ≡ s = cc in
@@ -84,7 +84,7 @@ lexeme_takes f first last (Err e) = refl
 
 refused_at : (f : Flags) (ss : List Spot) (last first : Spot) (answer : Result (Option Lexeme) AllocError) → Some first ≡ first_of ss → MatchOption (first_of ss) ⊤ (λ s. is_blank s.c ≡ false)
     → IsErr answer → takes_memory (word_at (letters ss)).value ≡ true → IsLexRefused f (record { rest = ss; last = last }) f answer
-unfolding value behind
+unfolding value after
 refused_at f [] last first answer e plain h x = cc
 refused_at f (s ∷ ss) last first answer e plain h x =
     let olds = seen_front f last s ss plain in
@@ -127,7 +127,7 @@ no_more : (b : Bool) → (b || false) ≡ b
 no_more true = refl
 no_more false = refl
 
-end_at : (f g : Flags) (ss : List Spot) (last : Spot) (answer : Option Lexeme) → None ≡ first_of ss → answer ≡ first_item (newline_seen f last) → newline_seen g last ≡ behind_first_item (newline_seen f last)
+end_at : (f g : Flags) (ss : List Spot) (last : Spot) (answer : Option Lexeme) → None ≡ first_of ss → answer ≡ first_item (newline_seen f last) → newline_seen g last ≡ after_first_item (newline_seen f last)
     → g.had_comments ≡ f.had_comments → IsLexed f (record { rest = ss; last = last }) (Ok answer) g (record { rest = ss; last = last })
 end_at f g [] last answer e a n c =
     let none : seen_of f (record { rest = []; last = last }) ≡ newline_seen f last = ap (seen_from f last) segments_none in
@@ -136,7 +136,7 @@ end_at f g [] last answer e a n c =
     let all' : comments_at_end g (record { rest = []; last = last }) ≡ g.had_comments = ap (λ gs. g.had_comments || list_any (λ x. is_comment x.kind) gs) segments_none ∙ no_more g.had_comments in
     inr (record {
       value = ap Ok (a ∙ ap first_item (sym none));
-      rest = more ∙ n ∙ ap behind_first_item (sym none);
+      rest = more ∙ n ∙ ap after_first_item (sym none);
       comments = c ∙ newline_comments f last (comments_at_end f (record { rest = []; last = last })) all ∙ ap (λ xs. comments_before xs (comments_at_end f (record { rest = []; last = last }))) (sym none);
       at_end = all' ∙ c ∙ sym all;
     })
@@ -144,11 +144,11 @@ end_at f g (s ∷ ss) last answer e a n c = cc
 
 -- nothing is left to read
 pub lexed_end : (f g : Flags) (r p : Reading) (last : Spot) (answer : Option Lexeme) → None ≡ first_char r → p ≡ r → last ≡ p.last → answer ≡ first_item (newline_seen f last)
-    → newline_seen g last ≡ behind_first_item (newline_seen f last) → g.had_comments ≡ f.had_comments → IsLexed f r (Ok answer) g p
+    → newline_seen g last ≡ after_first_item (newline_seen f last) → g.had_comments ≡ f.had_comments → IsLexed f r (Ok answer) g p
 lexed_end f g r p last answer e same l a n c =
     let k : last ≡ r.last = l ∙ ap (λ x. x.last) same in
     subst (λ x. IsLexed f r (Ok answer) g x) (sym same)
-    (end_at f g r.rest r.last answer e (a ∙ ap (λ x. first_item (newline_seen f x)) k) (ap (newline_seen g) (sym k) ∙ n ∙ ap (λ x. behind_first_item (newline_seen f x)) k) c)
+    (end_at f g r.rest r.last answer e (a ∙ ap (λ x. first_item (newline_seen f x)) k) (ap (newline_seen g) (sym k) ∙ n ∙ ap (λ x. after_first_item (newline_seen f x)) k) c)
 
 -- Where the item that was taken stands
 
@@ -164,7 +164,7 @@ on_ok_placed (Err error) P Q go h = tt
 placed_at : (f : Flags) (ss : List Spot) (last : Spot) (q : Reading) (first : Spot) (r : Answer) (old : Location) → Some first ≡ first_of ss → MatchOption (first_of ss) ⊤ (λ s. is_blank s.c ≡ false)
     → r ≡ (word_at (letters ss)).value → q ≡ advanced (word_at (letters ss)).taken (record { rest = ss; last = last })
     → IsPlaced f (record { rest = ss; last = last }) old (passed f (item r)) q (record { start = first.begin; end = q.last.end; line = first.line })
-unfolding value behind
+unfolding value after
 placed_at f [] last q first r old e plain v n = cc
 placed_at f (s ∷ ss) last q first r old e plain v n =
     let k : first ≡ s = cc in

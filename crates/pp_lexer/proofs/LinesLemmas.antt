@@ -75,23 +75,23 @@ pub first_return : (text mid rest : List ℕ) → IsUtf8 text → IsUtf8 mid →
 first_return text mid rest u v e = first_newline text mid rest 13 10 u v e refl refl refl refl cr_only
 
 -- a line by what stands before it, and by a count that goes along
-line_behind : (b : Bool) (line breaks : ℕ) → line ≡ breaks + 1 → (if b then line + 1 else line) ≡ cond b 1 0 + breaks + 1
-line_behind true line breaks e = omega arith
-line_behind false line breaks e = omega arith
+line_after : (b : Bool) (line breaks : ℕ) → line ≡ breaks + 1 → (if b then line + 1 else line) ≡ cond b 1 0 + breaks + 1
+line_after true line breaks e = omega arith
+line_after false line breaks e = omega arith
 
-placed_from_behind : (before ps : List Piece) (line at : ℕ) → line ≡ count_by is_newline_piece before + 1 → at ≡ sum_by (λ p. p.bytes) before
+placed_from_after : (before ps : List Piece) (line at : ℕ) → line ≡ count_by is_newline_piece before + 1 → at ≡ sum_by (λ p. p.bytes) before
     → map placed (surrounded_from before ps) ≡ placed_from line at ps
-placed_from_behind before [] line at e f = refl
-placed_from_behind before (p ∷ ps) line at e f =
+placed_from_after before [] line at e f = refl
+placed_from_after before (p ∷ ps) line at e f =
     let breaks : count_by is_newline_piece (p ∷ before) ≡ cond (is_newline_piece p) 1 0 + count_by is_newline_piece before = sum_by-cons _ p before in
     let bytes : sum_by (λ p. p.bytes) (p ∷ before) ≡ p.bytes + sum_by (λ p. p.bytes) before = sum_by-cons _ p before in
     let g : (if is_newline_piece p then line + 1 else line) ≡ count_by is_newline_piece (p ∷ before) + 1 =
-    line_behind (is_newline_piece p) line _ e ∙ ap (λ n. n + 1) (sym breaks) in
+    line_after (is_newline_piece p) line _ e ∙ ap (λ n. n + 1) (sym breaks) in
     let h : at + p.bytes ≡ sum_by (λ p. p.bytes) (p ∷ before) = omega (arith, f, bytes) in
     let tail : map placed (surrounded_from (p ∷ before) ps) ≡ placed_from (if is_newline_piece p then line + 1 else line) (at + p.bytes) ps =
-    placed_from_behind (p ∷ before) ps _ _ g h in
+    placed_from_after (p ∷ before) ps _ _ g h in
     cc (e, f, tail)
 
 pub lines_are : (cs : List ℕ) → lines cs ≡ placed_from 1 0 (pieces cs)
 unfolding lines
-lines_are cs = placed_from_behind [] (pieces cs) 1 0 refl refl
+lines_are cs = placed_from_after [] (pieces cs) 1 0 refl refl

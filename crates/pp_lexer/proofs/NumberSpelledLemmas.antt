@@ -11,7 +11,7 @@ use Rattle.pp_lexer.specs.Numbers.{is_zero, is_x, is_point, is_e}
 use Rattle.pp_lexer.specs.NumberValue.{is_h, is_s, is_u, begins_hex, is_float_mark, is_float, small_e, float_text, is_float_text, float_value, float_outcome, unsigned_suffix_len, whole, base_of, digits_of, integer_of, integer_value, integer_outcome, unless_refused, width_refusal, number_outcome}
 use Rattle.pp_lexer.specs.Outcome.{Answer}
 use Rattle.pp_lexer.specs.Respelling.{IsSpelled}
-use Rattle.pp_lexer.specs.Spellings.{begins_with, behind_first}
+use Rattle.pp_lexer.specs.Spellings.{begins_with, after_first}
 use Rattle.pp_lexer.proofs.SetsLemmas.{not_true}
 
 -- a number that is read is below 2^64
@@ -47,9 +47,9 @@ no_x_kept (c ∷ w) = by (is_x c) (is_e c) refl refl (no_x_kept w)
     by false false e f h = rw (e, f, e) h
 
 no_hex : (w : List ℕ) → list_all (λ c. not (is_x c)) w ≡ true → begins_hex w ≡ false
-no_hex w h = and_right (begins_with is_zero w) (begins_with is_x (behind_first w)) (second w h)
+no_hex w h = and_right (begins_with is_zero w) (begins_with is_x (after_first w)) (second w h)
   where
-    second : (w : List ℕ) → list_all (λ c. not (is_x c)) w ≡ true → begins_with is_x (behind_first w) ≡ false
+    second : (w : List ℕ) → list_all (λ c. not (is_x c)) w ≡ true → begins_with is_x (after_first w) ≡ false
     second [] h = refl
     second (c ∷ []) h = refl
     second (c ∷ d ∷ w) h =
@@ -89,12 +89,12 @@ float_spelled w h = by (is_float_text (float_text w)) refl
     by false e = tt
 
 -- an error, or a value that can be spelled
-pub number_spelled : (w behind : List ℕ) → IsSpelled (number_outcome w behind).value
-number_spelled w behind = by (is_float w) refl
+pub number_spelled : (w after : List ℕ) → IsSpelled (number_outcome w after).value
+number_spelled w after = by (is_float w) refl
   where
-    by : (b : Bool) → is_float w ≡ b → IsSpelled (if b then float_outcome w behind else integer_outcome w behind).value
-    by true e = refused_spelled (width_refusal is_h behind) (float_value w) (float_spelled w e)
+    by : (b : Bool) → is_float w ≡ b → IsSpelled (if b then float_outcome w after else integer_outcome w after).value
+    by true e = refused_spelled (width_refusal is_h after) (float_value w) (float_spelled w e)
     by false e =
-        let signed : Bool = not (begins_with is_u behind) in
-        refused_spelled (width_refusal is_s (drop (unsigned_suffix_len behind) behind)) (integer_value signed w)
+        let signed : Bool = not (begins_with is_u after) in
+        refused_spelled (width_refusal is_s (drop (unsigned_suffix_len after) after)) (integer_value signed w)
         (integer_spelled signed (whole (base_of w) (digits_of w)) (whole_small (base_of w) (digits_of w)))

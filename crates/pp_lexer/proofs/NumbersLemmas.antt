@@ -164,24 +164,24 @@ zero_front [] x (suc k) = refl
 zero_front (c ∷ t) x zero = refl
 zero_front (c ∷ t) x (suc k) = rw x (or_false (many is_decimal decimal_tail (c ∷ take k t)))
 
--- what may stand behind a first `0`
-abbrev pub behind_zero : List ℕ → Bool
-behind_zero w = is_number (48 ∷ w)
+-- what may stand after a first `0`
+abbrev pub after_zero : List ℕ → Bool
+after_zero w = is_number (48 ∷ w)
 
-pub zero_number_len : (t : List ℕ) → begins_with is_zero t ≡ true → longest is_number t ≡ 1 + longest behind_zero (drop 1 t)
+pub zero_number_len : (t : List ℕ) → begins_with is_zero t ≡ true → longest is_number t ≡ 1 + longest after_zero (drop 1 t)
 unfolding longest is_number
 zero_number_len [] z = cc
 zero_number_len (c ∷ t) z =
     let k : c ≡ 48 = eqb-true c 48 z in
-    let s : longest is_number (48 ∷ t) ≡ suc (longest behind_zero t) = longest_step is_number behind_zero 48 t refl (λ w. refl) in
-    let one : suc (longest behind_zero t) ≡ 1 + longest behind_zero (drop 1 (c ∷ t)) = omega arith in
+    let s : longest is_number (48 ∷ t) ≡ suc (longest after_zero t) = longest_step is_number after_zero 48 t refl (λ w. refl) in
+    let one : suc (longest after_zero t) ≡ 1 + longest after_zero (drop 1 (c ∷ t)) = omega arith in
     ap (λ n. longest is_number (n ∷ t)) k ∙ s ∙ one
 
-pub behind_zero_digits : (t : List ℕ) → begins_with is_x t ≡ false → longest behind_zero t ≡ longest (many is_decimal decimal_tail) t
+pub after_zero_digits : (t : List ℕ) → begins_with is_x t ≡ false → longest after_zero t ≡ longest (many is_decimal decimal_tail) t
 unfolding longest is_number
-behind_zero_digits t x = within_same behind_zero (many is_decimal decimal_tail) t t (λ k. zero_front t x (suc k)) (length t)
+after_zero_digits t x = within_same after_zero (many is_decimal decimal_tail) t t (λ k. zero_front t x (suc k)) (length t)
 
-hex_front : (c : ℕ) (w : List ℕ) → is_x c ≡ true → behind_zero (c ∷ w) ≡ many is_hex hex_tail w
+hex_front : (c : ℕ) (w : List ℕ) → is_x c ≡ true → after_zero (c ∷ w) ≡ many is_hex hex_tail w
 unfolding longest is_number
 hex_front c w x =
     elim (or_cases (c == 120) (c == 88) x) [
@@ -189,11 +189,11 @@ hex_front c w x =
       | inr e ↦ rw (eqb-true c 88 e) (or_false (many is_hex hex_tail w))
     ]
 
-pub behind_zero_hex : (t : List ℕ) → begins_with is_x t ≡ true → longest behind_zero t ≡ 1 + longest (many is_hex hex_tail) (drop 1 t)
-behind_zero_hex [] x = cc
-behind_zero_hex (c ∷ t) x =
-    let s : longest behind_zero (c ∷ t) ≡ suc (longest (many is_hex hex_tail) t) =
-    longest_step behind_zero (many is_hex hex_tail) c t (hex_front c [] x) (λ w. hex_front c w x) in
+pub after_zero_hex : (t : List ℕ) → begins_with is_x t ≡ true → longest after_zero t ≡ 1 + longest (many is_hex hex_tail) (drop 1 t)
+after_zero_hex [] x = cc
+after_zero_hex (c ∷ t) x =
+    let s : longest after_zero (c ∷ t) ≡ suc (longest (many is_hex hex_tail) t) =
+    longest_step after_zero (many is_hex hex_tail) c t (hex_front c [] x) (λ w. hex_front c w x) in
     let one : suc (longest (many is_hex hex_tail) t) ≡ 1 + longest (many is_hex hex_tail) (drop 1 (c ∷ t)) = omega arith in
     s ∙ one
 

@@ -12,7 +12,7 @@ use Rattle.pp_lexer.specs.Items.{places_at}
 use Rattle.pp_lexer.specs.Passing.{passed, item_seen, seen_from, seen_of, comments_at_end, places_from, places_left}
 use Rattle.pp_lexer.proofs.SegmentsLemmas.{segments_first, advanced-last}
 
--- the flags behind a blank
+-- the flags after a blank
 abbrev pub blanked : Flags → ℕ → Flags
 blanked f c = record { leading_whitespace = true; start_of_line = f.start_of_line; had_comments = f.had_comments || is_mark c }
 

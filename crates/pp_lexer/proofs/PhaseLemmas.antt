@@ -25,9 +25,9 @@ length-lines source u = rw (lines_are (chars source), length-placed_from 1 0 (pi
 
 length-continued_from : (before ps : List Placed) → length (continued_from before ps) ≤ length ps
 length-continued_from before [] = omega arith
-length-continued_from before (p ∷ ps) = by_test (is_continuation (record { before = before; here = p; behind = ps })) refl (length-continued_from (p ∷ before) ps)
+length-continued_from before (p ∷ ps) = by_test (is_continuation (record { before = before; here = p; after = ps })) refl (length-continued_from (p ∷ before) ps)
   where
-    by_test : (b : Bool) → is_continuation (record { before = before; here = p; behind = ps }) ≡ b
+    by_test : (b : Bool) → is_continuation (record { before = before; here = p; after = ps }) ≡ b
         → length (continued_from (p ∷ before) ps) ≤ length ps → length (continued_from before (p ∷ ps)) ≤ length (p ∷ ps)
     by_test true e k = rw (continued-leaves before p ps e) (omega arith)
     by_test false e k = rw (continued-stays before p ps e) (omega arith)
@@ -126,9 +126,9 @@ no_pair a c e = by_pair (is_pair a c) refl
     by_pair true h = absurd (true≢false (sym (is_pair-breaks a c h).0 ∙ e))
     by_pair false h = h
 
-ends_behind : (a b : ℕ) (front : List ℕ) → ends_in_break (a ∷ b ∷ front) ≡ false → ends_in_break front ≡ false
-ends_behind a b [] e = refl
-ends_behind a b (c ∷ front) e = e
+ends_after : (a b : ℕ) (front : List ℕ) → ends_in_break (a ∷ b ∷ front) ≡ false → ends_in_break front ≡ false
+ends_after a b [] e = refl
+ends_after a b (c ∷ front) e = e
 
 -- a pair that no line break stands before, among the pieces
 pieces_around : (front back : List ℕ) (c d : ℕ) → ends_in_break front ≡ false → is_pair c d ≡ true
@@ -136,7 +136,7 @@ pieces_around : (front back : List ℕ) (c d : ℕ) → ends_in_break front ≡ 
 pieces_around [] back c d e f = rw f refl
 pieces_around (a ∷ []) back c d e f = rw (no_pair a c e, f) refl
 pieces_around (a ∷ b ∷ front) back c d e f =
-    by_pair (is_pair a b) refl (pieces_around front back c d (ends_behind a b front e) f) (pieces_around (b ∷ front) back c d e f)
+    by_pair (is_pair a b) refl (pieces_around front back c d (ends_after a b front e) f) (pieces_around (b ∷ front) back c d e f)
   where
     by_pair : (t : Bool) → is_pair a b ≡ t → pieces (front ++ (c ∷ d ∷ back)) ≡ pieces front ++ (newline_piece 2 ∷ pieces back)
         → pieces (b ∷ (front ++ (c ∷ d ∷ back))) ≡ pieces (b ∷ front) ++ (newline_piece 2 ∷ pieces back)

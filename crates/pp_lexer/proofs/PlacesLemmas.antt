@@ -13,7 +13,7 @@ use Rattle.pp_lexer.specs.PhaseLaws.{StretchesFollow}
 use Rattle.pp_lexer.proofs.SegmentsLemmas.{taken_some}
 use Rattle.pp_lexer.proofs.ItemsLemmas.{items_from, items_at_start}
 
--- the characters stand one behind the other, from this byte on
+-- the characters stand one after the other, from this byte on
 Ordered : ℕ → ℕ → List Spot → Type 0
 Ordered at total [] = Unit {0}
 Ordered at total (s ∷ ss) = (at ≤ s.begin) × (s.begin ≤ s.end) × (s.end ≤ total) × Ordered s.end total ss

@@ -12,7 +12,7 @@ use Rattle.pp_lexer.specs.PlainWords.{IsFront}
 use Rattle.pp_lexer.specs.Cursor.{Cursor}
 use Rattle.pp_lexer.specs.Readers.{joined, uncommented}
 use Rattle.pp_lexer.specs.Longest.{front_len}
-use Rattle.pp_lexer.specs.Reading.{IsAhead, letters, spots, behind_first, first_of, advanced_of}
+use Rattle.pp_lexer.specs.Reading.{IsAhead, letters, spots, spots_after_first, first_of, advanced_of}
 use Rattle.pp_lexer.specs.Spellings.{begins_with}
 use Rattle.pp_lexer.proofs.FrontsLemmas.{left_of, plain_first, plain_front, plain_parts, nothing_left, first_is_not}
 use Rattle.pp_lexer.proofs.AdvancedLemmas.{advanced_zero}
@@ -167,7 +167,7 @@ one_ahead line at (c ∷ text) rest old new u some h g e k =
     left_of old line at (c ∷ text) e ∙ plain_first line at c text h u in
     record {
       first = sym (ap first_of first);
-      behind = left_of new line (at + 1) rest k ∙ ap (spots_from line (at + 1)) (g ∙ none) ∙ sym (ap behind_first first);
+      after = left_of new line (at + 1) rest k ∙ ap (spots_from line (at + 1)) (g ∙ none) ∙ sym (ap spots_after_first first);
     }
   where
     take_drop_none : (xs : List ℕ) → drop 0 xs ≡ xs

@@ -21,7 +21,7 @@ use Rattle.pp_lexer.specs.Spellings.{many, begins_with}
 use Rattle.pp_lexer.specs.Words.{is_blank, word_at}
 use Rattle.pp_lexer.proofs.DecimalLemmas.{IsDecimalText, digits_value, digits_outcome}
 use Rattle.pp_lexer.proofs.FloatSpellingLemmas.{value_same}
-use Rattle.pp_lexer.proofs.NumbersLemmas.{point_apart, either_apart, decimal_len, fraction_len, exponent_none, decimal_tail_len, decimal_tail_none, point_number_len, digit_number_len, zero_number_len, behind_zero_digits}
+use Rattle.pp_lexer.proofs.NumbersLemmas.{point_apart, either_apart, decimal_len, fraction_len, exponent_none, decimal_tail_len, decimal_tail_none, point_number_len, digit_number_len, zero_number_len, after_zero_digits}
 use Rattle.pp_lexer.proofs.FrontsLemmas.{below}
 use Rattle.pp_lexer.proofs.PlainFrontsLemmas.{all_plain, front_len-append, take_seam}
 use Rattle.pp_lexer.proofs.PlainWordsLemmas.{plain_before}
@@ -93,9 +93,9 @@ module _ (cs : List ℕ) (h : begins_with is_decimal cs ≡ false) where
       by : (b : Bool) → is_zero c ≡ b → longest is_number ((c ∷ w) ++ cs) ≡ suc (length w) + longest decimal_tail cs
       by true z =
           let more = digits_len w all in
-          let behind = behind_zero_digits (w ++ cs) (no_x_after w all x) in
+          let after = after_zero_digits (w ++ cs) (no_x_after w all x) in
           let first = zero_number_len ((c ∷ w) ++ cs) z in
-          first ∙ ap (λ k. 1 + k) (behind ∙ more) ∙ omega arith
+          first ∙ ap (λ k. 1 + k) (after ∙ more) ∙ omega arith
       by false z = digit_number_len ((c ∷ w) ++ cs) begins (point_apart c d) z ∙ digits_len (c ∷ w) (both (is_decimal c) (list_all is_decimal w) d all)
 
 -- a number of that many characters

@@ -50,7 +50,7 @@ characters-placed_from line at (c ∷ cs) h =
     ap (λ qs. characters (placed_from line at qs)) (pieces_plain c cs h.0)
     ∙ ap (λ xs. c ∷ xs) (characters-placed_from (if is_newline_piece first then line + 1 else line) (at + len_utf8 c) cs h.3)
 
--- the phases behind
+-- the phases after
 
 continued_same : (ps : List Placed) → IsPlain (characters ps) → continued ps ≡ ps
 continued_same [] h = continued-nil
@@ -74,7 +74,7 @@ letters-spots : (at : ℕ) (ps : List Placed) → letters (spots at ps) ≡ char
 letters-spots at [] = refl
 letters-spots at (p ∷ ps) = ap (λ cs. p.char ∷ cs) (letters-spots p.end ps)
 
--- the characters behind the phases are those of the text
+-- the characters after the phases are those of the text
 pub plain_letters : (cs : List ℕ) → all_scalars cs ≡ true → IsPlain cs → letters (spots_of (encode_utf8_all cs)) ≡ cs
 plain_letters cs s h = by (encode_utf8_all cs) (chars-encodes cs s)
   where
@@ -85,7 +85,7 @@ plain_letters cs s h = by (encode_utf8_all cs) (chars-encodes cs s)
         let joined : continued (lines (chars text)) ≡ lines (chars text) = continued_same (lines (chars text)) plain in
         letters-spots 0 _ ∙ rw (joined, replaced_same _ (lines (chars text)) plain) same
 
--- a space behind a text begins no comment and ends none
+-- a space after a text begins no comment and ends none
 pub plain-space : (cs ds : List ℕ) → IsPlain cs → IsPlain ds → IsPlain (cs ++ 32 ∷ ds)
 plain-space [] ds h k = (refl, refl, refl, k)
 plain-space (c ∷ []) ds h k = (h.0, h.1, and_false (c == 47), (refl, refl, refl, k))

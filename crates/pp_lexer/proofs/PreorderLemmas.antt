@@ -82,10 +82,10 @@ preorder_same (t ∷ ts) (u ∷ us) e =
     let head : head_of t ≡ head_of u = cc in
     let rest : map deeper (inner t.value) ++ preorder ts ≡ map deeper (inner u.value) ++ preorder us = cc in
     let inside = sym (children-inner (inner t.value) ts) ∙ ap children rest ∙ children-inner (inner u.value) us in
-    let behind = sym (siblings-inner (inner t.value) ts) ∙ ap siblings rest ∙ siblings-inner (inner u.value) us in
+    let after = sym (siblings-inner (inner t.value) ts) ∙ ap siblings rest ∙ siblings-inner (inner u.value) us in
     let value = value_same t.value u.value (ap (λ x. x.leaf) head) inside in
     let location = ap (λ x. x.location) head in
-    let tokens = preorder_same ts us behind in
+    let tokens = preorder_same ts us after in
     λ i. record { value = value i; location = location i } ∷ tokens i
 
 -- the test of the tokens answers as that of their entries

@@ -7,7 +7,7 @@ use Rattle.pp_lexer.specs.Comments.{is_slash, is_star, line_length, block_length
 use Rattle.pp_lexer.proofs.CommentsLemmas.{replaced-nil, replaced-plain, replaced-comment, no_slash, lone_slash, line_comment, slash_no_star, block_comment, has_close-take, drop-unclosed}
 use Rattle.pp_lexer.proofs.RisingLemmas.{Rising, rising_within, rising-drop, rising_last}
 
--- a comment stands at the front, and so many characters behind its first belong to it
+-- a comment stands at the front, and so many characters after its first belong to it
 pub record Marks (total : ℕ) (p : Placed) (ps : List Placed) : Type 0 where
   pub mark : Placed
   pub more : ℕ

@@ -36,7 +36,7 @@ use Rattle.pp_lexer.proofs.WordsLemmas.{longest_blank}
 abbrev outcome_of : TokenValue → Outcome
 outcome_of v = record { value = Ok (lexer_value v); taken = length (spelling v) }
 
--- a spelling with a space or the end behind it is read as its value
+-- a spelling with a space or the end after it is read as its value
 pub spelled_word : (v : TokenValue) (cs : List ℕ) → IsSpellable v → IsBreak cs → word_at (spelling v ++ cs) ≡ outcome_of v
 spelled_word (Ident name) cs h b = spelled_identifier name cs h.0 b
 spelled_word (Integer i) cs h b = spelled_integer i cs h.0 h.1 b
@@ -59,7 +59,7 @@ no_letters (s ∷ ss) e = cc
 -- the first segment of a text that begins with a spelling
 record IsFirst (s : Spot) (ss : List Spot) (v : TokenValue) (cs : List ℕ) : Type 0 where
   kind : kind_of s ss ≡ item (Ok (lexer_value v))
-  behind : letters (drop (taken_by s ss) (s ∷ ss)) ≡ cs
+  after : letters (drop (taken_by s ss) (s ∷ ss)) ≡ cs
 
 first_value : (s : Spot) (ss : List Spot) (v : TokenValue) (cs : List ℕ) → IsSpellable v → IsBreak cs → letters (s ∷ ss) ≡ spelling v ++ cs → IsFirst s ss v cs
 first_value s ss v cs h b e = by (is_blank s.c) refl
@@ -76,7 +76,7 @@ first_value s ss v cs h b e = by (is_blank s.c) refl
         let taken : taken_by s ss ≡ length (spelling v) = ap (λ t. if t then 1 else (word_at (letters (s ∷ ss))).taken) f ∙ ap (λ o. o.taken) read in
         record {
           kind = ap (λ t. if t then (if is_mark s.c then comment else blank) else item (word_at (letters (s ∷ ss))).value) f ∙ ap (λ o. item o.value) read;
-          behind = ap (λ n. letters (drop n (s ∷ ss))) taken ∙ letters-drop (length (spelling v)) (s ∷ ss) ∙ ap (drop (length (spelling v))) e ∙ drop_at (spelling v) cs (length (spelling v)) refl;
+          after = ap (λ n. letters (drop n (s ∷ ss))) taken ∙ letters-drop (length (spelling v)) (s ∷ ss) ∙ ap (drop (length (spelling v))) e ∙ drop_at (spelling v) cs (length (spelling v)) refl;
         }
 
 nothing_read : (v : TokenValue) (cs : List ℕ) → IsSpellable v → IsBreak cs → [] ≡ spelling v ++ cs → ⊥
@@ -116,7 +116,7 @@ space_passed before (s ∷ ss) cs e =
     let one : taken_by s ss ≡ 1 = ap (λ c. if is_blank c then 1 else (word_at (letters (s ∷ ss))).taken) first in
     (ss, segment_at s ss, cc, items_first before s ss blank here ∙ ap (λ n. items_from (segment_at s ss ∷ before) (segments (drop n (s ∷ ss)))) one)
 
--- the values of a text behind other segments
+-- the values of a text after other segments
 read_from : (values : List TokenValue) (v : TokenValue) (before : List Segment) (ss : List Spot) → IsSpellable v → All IsSpellable values → letters ss ≡ spelled_text (v ∷ values)
     → values_in (items_from before (segments ss)) ≡ map Ok (map lexer_value (v ∷ values) ++ NewLine ∷ [])
 read_from [] v before [] h k e = absurd (nothing_read v [] h tt (e ∙ sym (append-nil (spelling v))))
@@ -124,12 +124,12 @@ read_from [] v before (s ∷ ss) h k e =
     let f = first_value s ss v [] h tt (e ∙ sym (append-nil (spelling v))) in
     let g : Segment = segment_at s ss in
     ap values_in (items_first before s ss (item (Ok (lexer_value v))) f.kind)
-    ∙ ap (λ xs. Ok (lexer_value v) ∷ values_in (items_from (g ∷ before) (segments xs))) (no_letters (drop (taken_by s ss) (s ∷ ss)) f.behind)
+    ∙ ap (λ xs. Ok (lexer_value v) ∷ values_in (items_from (g ∷ before) (segments xs))) (no_letters (drop (taken_by s ss) (s ∷ ss)) f.after)
     ∙ ap (λ xs. Ok (lexer_value v) ∷ xs) (last_newline g before (lexer_value v) f.kind (no_newline v))
 read_from (u ∷ values) v before [] h k e = absurd (nothing_read v (32 ∷ spelled_text (u ∷ values)) h refl e)
 read_from (u ∷ values) v before (s ∷ ss) h k e =
     let f = first_value s ss v (32 ∷ spelled_text (u ∷ values)) h refl e in
-    let p = space_passed (segment_at s ss ∷ before) (drop (taken_by s ss) (s ∷ ss)) (spelled_text (u ∷ values)) f.behind in
+    let p = space_passed (segment_at s ss ∷ before) (drop (taken_by s ss) (s ∷ ss)) (spelled_text (u ∷ values)) f.after in
     ap values_in (items_first before s ss (item (Ok (lexer_value v))) f.kind)
     ∙ ap (λ xs. Ok (lexer_value v) ∷ values_in xs) p.3
     ∙ ap (λ xs. Ok (lexer_value v) ∷ xs) (read_from values u (p.1 ∷ segment_at s ss ∷ before) p.0 (All-head IsSpellable u values k) (All-tail IsSpellable u values k) p.2)

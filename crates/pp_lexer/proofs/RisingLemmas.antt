@@ -91,9 +91,9 @@ rising-lines source u =
 rising-continued_from : (line at total : ℕ) (before ps : List Placed) → Rising line at total ps → Rising line at total (continued_from before ps)
 rising-continued_from line at total before [] h = h
 rising-continued_from line at total before (p ∷ ps) h =
-    by_test (is_continuation (record { before = before; here = p; behind = ps })) refl (rising-continued_from p.line p.end total (p ∷ before) ps h.2)
+    by_test (is_continuation (record { before = before; here = p; after = ps })) refl (rising-continued_from p.line p.end total (p ∷ before) ps h.2)
   where
-    by_test : (b : Bool) → is_continuation (record { before = before; here = p; behind = ps }) ≡ b
+    by_test : (b : Bool) → is_continuation (record { before = before; here = p; after = ps }) ≡ b
         → Rising p.line p.end total (continued_from (p ∷ before) ps) → Rising line at total (continued_from before (p ∷ ps))
     by_test true e k = rw (continued-leaves before p ps e) (rising_earlier p.line p.end line at total _ h.0 (omega (arith, h.1)) k)
     by_test false e k = rw (continued-stays before p ps e) (h.0, h.1, k)

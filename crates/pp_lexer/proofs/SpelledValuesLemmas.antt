@@ -36,14 +36,14 @@ punctuation_spelled n w = by (is_hash w) (punct_of w)
     by false None = tt
     by false (Some p) = tt
 
-word_spelled : (w behind : List ℕ) → all_scalars w ≡ true → IsSpelled (word_outcome w behind).value
-word_spelled w behind h = by (is_newline_word w) (is_identifier w) (is_number w) refl
+word_spelled : (w after : List ℕ) → all_scalars w ≡ true → IsSpelled (word_outcome w after).value
+word_spelled w after h = by (is_newline_word w) (is_identifier w) (is_number w) refl
   where
     by : (a b d : Bool) → is_identifier w ≡ b
-        → IsSpelled (if a then record { value = Ok NewLine; taken = 1 } else if b then record { value = Ok (Ident w); taken = length w } else if d then number_outcome w behind else punctuation_outcome (length w) (punctuation_value w)).value
+        → IsSpelled (if a then record { value = Ok NewLine; taken = 1 } else if b then record { value = Ok (Ident w); taken = length w } else if d then number_outcome w after else punctuation_outcome (length w) (punctuation_value w)).value
     by true b d e = tt
     by false true d e = (e, h)
-    by false false true e = number_spelled w behind
+    by false false true e = number_spelled w after
     by false false false e = punctuation_spelled (length w) w
 
 take_scalar : (n : ℕ) (w : List ℕ) → list_all scalar w ≡ true → list_all scalar (take n w) ≡ true

@@ -1,4 +1,4 @@
--- An identifier, a number or a punctuator with a space or the end behind it is the word that stands there.
+-- An identifier, a number or a punctuator with a space or the end after it is the word that stands there.
 use Rattle.std.proofs.Common.{◌≡◌, ℕ, ◌<◌, List, [], ◌∷◌, ◌++◌, length, take, drop, Bool, true, false, refl, sym, ◌∙◌, ap, subst, arith, Ok, Option, Some, None, is_some, option_map, if◌then◌else◌}
 use Rattle.std.specs.List.{list_all}
 use Rattle.std.proofs.Math.Seq.{take-append_seam}
@@ -17,7 +17,7 @@ use Rattle.pp_lexer.specs.Punctuators.{punctuator, punct_of, is_hash, is_punctua
 use Rattle.pp_lexer.specs.Spellings.{nothing, many, begins_with}
 use Rattle.pp_lexer.specs.Words.{is_line_end, word_at}
 use Rattle.pp_lexer.proofs.SetsLemmas.{Lacks, is_other, missing, union_part, made_nothing, made_one, made_many}
-use Rattle.pp_lexer.proofs.BoundedLemmas.{EndsBefore, longest_before, taken_before, behind_before}
+use Rattle.pp_lexer.proofs.BoundedLemmas.{EndsBefore, longest_before, taken_before, after_before}
 use Rattle.pp_lexer.proofs.NumberSetsLemmas.{number_lacks}
 use Rattle.pp_lexer.proofs.PunctuatorsLemmas.{found, punct_of-punctuator}
 use Rattle.pp_lexer.proofs.WordsLemmas.{first_char, ascii_no_start, punct_no_start, no_identifier_front, no_number_here}
@@ -76,7 +76,7 @@ number_some : (w : List ℕ) → is_number w ≡ true → 0 < length w
 unfolding is_number
 number_some w e = some_of is_number w refl e
 
--- a number that ends here is read by its spelling and what stands behind it
+-- a number that ends here is read by its spelling and what stands after it
 pub spelled_number : (w cs : List ℕ) → is_number w ≡ true → EndsBefore is_number cs → word_at (w ++ cs) ≡ number_outcome w cs
 unfolding number_at
 spelled_number w cs e ends = by (begins_number (w ++ cs)) refl
@@ -85,8 +85,8 @@ spelled_number w cs e ends = by (begins_number (w ++ cs)) refl
     by false f = absurd (false≢true (sym (no_number_here (w ++ cs) (length w) f) ∙ ap is_number (take-append_seam w cs) ∙ e))
     by true f =
         let text : take (longest is_number (w ++ cs)) (w ++ cs) ≡ w = taken_before is_number w (number_some w e) e cs ends in
-        let behind : drop (longest is_number (w ++ cs)) (w ++ cs) ≡ cs = behind_before is_number w (number_some w e) e cs ends in
-        number_first (w ++ cs) f ∙ (λ i. number_outcome (text i) (behind i))
+        let after : drop (longest is_number (w ++ cs)) (w ++ cs) ≡ cs = after_before is_number w (number_some w e) e cs ends in
+        number_first (w ++ cs) f ∙ (λ i. number_outcome (text i) (after i))
 
 -- a number ends before a space
 pub number_ends : (cs : List ℕ) → IsBreak cs → EndsBefore is_number cs

@@ -65,9 +65,9 @@ lines-continued_from : (total : ℕ) (before ps : List Placed) → PlacedHaveLin
 unfolding Each
 lines-continued_from total before [] h = tt
 lines-continued_from total before (p ∷ ps) h =
-    by_test (is_continuation (record { before = before; here = p; behind = ps })) refl (lines-continued_from total (p ∷ before) ps h.1)
+    by_test (is_continuation (record { before = before; here = p; after = ps })) refl (lines-continued_from total (p ∷ before) ps h.1)
   where
-    by_test : (b : Bool) → is_continuation (record { before = before; here = p; behind = ps }) ≡ b
+    by_test : (b : Bool) → is_continuation (record { before = before; here = p; after = ps }) ≡ b
         → PlacedHaveLines total (continued_from (p ∷ before) ps) → PlacedHaveLines total (continued_from before (p ∷ ps))
     by_test true e k = rw (continued-leaves before p ps e) k
     by_test false e k = rw (continued-stays before p ps e) (h.0, k)

@@ -20,17 +20,17 @@ unfolding word_at
 at_len cs n e = ap (λ k. word_outcome (take k cs) (drop k cs)) e
 
 -- a word's outcome by its class
-module _ (w behind : List ℕ) where
-  of_newline : is_newline_word w ≡ true → word_outcome w behind ≡ record { value = Ok NewLine; taken = 1 }
+module _ (w after : List ℕ) where
+  of_newline : is_newline_word w ≡ true → word_outcome w after ≡ record { value = Ok NewLine; taken = 1 }
   of_newline a = rw a refl
 
-  of_identifier : is_newline_word w ≡ false → is_identifier w ≡ true → word_outcome w behind ≡ record { value = Ok (Ident w); taken = length w }
+  of_identifier : is_newline_word w ≡ false → is_identifier w ≡ true → word_outcome w after ≡ record { value = Ok (Ident w); taken = length w }
   of_identifier a b = rw (a, b) refl
 
-  of_number : is_newline_word w ≡ false → is_identifier w ≡ false → is_number w ≡ true → word_outcome w behind ≡ number_outcome w behind
+  of_number : is_newline_word w ≡ false → is_identifier w ≡ false → is_number w ≡ true → word_outcome w after ≡ number_outcome w after
   of_number a b d = rw (a, b, d) refl
 
-  of_other : is_newline_word w ≡ false → is_identifier w ≡ false → is_number w ≡ false → word_outcome w behind ≡ punctuation_outcome (length w) (punctuation_value w)
+  of_other : is_newline_word w ≡ false → is_identifier w ≡ false → is_number w ≡ false → word_outcome w after ≡ punctuation_outcome (length w) (punctuation_value w)
   of_other a b d = rw (a, b, d) refl
 
 pub newline_first : (cs : List ℕ) → begins_with is_line_end cs ≡ true → word_at cs ≡ record { value = Ok NewLine; taken = 1 }
@@ -65,10 +65,10 @@ pub no_word : (cs : List ℕ) → longest is_word cs ≡ 0 → word_at cs ≡ re
 unfolding is_newline_word is_identifier is_number punct_of
 no_word cs h = at_len cs 0 h
 
-number_some : (w behind : List ℕ) → 0 < length w → 0 < (number_outcome w behind).taken
-number_some w behind h = by (is_float w) refl
+number_some : (w after : List ℕ) → 0 < length w → 0 < (number_outcome w after).taken
+number_some w after h = by (is_float w) refl
   where
-    by : (b : Bool) → is_float w ≡ b → 0 < (number_outcome w behind).taken
+    by : (b : Bool) → is_float w ≡ b → 0 < (number_outcome w after).taken
     by true e = rw e (omega arith)
     by false e = rw e (omega arith)
 

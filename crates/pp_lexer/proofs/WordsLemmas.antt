@@ -11,7 +11,7 @@ use Rattle.pp_lexer.specs.Identifiers.{is_start, is_identifier, begins_identifie
 use Rattle.pp_lexer.specs.Longest.{longest}
 use Rattle.pp_lexer.specs.Numbers.{is_decimal, is_point, is_hex_number, is_number, begins_number}
 use Rattle.pp_lexer.specs.Punctuators.{punctuator, punct_of, is_punctuation}
-use Rattle.pp_lexer.specs.Spellings.{nothing, begins_with, behind_first, next_of}
+use Rattle.pp_lexer.specs.Spellings.{nothing, begins_with, after_first, next_of}
 use Rattle.pp_lexer.specs.Words.{is_blank, is_line_end, is_newline_word, is_word}
 use Rattle.pp_lexer.proofs.IdentifiersLemmas.{longest_identifier}
 use Rattle.pp_lexer.proofs.LongestLemmas.{longest_none, longest_empty, longest_step, longest_nothing, longest_above}
@@ -52,7 +52,7 @@ abbrev pub first_char : Punctuator → ℕ
 first_char p = unwrap_or (next_of (punctuator p)) 0
 
 abbrev second_char : Punctuator → ℕ
-second_char p = unwrap_or (next_of (behind_first (punctuator p))) 0
+second_char p = unwrap_or (next_of (after_first (punctuator p))) 0
 
 module _ (c : ℕ) (cs : List ℕ) (no_hash : (c == 35) ≡ false) where
   no_punctuation : ((p : Punctuator) → first_char p ≡ c → ⊥) → longest is_punctuation (c ∷ cs) ≡ 0
@@ -154,7 +154,7 @@ point_punct d cs h = punct_longest (46 ∷ d ∷ cs) refl ∙ (one_alone 46 Dot 
   where
     by : (o : Option Punctuator) → punct_of (46 ∷ d ∷ []) ≡ o → punct_of (46 ∷ d ∷ []) ≡ None
     by None e = e
-    by (Some p) e = absurd (false≢true (sym (second_no_digit p) ∙ ap (λ w. is_decimal (unwrap_or (next_of (behind_first w)) 0)) (found (46 ∷ d ∷ []) p e) ∙ h))
+    by (Some p) e = absurd (false≢true (sym (second_no_digit p) ∙ ap (λ w. is_decimal (unwrap_or (next_of (after_first w)) 0)) (found (46 ∷ d ∷ []) p e) ∙ h))
 
 -- where a number begins there is one, no shorter than a punctuator, and no identifier or newline
 pub record IsNumberFirst (cs : List ℕ) : Type 0 where

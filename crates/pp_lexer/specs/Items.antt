@@ -104,7 +104,7 @@ final_newline (g ∷ gs) =
 abbrev pub item_of : Surrounded Segment → List Item
 item_of s = item_at s.before s.here s.here.kind
 
--- the items of a text, by its characters behind the phases: those of its segments, and that of its end
+-- the items of a text, by its characters after the phases: those of its segments, and that of its end
 abbrev pub items_of : List Spot → List Item
 items_of ss = flat_map item_of (surrounded (segments ss)) ++ final_newline (reverse (segments ss))
 

@@ -34,10 +34,10 @@ abbrev pub first_item : List Seen → Option Lexeme
 first_item [] = None
 first_item (s ∷ ss) = Some s.item
 
--- the items behind it
-abbrev pub behind_first_item : List Seen → List Seen
-behind_first_item [] = []
-behind_first_item (s ∷ ss) = ss
+-- the items after it
+abbrev pub after_first_item : List Seen → List Seen
+after_first_item [] = []
+after_first_item (s ∷ ss) = ss
 
 -- whether comments stand before the first item, or before the end
 abbrev pub comments_before : List Seen → Bool → Bool
@@ -55,9 +55,9 @@ places_after_first [] = []
 places_after_first (place ∷ places) = places
 
 -- the lexer once the first item is taken, or its end is met
-abbrev pub behind_first : Lexed → Lexed
-behind_first l = record l {
-  rest = behind_first_item l.rest;
+abbrev pub after_first : Lexed → Lexed
+after_first l = record l {
+  rest = after_first_item l.rest;
   had_comments = comments_before l.rest l.at_end;
   place = first_place l.places l.place;
   places = places_after_first l.places;
@@ -83,7 +83,7 @@ pub record IsRefused (old : Lexed) (answer : Option Lexeme) (new : Lexed) : Type
 -- the first item to come, or the end
 pub record IsGiven (old : Lexed) (answer : Option Lexeme) (new : Lexed) : Type 0 where
   pub item : answer ≡ first_item old.rest
-  pub state : new ≡ behind_first old
+  pub state : new ≡ after_first old
 
 -- one call of `next`: a spent lexer gives nothing and stays as it is
 abbrev pub IsNext : Lexed → Option Lexeme → Lexed → Type 0

@@ -33,7 +33,7 @@ pieces [] = []
 pieces (c ∷ []) = piece c ∷ []
 pieces (c ∷ d ∷ cs) = if is_pair c d then newline_piece 2 ∷ pieces cs else piece c ∷ pieces (d ∷ cs)
 
--- a line is one more than the newlines before it, and a stretch ends behind all the bytes up to here
+-- a line is one more than the newlines before it, and a stretch ends after all the bytes up to here
 abbrev pub placed : Surrounded Piece → Placed
 placed s = record {
   char = s.here.char;

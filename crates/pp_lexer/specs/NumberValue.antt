@@ -1,4 +1,4 @@
--- What a number is worth, by its spelling and the characters behind it: GLSL ES 3.20, sections 4.1.3 and 4.1.4. What the
+-- What a number is worth, by its spelling and the characters after it: GLSL ES 3.20, sections 4.1.3 and 4.1.4. What the
 -- language's types can't hold, as 64-bit literals, is an error.
 use Rattle.std.specs.Prelude.{ℕ, ◌+◌, ◌^◌, pos, Bool, not, ◌&&◌, ◌||◌, ◌==◌, nat_lt, if◌then◌else◌, List, [], ◌∷◌, Option, Some, None, Ok, Err, length, take, drop, map, filter}
 use Rattle.std.specs.List.{list_all, list_any}
@@ -10,7 +10,7 @@ use Rattle.pp_lexer.specs.declared.lexer.item.TokenValue.TheVariants.{Integer, F
 use Rattle.pp_lexer.specs.Longest.{longest}
 use Rattle.pp_lexer.specs.Numbers.{is_zero, is_x, is_point, is_e, is_sign, is_decimal, digits, is_number}
 use Rattle.pp_lexer.specs.Outcome.{Answer, Outcome}
-use Rattle.pp_lexer.specs.Spellings.{one, many, maybe, optional, begins_with, behind_first}
+use Rattle.pp_lexer.specs.Spellings.{one, many, maybe, optional, begins_with, after_first}
 
 -- the suffix letters, each also as a capital
 abbrev pub is_l : ℕ → Bool
@@ -30,8 +30,8 @@ is_s c = (c == 115) || (c == 83)
 
 -- the letter of a width that is not supported, which is never taken: `l` for 64 bits, another for 16
 abbrev pub width_refusal : (ℕ → Bool) → List ℕ → Option PreprocessorError
-width_refusal is_short behind =
-    if begins_with is_l behind then Some NotSupported64BitLiteral else if begins_with is_short behind then Some NotSupported16BitLiteral else None
+width_refusal is_short after =
+    if begins_with is_l after then Some NotSupported64BitLiteral else if begins_with is_short after then Some NotSupported16BitLiteral else None
 
 -- such a letter is reported before any fault of the value
 abbrev pub unless_refused : Option PreprocessorError → Answer → Answer
@@ -40,11 +40,11 @@ unless_refused (Some fault) answer = Err fault
 
 -- the spelling begins with `0x`
 abbrev pub begins_hex : List ℕ → Bool
-begins_hex w = begins_with is_zero w && begins_with is_x (behind_first w)
+begins_hex w = begins_with is_zero w && begins_with is_x (after_first w)
 
 -- a digit follows a leading `0`
 abbrev pub begins_octal : List ℕ → Bool
-begins_octal w = begins_with is_zero w && begins_with is_decimal (behind_first w)
+begins_octal w = begins_with is_zero w && begins_with is_decimal (after_first w)
 
 -- a point, or outside of the `0x` form the `e` of an exponent
 abbrev pub is_float_mark : Bool → ℕ → Bool
@@ -84,14 +84,14 @@ is_float_text cs = one is_decimal (many is_decimal float_tail) cs || one is_poin
 abbrev pub float_value : List ℕ → Answer
 float_value w = if is_float_text (float_text w) then Ok (Float (record { text = float_text w; width = pos 32 })) else Err FloatParsingError
 
--- an `f` behind a float is taken
+-- an `f` after a float is taken
 abbrev pub float_suffix_len : List ℕ → ℕ
-float_suffix_len behind = if begins_with is_f behind then 1 else 0
+float_suffix_len after = if begins_with is_f after then 1 else 0
 
 abbrev pub float_outcome : List ℕ → List ℕ → Outcome
-float_outcome w behind = record {
-  value = unless_refused (width_refusal is_h behind) (float_value w);
-  taken = length w + float_suffix_len behind;
+float_outcome w after = record {
+  value = unless_refused (width_refusal is_h after) (float_value w);
+  taken = length w + float_suffix_len after;
 }
 
 -- Integers
@@ -120,19 +120,19 @@ integer_of signed (Some n) = Ok (Integer (record { value = n; signed = signed; w
 abbrev pub integer_value : Bool → List ℕ → Answer
 integer_value signed w = integer_of signed (whole (base_of w) (digits_of w))
 
--- a `u` behind an integer is taken and makes it unsigned
+-- a `u` after an integer is taken and makes it unsigned
 abbrev pub unsigned_suffix_len : List ℕ → ℕ
-unsigned_suffix_len behind = if begins_with is_u behind then 1 else 0
+unsigned_suffix_len after = if begins_with is_u after then 1 else 0
 
 abbrev pub integer_outcome : List ℕ → List ℕ → Outcome
-integer_outcome w behind = record {
-  value = unless_refused (width_refusal is_s (drop (unsigned_suffix_len behind) behind)) (integer_value (not (begins_with is_u behind)) w);
-  taken = length w + unsigned_suffix_len behind;
+integer_outcome w after = record {
+  value = unless_refused (width_refusal is_s (drop (unsigned_suffix_len after) after)) (integer_value (not (begins_with is_u after)) w);
+  taken = length w + unsigned_suffix_len after;
 }
 
 abbrev pub number_outcome : List ℕ → List ℕ → Outcome
-number_outcome w behind = if is_float w then float_outcome w behind else integer_outcome w behind
+number_outcome w after = if is_float w then float_outcome w after else integer_outcome w after
 
--- the longest number here, with what stands behind it
+-- the longest number here, with what stands after it
 unfoldable pub number_at : List ℕ → Outcome
 number_at cs = number_outcome (take (longest is_number cs) cs) (drop (longest is_number cs) cs)

@@ -1,7 +1,7 @@
 -- The spellings of numbers: GLSL ES 3.20, sections 4.1.3 and 4.1.4, and what the preprocessor also takes for a number.
 use Rattle.std.specs.Prelude.{ℕ, Bool, ◌&&◌, ◌||◌, ◌==◌, List}
 use Rattle.std.specs.Char.{is_digit}
-use Rattle.pp_lexer.specs.Spellings.{nothing, one, many, maybe, optional, begins_with, behind_first}
+use Rattle.pp_lexer.specs.Spellings.{nothing, one, many, maybe, optional, begins_with, after_first}
 
 abbrev pub is_zero : ℕ → Bool
 is_zero c = c == 48
@@ -68,4 +68,4 @@ is_number cs = is_hex_number cs || (is_decimal_number cs || is_point_number cs)
 
 -- a number begins here: a digit, or a point and then a digit
 abbrev pub begins_number : List ℕ → Bool
-begins_number cs = begins_with is_decimal cs || (begins_with is_point cs && begins_with is_decimal (behind_first cs))
+begins_number cs = begins_with is_decimal cs || (begins_with is_point cs && begins_with is_decimal (after_first cs))

@@ -12,9 +12,9 @@ use Rattle.pp_lexer.specs.Location.{nowhere}
 use Rattle.pp_lexer.specs.Reading.{Reading}
 use Rattle.pp_lexer.specs.Segments.{Kind, blank, comment, item, Segment, segments}
 use Rattle.pp_lexer.specs.Items.{Lexeme, is_comment, is_newline_result, place_after, places_at}
-use Rattle.pp_lexer.specs.Lexed.{Seen, Lexed, first_item, behind_first_item, comments_before, first_takes_memory, first_place, places_after_first}
+use Rattle.pp_lexer.specs.Lexed.{Seen, Lexed, first_item, after_first_item, comments_before, first_takes_memory, first_place, places_after_first}
 
--- the flags behind a segment
+-- the flags after a segment
 abbrev pub passed : Flags → Kind → Flags
 passed f blank = record { leading_whitespace = true; start_of_line = f.start_of_line; had_comments = f.had_comments }
 passed f comment = record { leading_whitespace = true; start_of_line = f.start_of_line; had_comments = true }
@@ -47,7 +47,7 @@ newline_seen f last =
       had_comments = f.had_comments;
     } ∷ []
 
--- the items of the segments, behind this character
+-- the items of the segments, after this character
 abbrev pub seen_from : Flags → Spot → List Segment → List Seen
 seen_from f last [] = newline_seen f last
 seen_from f last (g ∷ gs) = item_seen f g g.kind ++ seen_from (passed f g.kind) g.last gs
@@ -97,7 +97,7 @@ pub record IsLexRefused (f : Flags) (r : Reading) (g : Flags) (answer : Result (
 -- the first item was taken, or the end was met
 pub record IsLexTaken (f : Flags) (r : Reading) (g : Flags) (q : Reading) (answer : Result (Option Lexeme) AllocError) : Type 0 where
   pub value : answer ≡ Ok (first_item (seen_of f r))
-  pub rest : seen_of g q ≡ behind_first_item (seen_of f r)
+  pub rest : seen_of g q ≡ after_first_item (seen_of f r)
   pub comments : g.had_comments ≡ comments_before (seen_of f r) (comments_at_end f r)
   pub at_end : comments_at_end g q ≡ comments_at_end f r
 

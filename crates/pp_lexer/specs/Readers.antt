@@ -22,11 +22,11 @@ joined c = record { rest = continued c.rest; offset = c.offset; total = c.total 
 abbrev pub uncommented : Cursor → Cursor
 uncommented c = record { rest = replaced c.total c.rest; offset = c.offset; total = c.total }
 
--- the reader behind the rest of a line comment
+-- the reader after the rest of a line comment
 abbrev pub past_line : Cursor → Cursor
 past_line c = passed (line_length c.rest) c
 
--- the reader behind the rest of a block comment
+-- the reader after the rest of a block comment
 abbrev pub past_block : Cursor → Cursor
 past_block c = if has_close c.rest then passed (block_length c.rest) c else finished c
 
@@ -40,6 +40,6 @@ pub record IsAtEnd (text : List ℕ) : Type 0 where
   pub is_empty : length text ≡ 0
   pub no_pieces : pieces (chars text) ≡ []
 
--- the other text is what stands behind this character, or the text does not begin with it
+-- the other text is what stands after this character, or the text does not begin with it
 abbrev pub IsSkipped : List ℕ → ℕ → List ℕ → Type 0
 IsSkipped text c rest = (text ≡ encode_utf8 c ++ rest) ⊎ ((text ≡ rest) × (slice_get (chars text) 0 ≢ Some c))

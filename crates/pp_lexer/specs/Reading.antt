@@ -1,4 +1,4 @@
--- What the reader of characters stands for: the characters behind the phases, each with its line and its place.
+-- What the reader of characters stands for: the characters after the phases, each with its line and its place.
 use Rattle.std.specs.Prelude.{◌≡◌, ℕ, zero, suc, ◌+◌, List, [], ◌∷◌, Option, Some, None}
 use Rattle.std.specs.Char.{len_utf8}
 use Rattle.pp_lexer.specs.Cursor.{Placed}
@@ -18,14 +18,14 @@ abbrev pub first_of : List Spot → Option Spot
 first_of [] = None
 first_of (s ∷ ss) = Some s
 
-abbrev pub behind_first : List Spot → List Spot
-behind_first [] = []
-behind_first (s ∷ ss) = ss
+abbrev pub spots_after_first : List Spot → List Spot
+spots_after_first [] = []
+spots_after_first (s ∷ ss) = ss
 
--- the first of these characters, and those behind it
+-- the first of these characters, and those after it
 pub record IsAhead (spot : Spot) (rest all : List Spot) : Type 0 where
   pub first : Some spot ≡ first_of all
-  pub behind : rest ≡ behind_first all
+  pub after : rest ≡ spots_after_first all
 
 abbrev pub first_char : Reading → Option Spot
 first_char r = first_of r.rest

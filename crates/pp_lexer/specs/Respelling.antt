@@ -61,7 +61,7 @@ abbrev pub ending : List TokenValue → List LexerTokenValue
 ending [] = []
 ending (v ∷ vs) = NewLine ∷ []
 
--- The spellings of values, with one space between each two, are read back as the same values in the same order, and a newline behind them. No item is an error.
+-- The spellings of values, with one space between each two, are read back as the same values in the same order, and a newline after them. No item is an error.
 abbrev pub SpellingsAreReadBack : Type 0
 SpellingsAreReadBack =
     (values : List TokenValue) → All IsSpellable values

@@ -6,7 +6,7 @@ use Rattle.pp_lexer.specs.declared.lexer.char_iterator.Spot.{Spot}
 use Rattle.pp_lexer.specs.Reading.{letters}
 use Rattle.pp_lexer.specs.Words.{is_blank, word_at}
 
--- a carriage return, which stands for a comment: behind the phases no other is left
+-- a carriage return, which stands for a comment: after the phases no other is left
 abbrev pub is_mark : ℕ → Bool
 is_mark c = c == 13
 
@@ -21,7 +21,7 @@ pub record Segment : Type 0 where
   pub first : Spot
   pub last : Spot
 
--- the last of the characters, which stand behind this one
+-- the last of the characters, which stand after this one
 abbrev pub last_of : Spot → List Spot → Spot
 last_of s [] = s
 last_of s (t ∷ ts) = last_of t ts
@@ -37,7 +37,7 @@ taken_by s ss = if is_blank s.c then 1 else (word_at (letters (s ∷ ss))).taken
 abbrev pub segment_at : Spot → List Spot → Segment
 segment_at s ss = record { kind = kind_of s ss; first = s; last = last_of s (take (taken_by s ss) (s ∷ ss)) }
 
--- the first segment, and the segments of what stands behind it: at most this many
+-- the first segment, and the segments of what stands after it: at most this many
 abbrev pub segments_within : ℕ → List Spot → List Segment
 segments_within zero ss = []
 segments_within (suc n) [] = []

@@ -29,10 +29,10 @@ abbrev pub begins_with : (ℕ → Bool) → List ℕ → Bool
 begins_with p [] = false
 begins_with p (c ∷ cs) = p c
 
--- what stands behind the first character
-abbrev pub behind_first : List ℕ → List ℕ
-behind_first [] = []
-behind_first (c ∷ cs) = cs
+-- what stands after the first character
+abbrev pub after_first : List ℕ → List ℕ
+after_first [] = []
+after_first (c ∷ cs) = cs
 
 abbrev pub next_of : List ℕ → Option ℕ
 next_of [] = None

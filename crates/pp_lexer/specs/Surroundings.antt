@@ -1,16 +1,16 @@
 -- Each element of a list, with what stands on either side of it.
 use Rattle.std.specs.Prelude.{Bool, false, List, [], ◌∷◌}
 
--- an element, what stands before it and what stands behind it, the nearest first on both sides
+-- an element, what stands before it and what stands after it, the nearest first on both sides
 pub record Surrounded (A : Type 0) : Type 0 where
   pub before : List A
   pub here : A
-  pub behind : List A
+  pub after : List A
 
--- the elements of a list, behind these others
+-- the elements of a list, after these others
 abbrev pub surrounded_from : {A : Type 0} → List A → List A → List (Surrounded A)
 surrounded_from before [] = []
-surrounded_from before (x ∷ xs) = record { before = before; here = x; behind = xs } ∷ surrounded_from (x ∷ before) xs
+surrounded_from before (x ∷ xs) = record { before = before; here = x; after = xs } ∷ surrounded_from (x ∷ before) xs
 
 abbrev pub surrounded : {A : Type 0} → List A → List (Surrounded A)
 surrounded xs = surrounded_from [] xs

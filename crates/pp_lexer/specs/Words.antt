@@ -1,4 +1,4 @@
--- The words of a source, behind the phases: the tokens of GLSL ES 3.20, section 3.6, with the newline and the `#` of section 3.4.
+-- The words of a source, after the phases: the tokens of GLSL ES 3.20, section 3.6, with the newline and the `#` of section 3.4.
 use Rattle.std.specs.Prelude.{ℕ, Bool, ◌||◌, ◌==◌, if◌then◌else◌, List, Ok, length, take, drop}
 use Rattle.pp_lexer.specs.declared.lexer.item.TokenValue.TheVariants.{NewLine, Ident}
 use Rattle.pp_lexer.specs.Identifiers.{is_identifier}
@@ -24,12 +24,12 @@ is_newline_word = one is_line_end nothing
 unfoldable pub is_word : List ℕ → Bool
 is_word w = is_newline_word w || (is_identifier w || (is_number w || is_punctuation w))
 
--- what a word is worth, with what stands behind it; no word at all is a bad character
+-- what a word is worth, with what stands after it; no word at all is a bad character
 abbrev pub word_outcome : List ℕ → List ℕ → Outcome
-word_outcome w behind =
+word_outcome w after =
     if is_newline_word w then record { value = Ok NewLine; taken = 1 }
     else if is_identifier w then record { value = Ok (Ident w); taken = length w }
-    else if is_number w then number_outcome w behind
+    else if is_number w then number_outcome w after
     else punctuation_outcome (length w) (punctuation_value w)
 
 -- what stands at a place that holds no blank: the longest word, or a bad character

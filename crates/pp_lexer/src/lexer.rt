@@ -1,6 +1,6 @@
-//! The character phases of GLSL ES 3.20, section 3.10, and the tokens behind them.
+//! The character phases of GLSL ES 3.20, section 3.10, and the tokens after them.
 //!
-//! [`CharsAndLine`], [`SkipBackslashNewline`] and [`ReplaceComments`] give the characters behind phases 4 and 5, 6 and 7,
+//! [`CharsAndLine`], [`SkipBackslashNewline`] and [`ReplaceComments`] give the characters after phases 4 and 5, 6 and 7,
 //! each with its line. [`Lexer`] gives the tokens. The rules are those of docs/RULES.md, Characters and Tokens.
 
 ghost use Rattle.std.specs.Prelude.{◌≡◌, ◌-◌, ◌^◌, ◌<◌, ◌+◌, ◌⊎◌, length, false, if◌then◌else◌, ⊤, OnOk, IfOk, MatchOption};
@@ -9,7 +9,7 @@ ghost use Rattle.pp_lexer.specs.Reading.{first_char};
 ghost use Rattle.pp_lexer.specs.Spots.{spots_of};
 ghost use Rattle.pp_lexer.specs.Segments.{is_mark};
 ghost use Rattle.pp_lexer.specs.Words.{is_blank};
-ghost use Rattle.pp_lexer.specs.Lexed.{start_of, first_item, behind_first_item, first_place, places_after_first, IsNext};
+ghost use Rattle.pp_lexer.specs.Lexed.{start_of, first_item, after_first_item, first_place, places_after_first, IsNext};
 ghost use Rattle.pp_lexer.specs.Items.{is_newline_result};
 ghost use Rattle.pp_lexer.specs.Passing.{seen_of, newline_seen, lexeme_seen, comments_at_end, newline_places, places_left, IsPlaced, IsLexed};
 ghost use Rattle.pp_lexer.specs.PlainWords.{IsPlainLexed, IsNewlineLexed};
@@ -198,7 +198,7 @@ fn lex_newline(
 // The newline that ends a last line which has none.
 fn final_newline(last: Spot, flags: &mut Flags) -> Option<LexerItem>
     ensures value { result ≡ first_item (newline_seen flags.old last) }
-    ensures rest { newline_seen flags.new last ≡ behind_first_item (newline_seen flags.old last) }
+    ensures rest { newline_seen flags.new last ≡ after_first_item (newline_seen flags.old last) }
     ensures places { newline_places flags.new last ≡ places_after_first (newline_places flags.old last) }
     ensures comments { flags.new.had_comments ≡ flags.old.had_comments }
 {
@@ -321,15 +321,15 @@ fn lex(
 /// The items of a source, one a call of `next`: tokens with places and flags, and errors.
 ///
 /// Blanks and comments are passed. Where none stands, the item is the longest word there: a newline, `#`, an identifier, a
-/// number or a punctuator; behind the last one a [`TokenValue::NewLine`] is added where the last line has none.
+/// number or a punctuator; after the last one a [`TokenValue::NewLine`] is added where the last line has none.
 /// Places are byte offsets and 1-based lines of the source.
 ///
 /// The errors, each with (0, 0, line 1), while [`Lexer::place`] says where it stands:
 /// [`PreprocessorError::UnexpectedCharacter`], which takes its character and up to two more; of a number
 /// [`PreprocessorError::NotSupported64BitLiteral`], [`PreprocessorError::NotSupported16BitLiteral`],
 /// [`PreprocessorError::IntegerOverflow`] and [`PreprocessorError::FloatParsingError`]; and
-/// [`PreprocessorError::OutOfMemory`], which can come only in place of an identifier or of a float. Behind an
-/// `OutOfMemory` it gives `None` for good, and behind each other error it goes on.
+/// [`PreprocessorError::OutOfMemory`], which can come only in place of an identifier or of a float. After an
+/// `OutOfMemory` it gives `None` for good, and after each other error it goes on.
 ///
 /// From the Rust crate's `Lexer`, but that an error for want of memory stands in place of an abort. GLSL ES 3.20 has words
 /// in sections 3.4 to 3.8.

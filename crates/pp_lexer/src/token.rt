@@ -23,7 +23,7 @@ pub use text::Text;
 pub struct Location {
     /// The byte offset at which the token begins.
     pub start: u32,
-    /// The byte offset behind the token.
+    /// The byte offset after the token.
     pub end: u32,
     /// The line on which the token begins. The first line is 1.
     pub line: u32,
@@ -186,7 +186,7 @@ pub enum PreprocessorError {
     ElseOutsideOfBlock,
     /// An `#endif` without its `#if`.
     EndifOutsideOfBlock,
-    /// An `#elif` behind the block's `#else`.
+    /// An `#elif` after the block's `#else`.
     ElifAfterElse,
     /// A second `#else` of a block.
     MoreThanOneElse,
@@ -283,7 +283,7 @@ impl Eq for Tokens {
 #[cycle(tokens)]
 #[derive(PartialEq, Eq, Debug, Drop)]
 pub struct Version {
-    /// The tokens behind the word `version`, unexpanded.
+    /// The tokens after the word `version`, unexpanded.
     pub tokens: Tokens,
     /// Whether no directive and no ordinary token was read before it.
     pub is_first_directive: bool,
@@ -295,7 +295,7 @@ pub struct Version {
 #[cycle(tokens)]
 #[derive(PartialEq, Eq, Debug, Drop)]
 pub struct Extension {
-    /// The tokens behind the word `extension`, unexpanded.
+    /// The tokens after the word `extension`, unexpanded.
     pub tokens: Tokens,
     /// Whether an ordinary token was read before it.
     pub has_non_directive_before: bool,
@@ -305,7 +305,7 @@ pub struct Extension {
 #[cycle(tokens)]
 #[derive(PartialEq, Eq, Debug, Drop)]
 pub struct Pragma {
-    /// The tokens behind the word `pragma`, unexpanded.
+    /// The tokens after the word `pragma`, unexpanded.
     pub tokens: Tokens,
 }
 

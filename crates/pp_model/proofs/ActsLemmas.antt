@@ -13,7 +13,7 @@ use Rattle.pp_model.specs.DefineLines.{defined_on}
 use Rattle.pp_model.specs.Sights.{sight_of}
 use Rattle.pp_model.specs.Blocks.{Block, is_live, are_surroundings_live, has_taken_branch, has_else}
 use Rattle.pp_model.specs.SourceReader.{SourceReader}
-use Rattle.pp_model.specs.Acts.{Acted, passed, failed, failed_at, given, moved, behind_word, behind_line, acted, skipped_by, skipped, only_word, decided, condition, is_defined_now, elif_in, else_in, endif_in, block_here, else_line, line_item, live_directive, dead_directive, ended_by, live_act, dead_act, act}
+use Rattle.pp_model.specs.Acts.{Acted, passed, failed, failed_at, given, moved, after_word, after_line, acted, skipped_by, skipped, only_word, decided, condition, is_defined_now, elif_in, else_in, endif_in, block_here, else_line, line_item, live_directive, dead_directive, ended_by, live_act, dead_act, act}
 use Rattle.pp_model.specs.declared.definition.Named.{Named}
 use Rattle.pp_model.specs.declared.directive.Directive.{Directive}
 use Rattle.pp_model.specs.declared.directive.Directive.TheVariants as d
@@ -31,8 +31,8 @@ pub record HoldsOfDead (P : Acted → Type 0) (r : SourceReader) : Type 0 where
 pub record HoldsOfLive (P : Acted → Type 0) (r : SourceReader) : Type 0 where
   pub dead : HoldsOfDead P r
   pub numbered : (word : Location) (tokens : List Token) → P (record { step = step.LineNumber word tokens; after = r })
-  pub defined : (named : Named) → P (record { step = step.Defines named; after = behind_line r })
-  pub changed : (definitions : Definitions) → P (passed (record (behind_line r) { definitions = definitions }))
+  pub defined : (named : Named) → P (record { step = step.Defines named; after = after_line r })
+  pub changed : (definitions : Definitions) → P (passed (record (after_line r) { definitions = definitions }))
   pub decision : (holds : Bool) → P (passed (decided r holds))
   pub token : (shown : Token) (count : ℕ) → P (given shown (moved count r))
 
@@ -50,13 +50,13 @@ module _ (P : Acted → Type 0) (r : SourceReader) (all : HoldsOfDead P r) where
   skipped_by_holds None = all.nothing _
 
   skipped_holds : P (skipped r)
-  skipped_holds = skipped_by_holds (line_fault (behind_word r))
+  skipped_holds = skipped_by_holds (line_fault (after_word r))
 
   pub condition_holds : (word : Location) → P (condition word r)
-  condition_holds word = value_holds (line_tokens (behind_word r)) (λ tokens. record { step = step.Condition word tokens; after = r }) (all.wanted word)
+  condition_holds word = value_holds (line_tokens (after_word r)) (λ tokens. record { step = step.Condition word tokens; after = r }) (all.wanted word)
 
-  pub word_holds : (word : Location) (next : SourceReader → Acted) → P (next (behind_line r)) → P (only_word word r next)
-  word_holds word next h = value_holds (ended_line word (behind_word r)) (λ end. next (behind_line r)) (λ end. h)
+  pub word_holds : (word : Location) (next : SourceReader → Acted) → P (next (after_line r)) → P (only_word word r next)
+  word_holds word next h = value_holds (ended_line word (after_word r)) (λ end. next (after_line r)) (λ end. h)
 
   pub elif_holds : (block : Option Block) (word : Location) → P (elif_in block word r)
   elif_holds None word = all.fault _
@@ -65,9 +65,9 @@ module _ (P : Acted → Type 0) (r : SourceReader) (all : HoldsOfDead P r) where
       either_holds P (has_else block) (failed_at ElifAfterElse word r) (if can_not then skipped r else condition word r) (all.fault _)
       (either_holds P can_not (skipped r) (condition word r) skipped_holds (condition_holds word))
 
-  else_holds : (block : Option Block) (word : Location) → P (else_in block word r (behind_line r))
+  else_holds : (block : Option Block) (word : Location) → P (else_in block word r (after_line r))
   else_holds None word = all.fault _
-  else_holds (Some block) word = either_holds P (has_else block) (failed_at MoreThanOneElse word r) (passed (behind_line r)) (all.fault _) (all.nothing _)
+  else_holds (Some block) word = either_holds P (has_else block) (failed_at MoreThanOneElse word r) (passed (after_line r)) (all.fault _) (all.nothing _)
 
   pub else_line_holds : (word : Location) → P (else_line word r)
   else_line_holds word = word_holds word (else_in (block_here r) word r) (else_holds (block_here r) word)
@@ -96,16 +96,16 @@ module _ (P : Acted → Type 0) (r : SourceReader) (all : HoldsOfDead P r) where
 
 module _ (P : Acted → Type 0) (r : SourceReader) (all : HoldsOfLive P r) where
   -- a name alone on its line, which is passed
-  name_holds : (word : Location) (after : Name → SourceReader) → ((name : Name) → P (passed (after name))) → P (acted (only_name word (behind_word r)) r (λ name. passed (after name)))
-  name_holds word after h = value_holds P r all.dead (only_name word (behind_word r)) (λ name. passed (after name)) h
+  name_holds : (word : Location) (after : Name → SourceReader) → ((name : Name) → P (passed (after name))) → P (acted (only_name word (after_word r)) r (λ name. passed (after name)))
+  name_holds word after h = value_holds P r all.dead (only_name word (after_word r)) (λ name. passed (after name)) h
 
   item_holds : (value : List Token → TokenValue) (word : Location) → P (line_item value word r)
   item_holds value word =
-      value_holds P r all.dead (line_tokens (behind_word r)) (λ tokens. given (record { value = value tokens; location = word }) (behind_line r)) (λ tokens. all.token _ _)
+      value_holds P r all.dead (line_tokens (after_word r)) (λ tokens. given (record { value = value tokens; location = word }) (after_line r)) (λ tokens. all.token _ _)
 
   pub live_directive_holds : (directive : Directive) (word : Location) → P (live_directive directive word r)
-  live_directive_holds d.Define word = value_holds P r all.dead (defined_on word (behind_word r)) (λ named. record { step = step.Defines named; after = behind_line r }) all.defined
-  live_directive_holds d.Undef word = name_holds word (λ name. record (behind_line r) { definitions = changed r.definitions name None }) (λ name. all.changed _)
+  live_directive_holds d.Define word = value_holds P r all.dead (defined_on word (after_word r)) (λ named. record { step = step.Defines named; after = after_line r }) all.defined
+  live_directive_holds d.Undef word = name_holds word (λ name. record (after_line r) { definitions = changed r.definitions name None }) (λ name. all.changed _)
   live_directive_holds d.If word = condition_holds P r all.dead word
   live_directive_holds d.Ifdef word = name_holds word (λ name. decided r (is_defined_now r name)) (λ name. all.decision _)
   live_directive_holds d.Ifndef word = name_holds word (λ name. decided r (not (is_defined_now r name))) (λ name. all.decision _)
@@ -113,7 +113,7 @@ module _ (P : Acted → Type 0) (r : SourceReader) (all : HoldsOfLive P r) where
   live_directive_holds d.Else word = else_line_holds P r all.dead word
   live_directive_holds d.Endif word = endif_holds P r all.dead (block_here r) word
   live_directive_holds d.Error word = all.dead.fault _
-  live_directive_holds d.Line word = value_holds P r all.dead (line_tokens (behind_word r)) (λ tokens. record { step = step.LineNumber word tokens; after = r }) (all.numbered word)
+  live_directive_holds d.Line word = value_holds P r all.dead (line_tokens (after_word r)) (λ tokens. record { step = step.LineNumber word tokens; after = r }) (all.numbered word)
   live_directive_holds d.Version word = item_holds _ word
   live_directive_holds d.Extension word = item_holds _ word
   live_directive_holds d.Pragma word = item_holds _ word

@@ -4,7 +4,7 @@ use Rattle.std.specs.Prelude.{Result, Ok, Err}
 use Rattle.pp_lexer.specs.declared.token.Location.{Location}
 use Rattle.pp_lexer.specs.declared.token.Token.{Token}
 use Rattle.pp_model.specs.Definitions.{Definition}
-use Rattle.pp_model.specs.SpliceList.{behind_marks, open_names}
+use Rattle.pp_model.specs.SpliceList.{after_marks, open_names}
 use Rattle.pp_model.specs.Reading.{Reading, Expander, Opening, opening}
 use Rattle.pp_model.specs.Taking.{Takes, held, listed, read}
 use Rattle.pp_model.specs.Calls.{Gathered, Fault, Gathers, closed, inside, overfull, ended, failed, Answers, Called, Calls, alone, broken, whole}
@@ -12,17 +12,17 @@ use Rattle.pp_model.specs.Emitting.{opened, Emits, itself, object, name_alone, c
 use Rattle.pp_model.specs.ApartMarks.{AreApart, HasApartMarks, IsRest, OnlyTakesEntries, OpensNew, KeepsMarksApart, StartsApart}
 use Rattle.pp_model.specs.declared.outcome.Outcome.{Outcome}
 use Rattle.pp_model.specs.declared.splice.Entry.TheVariants.{Plain}
-use Rattle.pp_model.proofs.OpenNamesLemmas.{rest_of_rest, behind_marks_is_rest, rest_opens_nothing, rest_is_apart, open_spliced, opening_not_open}
+use Rattle.pp_model.proofs.OpenNamesLemmas.{rest_of_rest, after_marks_is_rest, rest_opens_nothing, rest_is_apart, open_spliced, opening_not_open}
 
 module _ {R : Type 0} (I : Reading R) where
   pub taking_leaves_rest : (o : Outcome) (e f : Expander R) → Takes I e o f → IsRest e.list f.list
   taking_leaves_rest o e f (held o1 e1 f1 h p) = ([], sym (ap (λ x. x.list) p))
   taking_leaves_rest o e f (listed o1 token rest e1 f1 h b is p) =
       let left : f.list ≡ rest = ap (λ x. x.list) p in
-      rw left (rest_of_rest e.list (behind_marks e.list) rest (behind_marks_is_rest e.list) (Plain token ∷ [], b))
+      rw left (rest_of_rest e.list (after_marks e.list) rest (after_marks_is_rest e.list) (Plain token ∷ [], b))
   taking_leaves_rest o e f (read x o1 reader e1 f1 h b r is p) =
       let left : f.list ≡ [] = ap (λ y. y.list) p in
-      rw left (rw b at (behind_marks_is_rest e.list))
+      rw left (rw b at (after_marks_is_rest e.list))
 
   pub gathering_leaves_rest : (n : ℕ) (last : Location) (x : Result Gathered Fault) (e f : Expander R) → Gathers I n last e x f → IsRest e.list f.list
   gathering_leaves_rest n last x e f (closed n1 l1 token e1 f1 x1 t h p) = taking_leaves_rest _ e f t

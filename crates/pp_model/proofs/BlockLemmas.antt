@@ -2,7 +2,7 @@
 use Rattle.std.proofs.Common.{◌≡◌, ℕ, zero, suc, ◌≤◌, Bool, true, false, ◌&&◌, ◌||◌, List, [], ◌∷◌, ◌++◌, length, take, refl, ap, arith, Option, Some, None}
 use Rattle.std.specs.List.{list_any}
 use Rattle.pp_model.specs.Blocks.{Truths, is_else, truth_at, is_known_true, is_known_false, holds_at, fails_at, is_last_chosen}
-use Rattle.pp_model.specs.BlockLaws.{ElseIsLast, OneBranch, NoneBehindTaken}
+use Rattle.pp_model.specs.BlockLaws.{ElseIsLast, OneBranch, NoneAfterTaken}
 use Rattle.pp_model.specs.declared.block.BlockLine.{BlockLine}
 
 first_holds : (a b : Bool) → a && b ≡ true → a ≡ true
@@ -44,12 +44,12 @@ none_later (Some true) false taken chosen e h k = refl
 none_later (Some false) false taken chosen e h k = k h
 none_later None false taken chosen e h k = refl
 
-none_behind : (truths : Truths) (first mark : BlockLine) (marks : List BlockLine) → ElseIsLast (first ∷ (marks ++ (mark ∷ []))) → list_any (λ m. is_known_true (truth_at truths m.position)) (first ∷ marks) ≡ true → is_last_chosen truths first (marks ++ (mark ∷ [])) ≡ false
-none_behind truths first mark [] last taken =
+none_after : (truths : Truths) (first mark : BlockLine) (marks : List BlockLine) → ElseIsLast (first ∷ (marks ++ (mark ∷ []))) → list_any (λ m. is_known_true (truth_at truths m.position)) (first ∷ marks) ≡ true → is_last_chosen truths first (marks ++ (mark ∷ [])) ≡ false
+none_after truths first mark [] last taken =
     none_later (truth_at truths first.position) (is_else first.part) false (holds_at truths mark) last.0 taken (λ h. cc)
-none_behind truths first mark (next ∷ later) last taken =
+none_after truths first mark (next ∷ later) last taken =
     none_later (truth_at truths first.position) (is_else first.part) (list_any (λ m. is_known_true (truth_at truths m.position)) (next ∷ later)) (is_last_chosen truths next (later ++ (mark ∷ []))) last.0 taken
-    (λ h. none_behind truths next mark later last.1 h)
+    (λ h. none_after truths next mark later last.1 h)
 
-pub none_behind_taken : NoneBehindTaken
-none_behind_taken truths block mark = none_behind truths block.first mark block.partings
+pub none_after_taken : NoneAfterTaken
+none_after_taken truths block mark = none_after truths block.first mark block.partings

@@ -66,7 +66,7 @@ module _ {R : Type 0} (I : Reading R) (one : OneReads I) where
       let there : paren_at x ≡ w = rw same.0 k in
       (same.1, sym h ∙ there)
 
-  -- two searches behind a taking gather the same
+  -- two searches after a taking gather the same
   one_gathered : (l m : Location) (v w : Outcome) (x y : Result Gathered Fault) (d e f g h : Expander R) → Takes I d v e → Takes I d w f → paren_at v ≡ Some l → paren_at w ≡ Some m → Gathers I 0 l e x g → Gathers I 0 m f y h → (l ≡ m) × (x ≡ y) × (g ≡ h)
   one_gathered l m v w x y d e f g h a b i j p q =
       let same = one_paren (Some l) (Some m) v w d e f a b i j in

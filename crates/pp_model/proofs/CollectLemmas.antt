@@ -12,20 +12,20 @@ use Rattle.pp_model.specs.Calls.{Fault}
 use Rattle.pp_model.specs.Emitting.{Collects, token_before, list_before, Alones, Each, none, first_failed, more, Alone, answers_at}
 
 -- the items so far, and then what comes of the rest
-abbrev pub behind_items : {X : Type 0} → List X → Result (List X) Fault → Result (List X) Fault
-behind_items items (Ok rest) = Ok (items ++ rest)
-behind_items items (Err fault) = Err fault
+abbrev pub after_items : {X : Type 0} → List X → Result (List X) Fault → Result (List X) Fault
+after_items items (Ok rest) = Ok (items ++ rest)
+after_items items (Err fault) = Err fault
 
-pub behind_items-before : (items : List Token) (token : Token) (rest : Result (List Token) Fault) → behind_items items (token_before token rest) ≡ behind_items (items ++ token ∷ []) rest
-behind_items-before items token (Ok rest) = rw append_assoc refl
-behind_items-before items token (Err fault) = refl
+pub after_items-before : (items : List Token) (token : Token) (rest : Result (List Token) Fault) → after_items items (token_before token rest) ≡ after_items (items ++ token ∷ []) rest
+after_items-before items token (Ok rest) = rw append_assoc refl
+after_items-before items token (Err fault) = refl
 
-pub behind_lists-before : (lists : List (List Token)) (list : List Token) (rest : Result (List (List Token)) Fault) → behind_items lists (list_before list rest) ≡ behind_items (lists ++ list ∷ []) rest
-behind_lists-before lists list (Ok rest) = rw append_assoc refl
-behind_lists-before lists list (Err fault) = refl
+pub after_lists-before : (lists : List (List Token)) (list : List Token) (rest : Result (List (List Token)) Fault) → after_items lists (list_before list rest) ≡ after_items (lists ++ list ∷ []) rest
+after_lists-before lists list (Ok rest) = rw append_assoc refl
+after_lists-before lists list (Err fault) = refl
 
-pub behind_items-end : {X : Type 0} (items : List X) → behind_items items (Ok []) ≡ Ok items
-behind_items-end {X} items = ap (λ (xs : List X). let r : Result (List X) Fault = Ok xs in r) (append-nil items)
+pub after_items-end : {X : Type 0} (items : List X) → after_items items (Ok []) ≡ Ok items
+after_items-end {X} items = ap (λ (xs : List X). let r : Result (List X) Fault = Ok xs in r) (append-nil items)
 
 -- an argument alone is its items up to the end
 pub Alone-collects : (levels : ℕ) (tokens : List Token) (visible : Definitions) (hidden : List Name) (out : Result (List Token) Fault) → Collects argument_reading (answers_at levels) (reading_of tokens visible hidden) out → Alone levels tokens visible hidden out

@@ -29,7 +29,7 @@ module _ {R : Type 0} (I : Reading R) (one : OneReads I) (A : Answers) (single :
   not_both_kinds : (m n : Opening) (x y : Outcome) (e f g : Expander R) → Takes I e x f → Takes I e y g → opening I f x ≡ Some m → opening I g y ≡ Some n → m.definition.function_like ≡ false → n.definition.function_like ≡ true → false ≡ true
   not_both_kinds m n x y e f g a b h k = one_kind m n (one_opening (Some m) (Some n) x y e f g a b h k).2
 
-  -- behind two takings that open macros stands one call, or none
+  -- after two takings that open macros stands one call, or none
   one_called : (c d : Called) (m n : Opening) (x y : Outcome) (e f g h k : Expander R) → Takes I e x f → Takes I e y g → opening I f x ≡ Some m → opening I g y ≡ Some n → Calls I A m.definition f c h → Calls I A n.definition g d k → (x ≡ y) × (m ≡ n) × (c ≡ d) × (h ≡ k)
   one_called c d m n x y e f g h k a b i j p q =
       let same = one_opening (Some m) (Some n) x y e f g a b i j in

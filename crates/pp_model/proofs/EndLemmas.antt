@@ -5,7 +5,7 @@ use Rattle.pp_lexer.specs.declared.token.Location.{Location}
 use Rattle.pp_lexer.specs.declared.token.Token.{Token}
 use Rattle.pp_model.specs.Names.{is_identifier, line_name}
 use Rattle.pp_model.specs.Definitions.{Definition}
-use Rattle.pp_model.specs.SpliceList.{behind_marks}
+use Rattle.pp_model.specs.SpliceList.{after_marks}
 use Rattle.pp_model.specs.Reading.{Expander, Opening, opening}
 use Rattle.pp_model.specs.Taking.{line_number, taken_token, read_outcome, Takes, held, listed, read}
 use Rattle.pp_model.specs.Calls.{Gathered, Fault, Gathers, closed, inside, overfull, ended, failed, Answers, Called, no_call, called_by, Calls, alone, broken, whole}
@@ -36,8 +36,8 @@ number_goes_on : (location : Location) (shown : Option ℕ) → line_number loca
 number_goes_on location (Some n) h = cc
 number_goes_on location None h = cc
 
-taken_goes_on : (shown_line : ℕ → Option ℕ) (behind : List Entry) (token : Token) → taken_token shown_line behind token ≡ outcome.End → ⊥
-taken_goes_on shown_line behind token h = go (is_identifier line_name token.value) refl
+taken_goes_on : (shown_line : ℕ → Option ℕ) (after : List Entry) (token : Token) → taken_token shown_line after token ≡ outcome.End → ⊥
+taken_goes_on shown_line after token h = go (is_identifier line_name token.value) refl
   where
     go : (b : Bool) → is_identifier line_name token.value ≡ b → ⊥
     go true e = number_goes_on token.location _ (rw e at h)
@@ -59,7 +59,7 @@ end_opens_nothing : (A : Answers) (e : Expander SourceReader) (o : Outcome) (m :
 end_opens_nothing A e o m is h = let bad : None ≡ Some m = rw is at h in cc
 
 module _ (A : Answers) where
-  -- behind the end that is taken nothing is left
+  -- after the end that is taken nothing is left
   taking_ends : (o : Outcome) (e f : Expander SourceReader) → Takes (source_reading A) e o f → HoldsLastEnd e → o ≡ outcome.End → IsOver f
   taking_ends o e f (held o1 e1 f1 h p) last end =
       let there = last (h ∙ ap Some end) in
@@ -95,7 +95,7 @@ module _ (A : Answers) where
   call_ends m c o e f (broken x paren fault e1 g f1 c1 t h u p) last q is = cc
   call_ends m c o e f (whole x paren gathered answer e1 g f1 c1 t h u a p) last q is = absurd (called_is_a_call gathered.closing.line answer o (sym p ∙ q))
 
-  -- behind an item an end that is held is the last, and behind the end nothing is left
+  -- after an item an end that is held is the last, and after the end nothing is left
   pub item_ends : (o : Outcome) (e f : Expander SourceReader) → Emits (source_reading A) A e o f → HoldsLastEnd e → HoldsLastEnd f × (o ≡ outcome.End → IsOver f)
   item_ends o e f (itself o1 e1 f1 t h) last =
       (holds_nothing f (taking_holds_none o e f t), taking_ends o e f t last)
@@ -114,11 +114,11 @@ module _ (A : Answers) where
   item_ends o e f (call x o1 arguments line m e1 g g1 f1 t h k c i) last =
       item_ends o (opened m line arguments g1) f i (holds_nothing (opened m line arguments g1) (call_holds_none m.definition _ g g1 c))
 
-  -- where nothing is left, the end is taken, and nothing is left behind it
+  -- where nothing is left, the end is taken, and nothing is left after it
   taking_when_over : (o : Outcome) (e f : Expander SourceReader) → Takes (source_reading A) e o f → IsOver e → (o ≡ outcome.End) × IsOver f
   taking_when_over o e f (held o1 e1 f1 h p) over = let bad = sym over.none_held ∙ h in cc
   taking_when_over o e f (listed o1 token rest e1 f1 h b is p) over =
-      let bad : Plain token ∷ rest ≡ [] = sym b ∙ ap behind_marks over.none_listed in
+      let bad : Plain token ∷ rest ≡ [] = sym b ∙ ap after_marks over.none_listed in
       cc
   taking_when_over o e f (read x o1 reader e1 f1 h b r is p) over =
       let there = reading_at_end A x e.reader reader over.at_end r in

@@ -7,9 +7,9 @@ use Rattle.pp_lexer.specs.declared.token.Token.{Token}
 use Rattle.pp_lexer.specs.declared.token.TokenValue.TheVariants.{Integer}
 use Rattle.pp_model.specs.Names.{Name, is_identifier, line_name}
 use Rattle.pp_model.specs.Definitions.{Definition, Definitions}
-use Rattle.pp_model.specs.SpliceList.{behind_marks, outermost_line, followed_by, parameter_of, replacement, replaced, spliced}
+use Rattle.pp_model.specs.SpliceList.{after_marks, outermost_line, followed_by, parameter_of, replacement, replaced, spliced}
 use Rattle.pp_model.specs.Taking.{line_number, taken_token, read_outcome}
-use Rattle.pp_model.specs.Calls.{Pieces, is_comma, nesting_behind, cut_before, pieces, arguments_of}
+use Rattle.pp_model.specs.Calls.{Pieces, is_comma, nesting_after, cut_before, pieces, arguments_of}
 use Rattle.pp_model.specs.declared.outcome.Outcome.{Outcome}
 use Rattle.pp_model.specs.declared.outcome.Outcome.TheVariants as outcome
 use Rattle.pp_model.specs.declared.splice.Entry.{Entry}
@@ -46,10 +46,10 @@ module _ (Q : Token → Type 0) (L : ℕ → Type 0) where
   abbrev pub HoldInList : List Entry → Type 0
   HoldInList entries = Each HoldsOfEntry entries
 
-  pub behind_marks_hold : (entries : List Entry) → HoldInList entries → HoldInList (behind_marks entries)
-  behind_marks_hold [] all = tt
-  behind_marks_hold (End mark ∷ entries) all = behind_marks_hold entries all.1
-  behind_marks_hold (Plain token ∷ entries) all = all
+  pub after_marks_hold : (entries : List Entry) → HoldInList entries → HoldInList (after_marks entries)
+  after_marks_hold [] all = tt
+  after_marks_hold (End mark ∷ entries) all = after_marks_hold entries all.1
+  after_marks_hold (Plain token ∷ entries) all = all
 
   pub outermost_holds : (entries : List Entry) (line : ℕ) → HoldInList entries → L line → L (unwrap_or (outermost_line entries) line)
   outermost_holds [] line all h = h
@@ -87,8 +87,8 @@ module _ (Q : Token → Type 0) (L : ℕ → Type 0) where
   pieces_hold : (n : ℕ) (tokens : List Token) → Each Q tokens → Each Q (pieces n tokens).first × Each (λ ts. Each Q ts) (pieces n tokens).others
   pieces_hold n [] all = (tt, tt)
   pieces_hold n (token ∷ tokens) all =
-      let later = pieces_hold (nesting_behind n token.value) tokens all.1 in
-      cut_holds (is_comma token.value && (n == 0)) token (pieces (nesting_behind n token.value) tokens) all.0 later.0 later.1
+      let later = pieces_hold (nesting_after n token.value) tokens all.1 in
+      cut_holds (is_comma token.value && (n == 0)) token (pieces (nesting_after n token.value) tokens) all.0 later.0 later.1
 
   -- the arguments of a call have it where the tokens between its parentheses have it
   pub arguments_hold : (tokens : List Token) → Each Q tokens → Each (λ ts. Each Q ts) (arguments_of tokens)
@@ -102,14 +102,14 @@ module _ (Q : Token → Type 0) (L : ℕ → Type 0) where
     number_holds place line (Some n) here l e = closed.number place n here (shown line n l e)
 
     -- what is taken has it where the token and the rest of the list have it
-    pub taken_holds : (behind : List Entry) (token : Token) → HoldInList behind → Q token → HoldsOfOutcome Q (taken_token shown_line behind token)
-    taken_holds behind token all q = go (is_identifier line_name token.value) refl
+    pub taken_holds : (after : List Entry) (token : Token) → HoldInList after → Q token → HoldsOfOutcome Q (taken_token shown_line after token)
+    taken_holds after token all q = go (is_identifier line_name token.value) refl
       where
         line : ℕ
-        line = unwrap_or (outermost_line behind) token.location.line
+        line = unwrap_or (outermost_line after) token.location.line
 
         go : (b : Bool) → is_identifier line_name token.value ≡ b → HoldsOfOutcome Q (if b then line_number token.location (shown_line line) else outcome.Token token)
-        go true e = number_holds token.location line (shown_line line) (closed.line token q) (outermost_holds behind token.location.line all (closed.line token q)) refl
+        go true e = number_holds token.location line (shown_line line) (closed.line token q) (outermost_holds after token.location.line all (closed.line token q)) refl
         go false e = q
 
     pub read_holds : (x : Outcome) → HoldsOfOutcome Q x → HoldsOfOutcome Q (read_outcome shown_line x)

@@ -9,14 +9,14 @@ use Rattle.pp_lexer.specs.declared.token.TokenValue.{TokenValue}
 use Rattle.pp_lexer.specs.declared.token.TokenValue.TheVariants.{Ident, Integer, Float, Punct, Version, Extension, Pragma}
 use Rattle.pp_model.specs.Names.{Name, is_in}
 use Rattle.pp_model.specs.Definitions.{Definition, Definitions}
-use Rattle.pp_model.specs.Reading.{Reading, Expander, Opening, opening_by, opening_of, opening, masked, Listed, first_listed, behind_listed, argument_reading, reading_of}
+use Rattle.pp_model.specs.Reading.{Reading, Expander, Opening, opening_by, opening_of, opening, masked, Listed, first_listed, after_listed, argument_reading, reading_of}
 use Rattle.pp_model.specs.Taking.{Takes, held, listed, read}
 use Rattle.pp_model.specs.Calls.{Gathered, before, Fault, Gathers, closed, inside, overfull, ended, failed, Answers, Site, misfit, Called, no_call, refused, fits, called_by, Calls, alone, broken, whole}
 use Rattle.pp_model.specs.Emitting.{opened, Emits, itself, object, name_alone, call_refused, call, token_before, Collects, done, failed as failing, item, Alones, list_before, Each as Expanded, none, first_failed, more, EachOrRefused, answers_at_limit, answers_below, Alone, answers_at}
 use Rattle.pp_model.specs.declared.outcome.Outcome.{Outcome}
 use Rattle.pp_model.specs.declared.outcome.Outcome.TheVariants as outcome
 use Rattle.pp_model.specs.declared.splice.Entry.TheVariants.{Plain}
-use Rattle.pp_model.proofs.HoldingLemmas.{AreClosed, HoldInBodies, HoldsOfOutcome, HoldsOfHeld, HoldInList, behind_marks_hold, spliced_holds, arguments_hold, taken_holds, read_holds}
+use Rattle.pp_model.proofs.HoldingLemmas.{AreClosed, HoldInBodies, HoldsOfOutcome, HoldsOfHeld, HoldInList, after_marks_hold, spliced_holds, arguments_hold, taken_holds, read_holds}
 
 module _ (Q : Token → Type 0) (L : ℕ → Type 0) where
   -- a reader keeps it where this holds of the reader
@@ -90,7 +90,7 @@ module _ (Q : Token → Type 0) (L : ℕ → Type 0) (closed_under : AreClosed Q
     taking_keeps o e f (held o1 e1 f1 is p) h =
         (subst (λ (x : Option Outcome). HoldsOfHeld Q x) is h.held, subst (λ (g : Expander R). HoldsOf Q L K g) (sym p) (record { held = tt; list = h.list; reader = h.reader }))
     taking_keeps o e f (listed o1 token rest e1 f1 is b q p) h =
-        let all : HoldInList Q L (Plain token ∷ rest) = subst (HoldInList Q L) b (behind_marks_hold Q L e.list h.list) in (
+        let all : HoldInList Q L (Plain token ∷ rest) = subst (HoldInList Q L) b (after_marks_hold Q L e.list h.list) in (
           subst (HoldsOfOutcome Q) (sym q) (taken_holds Q L closed_under (I.shown_line e.reader) (keeps.shown e.reader h.reader) rest token all.1 all.0),
           subst (λ (g : Expander R). HoldsOf Q L K g) (sym p) (record { held = h.held; list = all.1; reader = h.reader }),
         )
@@ -161,9 +161,9 @@ module _ (Q : Token → Type 0) (L : ℕ → Type 0) (closed_under : AreClosed Q
   first_holds [] all = tt
   first_holds (token ∷ tokens) all = all.0
 
-  behind_holds : (tokens : List Token) → Each Q tokens → Each Q (behind_listed tokens)
-  behind_holds [] all = tt
-  behind_holds (token ∷ tokens) all = all.1
+  after_holds : (tokens : List Token) → Each Q tokens → Each Q (after_listed tokens)
+  after_holds [] all = tt
+  after_holds (token ∷ tokens) all = all.1
 
   same_line : (line n : ℕ) → Some line ≡ Some n → line ≡ n
   same_line line n e = cc
@@ -172,7 +172,7 @@ module _ (Q : Token → Type 0) (L : ℕ → Type 0) (closed_under : AreClosed Q
   listed_keeps = record {
     reads = λ old new x is h. (
       subst (HoldsOfOutcome Q) (sym is.0) (first_holds old.tokens h.0),
-      subst HoldsOfListed (sym is.1) (behind_holds old.tokens h.0, h.1),
+      subst HoldsOfListed (sym is.1) (after_holds old.tokens h.0, h.1),
     );
     visible = λ r h. h.1;
     shown = λ r h line n l e. subst L (same_line line n e) l;

@@ -11,8 +11,8 @@ use Rattle.pp_model.specs.Conversions.{is_newline, closes_parameters, parts_para
 use Rattle.pp_model.specs.Definitions.{Definition, object_like}
 use Rattle.pp_model.specs.Calls.{Fault}
 use Rattle.pp_model.specs.Emitting.{token_before}
-use Rattle.pp_model.specs.Lines.{◌>>=◌, tokens_from, line_tokens, behind_first_token, first_name}
-use Rattle.pp_model.specs.DefineLines.{Parameters, parameter_here, behind_parameter, behind_comma, parameters, has_parameters, definition_at, defined_on}
+use Rattle.pp_model.specs.Lines.{◌>>=◌, tokens_from, line_tokens, after_first_token, first_name}
+use Rattle.pp_model.specs.DefineLines.{Parameters, parameter_here, after_parameter, after_comma, parameters, has_parameters, definition_at, defined_on}
 
 if_ok_then : {A B : Type 0} (P : A → Type 0) (Q : B → Type 0) (result : Result A Fault) (next : A → Result B Fault) → IfOk result P → ((a : A) → P a → IfOk (next a) Q) → IfOk (result >>= next) Q
 if_ok_then P Q (Ok a) next h more = more a h
@@ -49,34 +49,34 @@ module _ (Q : Token → Type 0) where
   line_tokens_hold [] all = tt
   line_tokens_hold (s ∷ rest) all = tokens_from_hold s.item (line_tokens rest) all.0 (line_tokens_hold rest all.1)
 
-  pub behind_holds : (rest : List Seen) → HoldInItems rest → HoldInItems (behind_first_token rest)
-  behind_holds [] all = tt
-  behind_holds (s ∷ rest) all = all.1
+  pub after_holds : (rest : List Seen) → HoldInItems rest → HoldInItems (after_first_token rest)
+  after_holds [] all = tt
+  after_holds (s ∷ rest) all = all.1
 
-  abbrev HoldsBehind : Parameters → Type 0
-  HoldsBehind list = HoldInItems list.behind
+  abbrev HoldsAfter : Parameters → Type 0
+  HoldsAfter list = HoldInItems list.after
 
   mutual
-    parameter_holds : (word : Location) (names : List Name) (rest : List Seen) → HoldInItems rest → IfOk (behind_parameter word names rest) HoldsBehind
+    parameter_holds : (word : Location) (names : List Name) (rest : List Seen) → HoldInItems rest → IfOk (after_parameter word names rest) HoldsAfter
     parameter_holds word names [] all = tt
     parameter_holds word names (s ∷ rest) all =
-        if_ok_then (λ token. ⊤) HoldsBehind s.item _ (any_ok s.item) (λ token h.
-        either_ok HoldsBehind (closes_parameters token.value) (Ok (record { names = names; behind = rest })) _ all.1
-        (either_ok HoldsBehind (parts_parameters token.value) (behind_comma word names rest) (Err (refused_token token)) (comma_holds word names rest all.1) tt))
+        if_ok_then (λ token. ⊤) HoldsAfter s.item _ (any_ok s.item) (λ token h.
+        either_ok HoldsAfter (closes_parameters token.value) (Ok (record { names = names; after = rest })) _ all.1
+        (either_ok HoldsAfter (parts_parameters token.value) (after_comma word names rest) (Err (refused_token token)) (comma_holds word names rest all.1) tt))
 
-    comma_holds : (word : Location) (names : List Name) (rest : List Seen) → HoldInItems rest → IfOk (behind_comma word names rest) HoldsBehind
+    comma_holds : (word : Location) (names : List Name) (rest : List Seen) → HoldInItems rest → IfOk (after_comma word names rest) HoldsAfter
     comma_holds word names [] all = tt
     comma_holds word names (s ∷ rest) all =
-        if_ok_then (λ token. ⊤) HoldsBehind s.item _ (any_ok s.item) (λ token h.
-        if_ok_then (λ more. ⊤) HoldsBehind (parameter_here names token (identifier_of token.value)) (λ more. behind_parameter word more rest) (any_ok (parameter_here names token (identifier_of token.value)))
+        if_ok_then (λ token. ⊤) HoldsAfter s.item _ (any_ok s.item) (λ token h.
+        if_ok_then (λ more. ⊤) HoldsAfter (parameter_here names token (identifier_of token.value)) (λ more. after_parameter word more rest) (any_ok (parameter_here names token (identifier_of token.value)))
         (λ more g. parameter_holds word more rest all.1))
 
-  parameters_hold : (word : Location) (rest : List Seen) → HoldInItems rest → IfOk (parameters word rest) HoldsBehind
+  parameters_hold : (word : Location) (rest : List Seen) → HoldInItems rest → IfOk (parameters word rest) HoldsAfter
   parameters_hold word [] all = tt
   parameters_hold word (s ∷ rest) all =
-      if_ok_then (λ token. ⊤) HoldsBehind s.item _ (any_ok s.item) (λ token h.
-      either_ok HoldsBehind (closes_parameters token.value) (Ok (record { names = []; behind = rest })) _ all.1
-      (if_ok_then (λ names. ⊤) HoldsBehind (parameter_here [] token (identifier_of token.value)) (λ names. behind_parameter word names rest) (any_ok (parameter_here [] token (identifier_of token.value)))
+      if_ok_then (λ token. ⊤) HoldsAfter s.item _ (any_ok s.item) (λ token h.
+      either_ok HoldsAfter (closes_parameters token.value) (Ok (record { names = []; after = rest })) _ all.1
+      (if_ok_then (λ names. ⊤) HoldsAfter (parameter_here [] token (identifier_of token.value)) (λ names. after_parameter word names rest) (any_ok (parameter_here [] token (identifier_of token.value)))
       (λ names g. parameter_holds word names rest all.1)))
 
   abbrev HoldsInBody : Definition → Type 0
@@ -85,13 +85,13 @@ module _ (Q : Token → Type 0) where
   definition_holds : (word : Location) (rest : List Seen) → HoldInItems rest → IfOk (definition_at word rest) HoldsInBody
   definition_holds word rest all =
       either_ok HoldsInBody (has_parameters rest) _ _
-      (if_ok_then HoldsBehind HoldsInBody (parameters word (behind_first_token rest)) _ (parameters_hold word (behind_first_token rest) (behind_holds rest all))
-      (λ list h. if_ok_then (Each Q) HoldsInBody (line_tokens list.behind) (λ body. Ok (record { function_like = true; parameters = list.names; body = body })) (line_tokens_hold list.behind h) (λ body g. g)))
+      (if_ok_then HoldsAfter HoldsInBody (parameters word (after_first_token rest)) _ (parameters_hold word (after_first_token rest) (after_holds rest all))
+      (λ list h. if_ok_then (Each Q) HoldsInBody (line_tokens list.after) (λ body. Ok (record { function_like = true; parameters = list.names; body = body })) (line_tokens_hold list.after h) (λ body g. g)))
       (if_ok_then (Each Q) HoldsInBody (line_tokens rest) (λ body. Ok (object_like body)) (line_tokens_hold rest all) (λ body g. g))
 
   -- so has the body that a `#define` line says
   pub defined_holds : (word : Location) (rest : List Seen) → HoldInItems rest → IfOk (defined_on word rest) (λ named. Each Q named.definition.body)
   defined_holds word rest all =
       if_ok_then (λ first. ⊤) (λ named. Each Q named.definition.body) (first_name word rest) _ (any_ok (first_name word rest)) (λ first h.
-      if_ok_then HoldsInBody (λ named. Each Q named.definition.body) (definition_at word (behind_first_token rest)) (λ definition. Ok (record { name = first.name; location = first.location; definition = definition }))
-      (definition_holds word (behind_first_token rest) (behind_holds rest all)) (λ definition g. g))
+      if_ok_then HoldsInBody (λ named. Each Q named.definition.body) (definition_at word (after_first_token rest)) (λ definition. Ok (record { name = first.name; location = first.location; definition = definition }))
+      (definition_holds word (after_first_token rest) (after_holds rest all)) (λ definition g. g))

@@ -7,7 +7,7 @@ use Rattle.pp_lexer.specs.declared.token.Location.{Location}
 use Rattle.pp_lexer.specs.declared.token.PreprocessorError.TheVariants.{LineOverflow}
 use Rattle.pp_model.specs.Calls.{Fault}
 use Rattle.pp_model.specs.LineWords.{Words}
-use Rattle.pp_model.specs.LineValues.{line_of, told_fault, as_line_number, words_behind, IsFollowed, Numbers, faulty, out_of_range, alone, with_source}
+use Rattle.pp_model.specs.LineValues.{line_of, told_fault, as_line_number, words_after, IsFollowed, Numbers, faulty, out_of_range, alone, with_source}
 
 pub numbers_faulty : (directive : Location) (words : Words) (e : Result Value Found) (found : Found) (fault : Fault) → Evaluates (line_of words) e → e ≡ Err found → fault ≡ told_fault directive words found → Numbers directive words (Err fault)
 numbers_faulty directive words e found fault evaluated is told = faulty found (Err fault) (rw is at evaluated) (ap Err told)
@@ -18,5 +18,5 @@ numbers_out directive words e v n evaluated is number none = out_of_range v (Err
 pub numbers_alone : (directive : Location) (words : Words) (e : Result Value Found) (v : Value) (m : Option ℕ) (n : ℕ) → Evaluates (line_of words) e → e ≡ Ok v → m ≡ as_line_number v.value → m ≡ Some n → v.left ≡ 0 → Numbers directive words (Ok n)
 numbers_alone directive words e v m n evaluated is number some none = alone v n (Ok n) (rw is at evaluated) (sym number ∙ some) none refl
 
-pub numbers_followed : (directive : Location) (words : Words) (e : Result Value Found) (v : Value) (m : Option ℕ) (n : ℕ) (behind : Words) → Evaluates (line_of words) e → e ≡ Ok v → m ≡ as_line_number v.value → m ≡ Some n → v.left ≢ 0 → behind ≡ words_behind v.left words → (result : Result ℕ Fault) → IsFollowed directive behind n result → Numbers directive words result
-numbers_followed directive words e v m n behind evaluated is number some left rest result by = with_source v n result (rw is at evaluated) (sym number ∙ some) left (rw rest at by)
+pub numbers_followed : (directive : Location) (words : Words) (e : Result Value Found) (v : Value) (m : Option ℕ) (n : ℕ) (after : Words) → Evaluates (line_of words) e → e ≡ Ok v → m ≡ as_line_number v.value → m ≡ Some n → v.left ≢ 0 → after ≡ words_after v.left words → (result : Result ℕ Fault) → IsFollowed directive after n result → Numbers directive words result
+numbers_followed directive words e v m n after evaluated is number some left rest result by = with_source v n result (rw is at evaluated) (sym number ∙ some) left (rw rest at by)

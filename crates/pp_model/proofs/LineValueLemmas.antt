@@ -8,7 +8,7 @@ use Rattle.pp_model.specs.Reading.{reading_of}
 use Rattle.pp_lexer.specs.declared.token.Location.{Location}
 use Rattle.pp_model.specs.LineWords.{Words}
 use Rattle.pp_model.specs.Calls.{Fault, Answers}
-use Rattle.pp_model.specs.LineValues.{line_of, as_line_number, words_behind, IsFollowed, Numbers, faulty, out_of_range, alone, with_source}
+use Rattle.pp_model.specs.LineValues.{line_of, as_line_number, words_after, IsFollowed, Numbers, faulty, out_of_range, alone, with_source}
 use Rattle.pp_model.specs.ExpansionLaws.{OneAnswer}
 use Rattle.pp_model.specs.RunLaws.{OneEvaluation, OneCondition, OneNumber, OneLineNumber}
 use Rattle.pp_model.specs.declared.word.LineKind.TheVariants.{Condition, LineNumber}
@@ -67,8 +67,8 @@ one_number directive words x y (with_source v n x1 i h o p) (with_source w m y1 
     let same = one_number_of (line_of words) (Some n) (Some m) v w i j h k in
     let value : v ≡ w = same.0 in
     let number : n ≡ m = (let z = same.1 in cc) in
-    let there : IsFollowed directive (words_behind v.left words) n y = rw (value, number) q in
-    one_followed directive (words_behind v.left words) n x y p there
+    let there : IsFollowed directive (words_after v.left words) n y = rw (value, number) q in
+    one_followed directive (words_after v.left words) n x y p there
 
 pub one_line_number : (A : Answers) → OneAnswer A → OneLineNumber A
 one_line_number A single directive tokens definitions x y a b =

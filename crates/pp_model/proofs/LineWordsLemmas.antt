@@ -29,7 +29,7 @@ module _ (A : Answers) (single : OneAnswer A) where
       let there : reading kind t ≡ w = rw token k in
       (token, same.1, sym h ∙ there)
 
-  -- the operand behind a token of a line has one outcome
+  -- the operand after a token of a line has one outcome
   one_outcome : (kind : LineKind) (directive : Location) (v w : Result Bool Fault) (t u : Token) (e f g h i : Expander Listed) → Emits line_reading A e (outcome.Token t) f → Emits line_reading A e (outcome.Token u) g → Operand kind directive A f v h → Operand kind directive A g w i → (t ≡ u) × (v ≡ w) × (h ≡ i)
   one_outcome kind directive v w t u e f g h i a b p q =
       let same = one_next (outcome.Token t) (outcome.Token u) e f g a b in

@@ -20,10 +20,10 @@ number_is_no_line : (location : Location) (shown : Option ℕ) → is_line_name 
 number_is_no_line location (Some n) = refl
 number_is_no_line location None = refl
 
-taken_is_no_line : (shown_line : ℕ → Option ℕ) (behind : List Entry) (token : Token) → is_line_name (taken_token shown_line behind token) ≡ false
-taken_is_no_line shown_line behind token = go (is_identifier line_name token.value) refl
+taken_is_no_line : (shown_line : ℕ → Option ℕ) (after : List Entry) (token : Token) → is_line_name (taken_token shown_line after token) ≡ false
+taken_is_no_line shown_line after token = go (is_identifier line_name token.value) refl
   where
-    go : (b : Bool) → is_identifier line_name token.value ≡ b → is_line_name (taken_token shown_line behind token) ≡ false
+    go : (b : Bool) → is_identifier line_name token.value ≡ b → is_line_name (taken_token shown_line after token) ≡ false
     go true e = rw e (number_is_no_line token.location _)
     go false e = rw e e
 

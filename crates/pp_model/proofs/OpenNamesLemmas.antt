@@ -7,7 +7,7 @@ use Rattle.pp_lexer.specs.declared.token.TokenValue.{TokenValue}
 use Rattle.pp_lexer.specs.declared.token.TokenValue.TheVariants.{Ident}
 use Rattle.pp_model.specs.Names.{Name, is_same_name, is_in}
 use Rattle.pp_model.specs.Definitions.{Definition}
-use Rattle.pp_model.specs.SpliceList.{behind_marks, open_names, followed_by, parameter_of, replacement, replaced, spliced}
+use Rattle.pp_model.specs.SpliceList.{after_marks, open_names, followed_by, parameter_of, replacement, replaced, spliced}
 use Rattle.pp_model.specs.Reading.{Reading, Expander, masked, Opening, opening_by, opening_of, opening}
 use Rattle.pp_model.specs.ApartMarks.{HasApartMarks, IsRest}
 use Rattle.pp_model.specs.declared.outcome.Outcome.{Outcome}
@@ -19,13 +19,13 @@ use Rattle.pp_model.specs.declared.splice.Entry.TheVariants.{Plain, End}
 pub rest_of_rest : (a b c : List Entry) → IsRest a b → IsRest b c → IsRest a c
 rest_of_rest a b c (front, p) (more, q) = (front ++ more, p ∙ (rw q (sym (append_assoc front more c))))
 
--- behind the marks at its front stands what is left of a list
-pub behind_marks_is_rest : (entries : List Entry) → IsRest entries (behind_marks entries)
-behind_marks_is_rest [] = ([], refl)
-behind_marks_is_rest (End mark ∷ entries) =
-    let rest = behind_marks_is_rest entries in
+-- after the marks at its front stands what is left of a list
+pub after_marks_is_rest : (entries : List Entry) → IsRest entries (after_marks entries)
+after_marks_is_rest [] = ([], refl)
+after_marks_is_rest (End mark ∷ entries) =
+    let rest = after_marks_is_rest entries in
     (End mark ∷ rest.0, ap (λ es. End mark ∷ es) rest.1)
-behind_marks_is_rest (Plain token ∷ entries) = ([], refl)
+after_marks_is_rest (Plain token ∷ entries) = ([], refl)
 
 not_in_tail : (name other : Name) (names : List Name) → is_in name (other ∷ names) ≡ false → is_in name names ≡ false
 not_in_tail name other names h = go (is_same_name name other) refl
@@ -52,13 +52,13 @@ pub rest_opens_nothing : (name : Name) (old new : List Entry) → IsRest old new
 rest_opens_nothing name old new (front, p) h = not_in_rest name front new (rw p at h)
 
 -- marks that are apart are so in what is left
-apart_behind : (front rest : List Entry) → HasApartMarks (front ++ rest) → HasApartMarks rest
-apart_behind [] rest h = h
-apart_behind (Plain token ∷ front) rest h = apart_behind front rest h
-apart_behind (End mark ∷ front) rest h = apart_behind front rest h.1
+apart_after : (front rest : List Entry) → HasApartMarks (front ++ rest) → HasApartMarks rest
+apart_after [] rest h = h
+apart_after (Plain token ∷ front) rest h = apart_after front rest h
+apart_after (End mark ∷ front) rest h = apart_after front rest h.1
 
 pub rest_is_apart : (old new : List Entry) → IsRest old new → HasApartMarks old → HasApartMarks new
-rest_is_apart old new (front, p) h = apart_behind front new (rw p at h)
+rest_is_apart old new (front, p) h = apart_after front new (rw p at h)
 
 -- a macro's replacement holds no mark but its own
 open_followed_by : (tokens : List Token) (entries : List Entry) → open_names (followed_by tokens entries) ≡ open_names entries

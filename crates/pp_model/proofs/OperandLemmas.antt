@@ -49,9 +49,9 @@ taken_second x y w e f g h a b c =
     rw same.1 c
 
 module _ (A : Answers) (single : OneAnswer A) where
-  -- what is taken second, and the item behind it
-  one_behind : (t u v w x y : Outcome) (d e f g h i j : Expander Listed) → Takes line_reading d t e → Takes line_reading d u f → Takes line_reading e v g → Takes line_reading f w h → Emits line_reading A g x i → Emits line_reading A h y j → (v ≡ w) × (x ≡ y) × (i ≡ j)
-  one_behind t u v w x y d e f g h i j a b p q r s =
+  -- what is taken second, and the item after it
+  one_after : (t u v w x y : Outcome) (d e f g h i j : Expander Listed) → Takes line_reading d t e → Takes line_reading d u f → Takes line_reading e v g → Takes line_reading f w h → Emits line_reading A g x i → Emits line_reading A h y j → (v ≡ w) × (x ≡ y) × (i ≡ j)
+  one_after t u v w x y d e f g h i j a b p q r s =
       let second = one_taking line_reading line_reads_one v w e g h p (taken_second t u w d e f h a b q) in
       let s1 : Emits line_reading A g y j = rw second.1 s in
       let same = one_item line_reading line_reads_one A single x y g i j r s1 in
@@ -59,7 +59,7 @@ module _ (A : Answers) (single : OneAnswer A) where
 
   one_close : (k l : Bool) (t u v w x y : Outcome) (d e f g h i j : Expander Listed) → Takes line_reading d t e → Takes line_reading d u f → Takes line_reading e v g → Takes line_reading f w h → Emits line_reading A g x i → Emits line_reading A h y j → is_close_paren x ≡ k → is_close_paren y ≡ l → k ≡ l
   one_close k l t u v w x y d e f g h i j a b p q r s m n =
-      let same = (one_behind t u v w x y d e f g h i j a b p q r s).1 in
+      let same = (one_after t u v w x y d e f g h i j a b p q r s).1 in
       let there : is_close_paren x ≡ l = rw same n in
       sym m ∙ there
 
@@ -91,7 +91,7 @@ module _ (A : Answers) (single : OneAnswer A) where
   one_operand kind directive x y e f g (unclosed o v j n e1 f1 f2 f3 x1 a i c h l r p) (neither w e2 g1 y1 b k t q) = let bad = one_open true false o w e f1 g a b i t in cc
   one_operand kind directive x y e f g (unclosed o v j n e1 f1 f2 f3 x1 a i c h l r p) (no_name w z e2 g1 g2 y1 b t d k q) = let bad = one_name (Some n) None v z f1 f2 g c (taken_second o w z e f1 g1 g a b d) h k in cc
   one_operand kind directive x y e f g (unclosed o v j n e1 f1 f2 f3 x1 a i c h l r p) (unclosed w z z1 m e2 g1 g2 g3 y1 b t d k s u q) =
-      let same = one_behind o w v z j z1 e f1 g1 f2 g2 f g a b c d l s in
+      let same = one_after o w v z j z1 e f1 g1 f2 g2 f g a b c d l s in
       (p ∙ (rw same.1 (sym q)), same.2)
   one_operand kind directive x y e f g (unclosed o v j n e1 f1 f2 f3 x1 a i c h l r p) (in_parentheses w z z1 m e2 g1 g2 g3 y1 b t d k s u q) = let bad = one_close false true o w v z j z1 e f1 g1 f2 g2 f g a b c d l s r u in cc
   one_operand kind directive x y e f g (in_parentheses o v j n e1 f1 f2 f3 x1 a i c h l r p) (name w m e2 g1 y1 b k q) = absurd (not_both m w o e g f1 b a k i)
@@ -99,7 +99,7 @@ module _ (A : Answers) (single : OneAnswer A) where
   one_operand kind directive x y e f g (in_parentheses o v j n e1 f1 f2 f3 x1 a i c h l r p) (no_name w z e2 g1 g2 y1 b t d k q) = let bad = one_name (Some n) None v z f1 f2 g c (taken_second o w z e f1 g1 g a b d) h k in cc
   one_operand kind directive x y e f g (in_parentheses o v j n e1 f1 f2 f3 x1 a i c h l r p) (unclosed w z z1 m e2 g1 g2 g3 y1 b t d k s u q) = let bad = one_close true false o w v z j z1 e f1 g1 f2 g2 f g a b c d l s r u in cc
   one_operand kind directive x y e f g (in_parentheses o v j n e1 f1 f2 f3 x1 a i c h l r p) (in_parentheses w z z1 m e2 g1 g2 g3 y1 b t d k s u q) =
-      let same = one_behind o w v z j z1 e f1 g1 f2 g2 f g a b c d l s in
+      let same = one_after o w v z j z1 e f1 g1 f2 g2 f g a b c d l s in
       let names = one_name (Some n) (Some m) v z f1 f2 g2 c (taken_second o w z e f1 g1 g2 a b d) h k in
       let one : n ≡ m = cc in
       (p ∙ (rw (one, same.2) (sym q)), same.2)

@@ -39,7 +39,7 @@ module _ (C : Comings) where
   chain_runs e f calls replies chain =
       run_of e calls (calls ++ []) replies (replies ++ []) (sym (append-nil calls)) (sym (append-nil replies)) (chain_before e f calls [] replies [] chain (done f [] refl))
 
-  -- so they are where further calls are left behind an error item,
+  -- so they are where further calls are left after an error item,
   pub chain_runs_to_error : (e f g : Expander SourceReader) (calls later : List Call) (replies : List Reply) (fault : Fault) → Chain C e calls replies f → C f (outcome.Fault fault) g
       → Runs C e (calls ++ next ∷ later) (replies ++ reply.Given (outcome.Fault fault) ∷ [])
   chain_runs_to_error e f g calls later replies fault chain item =

@@ -1,4 +1,4 @@
--- Behind the end a run gives no item, whatever is added.
+-- After the end a run gives no item, whatever is added.
 use Rattle.std.proofs.Common.{◌≡◌, ◌∙◌, false, List, [], ◌∷◌, ◌++◌, refl, sym}
 use Rattle.std.specs.Prelude.{All}
 use Rattle.std.proofs.lemmas.List.Elements.{All-nil, All-cons}
@@ -67,26 +67,26 @@ module _ (A : Answers) where
       let bad = (item_when_over A (outcome.Fault fault) e f item over).0 in
       cc
 
-  -- so behind the end none is
-  no_item_behind : (e : Expander SourceReader) (calls : List Call) (replies former later : List Reply) → Runs (by_rules A) e calls replies → HoldsLastEnd e → replies ≡ former ++ (reply.Given outcome.End ∷ later) → All IsNoItem later
-  no_item_behind e calls replies former later (done e1 r1 p) last is = absurd (goes_not_on former later (reply.Given outcome.End) (sym p ∙ is))
-  no_item_behind e calls replies [] later (added name content tokens e1 cs rest r1 h more p) last is = cc
-  no_item_behind e calls replies (first ∷ former) later (added name content tokens e1 cs rest r1 h more p) last is =
-      no_item_behind (with_added _ tokens e) cs rest former later more (last_end_with_added _ tokens e last) cc
-  no_item_behind e calls replies [] later (refused name content fault e1 cs rest r1 h more p) last is = cc
-  no_item_behind e calls replies (first ∷ former) later (refused name content fault e1 cs rest r1 h more p) last is =
-      no_item_behind e cs rest former later more last cc
-  no_item_behind e calls replies [] later (given o e1 f cs rest r1 item h more p) last is =
+  -- so after the end none is
+  no_item_after : (e : Expander SourceReader) (calls : List Call) (replies former later : List Reply) → Runs (by_rules A) e calls replies → HoldsLastEnd e → replies ≡ former ++ (reply.Given outcome.End ∷ later) → All IsNoItem later
+  no_item_after e calls replies former later (done e1 r1 p) last is = absurd (goes_not_on former later (reply.Given outcome.End) (sym p ∙ is))
+  no_item_after e calls replies [] later (added name content tokens e1 cs rest r1 h more p) last is = cc
+  no_item_after e calls replies (first ∷ former) later (added name content tokens e1 cs rest r1 h more p) last is =
+      no_item_after (with_added _ tokens e) cs rest former later more (last_end_with_added _ tokens e last) cc
+  no_item_after e calls replies [] later (refused name content fault e1 cs rest r1 h more p) last is = cc
+  no_item_after e calls replies (first ∷ former) later (refused name content fault e1 cs rest r1 h more p) last is =
+      no_item_after e cs rest former later more last cc
+  no_item_after e calls replies [] later (given o e1 f cs rest r1 item h more p) last is =
       let end : o ≡ outcome.End = cc in
       let same : rest ≡ later = cc in
       let over = (item_ends A o e f item last).1 end in
       rw same at (no_item_when_over f cs rest more over)
-  no_item_behind e calls replies (first ∷ former) later (given o e1 f cs rest r1 item h more p) last is =
-      no_item_behind f cs rest former later more (item_ends A o e f item last).0 cc
-  no_item_behind e calls replies [] later (failed fault e1 f cs r1 item p) last is = cc
-  no_item_behind e calls replies (first ∷ former) later (failed fault e1 f cs r1 item p) last is =
+  no_item_after e calls replies (first ∷ former) later (given o e1 f cs rest r1 item h more p) last is =
+      no_item_after f cs rest former later more (item_ends A o e f item last).0 cc
+  no_item_after e calls replies [] later (failed fault e1 f cs r1 item p) last is = cc
+  no_item_after e calls replies (first ∷ former) later (failed fault e1 f cs r1 item p) last is =
       absurd (goes_not_on former later (reply.Given outcome.End) cc)
 
   pub run_ends_for_good : RunEndsForGood A
   run_ends_for_good source calls former later run =
-      no_item_behind (start source) calls _ former later run (holds_nothing (start source) refl) refl
+      no_item_after (start source) calls _ former later run (holds_nothing (start source) refl) refl

@@ -110,7 +110,7 @@ module _ (A : Answers) where
   step_ends r t (renumbers word tokens n o r1 t1 h is p q) = cc
   step_ends r t (unnumbered word tokens fault o r1 t1 h is p q) = cc
 
-  -- behind the end that is read the reader stands there,
+  -- after the end that is read the reader stands there,
   pub reading_ends : (o : Outcome) (r t : SourceReader) → Reads A r o t → o ≡ outcome.End → IsAtEnd t
   reading_ends o r t (here o1 r1 t1 s) same =
       let s1 : Steps A r (Some outcome.End) t = rw same at s in

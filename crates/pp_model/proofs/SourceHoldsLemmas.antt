@@ -20,7 +20,7 @@ use Rattle.pp_model.specs.LineValues.{as_line_number}
 use Rattle.pp_model.specs.Sights.{sight_of, item_sight, token_sight, directive_sight, named_directive}
 use Rattle.pp_model.specs.Blocks.{Block, is_live}
 use Rattle.pp_model.specs.SourceReader.{SourceReader}
-use Rattle.pp_model.specs.Acts.{Acted, passed, given, moved, behind_word, behind_line, acted, decided, is_defined_now, line_item, block_here, live_directive, ended_by, live_act, dead_act, act}
+use Rattle.pp_model.specs.Acts.{Acted, passed, given, moved, after_word, after_line, acted, decided, is_defined_now, line_item, block_here, live_directive, ended_by, live_act, dead_act, act}
 use Rattle.pp_model.specs.Reads.{Steps, passes, gives, defines, repeats, redefines, decides, undecided, renumbers, unnumbered, Reads, here, later, source_reading}
 use Rattle.pp_model.specs.declared.definition.Named.{Named}
 use Rattle.pp_model.specs.declared.directive.Directive.{Directive}
@@ -88,7 +88,7 @@ module _ (Q : Token → Type 0) (L : ℕ → Type 0) (closed : AreClosed Q L) wh
   drop_holds zero (s ∷ rest) all = all
   drop_holds (suc n) (s ∷ rest) all = drop_holds n rest all.1
 
-  -- it holds of what comes of it: of a token that is given, of a body that is defined, and of the bodies behind it
+  -- it holds of what comes of it: of a token that is given, of a body that is defined, and of the bodies after it
   record HoldsOfAct (a : Acted) : Type 0 where
     token : (token : Token) → a.step ≡ step.Given (outcome.Token token) → Q token
     body : (named : Named) → a.step ≡ step.Defines named → Each Q named.definition.body
@@ -119,8 +119,8 @@ module _ (Q : Token → Type 0) (L : ℕ → Type 0) (closed : AreClosed Q L) wh
   DirectiveItemsHold = (token : Token) → is_ordinary token.value ≡ false → L token.location.line → Q token
 
   module _ (items_hold : DirectiveItemsHold) (r : SourceReader) (all : HoldInItems Q r.items) (bodies : HoldInBodies Q r.definitions) where
-    behind : HoldInItems Q (behind_word r)
-    behind = drop_holds (r.position + 2) r.items all
+    after : HoldInItems Q (after_word r)
+    after = drop_holds (r.position + 2) r.items all
 
     dead : HoldsOfDead HoldsOfAct r
     dead = record {
@@ -143,7 +143,7 @@ module _ (Q : Token → Type 0) (L : ℕ → Type 0) (closed : AreClosed Q L) wh
     passed_holds : (after : SourceReader) → HoldInBodies Q after.definitions → HoldsOfAct (passed after)
     passed_holds after h = record { token = λ token e. cc; body = λ named e. cc; bodies = h }
 
-    define_by : (line : Result Named Fault) → IfOk line (λ named. Each Q named.definition.body) → HoldsOfAct (acted line r (λ named. record { step = step.Defines named; after = behind_line r }))
+    define_by : (line : Result Named Fault) → IfOk line (λ named. Each Q named.definition.body) → HoldsOfAct (acted line r (λ named. record { step = step.Defines named; after = after_line r }))
     define_by (Ok said) h = record { token = λ token e. cc; body = λ named e. subst (λ (x : Named). Each Q x.definition.body) (same_named said named e) h; bodies = bodies }
     define_by (Err fault) h = dead.fault fault
 
@@ -152,20 +152,20 @@ module _ (Q : Token → Type 0) (L : ℕ → Type 0) (closed : AreClosed Q L) wh
 
     item_by : (value : List Token → TokenValue) (word : Location) → ((tokens : List Token) → is_ordinary (value tokens) ≡ false) → L word.line → HoldsOfAct (line_item value word r)
     item_by value word other l =
-        value_holds HoldsOfAct r dead (line_tokens (behind_word r)) (λ tokens. given (record { value = value tokens; location = word }) (behind_line r))
-        (λ tokens. given_holds (record { value = value tokens; location = word }) (behind_line r) (items_hold (record { value = value tokens; location = word }) (other tokens) l) refl)
+        value_holds HoldsOfAct r dead (line_tokens (after_word r)) (λ tokens. given (record { value = value tokens; location = word }) (after_line r))
+        (λ tokens. given_holds (record { value = value tokens; location = word }) (after_line r) (items_hold (record { value = value tokens; location = word }) (other tokens) l) refl)
 
     live_directive_holds : (directive : Directive) (word : Location) → L word.line → HoldsOfAct (live_directive directive word r)
-    live_directive_holds d.Define word l = define_by (defined_on word (behind_word r)) (defined_holds Q word (behind_word r) behind)
-    live_directive_holds d.Undef word l = name_by (only_name word (behind_word r)) (λ name. record (behind_line r) { definitions = changed r.definitions name None }) (λ name. undefined_holds r.definitions name bodies)
+    live_directive_holds d.Define word l = define_by (defined_on word (after_word r)) (defined_holds Q word (after_word r) after)
+    live_directive_holds d.Undef word l = name_by (only_name word (after_word r)) (λ name. record (after_line r) { definitions = changed r.definitions name None }) (λ name. undefined_holds r.definitions name bodies)
     live_directive_holds d.If word l = condition_holds HoldsOfAct r dead word
-    live_directive_holds d.Ifdef word l = name_by (only_name word (behind_word r)) (λ name. decided r (is_defined_now r name)) (λ name. bodies)
-    live_directive_holds d.Ifndef word l = name_by (only_name word (behind_word r)) (λ name. decided r (not (is_defined_now r name))) (λ name. bodies)
+    live_directive_holds d.Ifdef word l = name_by (only_name word (after_word r)) (λ name. decided r (is_defined_now r name)) (λ name. bodies)
+    live_directive_holds d.Ifndef word l = name_by (only_name word (after_word r)) (λ name. decided r (not (is_defined_now r name))) (λ name. bodies)
     live_directive_holds d.Elif word l = elif_holds HoldsOfAct r dead (block_here r) word
     live_directive_holds d.Else word l = else_line_holds HoldsOfAct r dead word
     live_directive_holds d.Endif word l = endif_holds HoldsOfAct r dead (block_here r) word
     live_directive_holds d.Error word l = dead.fault _
-    live_directive_holds d.Line word l = value_holds HoldsOfAct r dead (line_tokens (behind_word r)) (λ tokens. record { step = step.LineNumber word tokens; after = r }) (λ tokens. record { token = λ token e. cc; body = λ named e. cc; bodies = bodies })
+    live_directive_holds d.Line word l = value_holds HoldsOfAct r dead (line_tokens (after_word r)) (λ tokens. record { step = step.LineNumber word tokens; after = r }) (λ tokens. record { token = λ token e. cc; body = λ named e. cc; bodies = bodies })
     live_directive_holds d.Version word l = item_by _ word (λ tokens. refl) l
     live_directive_holds d.Extension word l = item_by _ word (λ tokens. refl) l
     live_directive_holds d.Pragma word l = item_by _ word (λ tokens. refl) l

@@ -1,4 +1,4 @@
--- The run of a text in which only plain tokens stand, and a newline behind them: it gives the tokens, and then the end.
+-- The run of a text in which only plain tokens stand, and a newline after them: it gives the tokens, and then the end.
 use Rattle.std.proofs.Common.{◌≡◌, ◌∙◌, ◌⊎◌, inl, inr, ℕ, zero, suc, pos, ◌+◌, Bool, true, false, if◌then◌else◌, List, [], ◌∷◌, ◌++◌, length, take, drop, map, refl, ap, sym, Option, Some, None, arith}
 use Rattle.std.specs.Prelude.{Result, Ok, Err, unwrap_or}
 use Rattle.std.specs.List.{AllByRecursion as Each, cons_option, list_all}
@@ -107,8 +107,8 @@ module _ (A : Answers) (items : List Seen) (all : Each IsNoHash items) where
       ap (λ live. if live then live_act (sight_of (drop position items)) r else dead_act (sight_of (drop position items)) r) (live_there position) ∙ ap (λ s. live_act s r) e
 
   -- what comes first of this text is taken
-  taken_there : (position : ℕ) (x o : Outcome) (behind : ℕ) → Reads A (reader_at items position) x (reader_at items behind) → o ≡ read_outcome (shown_line (reader_at items behind)) x → Takes (source_reading A) (state_at items position) o (state_at items behind)
-  taken_there position x o behind r is = read x o (reader_at items behind) (state_at items position) (state_at items behind) refl refl r is refl
+  taken_there : (position : ℕ) (x o : Outcome) (after : ℕ) → Reads A (reader_at items position) x (reader_at items after) → o ≡ read_outcome (shown_line (reader_at items after)) x → Takes (source_reading A) (state_at items position) o (state_at items after)
+  taken_there position x o after r is = read x o (reader_at items after) (state_at items position) (state_at items after) refl refl r is refl
 
   taken_plain : (shown : ℕ → Option ℕ) (value : TokenValue) (location : Location) → is_identifier line_name value ≡ false
       → outcome.Token (record { value = value; location = location }) ≡ taken_token shown [] (record { value = value; location = location })
@@ -136,15 +136,15 @@ module _ (A : Answers) (items : List Seen) (all : Each IsNoHash items) where
       let a : act r ≡ record { step = step.Given outcome.End; after = r } = act_there position sight.End (ap sight_of e) ∙ ap (λ block. ended_by block r) ended_there in
       here outcome.End r r (gives outcome.End (Some outcome.End) r r (ap (λ x. x.step) a) refl (sym (ap (λ x. x.after) a)))
 
-  -- behind the last token a newline may stand
+  -- after the last token a newline may stand
   reads_newline : (position : ℕ) → sight_of (drop position items) ≡ sight.NewLine → drop (position + 1) items ≡ [] → Reads A (reader_at items position) outcome.End (reader_at items (position + 1))
   reads_newline position e last =
       let r = reader_at items position in
       let a = act_there position sight.NewLine e in
       later outcome.End r (reader_at items (position + 1)) (reader_at items (position + 1)) (passes None r (reader_at items (position + 1)) (ap (λ x. x.step) a) refl (sym (ap (λ x. x.after) a))) (reads_end (position + 1) last)
 
-  gives_end : (position behind : ℕ) → Reads A (reader_at items position) outcome.End (reader_at items behind) → Emits (source_reading A) A (state_at items position) outcome.End (state_at items behind)
-  gives_end position behind r = itself outcome.End (state_at items position) (state_at items behind) (taken_there position outcome.End outcome.End behind r refl) refl
+  gives_end : (position after : ℕ) → Reads A (reader_at items position) outcome.End (reader_at items after) → Emits (source_reading A) A (state_at items position) outcome.End (state_at items after)
+  gives_end position after r = itself outcome.End (state_at items position) (state_at items after) (taken_there position outcome.End outcome.End after r refl) refl
 
   -- from a position on the run gives these values
   pub record GivesFrom (position : ℕ) (values : List TokenValue) : Type 0 where
@@ -152,15 +152,15 @@ module _ (A : Answers) (items : List Seen) (all : Each IsNoHash items) where
     pub same : values_of tokens ≡ values
     pub run : Runs (by_rules A) (state_at items position) (calls_for tokens) (replies_with tokens)
 
-  ends_run : (position behind : ℕ) → Reads A (reader_at items position) outcome.End (reader_at items behind) → GivesFrom position []
-  ends_run position behind r = record {
+  ends_run : (position after : ℕ) → Reads A (reader_at items position) outcome.End (reader_at items after) → GivesFrom position []
+  ends_run position after r = record {
     tokens = [];
     same = refl;
-    run = given outcome.End (state_at items position) (state_at items behind) [] [] (reply.Given outcome.End ∷ []) (gives_end position behind r) refl (done (state_at items behind) [] refl) refl;
+    run = given outcome.End (state_at items position) (state_at items after) [] [] (reply.Given outcome.End ∷ []) (gives_end position after r) refl (done (state_at items after) [] refl) refl;
   }
 
-  behind_one : (position : ℕ) (s : Seen) (rest : List Seen) → drop position items ≡ s ∷ rest → drop (position + 1) items ≡ rest
-  behind_one position s rest e = ap (λ n. drop n items) (omega arith) ∙ sym (drop-drop 1 position items) ∙ ap (drop 1) e
+  after_one : (position : ℕ) (s : Seen) (rest : List Seen) → drop position items ≡ s ∷ rest → drop (position + 1) items ≡ rest
+  after_one position s rest e = ap (λ n. drop n items) (omega arith) ∙ sym (drop-drop 1 position items) ∙ ap (drop 1) e
 
   values_there : List Seen → List (Result LexerTokenValue PreprocessorError)
   values_there rest = map (λ s. item_value s.item) rest
@@ -199,7 +199,7 @@ module _ (A : Answers) (items : List Seen) (all : Each IsNoHash items) where
   newline_last position (s ∷ rest) e is =
       let one : item_value s.item ≡ Ok NewLine = cc in
       let none : map (λ t. item_value t.item) rest ≡ [] = cc in
-      ends_run position (position + 1) (reads_newline position (ap sight_of e ∙ newline_item s.item rest one) (behind_one position s rest e ∙ none_there rest none))
+      ends_run position (position + 1) (reads_newline position (ap sight_of e ∙ newline_item s.item rest one) (after_one position s rest e ∙ none_there rest none))
 
   gives_first : (position : ℕ) (value : TokenValue) (values : List TokenValue) (location : Location) → sight_of (drop position items) ≡ sight.Token (record { value = value; location = location }) → is_identifier line_name value ≡ false
       → GivesFrom (position + 1) values → GivesFrom position (value ∷ values)
@@ -221,4 +221,4 @@ module _ (A : Answers) (items : List Seen) (all : Each IsNoHash items) where
       let one : item_value s.item ≡ Ok (lexer_value value) = cc in
       let more : map (λ t. item_value t.item) rest ≡ map Ok (map lexer_value values ++ last) = cc in
       let shown = plain_item s.item rest value one plain.0.0 in
-      gives_first position value values shown.0 (ap sight_of e ∙ shown.1) plain.0.1 (gives_from values last (position + 1) rest (behind_one position s rest e) more end plain.1)
+      gives_first position value values shown.0 (ap sight_of e ∙ shown.1) plain.0.1 (gives_from values last (position + 1) rest (after_one position s rest e) more end plain.1)

@@ -14,16 +14,16 @@ use Rattle.pp_model.specs.declared.word.LineKind.{LineKind}
 use Rattle.pp_model.specs.declared.word.Word.{Word}
 
 -- the words so far, and then those of the rest
-abbrev pub behind_words : List Word → Words → Words
-behind_words words rest = record rest { words = words ++ rest.words }
+abbrev pub after_words : List Word → Words → Words
+after_words words rest = record rest { words = words ++ rest.words }
 
-pub behind_words-before : (words : List Word) (w : Word) (rest : Words) → behind_words words (word_before w rest) ≡ behind_words (words ++ w ∷ []) rest
-behind_words-before words w rest = rw append_assoc refl
+pub after_words-before : (words : List Word) (w : Word) (rest : Words) → after_words words (word_before w rest) ≡ after_words (words ++ w ∷ []) rest
+after_words-before words w rest = rw append_assoc refl
 
-pub behind_words-end : (words : List Word) (ending : Option Fault) → behind_words words (record { words = []; ending = ending }) ≡ record { words = words; ending = ending }
-behind_words-end words ending = ap (λ (ws : List Word). let r : Words = record { words = ws; ending = ending } in r) (append-nil words)
+pub after_words-end : (words : List Word) (ending : Option Fault) → after_words words (record { words = []; ending = ending }) ≡ record { words = words; ending = ending }
+after_words-end words ending = ap (λ (ws : List Word). let r : Words = record { words = ws; ending = ending } in r) (append-nil words)
 
--- an operand behind its `(`
+-- an operand after its `(`
 pub operand_parenthesized : (kind : LineKind) (directive : Location) (A : Answers) (o : Outcome) (e f g : Expander Listed) (r : Result Bool Fault) → Takes line_reading e o f → is_open_paren o ≡ true → Parenthesized kind directive A f r g → Operand kind directive A e r g
 operand_parenthesized kind directive A o e f g r takes paren (no_name x _ _ _ taken is w) = line.no_name o x e f g r takes paren taken is w
 operand_parenthesized kind directive A o e f h r takes paren (named x n _ g _ _ taken is (unclosed y _ _ _ emits still w)) = line.unclosed o x y n e f g h r takes paren taken is emits still w

@@ -25,7 +25,7 @@ use Rattle.pp_model.specs.declared.sight.Sight.TheVariants as sight
 use Rattle.pp_model.specs.declared.step.Step.{Step}
 use Rattle.pp_model.specs.declared.step.Step.TheVariants as step
 
--- a step, and the reader behind it; a fault leaves the reader where it is, since nothing is said of what comes behind it
+-- a step, and the reader after it; a fault leaves the reader where it is, since nothing is said of what comes after it
 pub record Acted : Type 0 where
   pub step : Step
   pub after : SourceReader
@@ -46,13 +46,13 @@ given token after = record { step = step.Given (outcome.Token token); after = af
 abbrev pub moved : ℕ → SourceReader → SourceReader
 moved count reader = record reader { position = reader.position + count }
 
--- the items behind the directive's word
-abbrev pub behind_word : SourceReader → List Seen
-behind_word reader = drop (reader.position + 2) reader.items
+-- the items after the directive's word
+abbrev pub after_word : SourceReader → List Seen
+after_word reader = drop (reader.position + 2) reader.items
 
--- behind the directive's line
-abbrev pub behind_line : SourceReader → SourceReader
-behind_line reader = moved (2 + line_length (behind_word reader)) reader
+-- after the directive's line
+abbrev pub after_line : SourceReader → SourceReader
+after_line reader = moved (2 + line_length (after_word reader)) reader
 
 -- what follows of a line's value, or its fault
 abbrev pub acted : {A : Type 0} → Result A Fault → SourceReader → (A → Acted) → Acted
@@ -62,37 +62,37 @@ acted (Err fault) reader next = failed fault reader
 -- a line that is skipped, but for the lexer's errors
 abbrev pub skipped_by : Option Fault → SourceReader → Acted
 skipped_by (Some fault) reader = failed fault reader
-skipped_by None reader = passed (behind_line reader)
+skipped_by None reader = passed (after_line reader)
 
 abbrev pub skipped : SourceReader → Acted
-skipped reader = skipped_by (line_fault (behind_word reader)) reader
+skipped reader = skipped_by (line_fault (after_word reader)) reader
 
--- nothing but the end of the line is wanted behind the word
+-- nothing but the end of the line is wanted after the word
 abbrev pub only_word : Location → SourceReader → (SourceReader → Acted) → Acted
-only_word word reader next = acted (ended_line word (behind_word reader)) reader (λ end. next (behind_line reader))
+only_word word reader next = acted (ended_line word (after_word reader)) reader (λ end. next (after_line reader))
 
 -- the block line at the reader's position is a condition, which holds or not
 abbrev pub decided : SourceReader → Bool → SourceReader
-decided reader holds = record (behind_line reader) { truths = record { position = reader.position; holds = holds } ∷ reader.truths }
+decided reader holds = record (after_line reader) { truths = record { position = reader.position; holds = holds } ∷ reader.truths }
 
 -- a line whose condition is wanted: its tokens are gathered
 abbrev pub condition : Location → SourceReader → Acted
 condition word reader =
-    acted (line_tokens (behind_word reader)) reader (λ tokens. record { step = step.Condition word tokens; after = reader })
+    acted (line_tokens (after_word reader)) reader (λ tokens. record { step = step.Condition word tokens; after = reader })
 
 abbrev pub line_number : Location → SourceReader → Acted
 line_number word reader =
-    acted (line_tokens (behind_word reader)) reader (λ tokens. record { step = step.LineNumber word tokens; after = reader })
+    acted (line_tokens (after_word reader)) reader (λ tokens. record { step = step.LineNumber word tokens; after = reader })
 
 -- `#define`
 abbrev pub define : Location → SourceReader → Acted
 define word reader =
-    acted (defined_on word (behind_word reader)) reader (λ named. record { step = step.Defines named; after = behind_line reader })
+    acted (defined_on word (after_word reader)) reader (λ named. record { step = step.Defines named; after = after_line reader })
 
 -- `#undef`
 abbrev pub undef : Location → SourceReader → Acted
 undef word reader =
-    acted (only_name word (behind_word reader)) reader (λ name. passed (record (behind_line reader) { definitions = changed reader.definitions name None }))
+    acted (only_name word (after_word reader)) reader (λ name. passed (record (after_line reader) { definitions = changed reader.definitions name None }))
 
 -- `#ifdef` and `#ifndef`
 abbrev pub is_defined_now : SourceReader → Name → Bool
@@ -100,11 +100,11 @@ is_defined_now reader name = is_some (reader.definitions name)
 
 abbrev pub ifdef : Location → SourceReader → Acted
 ifdef word reader =
-    acted (only_name word (behind_word reader)) reader (λ name. passed (decided reader (is_defined_now reader name)))
+    acted (only_name word (after_word reader)) reader (λ name. passed (decided reader (is_defined_now reader name)))
 
 abbrev pub ifndef : Location → SourceReader → Acted
 ifndef word reader =
-    acted (only_name word (behind_word reader)) reader (λ name. passed (decided reader (not (is_defined_now reader name))))
+    acted (only_name word (after_word reader)) reader (λ name. passed (decided reader (not (is_defined_now reader name))))
 
 -- `#elif` in the block: it is skipped where it can't be the first branch to be taken
 abbrev pub elif_in : Option Block → Location → SourceReader → Acted
@@ -141,13 +141,13 @@ endif_line word reader = endif_in (block_here reader) word reader
 -- an item that holds the tokens of its line
 abbrev pub line_item : (List Token → TokenValue) → Location → SourceReader → Acted
 line_item value word reader =
-    acted (line_tokens (behind_word reader)) reader (λ tokens. given (record { value = value tokens; location = word }) (behind_line reader))
+    acted (line_tokens (after_word reader)) reader (λ tokens. given (record { value = value tokens; location = word }) (after_line reader))
 
 abbrev pub version : Location → SourceReader → Acted
 version word reader = line_item (λ tokens. Version (record {
   tokens = preorder tokens;
   is_first_directive = is_first_directive reader.items reader.truths reader.position;
-  has_comments_before = comments_before_end (behind_word reader);
+  has_comments_before = comments_before_end (after_word reader);
 })) word reader
 
 abbrev pub extension : Location → SourceReader → Acted
@@ -176,7 +176,7 @@ live_directive d.Extension word reader = extension word reader
 live_directive d.Pragma word reader = pragma word reader
 live_directive d.Unknown word reader = failed_at UnknownDirective word reader
 
--- a directive in dead text: those that part and close blocks act, a block is opened unread, and behind an unknown word the
+-- a directive in dead text: those that part and close blocks act, a block is opened unread, and after an unknown word the
 -- line is dead text
 abbrev pub dead_directive : Directive → Location → SourceReader → Acted
 dead_directive d.Elif word reader = elif_line word reader

@@ -31,7 +31,7 @@ pub record OnlyTakesEntries {R : Type 0} (I : Reading R) (A : Answers) : Type 0 
   pub gathering : (n : ℕ) (last : Location) (gathered : Result Gathered Fault) (e f : Expander R) → Gathers I n last e gathered f → IsRest e.list f.list
   pub call : (definition : Definition) (called : Called) (e f : Expander R) → Calls I A definition e called f → IsRest e.list f.list
 
--- A macro that opens behind a taking has no mark in the list yet, nor in what is left of it behind a call.
+-- A macro that opens after a taking has no mark in the list yet, nor in what is left of it after a call.
 abbrev pub OpensNew : {R : Type 0} → Reading R → Type 0
 OpensNew {R} I = (o : Outcome) (m : Opening) (e : Expander R) (rest : List Entry) → opening I e o ≡ Some m → IsRest e.list rest → is_in m.name (open_names rest) ≡ false
 

@@ -10,20 +10,20 @@ use Rattle.pp_model.specs.declared.definition.Named.{Named}
 use Rattle.pp_model.specs.declared.outcome.Outcome.TheVariants as outcome
 use Rattle.pp_model.specs.declared.step.Step.TheVariants as step
 
--- no mark stands behind an `#else`; one that does is a fault where it stands
+-- no mark stands after an `#else`; one that does is a fault where it stands
 abbrev pub ElseIsLast : List BlockLine → Type 0
 ElseIsLast [] = ⊤
 ElseIsLast (mark ∷ []) = ⊤
 ElseIsLast (mark ∷ next ∷ later) = (is_else mark.part ≡ false) × ElseIsLast (next ∷ later)
 
--- Of a block's marks at most one is chosen: the first, behind which none of its partings stands, or that behind which so many
+-- Of a block's marks at most one is chosen: the first, after which none of its partings stands, or that after which so many
 -- of them stand.
 abbrev pub OneBranch : Type 0
 OneBranch = (truths : Truths) (block : Block) (k n : ℕ) → ElseIsLast (block.first ∷ block.partings) → k ≤ length block.partings → n ≤ length block.partings → is_last_chosen truths block.first (take k block.partings) ≡ true → is_last_chosen truths block.first (take n block.partings) ≡ true → k ≡ n
 
--- Behind a branch that was taken none is: the next mark is not chosen.
-abbrev pub NoneBehindTaken : Type 0
-NoneBehindTaken = (truths : Truths) (block : Block) (mark : BlockLine) → ElseIsLast (block.first ∷ (block.partings ++ (mark ∷ []))) → has_taken_branch truths block ≡ true → is_last_chosen truths block.first (block.partings ++ (mark ∷ [])) ≡ false
+-- After a branch that was taken none is: the next mark is not chosen.
+abbrev pub NoneAfterTaken : Type 0
+NoneAfterTaken = (truths : Truths) (block : Block) (mark : BlockLine) → ElseIsLast (block.first ∷ (block.partings ++ (mark ∷ []))) → has_taken_branch truths block ≡ true → is_last_chosen truths block.first (block.partings ++ (mark ∷ [])) ≡ false
 
 -- The act gives no token, defines nothing and numbers no line, and leaves the definitions and what is added to a line.
 pub record GivesNothing (r : SourceReader) (a : Acted) : Type 0 where

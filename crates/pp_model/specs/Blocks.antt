@@ -42,16 +42,16 @@ abbrev pub closes_block : Part → ℕ → Bool
 closes_block part.Closes inner = inner == 0
 closes_block _ inner = false
 
--- the inner blocks that are open behind the line
-abbrev pub inner_behind : Part → ℕ → ℕ
-inner_behind part.Opens inner = inner + 1
-inner_behind part.Closes inner = inner - 1
-inner_behind _ inner = inner
+-- the inner blocks that are open after the line
+abbrev pub inner_after : Part → ℕ → ℕ
+inner_after part.Opens inner = inner + 1
+inner_after part.Closes inner = inner - 1
+inner_after _ inner = inner
 
--- the block is still open behind these lines
+-- the block is still open after these lines
 abbrev pub stays_open : ℕ → List BlockLine → Bool
 stays_open inner [] = true
-stays_open inner (line ∷ later) = not (closes_block line.part inner) && stays_open (inner_behind line.part inner) later
+stays_open inner (line ∷ later) = not (closes_block line.part inner) && stays_open (inner_after line.part inner) later
 
 abbrev pub opens : Part → Bool
 opens part.Opens = true
@@ -70,15 +70,15 @@ parts_block _ inner = false
 abbrev pub parting : ℕ → List BlockLine → List BlockLine
 parting inner [] = []
 parting inner (line ∷ later) =
-    if parts_block line.part inner then line ∷ parting (inner_behind line.part inner) later
-    else parting (inner_behind line.part inner) later
+    if parts_block line.part inner then line ∷ parting (inner_after line.part inner) later
+    else parting (inner_after line.part inner) later
 
 -- A block that is open: its first line, and the lines that part it so far. All of these are its branch marks.
 pub record Block : Type 0 where
   pub first : BlockLine
   pub partings : List BlockLine
 
--- the blocks that are open behind these lines, the outermost first
+-- the blocks that are open after these lines, the outermost first
 abbrev pub open_blocks : List BlockLine → List Block
 open_blocks [] = []
 open_blocks (line ∷ later) =

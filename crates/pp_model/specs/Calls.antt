@@ -29,7 +29,7 @@ abbrev pub is_comma : TokenValue → Bool
 is_comma (Punct Comma) = true
 is_comma _ = false
 
--- where a token stands among the parentheses of a call: it closes the call, so many inner ones are open behind it, or it
+-- where a token stands among the parentheses of a call: it closes the call, so many inner ones are open after it, or it
 -- opens one too many
 pub data Nesting : Type 0 where
   closes : Nesting
@@ -68,8 +68,8 @@ pub record Pieces : Type 0 where
   pub first : List Token
   pub others : List (List Token)
 
-abbrev pub nesting_behind : ℕ → TokenValue → ℕ
-nesting_behind n value = if is_left_paren value then n + 1 else if is_right_paren value then n - 1 else n
+abbrev pub nesting_after : ℕ → TokenValue → ℕ
+nesting_after n value = if is_left_paren value then n + 1 else if is_right_paren value then n - 1 else n
 
 abbrev pub cut_before : Bool → Token → Pieces → Pieces
 cut_before true token pieces = record { first = []; others = pieces.first ∷ pieces.others }
@@ -77,7 +77,7 @@ cut_before false token pieces = record pieces { first = token ∷ pieces.first }
 
 abbrev pub pieces : ℕ → List Token → Pieces
 pieces n [] = record { first = []; others = [] }
-pieces n (token ∷ tokens) = cut_before (is_comma token.value && (n == 0)) token (pieces (nesting_behind n token.value) tokens)
+pieces n (token ∷ tokens) = cut_before (is_comma token.value && (n == 0)) token (pieces (nesting_after n token.value) tokens)
 
 -- a call's arguments: `()` has one, which is empty
 abbrev pub arguments_of : List Token → List (List Token)
@@ -109,7 +109,7 @@ site_of I expander paren tokens = record { paren = paren; arguments = arguments_
 abbrev pub Answers : Type 1
 Answers = Definition → Site → Result (List (List Token)) Fault → Type 0
 
--- what stands behind the name of a function-like macro: no call, but what was found there; or a call, with the line of its
+-- what stands after the name of a function-like macro: no call, but what was found there; or a call, with the line of its
 -- `)`; or the fault of a call
 pub data Called : Type 0 where
   no_call : Outcome → Called

@@ -9,13 +9,13 @@ use Rattle.pp_model.specs.Names.{Name, is_in}
 use Rattle.pp_model.specs.Definitions.{Definition, object_like}
 use Rattle.pp_model.specs.Calls.{Fault}
 use Rattle.pp_model.specs.Conversions.{opens_parameters, closes_parameters, parts_parameters, identifier_of, refused_token}
-use Rattle.pp_model.specs.Lines.{◌>>=◌, line_tokens, first_name, behind_first_token}
+use Rattle.pp_model.specs.Lines.{◌>>=◌, line_tokens, first_name, after_first_token}
 use Rattle.pp_model.specs.declared.definition.Named.{Named}
 
--- the parameters of a macro, and the items behind their `)`
+-- the parameters of a macro, and the items after their `)`
 pub record Parameters : Type 0 where
   pub names : List Name
-  pub behind : List Seen
+  pub after : List Seen
 
 abbrev pub new_parameter : List Name → Location → Name → Result (List Name) Fault
 new_parameter names location name = if is_in name names then Err (DuplicateParameter, location) else Ok (names ++ name ∷ [])
@@ -26,44 +26,44 @@ parameter_here names token (Some name) = new_parameter names token.location name
 parameter_here names token None = Err (refused_token token)
 
 abbrev mutual
-  -- behind a parameter stands `)`, or a comma and one more
-  pub behind_parameter : Location → List Name → List Seen → Result Parameters Fault
-  behind_parameter word names [] = Err (UnexpectedEndOfInput, word)
-  behind_parameter word names (s ∷ rest) = s.item >>= λ token.
-      if closes_parameters token.value then Ok (record { names = names; behind = rest })
-      else if parts_parameters token.value then behind_comma word names rest
+  -- after a parameter stands `)`, or a comma and one more
+  pub after_parameter : Location → List Name → List Seen → Result Parameters Fault
+  after_parameter word names [] = Err (UnexpectedEndOfInput, word)
+  after_parameter word names (s ∷ rest) = s.item >>= λ token.
+      if closes_parameters token.value then Ok (record { names = names; after = rest })
+      else if parts_parameters token.value then after_comma word names rest
       else Err (refused_token token)
 
-  -- behind a comma stands a parameter
-  pub behind_comma : Location → List Name → List Seen → Result Parameters Fault
-  behind_comma word names [] = Err (UnexpectedEndOfInput, word)
-  behind_comma word names (s ∷ rest) = s.item >>= λ token.
-      parameter_here names token (identifier_of token.value) >>= λ more. behind_parameter word more rest
+  -- after a comma stands a parameter
+  pub after_comma : Location → List Name → List Seen → Result Parameters Fault
+  after_comma word names [] = Err (UnexpectedEndOfInput, word)
+  after_comma word names (s ∷ rest) = s.item >>= λ token.
+      parameter_here names token (identifier_of token.value) >>= λ more. after_parameter word more rest
 
--- behind the `(` stands `)`, or a first parameter
+-- after the `(` stands `)`, or a first parameter
 abbrev pub parameters : Location → List Seen → Result Parameters Fault
 parameters word [] = Err (UnexpectedEndOfInput, word)
 parameters word (s ∷ rest) = s.item >>= λ token.
-    if closes_parameters token.value then Ok (record { names = []; behind = rest })
-    else (parameter_here [] token (identifier_of token.value) >>= λ names. behind_parameter word names rest)
+    if closes_parameters token.value then Ok (record { names = []; after = rest })
+    else (parameter_here [] token (identifier_of token.value) >>= λ names. after_parameter word names rest)
 
 abbrev pub is_attached_paren : Lexeme → Bool
 is_attached_paren (Ok token) = opens_parameters token.value && not token.leading_whitespace
 is_attached_paren (Err fault) = false
 
--- a `(` stands directly behind the name
+-- a `(` stands directly after the name
 abbrev pub has_parameters : List Seen → Bool
 has_parameters [] = false
 has_parameters (s ∷ rest) = is_attached_paren s.item
 
--- the definition behind the name
+-- the definition after the name
 abbrev pub definition_at : Location → List Seen → Result Definition Fault
 definition_at word rest =
     if has_parameters rest
-    then (parameters word (behind_first_token rest) >>= λ list. line_tokens list.behind >>= λ body. Ok (record { function_like = true; parameters = list.names; body = body }))
+    then (parameters word (after_first_token rest) >>= λ list. line_tokens list.after >>= λ body. Ok (record { function_like = true; parameters = list.names; body = body }))
     else (line_tokens rest >>= λ body. Ok (object_like body))
 
 -- what the line defines, or its first fault
 abbrev pub defined_on : Location → List Seen → Result Named Fault
 defined_on word rest =
-    first_name word rest >>= λ first. definition_at word (behind_first_token rest) >>= λ definition. Ok (record { name = first.name; location = first.location; definition = definition })
+    first_name word rest >>= λ first. definition_at word (after_first_token rest) >>= λ definition. Ok (record { name = first.name; location = first.location; definition = definition })

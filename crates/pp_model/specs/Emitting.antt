@@ -25,7 +25,7 @@ pub data Emits {R : Type 0} (I : Reading R) (A : Answers) : Expander R → Outco
   itself : (o : Outcome) (e f : Expander R) → Takes I e o f → opening I f o ≡ None → Emits I A e o f
   -- an object-like macro is replaced
   object : (x o : Outcome) (m : Opening) (e f h : Expander R) → Takes I e x f → opening I f x ≡ Some m → m.definition.function_like ≡ false → Emits I A (opened m m.token.location.line [] f) o h → Emits I A e o h
-  -- the name of a function-like macro without a call is the item; what was found behind it comes next
+  -- the name of a function-like macro without a call is the item; what was found after it comes next
   name_alone : (x y o : Outcome) (m : Opening) (e f g h : Expander R) → Takes I e x f → opening I f x ≡ Some m → m.definition.function_like ≡ true → Calls I A m.definition f (no_call y) g → o ≡ x → h ≡ holding y g → Emits I A e o h
   -- the fault of a call is the item
   call_refused : (x o : Outcome) (fault : Fault) (m : Opening) (e f g : Expander R) → Takes I e x f → opening I f x ≡ Some m → m.definition.function_like ≡ true → Calls I A m.definition f (refused fault) g → o ≡ outcome.Fault fault → Emits I A e o g

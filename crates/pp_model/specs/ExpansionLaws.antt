@@ -12,7 +12,7 @@ use Rattle.pp_model.specs.LineWords.{Operand, Words, LineWords}
 use Rattle.pp_model.specs.declared.outcome.Outcome.{Outcome}
 use Rattle.pp_model.specs.declared.word.LineKind.{LineKind}
 
--- A reader gives one outcome, and one reader is behind it.
+-- A reader gives one outcome, and one reader is after it.
 abbrev pub OneReads : {R : Type 0} → Reading R → Type 0
 OneReads {R} I = (r : R) (x y : Outcome) (s t : R) → I.Reads r x s → I.Reads r y t → (x ≡ y) × (s ≡ t)
 
@@ -28,7 +28,7 @@ OneGathering {R} I = (n : ℕ) (last : Location) (x y : Result Gathered Fault) (
 abbrev pub OneAnswer : Answers → Type 0
 OneAnswer A = (definition : Definition) (site : Site) (x y : Result (List (List Token)) Fault) → A definition site x → A definition site y → x ≡ y
 
--- Behind the name of a function-like macro stands one call, or none.
+-- After the name of a function-like macro stands one call, or none.
 abbrev pub OneCall : {R : Type 0} → Reading R → Answers → Type 0
 OneCall {R} I A = (definition : Definition) (x y : Called) (e f g : Expander R) → Calls I A definition e x f → Calls I A definition e y g → (x ≡ y) × (f ≡ g)
 

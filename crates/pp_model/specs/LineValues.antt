@@ -75,7 +75,7 @@ told directive words kind.Operand left = unwrap_or (option_map (fault_of_operand
 abbrev pub told_fault : Location → Words → Found → Fault
 told_fault directive words found = told directive words found.kind found.left
 
--- nothing may stand behind the last expression of a line
+-- nothing may stand after the last expression of a line
 abbrev pub unless_followed : {A : Type 0} → A → Option Word → Result A Fault
 unless_followed result None = Ok result
 unless_followed result (Some word) = Err (unwanted_word word)
@@ -98,11 +98,11 @@ abbrev pub as_line_number : ℤ → Option ℕ
 as_line_number (pos n) = if nat_lt n (2 ^ 32) then Some n else None
 as_line_number (negsuc n) = None
 
--- the words behind an expression
-abbrev pub words_behind : ℕ → Words → Words
-words_behind left words = record words { words = drop (length words.words - left) words.words }
+-- the words after an expression
+abbrev pub words_after : ℕ → Words → Words
+words_after left words = record words { words = drop (length words.words - left) words.words }
 
--- a second expression behind the line number, which is only read
+-- a second expression after the line number, which is only read
 pub record IsFollowed (directive : Location) (words : Words) (n : ℕ) (result : Result ℕ Fault) : Type 0 where
   pub second : Result Value Found
   pub evaluated : Evaluates (line_of words) second
@@ -113,7 +113,7 @@ pub data Numbers (directive : Location) (words : Words) : Result ℕ Fault → T
   faulty : (found : Found) (result : Result ℕ Fault) → Evaluates (line_of words) (Err found) → result ≡ Err (told_fault directive words found) → Numbers directive words result
   out_of_range : (v : Value) (result : Result ℕ Fault) → Evaluates (line_of words) (Ok v) → as_line_number v.value ≡ None → result ≡ Err (LineOverflow, directive) → Numbers directive words result
   alone : (v : Value) (n : ℕ) (result : Result ℕ Fault) → Evaluates (line_of words) (Ok v) → as_line_number v.value ≡ Some n → v.left ≡ 0 → result ≡ Ok n → Numbers directive words result
-  with_source : (v : Value) (n : ℕ) (result : Result ℕ Fault) → Evaluates (line_of words) (Ok v) → as_line_number v.value ≡ Some n → v.left ≢ 0 → IsFollowed directive (words_behind v.left words) n result → Numbers directive words result
+  with_source : (v : Value) (n : ℕ) (result : Result ℕ Fault) → Evaluates (line_of words) (Ok v) → as_line_number v.value ≡ Some n → v.left ≢ 0 → IsFollowed directive (words_after v.left words) n result → Numbers directive words result
 
 -- the line number that a `#line` gives
 pub record IsLineNumber (A : Answers) (directive : Location) (tokens : List Token) (definitions : Definitions) (result : Result ℕ Fault) : Type 0 where

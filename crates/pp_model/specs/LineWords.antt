@@ -95,7 +95,7 @@ pub record Words : Type 0 where
 abbrev pub word_before : Word → Words → Words
 word_before w rest = record rest { words = w ∷ rest.words }
 
--- The words that the rest of a line comes to. Behind a `defined` at fault nothing is read.
+-- The words that the rest of a line comes to. After a `defined` at fault nothing is read.
 pub data LineWords (kind : LineKind) (directive : Location) (A : Answers) : Expander Listed → Words → Type 0 where
   ended : (e f : Expander Listed) (ws : Words) → Emits line_reading A e outcome.End f → ws ≡ record { words = []; ending = None } → LineWords kind directive A e ws
   failed : (f : Fault) (e g : Expander Listed) (ws : Words) → Emits line_reading A e (outcome.Fault f) g → ws ≡ record { words = []; ending = Some f } → LineWords kind directive A e ws

@@ -1,4 +1,4 @@
--- The rest of a directive's line: the items behind its word, up to the line's NewLine (docs/RULES.md, Directives 3 to 7, 9, 10, 13 and 14).
+-- The rest of a directive's line: the items after its word, up to the line's NewLine (docs/RULES.md, Directives 3 to 7, 9, 10, 13 and 14).
 -- The items of a text always have that NewLine. Where a list ends without it, the line ends there too; a token that is wanted there is refused at the word.
 use Rattle.std.specs.Prelude.{ℕ, ◌+◌, Bool, false, if◌then◌else◌, List, [], ◌∷◌, Option, Some, None, Result, Ok, Err}
 use Rattle.pp_lexer.specs.Lexed.{Seen}
@@ -56,9 +56,9 @@ abbrev pub first_token : Location → List Seen → Result LexerToken Fault
 first_token word [] = Err (UnexpectedEndOfInput, word)
 first_token word (s ∷ rest) = s.item
 
-abbrev pub behind_first_token : List Seen → List Seen
-behind_first_token [] = []
-behind_first_token (s ∷ rest) = rest
+abbrev pub after_first_token : List Seen → List Seen
+after_first_token [] = []
+after_first_token (s ∷ rest) = rest
 
 abbrev pub name_or_refused : LexerToken → Option Name → Result Placed Fault
 name_or_refused token (Some name) = Ok (record { name = name; location = token.location })
@@ -77,4 +77,4 @@ ended_line word rest = first_token word rest >>= newline_or_refused
 
 -- a name alone on the line
 abbrev pub only_name : Location → List Seen → Result Name Fault
-only_name word rest = first_name word rest >>= λ first. ended_line word (behind_first_token rest) >>= λ end. Ok first.name
+only_name word rest = first_name word rest >>= λ first. ended_line word (after_first_token rest) >>= λ end. Ok first.name

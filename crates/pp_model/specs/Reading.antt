@@ -1,4 +1,4 @@
--- Expanders, and what they ask of the reader behind their list (docs/RULES.md, Expansion 1, 3 and 8).
+-- Expanders, and what they ask of the reader after their list (docs/RULES.md, Expansion 1, 3 and 8).
 use Rattle.std.specs.Prelude.{◌≡◌, ℕ, Bool, false, List, [], ◌∷◌, ◌++◌, ◌||◌, if◌then◌else◌, Option, Some, None}
 use Rattle.pp_lexer.specs.declared.token.Token.{Token}
 use Rattle.pp_lexer.specs.declared.token.TokenValue.{TokenValue}
@@ -18,7 +18,7 @@ pub record Reading (R : Type 0) : Type 1 where
   pub shown_line : R → ℕ → Option ℕ
   pub is_reserved : Name → Bool
 
--- An expander: an outcome that was found too early and is held, the list, the reader behind it, and the names that are open
+-- An expander: an outcome that was found too early and is held, the list, the reader after it, and the names that are open
 -- in the expanders around it.
 pub record Expander (R : Type 0) : Type 0 where
   pub held : Option Outcome
@@ -61,13 +61,13 @@ abbrev pub first_listed : List Token → Outcome
 first_listed [] = outcome.End
 first_listed (token ∷ tokens) = outcome.Token token
 
-abbrev pub behind_listed : List Token → List Token
-behind_listed [] = []
-behind_listed (token ∷ tokens) = tokens
+abbrev pub after_listed : List Token → List Token
+after_listed [] = []
+after_listed (token ∷ tokens) = tokens
 
 -- its tokens in order, and then the end
 abbrev pub ReadsListed : Listed → Outcome → Listed → Type 0
-ReadsListed old given new = (given ≡ first_listed old.tokens) × (new ≡ record old { tokens = behind_listed old.tokens })
+ReadsListed old given new = (given ≡ first_listed old.tokens) × (new ≡ record old { tokens = after_listed old.tokens })
 
 -- an argument of a call, read alone
 abbrev pub argument_reading : Reading Listed

@@ -8,7 +8,7 @@ use Rattle.pp_model.specs.Reading.{Reading}
 use Rattle.pp_model.specs.Calls.{Fault, Answers}
 use Rattle.pp_model.specs.LineValues.{IsCondition, IsLineNumber, as_line_number}
 use Rattle.pp_model.specs.SourceReader.{SourceReader}
-use Rattle.pp_model.specs.Acts.{act, behind_line, decided}
+use Rattle.pp_model.specs.Acts.{act, after_line, decided}
 use Rattle.pp_model.specs.declared.definition.Named.{Named}
 use Rattle.pp_model.specs.declared.outcome.Outcome.{Outcome}
 use Rattle.pp_model.specs.declared.outcome.Outcome.TheVariants as outcome
@@ -18,11 +18,11 @@ use Rattle.pp_model.specs.declared.step.Step.TheVariants as step
 abbrev pub shown_line : SourceReader → ℕ → Option ℕ
 shown_line reader line = as_line_number (pos line +ℤ reader.line_offset)
 
--- the reader behind a `#line` of this number whose word stands here
+-- the reader after a `#line` of this number whose word stands here
 abbrev pub renumbered : SourceReader → Location → ℕ → SourceReader
-renumbered reader word n = record (behind_line reader) { line_offset = pos n -ℤ pos word.line }
+renumbered reader word n = record (after_line reader) { line_offset = pos n -ℤ pos word.line }
 
--- the reader behind a `#define` of a name that was not defined
+-- the reader after a `#define` of a name that was not defined
 abbrev pub defining : Named → SourceReader → SourceReader
 defining named reader = record reader { definitions = changed reader.definitions named.name (Some named.definition) }
 

@@ -71,7 +71,7 @@ abbrev pub ends_run : Reply → Bool
 ends_run (reply.Given (outcome.Fault fault)) = true
 ends_run _ = false
 
--- what comes next in a state, and the state behind it
+-- what comes next in a state, and the state after it
 abbrev pub Comings : Type 1
 Comings = Expander SourceReader → Outcome → Expander SourceReader → Type 0
 
@@ -79,7 +79,7 @@ Comings = Expander SourceReader → Outcome → Expander SourceReader → Type 0
 abbrev pub by_rules : Answers → Comings
 by_rules A = Emits (source_reading A) A
 
--- What the calls answer, where this comes next, up to and with the first error item: behind that nothing is said.
+-- What the calls answer, where this comes next, up to and with the first error item: after that nothing is said.
 pub data Runs (C : Comings) : Expander SourceReader → List Call → List Reply → Type 0 where
   done : (e : Expander SourceReader) (replies : List Reply) → replies ≡ [] → Runs C e [] replies
   added : (name content : List ℕ) (tokens : List Token) (e : Expander SourceReader) (calls : List Call) (rest replies : List Reply) → content_tokens (items_of content) ≡ Ok tokens → Runs C (with_added (chars name) tokens e) calls rest → replies ≡ reply.Added ∷ rest → Runs C e (add_define name content ∷ calls) replies

@@ -1,4 +1,4 @@
--- Calls one after another, each in the state behind the one before: together they are a run.
+-- Calls one after another, each in the state after the one before: together they are a run.
 use Rattle.std.specs.Prelude.{◌≡◌, ℕ, false, List, [], ◌∷◌, ◌++◌, Ok, Err}
 use Rattle.std.specs.Str.{chars}
 use Rattle.pp_lexer.specs.Lexed.{Seen}
@@ -14,7 +14,7 @@ use Rattle.pp_model.specs.declared.call.Reply.TheVariants as reply
 use Rattle.pp_model.specs.declared.outcome.Outcome.{Outcome}
 use Rattle.pp_model.specs.declared.outcome.Outcome.TheVariants as outcome
 
--- one call in a state, what it answers, and the state behind it; of the state behind an error item nothing is said
+-- one call in a state, what it answers, and the state after it; of the state after an error item nothing is said
 pub data AnswersIn (C : Comings) : Expander SourceReader → Call → Reply → Expander SourceReader → Type 0 where
   adds : (name content : List ℕ) (tokens : List Token) (call : Call) (answer : Reply) (e f : Expander SourceReader) → content_tokens (items_of content) ≡ Ok tokens → call ≡ add_define name content → answer ≡ reply.Added → f ≡ with_added (chars name) tokens e → AnswersIn C e call answer f
   refuses : (name content : List ℕ) (fault : Fault) (call : Call) (answer : Reply) (e f : Expander SourceReader) → content_tokens (items_of content) ≡ Err fault → call ≡ add_define name content → answer ≡ reply.Refused fault → f ≡ e → AnswersIn C e call answer f
@@ -25,7 +25,7 @@ pub data Chain (C : Comings) : Expander SourceReader → List Call → List Repl
   none : (e f : Expander SourceReader) (calls : List Call) (replies : List Reply) → calls ≡ [] → replies ≡ [] → f ≡ e → Chain C e calls replies f
   one_more : (e f g : Expander SourceReader) (before calls : List Call) (call : Call) (answered replies : List Reply) (answer : Reply) → Chain C e before answered f → AnswersIn C f call answer g → calls ≡ before ++ call ∷ [] → replies ≡ answered ++ answer ∷ [] → Chain C e calls replies g
 
--- Calls that follow one another from the start of a source are a run, and so they are with an error item that comes behind them.
+-- Calls that follow one another from the start of a source are a run, and so they are with an error item that comes after them.
 pub record ChainsAreRuns (A : Answers) : Type 0 where
   pub whole : (source : List Seen) (calls : List Call) (replies : List Reply) (f : Expander SourceReader) → Chain (by_rules A) (start source) calls replies f → Runs (by_rules A) (start source) calls replies
   pub to_error : (source : List Seen) (calls : List Call) (replies : List Reply) (f g : Expander SourceReader) (fault : Fault) → Chain (by_rules A) (start source) calls replies f → Emits (source_reading A) A f (outcome.Fault fault) g

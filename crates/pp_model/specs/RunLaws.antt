@@ -38,7 +38,7 @@ OneNumber = (directive : Location) (words : Words) (x y : Result ℕ Fault) → 
 abbrev pub OneLineNumber : Answers → Type 0
 OneLineNumber A = (directive : Location) (tokens : List Token) (definitions : Definitions) (x y : Result ℕ Fault) → IsLineNumber A directive tokens definitions x → IsLineNumber A directive tokens definitions y → x ≡ y
 
--- One token or line of a source gives one outcome, or nothing, and one reader is behind it.
+-- One token or line of a source gives one outcome, or nothing, and one reader is after it.
 abbrev pub OneStep : Answers → Type 0
 OneStep A = (r : SourceReader) (x y : Option Outcome) (s t : SourceReader) → Steps A r x s → Steps A r y t → (x ≡ y) × (s ≡ t)
 

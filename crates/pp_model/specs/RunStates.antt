@@ -17,7 +17,7 @@ use Rattle.pp_model.specs.declared.call.Reply.TheVariants as reply
 use Rattle.pp_model.specs.declared.outcome.Outcome.{Outcome}
 use Rattle.pp_model.specs.declared.outcome.Outcome.TheVariants as outcome
 
--- Definitions that are added, and items that are given, lead from one state to another; error items too, behind which a run
+-- Definitions that are added, and items that are given, lead from one state to another; error items too, after which a run
 -- says nothing more.
 pub data LeadsTo (A : Answers) : Expander SourceReader → Expander SourceReader → Type 0 where
   nowhere : (e f : Expander SourceReader) → f ≡ e → LeadsTo A e f
@@ -42,7 +42,7 @@ gives_line_name reply.Added = false
 abbrev pub RunShowsNoLineName : Answers → Type 0
 RunShowsNoLineName A = (source : List Seen) (calls : List Call) (replies : List Reply) → Runs (by_rules A) (start source) calls replies → All (λ given. gives_line_name given ≡ false) replies
 
--- Behind an end that was given nothing is left, whatever is added.
+-- After an end that was given nothing is left, whatever is added.
 abbrev pub EndStays : Answers → Type 0
 EndStays A = (source : List Seen) (o : Outcome) (e f g h : Expander SourceReader) → IsReached A source e → Emits (source_reading A) A e outcome.End f → LeadsTo A f g → Emits (source_reading A) A g o h → o ≡ outcome.End
 
@@ -54,6 +54,6 @@ gives_item (reply.Given outcome.End) = false
 gives_item (reply.Refused fault) = false
 gives_item reply.Added = false
 
--- Behind the end, wherever it stands among the replies of a run, no reply is an item.
+-- After the end, wherever it stands among the replies of a run, no reply is an item.
 abbrev pub RunEndsForGood : Answers → Type 0
 RunEndsForGood A = (source : List Seen) (calls : List Call) (former later : List Reply) → Runs (by_rules A) (start source) calls (former ++ (reply.Given outcome.End ∷ later)) → All (λ given. gives_item given ≡ false) later

@@ -40,7 +40,7 @@ abbrev pub named_directive : LexerToken → Option Name → Sight
 named_directive token (Some name) = sight.Directive (directive_of name) token.location
 named_directive token None = sight.NoWord (refused_token token)
 
--- what stands behind the number sign of a directive
+-- what stands after the number sign of a directive
 abbrev pub directive_sight : Result LexerToken Fault → Sight
 directive_sight (Ok token) = named_directive token (identifier_of token.value)
 directive_sight (Err fault) = sight.Fault fault

@@ -9,10 +9,10 @@ use Rattle.pp_model.specs.declared.splice.Entry.{Entry}
 use Rattle.pp_model.specs.declared.splice.Entry.TheVariants.{Plain, End}
 
 -- the list without the end marks at its front
-abbrev pub behind_marks : List Entry → List Entry
-behind_marks [] = []
-behind_marks (End mark ∷ entries) = behind_marks entries
-behind_marks (Plain token ∷ entries) = Plain token ∷ entries
+abbrev pub after_marks : List Entry → List Entry
+after_marks [] = []
+after_marks (End mark ∷ entries) = after_marks entries
+after_marks (Plain token ∷ entries) = Plain token ∷ entries
 
 -- the names whose end marks lie in the list: these macros are open
 abbrev pub open_names : List Entry → List Name

@@ -5,7 +5,7 @@ use Rattle.pp_lexer.specs.declared.token.PreprocessorError.TheVariants.{LineOver
 use Rattle.pp_lexer.specs.declared.token.Token.{Token}
 use Rattle.pp_lexer.specs.declared.token.TokenValue.TheVariants.{Integer}
 use Rattle.pp_model.specs.Names.{is_identifier, line_name}
-use Rattle.pp_model.specs.SpliceList.{behind_marks, outermost_line}
+use Rattle.pp_model.specs.SpliceList.{after_marks, outermost_line}
 use Rattle.pp_model.specs.Reading.{Reading, Expander}
 use Rattle.pp_model.specs.declared.outcome.Outcome.{Outcome}
 use Rattle.pp_model.specs.declared.outcome.Outcome.TheVariants as outcome
@@ -19,9 +19,9 @@ line_number location None = outcome.Fault (LineOverflow, location)
 
 -- `__LINE__` becomes a number at once: from the line of the outermost open macro, or else from its own
 abbrev pub taken_token : (ℕ → Option ℕ) → List Entry → Token → Outcome
-taken_token shown_line behind token =
+taken_token shown_line after token =
     if is_identifier line_name token.value
-    then line_number token.location (shown_line (unwrap_or (outermost_line behind) token.location.line))
+    then line_number token.location (shown_line (unwrap_or (outermost_line after) token.location.line))
     else outcome.Token token
 
 -- what the reader gives, with `__LINE__` as a number
@@ -33,7 +33,7 @@ read_outcome shown_line outcome.End = outcome.End
 pub data Takes {R : Type 0} (I : Reading R) : Expander R → Outcome → Expander R → Type 0 where
   -- what was held
   held : (o : Outcome) (e f : Expander R) → e.held ≡ Some o → f ≡ record e { held = None } → Takes I e o f
-  -- the first token behind the end marks at the list's front
-  listed : (o : Outcome) (token : Token) (rest : List Entry) (e f : Expander R) → e.held ≡ None → behind_marks e.list ≡ Plain token ∷ rest → o ≡ taken_token (I.shown_line e.reader) rest token → f ≡ record e { list = rest } → Takes I e o f
+  -- the first token after the end marks at the list's front
+  listed : (o : Outcome) (token : Token) (rest : List Entry) (e f : Expander R) → e.held ≡ None → after_marks e.list ≡ Plain token ∷ rest → o ≡ taken_token (I.shown_line e.reader) rest token → f ≡ record e { list = rest } → Takes I e o f
   -- what the reader gives, where the list holds no token
-  read : (x o : Outcome) (reader : R) (e f : Expander R) → e.held ≡ None → behind_marks e.list ≡ [] → I.Reads e.reader x reader → o ≡ read_outcome (I.shown_line reader) x → f ≡ record e { list = []; reader = reader } → Takes I e o f
+  read : (x o : Outcome) (reader : R) (e f : Expander R) → e.held ≡ None → after_marks e.list ≡ [] → I.Reads e.reader x reader → o ≡ read_outcome (I.shown_line reader) x → f ≡ record e { list = []; reader = reader } → Takes I e o f

@@ -31,12 +31,12 @@ unwanted_read (Operator token) = unexpected token
 unwanted_read (Word word) = unexpected word
 unwanted_read (Refused fault) = fault
 
--- what a `defined` comes to behind its `(` and the name
+-- what a `defined` comes to after its `(` and the name
 pub data Closes (kind : LineKind) (directive : Location) (A : Answers) (n : Name) : Expander Listed → Result Bool Fault → Expander Listed → Type 0 where
   unclosed : (y : Outcome) (e f : Expander Listed) (r : Result Bool Fault) → Emits line_reading A e y f → is_close_paren y ≡ false → r ≡ Err (unwanted_word kind directive y) → Closes kind directive A n e r f
   closed : (y : Outcome) (e f : Expander Listed) (r : Result Bool Fault) → Emits line_reading A e y f → is_close_paren y ≡ true → r ≡ Ok (is_defined f n) → Closes kind directive A n e r f
 
--- what a `defined` comes to behind its `(`
+-- what a `defined` comes to after its `(`
 pub data Parenthesized (kind : LineKind) (directive : Location) (A : Answers) : Expander Listed → Result Bool Fault → Expander Listed → Type 0 where
   no_name : (x : Outcome) (e f : Expander Listed) (r : Result Bool Fault) → Takes line_reading e x f → name_in x ≡ None → r ≡ Err (unwanted directive x) → Parenthesized kind directive A e r f
   named : (x : Outcome) (n : Name) (e f g : Expander Listed) (r : Result Bool Fault) → Takes line_reading e x f → name_in x ≡ Some n → Closes kind directive A n f r g → Parenthesized kind directive A e r g

@@ -2,7 +2,7 @@
 //! states one, for every list of tokens or source and at every level. The bodies do nothing.
 
 ghost use Rattle.pp_model.specs.ApartMarks.{OnlyTakesEntries, OpensNew, KeepsMarksApart, StartsApart};
-ghost use Rattle.pp_model.specs.BlockLaws.{OneBranch, NoneBehindTaken, DeadTextGivesNothing};
+ghost use Rattle.pp_model.specs.BlockLaws.{OneBranch, NoneAfterTaken, DeadTextGivesNothing};
 ghost use Rattle.pp_model.specs.Emitting.{Alone, answers_at};
 ghost use Rattle.pp_model.specs.ExpansionLaws.{OneReads, OneTaking, OneGathering, OneCall, OneItem, OneArgument, OneOperand, OneLine};
 ghost use Rattle.pp_model.specs.NoLineName.{ShowsNoLineName, AloneShowsNoLineName};
@@ -32,7 +32,7 @@ pub fn one_gathering()
     ensures line { OneGathering line_reading }
 {}
 
-/// Behind the name of a function-like macro stands one call, or none.
+/// After the name of a function-like macro stands one call, or none.
 pub fn one_call()
     ensures argument { (level : ℕ) → OneCall argument_reading (answers_at level) }
     ensures line { (level : ℕ) → OneCall line_reading (answers_at level) }
@@ -62,7 +62,7 @@ pub fn entries_leave()
     ensures line { (level : ℕ) → OnlyTakesEntries line_reading (answers_at level) }
 {}
 
-/// A macro opens only where the list holds no mark of it. None is in what is left of the list behind a call.
+/// A macro opens only where the list holds no mark of it. None is in what is left of the list after a call.
 pub fn opens_once()
     ensures argument { OpensNew argument_reading }
     ensures line { OpensNew line_reading }
@@ -101,7 +101,7 @@ pub fn one_run()
     ensures run { OneRun }
 {}
 
-/// Calls that follow one another from the start of a source, each in the state behind the one before, are a run.
+/// Calls that follow one another from the start of a source, each in the state after the one before, are a run.
 pub fn chains()
     ensures { (level : ℕ) → ChainsAreRuns (answers_at level) }
 {}
@@ -116,16 +116,16 @@ pub fn run_no_line_name()
     ensures { (level : ℕ) → RunShowsNoLineName (answers_at level) }
 {}
 
-/// The end of a source is for good: behind it no item is given, whatever definitions are added.
+/// The end of a source is for good: after it no item is given, whatever definitions are added.
 pub fn run_end()
     ensures item { (level : ℕ) → EndStays (answers_at level) }
     ensures replies { (level : ℕ) → RunEndsForGood (answers_at level) }
 {}
 
-/// Of a block's branches at most one is live, and behind one that was taken none is.
+/// Of a block's branches at most one is live, and after one that was taken none is.
 pub fn live_branch()
     ensures one { OneBranch }
-    ensures none_behind { NoneBehindTaken }
+    ensures none_after { NoneAfterTaken }
 {}
 
 /// What stands in dead text comes to no token, no definition and no line number, and leaves the definitions as they are.

@@ -11,13 +11,13 @@ pub enum Sight {
     End,
     /// The end of a line.
     NewLine,
-    /// An error of the lexer, also behind the `#` of a directive.
+    /// An error of the lexer, also after the `#` of a directive.
     Fault(Fault),
     /// A token of the text.
     Token(Token),
     /// A `#` that is not the first on its line.
     Hash(Location),
-    /// The `#` of a directive, with no word behind it: this is what live text says of it.
+    /// The `#` of a directive, with no word after it: this is what live text says of it.
     NoWord(Fault),
     /// The `#` of a directive, with its word and where that stands.
     Directive(Directive, Location),

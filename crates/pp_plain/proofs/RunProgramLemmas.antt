@@ -22,12 +22,12 @@ refused_reply A name content body (halt.Fault fault) e r meets is told = by.refu
 refused_reply A name content body (halt.Stop stop) e r meets is told = absurd told
 
 pub added_reply : (A : Answers) (name content : List ℕ) (body : Result (List Token) Halt) (tokens : List Token) (e f : Expander SourceReader) → Meets body (content_tokens (items_of content)) → body ≡ Ok tokens → f ≡ run.with_added (chars name) tokens e → Replying A e (add_define name content) reply.Added f
-added_reply A name content body tokens e f meets is behind = by.added name content tokens e f reply.Added (subst (λ b. Meets b (content_tokens (items_of content))) is meets) refl behind
+added_reply A name content body tokens e f meets is after = by.added name content tokens e f reply.Added (subst (λ b. Meets b (content_tokens (items_of content))) is meets) refl after
 
 pub runs_none : (A : Answers) (e : Expander SourceReader) (calls : List Called) (replies : List Reply) → calls ≡ [] → replies ≡ [] → Runs (by_rules A) e (map call_of calls) replies
 runs_none A e calls replies none is = rw none (run.done e replies is)
 
--- the run goes on behind a reply that is no error item
+-- the run goes on after a reply that is no error item
 pub runs_more : (A : Answers) (e f : Expander SourceReader) (call : Call) (calls : List Call) (r : Reply) (rest : List Reply) → Replying A e call r f → ends_run r ≡ false → Runs (by_rules A) f calls rest → Runs (by_rules A) e (call ∷ calls) (r ∷ rest)
 runs_more A e f call calls r rest (by.added name content tokens e1 f1 r1 c p q) more later = run.added name content tokens e calls rest (r ∷ rest) c (rw q at later) (ap (λ (x : Reply). x ∷ rest) p)
 runs_more A e f call calls r rest (by.refused name content fault e1 f1 r1 c p q) more later = run.refused name content fault e calls rest (r ∷ rest) c (rw q at later) (ap (λ (x : Reply). x ∷ rest) p)
@@ -43,8 +43,8 @@ runs_over A e f call calls r (by.given (outcome.Fault fault) e1 f1 r1 emits p) o
 runs_over A e f call calls r (by.given (outcome.Token token) e1 f1 r1 emits p) over = let bad : false ≡ true = sym (ap ends_run p) ∙ over in cc
 runs_over A e f call calls r (by.given outcome.End e1 f1 r1 emits p) over = let bad : false ≡ true = sym (ap ends_run p) ∙ over in cc
 
-pub all_behind : (calls : List Called) (call : Called) (others : List Called) → calls ≡ call ∷ others → All HasRoom calls → All HasRoom others
-all_behind calls call others is all =
+pub all_after : (calls : List Called) (call : Called) (others : List Called) → calls ≡ call ∷ others → All HasRoom calls → All HasRoom others
+all_after calls call others is all =
     let there : All HasRoom (call ∷ others) = rw is at all in
     λ k d h. there (suc k) d (omega (arith, h))
 

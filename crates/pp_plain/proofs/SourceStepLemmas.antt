@@ -1,4 +1,4 @@
--- A step of a source, by what its act comes to and what is decided behind it.
+-- A step of a source, by what its act comes to and what is decided after it.
 use Rattle.std.proofs.Common.{◌≡◌, ◌∙◌, refl, ap, sym, ℕ, Bool, List, Option, Some, None, Result, Ok, Err, IfOk, inl, inr}
 use Rattle.pp_lexer.specs.declared.token.Location.{Location}
 use Rattle.pp_lexer.specs.declared.token.Token.{Token}

@@ -3,7 +3,7 @@ use Rattle.std.proofs.Common.{◌≡◌, ◌∷◌, [], List, ap, sym, ◌∙◌
 use Rattle.std.specs.Prelude.{Option, Some, None}
 use Rattle.pp_lexer.specs.declared.token.Token.{Token}
 use Rattle.pp_model.specs.Names.{Name}
-use Rattle.pp_model.specs.SpliceList.{behind_marks}
+use Rattle.pp_model.specs.SpliceList.{after_marks}
 use Rattle.pp_model.specs.Reading.{Reading, Expander}
 use Rattle.pp_model.specs.Taking.{Takes, held, listed, read, taken_token, read_outcome}
 use Rattle.pp_model.specs.declared.outcome.Outcome.{Outcome}
@@ -17,10 +17,10 @@ pub takes_held : {S : Type 0} (I : Reading S) (o : Outcome) (kept left : Option 
 takes_held I o kept left list reader hidden p q =
     held o (expander_at kept list reader hidden) (expander_at left list reader hidden) p (ap (λ h. expander_at h list reader hidden) q)
 
-pub takes_listed : {S : Type 0} (I : Reading S) (o : Outcome) (token : Token) (kept left : Option Outcome) (list rest : List Entry) (reader : S) (hidden : List Name) → kept ≡ None → left ≡ None → behind_marks list ≡ Plain token ∷ rest → o ≡ taken_token (I.shown_line reader) rest token → Takes I (expander_at kept list reader hidden) o (expander_at left rest reader hidden)
+pub takes_listed : {S : Type 0} (I : Reading S) (o : Outcome) (token : Token) (kept left : Option Outcome) (list rest : List Entry) (reader : S) (hidden : List Name) → kept ≡ None → left ≡ None → after_marks list ≡ Plain token ∷ rest → o ≡ taken_token (I.shown_line reader) rest token → Takes I (expander_at kept list reader hidden) o (expander_at left rest reader hidden)
 takes_listed I o token kept left list rest reader hidden p q m t =
     listed o token rest (expander_at kept list reader hidden) (expander_at left rest reader hidden) p m t (ap (λ h. expander_at h rest reader hidden) (q ∙ sym p))
 
-pub takes_read : {S : Type 0} (I : Reading S) (x o : Outcome) (kept left : Option Outcome) (list rest : List Entry) (reader behind : S) (hidden : List Name) → kept ≡ None → left ≡ None → behind_marks list ≡ [] → rest ≡ [] → I.Reads reader x behind → o ≡ read_outcome (I.shown_line behind) x → Takes I (expander_at kept list reader hidden) o (expander_at left rest behind hidden)
-takes_read I x o kept left list rest reader behind hidden p q m n r t =
-    read x o behind (expander_at kept list reader hidden) (expander_at left rest behind hidden) p m r t (ap (λ h. expander_at h rest behind hidden) (q ∙ sym p) ∙ ap (λ l. expander_at kept l behind hidden) n)
+pub takes_read : {S : Type 0} (I : Reading S) (x o : Outcome) (kept left : Option Outcome) (list rest : List Entry) (reader after : S) (hidden : List Name) → kept ≡ None → left ≡ None → after_marks list ≡ [] → rest ≡ [] → I.Reads reader x after → o ≡ read_outcome (I.shown_line after) x → Takes I (expander_at kept list reader hidden) o (expander_at left rest after hidden)
+takes_read I x o kept left list rest reader after hidden p q m n r t =
+    read x o after (expander_at kept list reader hidden) (expander_at left rest after hidden) p m r t (ap (λ h. expander_at h rest after hidden) (q ∙ sym p) ∙ ap (λ l. expander_at kept l after hidden) n)

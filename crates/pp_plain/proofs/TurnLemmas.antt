@@ -35,7 +35,7 @@ Means I A e (Item o) f = Emits I A e o f
 Means {S} I A e Replaced f = (o : Outcome) (q : Expander S) → Emits I A f o q → Emits I A e o q
 Means I A e (Called call) f = Goes I A e call f
 
--- a name without a call behind it
+-- a name without a call after it
 pub no_call : {S : Type 0} (I : Reading S) (A : Answers) (x : Outcome) (m : Opening) (e f g : Expander S) (p : Option Location) → Takes I e x f → opening I f x ≡ Some m → m.definition.function_like ≡ true → TakesParen I f p g → p ≡ None → Emits I A e x g
 no_call I A x m e f g p t w k (none o _ _ u _ takes at is keeps) n =
     emitting.name_alone x o x m e f u g t w k (calls.alone o f u _ takes at refl) refl keeps

@@ -18,7 +18,7 @@ use Rattle.pp_model.specs.declared.step.Step.TheVariants as step
 use Rattle.pp_plain.specs.declared.stop.Halt.{Halt}
 use Rattle.pp_plain.specs.declared.stop.Halt.TheVariants as halt
 
--- a step and the reader behind it are those wanted, or the fault is, which leaves the reader where it is
+-- a step and the reader after it are those wanted, or the fault is, which leaves the reader where it is
 abbrev pub ActsAs : Result Step Halt → Acted → SourceReader → Type 0
 ActsAs (Ok step) wanted after = wanted ≡ record { step = step; after = after }
 ActsAs (Err (halt.Fault fault)) wanted after = wanted ≡ failed fault after
@@ -34,7 +34,7 @@ abbrev pub HasLineIfOk : Result Step Halt → ReaderState → Type 0
 HasLineIfOk (Ok step) state = HasLine step state
 HasLineIfOk (Err h) state = ⊤
 
--- what a `#define` of a name comes to behind its line, where the name stood for this
+-- what a `#define` of a name comes to after its line, where the name stood for this
 abbrev pub Defining : Named → Option Definition → SourceReader → Option Outcome → SourceReader → Type 0
 Defining named None r o t = (o ≡ None) × (t ≡ defining named r)
 Defining named (Some old) r o t =

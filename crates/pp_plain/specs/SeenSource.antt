@@ -31,7 +31,7 @@ abbrev pub is_refused : Lexeme → Bool
 is_refused (Ok token) = false
 is_refused (Err fault) = is_out_of_memory fault.0
 
--- what one call answers, and the state behind it
+-- what one call answers, and the state after it
 pub data Replying (A : Answers) : Expander SourceReader → Call → Reply → Expander SourceReader → Type 0 where
   added : (name content : List ℕ) (tokens : List Token) (e f : Expander SourceReader) (r : Reply) → content_tokens (items_of content) ≡ Ok tokens → r ≡ reply.Added → f ≡ with_added (chars name) tokens e → Replying A e (add_define name content) r f
   refused : (name content : List ℕ) (fault : Fault) (e f : Expander SourceReader) (r : Reply) → content_tokens (items_of content) ≡ Err fault → r ≡ reply.Refused fault → f ≡ e → Replying A e (add_define name content) r f

@@ -90,10 +90,10 @@ fn parts_block(part: Part, inner: usize) -> bool
     matches!(part, Part::Elif | Part::Else) && inner == 0
 }
 
-// The inner blocks that are open behind the line.
-fn inner_behind(part: Part, inner: usize) -> usize
+// The inner blocks that are open after the line.
+fn inner_after(part: Part, inner: usize) -> usize
     requires { inner + 1 < 2 ^ 64 }
-    ensures { result ≡ spec.inner_behind part inner }
+    ensures { result ≡ spec.inner_after part inner }
 {
     match part {
         Part::Opens => inner + 1,
@@ -102,7 +102,7 @@ fn inner_behind(part: Part, inner: usize) -> usize
     }
 }
 
-// Whether a block in which so many inner blocks are open is still open behind these lines.
+// Whether a block in which so many inner blocks are open is still open after these lines.
 fn stays_open(inner: usize, lines: &[BlockLine]) -> bool
     requires { inner + length lines.now < 2 ^ 64 }
     ensures { result ≡ spec.stays_open inner lines.now }
@@ -110,7 +110,7 @@ fn stays_open(inner: usize, lines: &[BlockLine]) -> bool
     match lines.split_first() {
         None => true,
         Some((line, later)) => {
-            !closes_block(line.part, inner) && stays_open(inner_behind(line.part, inner), later)
+            !closes_block(line.part, inner) && stays_open(inner_after(line.part, inner), later)
         }
     }
 }
@@ -123,14 +123,14 @@ fn parting(alloc: Global, inner: usize, lines: &[BlockLine]) -> Result<Vec<Block
     let Some((line, later)) = lines.split_first() else {
         return Ok(Vec::new(alloc));
     };
-    let mut partings = parting(alloc, inner_behind(line.part, inner), later)?;
+    let mut partings = parting(alloc, inner_after(line.part, inner), later)?;
     if parts_block(line.part, inner) {
         partings.insert(0, *line)?;
     }
     Ok(partings)
 }
 
-/// The blocks that are open behind these lines, the outermost first.
+/// The blocks that are open after these lines, the outermost first.
 pub fn open_blocks(alloc: Global, lines: &[BlockLine]) -> Result<Vec<Block>, Stop>
     ensures { IfOk result (λ blocks. blocks.items ≡ spec.open_blocks lines.now) }
 {

@@ -17,7 +17,7 @@ use std::marker::Model;
 pub enum Nesting {
     /// It closes the call.
     Closes,
-    /// So many inner parentheses are open behind it.
+    /// So many inner parentheses are open after it.
     Within(u32),
     /// It opens one too many.
     TooMany,

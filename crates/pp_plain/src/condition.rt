@@ -13,7 +13,7 @@ use crate::copies::copy_token;
 use crate::definitions::Definitions;
 use crate::line::copy_of;
 use crate::line_words::{Words, line_words};
-use crate::stop::{Budget, Halt, Stop};
+use crate::stop::{Budget, Halt, Stop, stays_short};
 use pp_expression::evaluator::evaluate;
 use pp_expression::symbol::{ExpressionFault, Found, Symbol, Value};
 use pp_lexer::token::{Location, PreprocessorError, Text, TokenValue};
@@ -52,6 +52,7 @@ fn symbols_of(alloc: Global, words: &[Word]) -> Result<Vec<Symbol>, Stop>
 fn evaluation(alloc: Global, words: &Words) -> Result<Result<Value, Found>, Stop>
     ensures { IfOk result (λ evaluation. Evaluates (spec.line_of words.now) evaluation) }
 {
+    stays_short(words.words.len())?;
     let symbols = symbols_of(alloc, &words.words)?;
     let ending = words.ending.as_ref().map(|_| ExpressionFault::Unread);
     Ok(evaluate(alloc, &symbols, ending)?)
@@ -118,7 +119,7 @@ fn told(alloc: Global, directive: Location, words: &Words, found: Found) -> Resu
     }
 }
 
-// Whether nothing stands behind an expression; else what stands there is refused.
+// Whether nothing stands after an expression; else what stands there is refused.
 fn ends_line(alloc: Global, words: &Words, left: usize) -> Result<(), Halt>
     ensures { Meets result (spec.unless_followed tt (spec.word_from_end left words.now)) }
 {
@@ -165,7 +166,7 @@ fn number_alone(
     }
 }
 
-// The number, where these words behind it are one expression.
+// The number, where these words after it are one expression.
 fn followed(alloc: Global, directive: Location, words: &Words, number: u32) -> Result<u32, Halt>
     ensures { Satisfies result (spec.IsFollowed directive words.now number) }
 {
@@ -206,9 +207,9 @@ fn as_line_number(value: Value) -> Option<u32>
     u32::try_from(value.value).ok()
 }
 
-// The words behind an expression.
-fn words_behind(words: Words, left: usize) -> Words
-    ensures { result ≡ spec.words_behind left words }
+// The words after an expression.
+fn words_after(words: Words, left: usize) -> Words
+    ensures { result ≡ spec.words_after left words }
 {
     let mut words = words;
     let count = words.words.len().saturating_sub(left);
@@ -231,8 +232,8 @@ fn numbers(alloc: Global, directive: Location, words: Words) -> Result<u32, Halt
     if value.left == 0 {
         return Ok(number);
     }
-    let behind = words_behind(words, value.left);
-    followed(alloc, directive, &behind, number)
+    let after = words_after(words, value.left);
+    followed(alloc, directive, &after, number)
 }
 
 /// The line number of a `#line`, or its first fault.

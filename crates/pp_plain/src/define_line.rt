@@ -9,7 +9,7 @@ use crate::conversion::{
     closes_parameters, identifier_of, opens_parameters, parts_parameters, refused_token,
 };
 use crate::item::SourceItem;
-use crate::line::{behind_first_token, first_name, first_token, line_tokens};
+use crate::line::{after_first_token, first_name, first_token, line_tokens};
 use crate::lists::NameList;
 use crate::names::is_among;
 use crate::stop::Halt;
@@ -19,11 +19,11 @@ use pp_model::definition::{Definition, Named};
 use std::alloc::Global;
 use std::marker::Model;
 
-/// The parameters of a macro, and the items behind their `)`.
+/// The parameters of a macro, and the items after their `)`.
 #[derive(Drop)]
 pub struct ParameterList<'a> {
     names: NameList,
-    behind: &'a [SourceItem],
+    after: &'a [SourceItem],
 }
 
 impl<'a> Model for ParameterList<'a> {
@@ -31,7 +31,7 @@ impl<'a> Model for ParameterList<'a> {
 
     ghost Value = { spec.Parameters };
 
-    ghost view = { λ p. record { names = p.names; behind = p.behind.now } };
+    ghost view = { λ p. record { names = p.names; after = p.after.now } };
 }
 
 // The parameters with one more, whose name this token is to be.
@@ -49,32 +49,29 @@ fn parameter_here(alloc: Global, names: NameList, token: &lexer::Token) -> Resul
     Ok(names)
 }
 
-// The parameters that go on behind one.
-fn behind_parameter<'a>(
+// The parameters that go on after one.
+fn after_parameter<'a>(
     alloc: Global,
     word: Location,
     names: NameList,
     items: &'a [SourceItem],
 ) -> Result<ParameterList<'a>, Halt>
-    ensures { Meets result (spec.behind_parameter word names items.now) }
+    ensures { Meets result (spec.after_parameter word names items.now) }
 {
     let token = first_token(alloc, word, items)?;
-    let rest = behind_first_token(items);
+    let rest = after_first_token(items);
     if closes_parameters(&token.value) {
-        return Ok(ParameterList {
-            names,
-            behind: rest,
-        });
+        return Ok(ParameterList { names, after: rest });
     }
     if !parts_parameters(&token.value) {
         return Err(Halt::Fault(refused_token(alloc, &token)?));
     }
     let token = first_token(alloc, word, rest)?;
     let names = parameter_here(alloc, names, &token)?;
-    behind_parameter(alloc, word, names, behind_first_token(rest))
+    after_parameter(alloc, word, names, after_first_token(rest))
 }
 
-// The parameters, which begin behind the `(`.
+// The parameters, which begin after the `(`.
 fn parameters<'a>(
     alloc: Global,
     word: Location,
@@ -83,18 +80,15 @@ fn parameters<'a>(
     ensures { Meets result (spec.parameters word items.now) }
 {
     let token = first_token(alloc, word, items)?;
-    let rest = behind_first_token(items);
+    let rest = after_first_token(items);
     let names = NameList {
         items: Vec::new(alloc),
     };
     if closes_parameters(&token.value) {
-        return Ok(ParameterList {
-            names,
-            behind: rest,
-        });
+        return Ok(ParameterList { names, after: rest });
     }
     let names = parameter_here(alloc, names, &token)?;
-    behind_parameter(alloc, word, names, rest)
+    after_parameter(alloc, word, names, rest)
 }
 
 // Whether the item is a `(` without a blank before it.
@@ -107,7 +101,7 @@ fn is_attached_paren(item: &LexerItem) -> bool
     }
 }
 
-// Whether a `(` stands directly behind the name.
+// Whether a `(` stands directly after the name.
 fn has_parameters(items: &[SourceItem]) -> bool
     ensures { result ≡ spec.has_parameters items.now }
 {
@@ -117,7 +111,7 @@ fn has_parameters(items: &[SourceItem]) -> bool
     }
 }
 
-// The definition behind the name.
+// The definition after the name.
 fn definition_at(alloc: Global, word: Location, items: &[SourceItem]) -> Result<Definition, Halt>
     ensures { Meets result (spec.definition_at word items.now) }
 {
@@ -129,8 +123,8 @@ fn definition_at(alloc: Global, word: Location, items: &[SourceItem]) -> Result<
             body: body.items,
         });
     }
-    let list = parameters(alloc, word, behind_first_token(items))?;
-    let body = line_tokens(alloc, list.behind)?;
+    let list = parameters(alloc, word, after_first_token(items))?;
+    let body = line_tokens(alloc, list.after)?;
     Ok(Definition {
         function_like: true,
         parameters: list.names.items,
@@ -143,7 +137,7 @@ pub fn defined_on(alloc: Global, word: Location, items: &[SourceItem]) -> Result
     ensures { Meets result (spec.defined_on word items.now) }
 {
     let first = first_name(alloc, word, items)?;
-    let definition = definition_at(alloc, word, behind_first_token(items))?;
+    let definition = definition_at(alloc, word, after_first_token(items))?;
     Ok(Named {
         name: first.name,
         location: first.location,

@@ -53,7 +53,7 @@ pub struct Site {
     pub arguments: TokenLists,
 }
 
-/// What stands behind the name of a macro with parameters.
+/// What stands after the name of a macro with parameters.
 #[derive(Drop)]
 pub enum Found {
     /// No `(`.
@@ -93,7 +93,7 @@ pub struct Expander<R> {
     pub held: Option<Outcome>,
     /// What was spliced in and is not read yet.
     pub list: Vec<Entry>,
-    /// What stands behind the list.
+    /// What stands after the list.
     pub reader: R,
     /// The names that are open in the expanders around this one.
     pub hidden: Vec<Text>,
@@ -132,11 +132,11 @@ fn line_number(location: Location, shown: Option<u32>) -> Outcome
 }
 
 /// A taken token, with `__LINE__` as a number.
-fn taken_token<R: Reader>(reader: &R, behind: &[Entry], token: Token) -> Outcome
-    ensures { result ≡ taken_token (R.reading.shown_line (R.state reader.now)) behind.now token }
+fn taken_token<R: Reader>(reader: &R, after: &[Entry], token: Token) -> Outcome
+    ensures { result ≡ taken_token (R.reading.shown_line (R.state reader.now)) after.now token }
 {
     if is_line_name(&token.value) {
-        let line = outermost_line(behind).unwrap_or(token.location.line);
+        let line = outermost_line(after).unwrap_or(token.location.line);
         line_number(token.location, reader.shown_line(line))
     } else {
         Outcome::Token(token)
@@ -154,7 +154,7 @@ fn read_outcome<R: Reader>(reader: &R, outcome: Outcome) -> Outcome
     }
 }
 
-/// The turn at the name of a macro with parameters, where this stands behind it.
+/// The turn at the name of a macro with parameters, where this stands after it.
 fn turned(taken: Outcome, opening: Opening, found: Found) -> Turn
     ensures { result ≡ turned taken opening found }
 {
@@ -330,7 +330,7 @@ impl<R: Reader> Expander<R> {
         }
     }
 
-    /// What stands behind the name of a macro with parameters.
+    /// What stands after the name of a macro with parameters.
     fn find_call(&mut self, budget: &mut Budget) -> Result<Found, Stop>
         ensures finds { IfOk result (λ found. Finds R.reading (seen R.state self.old) found (seen R.state self.new)) }
         ensures budget { budget.new.steps ≤ budget.old.steps }

@@ -115,9 +115,9 @@ pub fn first_token(
     }
 }
 
-/// The items behind the first.
-pub fn behind_first_token(items: &[SourceItem]) -> &[SourceItem]
-    ensures { result.now ≡ spec.behind_first_token items.now }
+/// The items after the first.
+pub fn after_first_token(items: &[SourceItem]) -> &[SourceItem]
+    ensures { result.now ≡ spec.after_first_token items.now }
 {
     match items.split_first() {
         Some((_, rest)) => rest,
@@ -155,6 +155,6 @@ pub fn only_name(alloc: Global, word: Location, items: &[SourceItem]) -> Result<
     ensures { Meets result (spec.only_name word items.now) }
 {
     let first = first_name(alloc, word, items)?;
-    ended_line(alloc, word, behind_first_token(items))?;
+    ended_line(alloc, word, after_first_token(items))?;
     Ok(first.name)
 }

@@ -166,7 +166,7 @@ fn is_defined(expander: &Expander<LineReader<'_>>, name: &Text) -> bool
     expander.reader.definitions.find(name).is_some()
 }
 
-/// What a `defined` comes to behind its `(` and the name.
+/// What a `defined` comes to after its `(` and the name.
 fn closed_operand(
     kind: LineKind,
     directive: Location,
@@ -187,7 +187,7 @@ fn closed_operand(
     }
 }
 
-/// What a `defined` comes to behind its `(`.
+/// What a `defined` comes to after its `(`.
 fn operand_in_parentheses(
     kind: LineKind,
     directive: Location,

@@ -2,7 +2,7 @@
 
 ghost use Rattle.std.specs.Prelude.{◌≡◌, [], ◌∷◌, ◌++◌, List, IfOk, OnOk, MatchOption, position};
 ghost use Rattle.pp_model.specs.Names.{is_same_name};
-ghost use Rattle.pp_model.specs.SpliceList.{behind_marks, open_names, outermost_line, followed_by, parameter_of, replacement, replaced, spliced};
+ghost use Rattle.pp_model.specs.SpliceList.{after_marks, open_names, outermost_line, followed_by, parameter_of, replacement, replaced, spliced};
 ghost use Rattle.pp_model.specs.declared.splice.Entry.{Entry as Item};
 
 use crate::copies::copy_token;
@@ -25,7 +25,7 @@ pub fn take_first<T>(items: &mut Vec<T>) -> Option<T>
 
 /// Takes the first token, with the end marks before it.
 pub fn take_token(list: &mut Vec<Entry>) -> Option<Token>
-    ensures { MatchOption result ((behind_marks list.old.items ≡ []) × (list.new.items ≡ [])) (λ token. behind_marks list.old.items ≡ Entry.Plain token ∷ list.new.items) }
+    ensures { MatchOption result ((after_marks list.old.items ≡ []) × (list.new.items ≡ [])) (λ token. after_marks list.old.items ≡ Entry.Plain token ∷ list.new.items) }
 {
     while let Some(entry) = take_first(list) {
         if let Entry::Plain(token) = entry {

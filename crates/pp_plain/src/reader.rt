@@ -1,8 +1,8 @@
-//! Readers: what an expander asks of what stands behind its list.
+//! Readers: what an expander asks of what stands after its list.
 
 ghost use Rattle.std.specs.Prelude.{◌≡◌, ◌≤◌, ℕ, IfOk};
 ghost use Rattle.pp_plain.specs.Changes.{meaning_of};
-ghost use Rattle.pp_model.specs.Reading.{first_listed, behind_listed};
+ghost use Rattle.pp_model.specs.Reading.{first_listed, after_listed};
 
 use crate::definitions::Definitions;
 use crate::list::take_first;
@@ -42,7 +42,7 @@ pub trait Reader {
 /// The next token of a list, which is taken, or the end.
 fn next_listed(tokens: &mut Vec<Token>) -> Outcome
     ensures given { result ≡ first_listed tokens.old.items }
-    ensures rest { tokens.new.items ≡ behind_listed tokens.old.items }
+    ensures rest { tokens.new.items ≡ after_listed tokens.old.items }
 {
     match take_first(tokens) {
         Some(token) => Outcome::Token(token),

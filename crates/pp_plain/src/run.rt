@@ -18,7 +18,7 @@ use crate::item::SourceItem;
 use crate::line::copy_of;
 use crate::source::Source;
 use crate::source_reader::SourceReader;
-use crate::stop::{Budget, Halt, Stop};
+use crate::stop::{Budget, Halt, Stop, stays_short};
 use pp_lexer::lexer::{Lexer, LexerItem};
 use pp_lexer::token::{PreprocessorError, Text};
 use pp_model::call::{Call, Reply};
@@ -42,6 +42,7 @@ pub fn items_of(alloc: Global, text: &str) -> Result<Vec<SourceItem>, Stop>
     let mut items = Vec::new(alloc);
     'items: loop {
         let Some(item) = lexer.next() else {
+            stays_short(items.len())?;
             return Ok(items);
         };
         if is_refused(&item) {
@@ -169,7 +170,7 @@ fn only(alloc: Global, reply: Reply) -> Result<Vec<Reply>, Stop>
 }
 
 // The replies to the calls, up to and with the first error item.
-#[tactic(auto, using(crate::proofs::RunProgramLemmas::all_behind))]
+#[tactic(auto, using(crate::proofs::RunProgramLemmas::all_after))]
 fn replies(
     alloc: Global,
     expander: &mut Expander<Source<'_>>,
@@ -202,13 +203,15 @@ fn run_within(
     requires contents { All HasRoom calls.now }
     ensures { IfOk result (λ replies. spec.IsRun source.now (map call_of calls.now) replies.items) }
 {
+    stays_short(calls.len())?;
     let items = items_of(alloc, source)?;
     let mut expander = start(alloc, &items)?;
     replies(alloc, &mut expander, calls, budget)
 }
 
 /// What the calls of a source answer, up to and with the first error item; `None` where more than
-/// this many steps were wanted.
+/// this many steps were wanted, or where the source or a content has more than 3,000 items, a
+/// condition more than 3,000 words, or there are more than 3,000 calls.
 ///
 /// The source and each added content have fewer than 2^32 - 1 bytes. The one error is that memory
 /// was refused.

@@ -13,7 +13,7 @@ use pp_model::directive::directive_of;
 use pp_model::sight::Sight;
 use std::alloc::Global;
 
-// What a directive's `#` with this token behind it is.
+// What a directive's `#` with this token after it is.
 fn named_directive(alloc: Global, token: &lexer::Token) -> Result<Sight, Stop>
     ensures is { IfOk result (λ sight. sight ≡ spec.named_directive token.now (conversions.identifier_of token.now.value)) }
     ensures seen { IfOk result (λ sight. spec.least_items sight ≤ 2) }
@@ -24,7 +24,7 @@ fn named_directive(alloc: Global, token: &lexer::Token) -> Result<Sight, Stop>
     }
 }
 
-// What the token is, where these items stand behind it.
+// What the token is, where these items stand after it.
 fn token_sight(alloc: Global, token: &lexer::Token, rest: &[SourceItem]) -> Result<Sight, Stop>
     ensures is { IfOk result (λ sight. sight ≡ spec.token_sight token.now rest.now) }
     ensures seen { IfOk result (λ sight. spec.least_items sight ≤ 1 + length rest.now) }

@@ -1,4 +1,4 @@
-//! A source as a reader behind an expander.
+//! A source as a reader after an expander.
 
 ghost use Rattle.std.specs.Prelude.{◌≡◌, ◌≤◌, ◌+◌, Some, length, IfOk};
 ghost use Rattle.pp_plain.specs.Acting.{Defining, Deciding, Renumbering};
@@ -54,7 +54,7 @@ impl<'a> Source<'a> {
         }
     }
 
-    // Reads the condition of a line, and goes behind the line.
+    // Reads the condition of a line, and goes after the line.
     fn decide(
         &mut self,
         word: Location,
@@ -83,7 +83,7 @@ impl<'a> Source<'a> {
         }
     }
 
-    // Reads a line number, and goes behind the line.
+    // Reads a line number, and goes after the line.
     fn renumber(
         &mut self,
         word: Location,

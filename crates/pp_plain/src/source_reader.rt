@@ -68,20 +68,20 @@ fn refuse(error: PreprocessorError, location: Location) -> Halt
 }
 
 impl<'a> SourceReader<'a> {
-    // The items behind the directive's word.
-    fn behind_word(&self) -> &'a [SourceItem]
+    // The items after the directive's word.
+    fn after_word(&self) -> &'a [SourceItem]
         requires { self.now.position + 2 ≤ length self.now.items }
-        ensures { result.now ≡ spec.behind_word (reader_of self.now) }
+        ensures { result.now ≡ spec.after_word (reader_of self.now) }
     {
         &self.items[self.position + 2..]
     }
 
-    // Goes behind the directive's line.
+    // Goes after the directive's line.
     fn pass_line(&mut self)
         requires { self.old.position + 2 ≤ length self.old.items }
-        ensures { (reader_of self.new) ≡ spec.behind_line (reader_of self.old) }
+        ensures { (reader_of self.new) ≡ spec.after_line (reader_of self.old) }
     {
-        let length = line_length(self.behind_word());
+        let length = line_length(self.after_word());
         self.position += 2 + length;
     }
 
@@ -91,7 +91,7 @@ impl<'a> SourceReader<'a> {
         ensures acts { ActsAs result (spec.skipped (reader_of self.old)) (reader_of self.new) }
         ensures line { HasLineIfOk result self.new }
     {
-        match line_fault(alloc, self.behind_word())? {
+        match line_fault(alloc, self.after_word())? {
             Some(fault) => Err(Halt::Fault(fault)),
             None => {
                 self.pass_line();
@@ -100,7 +100,7 @@ impl<'a> SourceReader<'a> {
         }
     }
 
-    /// Goes behind a condition's line, which holds or not.
+    /// Goes after a condition's line, which holds or not.
     pub fn decide(&mut self, holds: bool) -> Result<(), Stop>
         requires { self.old.position + 2 ≤ length self.old.items }
         ensures { OnOk result ((reader_of self.new) ≡ spec.decided (reader_of self.old) holds) }
@@ -111,7 +111,7 @@ impl<'a> SourceReader<'a> {
         Ok(())
     }
 
-    /// Goes behind a `#line` of this number, whose word stands here.
+    /// Goes after a `#line` of this number, whose word stands here.
     pub fn renumber(&mut self, word: Location, number: u32)
         requires { self.old.position + 2 ≤ length self.old.items }
         ensures { reader_of self.new ≡ renumbered (reader_of self.old) word number }
@@ -146,7 +146,7 @@ impl<'a> SourceReader<'a> {
         ensures acts { ActsAs result (spec.condition word (reader_of self.old)) (reader_of self.new) }
         ensures line { HasLineIfOk result self.new }
     {
-        let tokens = line_tokens(alloc, self.behind_word())?;
+        let tokens = line_tokens(alloc, self.after_word())?;
         Ok(Step::Condition(word, tokens))
     }
 
@@ -156,7 +156,7 @@ impl<'a> SourceReader<'a> {
         ensures acts { ActsAs result (spec.line_number word (reader_of self.old)) (reader_of self.new) }
         ensures line { HasLineIfOk result self.new }
     {
-        let tokens = line_tokens(alloc, self.behind_word())?;
+        let tokens = line_tokens(alloc, self.after_word())?;
         Ok(Step::LineNumber(word, tokens))
     }
 
@@ -166,7 +166,7 @@ impl<'a> SourceReader<'a> {
         ensures acts { ActsAs result (spec.define word (reader_of self.old)) (reader_of self.new) }
         ensures line { HasLineIfOk result self.new }
     {
-        let named = defined_on(alloc, word, self.behind_word())?;
+        let named = defined_on(alloc, word, self.after_word())?;
         self.pass_line();
         Ok(Step::Defines(named))
     }
@@ -177,7 +177,7 @@ impl<'a> SourceReader<'a> {
         ensures acts { ActsAs result (spec.undef word (reader_of self.old)) (reader_of self.new) }
         ensures line { HasLineIfOk result self.new }
     {
-        let name = only_name(alloc, word, self.behind_word())?;
+        let name = only_name(alloc, word, self.after_word())?;
         self.definitions.change(name, None)?;
         self.pass_line();
         Ok(Step::Passed)
@@ -189,7 +189,7 @@ impl<'a> SourceReader<'a> {
         ensures acts { ActsAs result (spec.ifdef word (reader_of self.old)) (reader_of self.new) }
         ensures line { HasLineIfOk result self.new }
     {
-        let name = only_name(alloc, word, self.behind_word())?;
+        let name = only_name(alloc, word, self.after_word())?;
         let holds = self.definitions.find(&name).is_some();
         self.decide(holds)?;
         Ok(Step::Passed)
@@ -200,7 +200,7 @@ impl<'a> SourceReader<'a> {
         ensures acts { ActsAs result (spec.ifndef word (reader_of self.old)) (reader_of self.new) }
         ensures line { HasLineIfOk result self.new }
     {
-        let name = only_name(alloc, word, self.behind_word())?;
+        let name = only_name(alloc, word, self.after_word())?;
         let holds = self.definitions.find(&name).is_none();
         self.decide(holds)?;
         Ok(Step::Passed)
@@ -247,7 +247,7 @@ impl<'a> SourceReader<'a> {
         ensures acts { ActsAs result (spec.only_word word (reader_of self.old) (spec.else_in (option_copied block.entry) word (reader_of self.old))) (reader_of self.new) }
         ensures line { HasLineIfOk result self.new }
     {
-        ended_line(alloc, word, self.behind_word())?;
+        ended_line(alloc, word, self.after_word())?;
         let Some(block) = block else {
             return Err(refuse(PreprocessorError::ElseOutsideOfBlock, word));
         };
@@ -275,7 +275,7 @@ impl<'a> SourceReader<'a> {
         if !self.are_surroundings_live(alloc, block)? {
             return self.skip_line(alloc);
         }
-        ended_line(alloc, word, self.behind_word())?;
+        ended_line(alloc, word, self.after_word())?;
         self.pass_line();
         Ok(Step::Passed)
     }
@@ -314,12 +314,12 @@ impl<'a> SourceReader<'a> {
         ensures acts { ActsAs result (spec.version word (reader_of self.old)) (reader_of self.new) }
         ensures line { HasLineIfOk result self.new }
     {
-        let tokens = line_tokens(alloc, self.behind_word())?;
+        let tokens = line_tokens(alloc, self.after_word())?;
         let first = is_first_directive(alloc, self.items, &self.truths, self.position)?;
         let value = TokenValue::Version(Version {
             tokens: Tokens::from(tokens.items),
             is_first_directive: first,
-            has_comments_before: comments_before_end(self.behind_word()),
+            has_comments_before: comments_before_end(self.after_word()),
         });
         Ok(self.give_line(value, word))
     }
@@ -330,7 +330,7 @@ impl<'a> SourceReader<'a> {
         ensures acts { ActsAs result (spec.extension word (reader_of self.old)) (reader_of self.new) }
         ensures line { HasLineIfOk result self.new }
     {
-        let tokens = line_tokens(alloc, self.behind_word())?;
+        let tokens = line_tokens(alloc, self.after_word())?;
         let before = has_live_text_before(alloc, self.items, &self.truths, self.position)?;
         let value = TokenValue::Extension(Extension {
             tokens: Tokens::from(tokens.items),
@@ -345,17 +345,17 @@ impl<'a> SourceReader<'a> {
         ensures acts { ActsAs result (spec.pragma word (reader_of self.old)) (reader_of self.new) }
         ensures line { HasLineIfOk result self.new }
     {
-        let tokens = line_tokens(alloc, self.behind_word())?;
+        let tokens = line_tokens(alloc, self.after_word())?;
         let value = TokenValue::Pragma(Pragma {
             tokens: Tokens::from(tokens.items),
         });
         Ok(self.give_line(value, word))
     }
 
-    // Gives a line's item, and goes behind the line.
+    // Gives a line's item, and goes after the line.
     fn give_line(&mut self, value: TokenValue, word: Location) -> Step
         requires { self.old.position + 2 ≤ length self.old.items }
-        ensures { spec.given (record { value = value; location = word }) (spec.behind_line (reader_of self.old)) ≡ record { step = result; after = (reader_of self.new) } }
+        ensures { spec.given (record { value = value; location = word }) (spec.after_line (reader_of self.old)) ≡ record { step = result; after = (reader_of self.new) } }
     {
         self.pass_line();
         Step::Given(Outcome::Token(Token {

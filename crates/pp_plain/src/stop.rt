@@ -11,8 +11,20 @@ use std::alloc::{AllocError, AllocFailed};
 pub enum Stop {
     /// An allocation was refused.
     OutOfMemory,
-    /// More steps were wanted than the budget has.
+    /// More steps were wanted than the budget has, or a list is too long.
     OutOfBudget,
+}
+
+// How many items a source or a content may have, how many words a condition, and how many calls may be made.
+// For each of them some function calls itself once more, which takes native stack.
+const MOST: usize = 3_000;
+
+/// Stops where a list has more elements than the native stack has room for.
+pub fn stays_short(length: usize) -> Result<(), Stop> {
+    if length > MOST {
+        return Err(Stop::OutOfBudget);
+    }
+    Ok(())
 }
 
 impl From<AllocError> for Stop {

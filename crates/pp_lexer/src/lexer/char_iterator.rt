@@ -1,8 +1,8 @@
-//! The characters behind the phases, with their places and one of them looked at ahead.
+//! The characters after the phases, with their places and one of them looked at ahead.
 
 ghost use Rattle.std.specs.Prelude.{⊤, ◌≡◌, ◌+◌, ◌-◌, ◌^◌, ◌<◌, ◌≤◌, length, option_map, MatchOption};
 ghost use Rattle.std.specs.Str.{chars, IsUtf8};
-ghost use Rattle.pp_lexer.specs.Reading.{IsAhead, first_char, first_of, behind_first, after_first, spots};
+ghost use Rattle.pp_lexer.specs.Reading.{IsAhead, first_char, first_of, spots_after_first, after_first, spots};
 ghost use Rattle.pp_lexer.specs.Spots.{spots_of};
 ghost use Rattle.pp_lexer.specs.Fronts.{spots_from, is_plain, IsLeft};
 
@@ -26,14 +26,14 @@ pub struct Spot {
     pub end: u32,
 }
 
-// A character that was looked at, and the reader behind it.
+// A character that was looked at, and the reader after it.
 #[derive(Drop)]
 struct Ahead<'a> {
     spot: Spot,
-    behind: ReplaceComments<'a>,
+    after: ReplaceComments<'a>,
 }
 
-/// The characters behind the phases, with one looked at before it is taken.
+/// The characters after the phases, with one looked at before it is taken.
 #[derive(Drop)]
 pub struct LexerCharIterator<'a> {
     inner: ReplaceComments<'a>,
@@ -50,7 +50,7 @@ impl<'a> Model for LexerCharIterator<'a> {
     ghost view = { λ s. record { rest = spots s.inner.offset s.inner.rest; last = s.last } };
 
     ghost invariant = { λ s. (length (spots s.inner.offset s.inner.rest) < 2 ^ 32)
-        × MatchOption s.ahead ⊤ (λ a. IsAhead a.spot (spots a.behind.offset a.behind.rest) (spots s.inner.offset s.inner.rest)) };
+        × MatchOption s.ahead ⊤ (λ a. IsAhead a.spot (spots a.after.offset a.after.rest) (spots s.inner.offset s.inner.rest)) };
 }
 
 // Whether no phase looks at the byte.
@@ -88,18 +88,18 @@ fn take_plain(inner: &mut ReplaceComments<'_>) -> Option<Spot>
     })
 }
 
-// The next character behind the phases.
+// The next character after the phases.
 fn next_spot(inner: &mut ReplaceComments<'_>) -> Option<Spot>
     ensures value { result ≡ first_of (spots inner.old.offset inner.old.rest) }
-    ensures state { spots inner.new.offset inner.new.rest ≡ behind_first (spots inner.old.offset inner.old.rest) }
+    ensures state { spots inner.new.offset inner.new.rest ≡ spots_after_first (spots inner.old.offset inner.old.rest) }
 {
     if let Some(spot) = take_plain(inner) {
         return Some(spot);
     }
     let begin = inner.get_current_offset();
     let (c, line) = inner.next_item()?;
-    let behind = inner.get_current_offset();
-    prove!(begin + c.len_utf8() <= behind);
+    let after = inner.get_current_offset();
+    prove!(begin + c.len_utf8() <= after);
     Some(Spot {
         c,
         line,
@@ -133,7 +133,7 @@ impl<'a> LexerCharIterator<'a> {
     {
         if let Some(ahead) = &self.ahead {
             let taken = ahead.spot;
-            self.inner = ahead.behind.duplicate();
+            self.inner = ahead.after.duplicate();
             self.ahead = None;
             self.last = taken;
             return Some(taken.c);
@@ -151,9 +151,9 @@ impl<'a> LexerCharIterator<'a> {
         if let Some(ahead) = &self.ahead {
             return Some(ahead.spot);
         }
-        let mut behind = self.inner.duplicate();
-        let spot = next_spot(&mut behind)?;
-        self.ahead = Some(Ahead { spot, behind });
+        let mut after = self.inner.duplicate();
+        let spot = next_spot(&mut after)?;
+        self.ahead = Some(Ahead { spot, after });
         Some(spot)
     }
 
@@ -185,7 +185,7 @@ impl<'a> LexerCharIterator<'a> {
         self.inner.left()
     }
 
-    // Goes to where this is left, behind this last character.
+    // Goes to where this is left, after this last character.
     pub(crate) fn go(&mut self, rest: Left<'a>, last: Spot)
         requires room { rest.at + length rest.text.now < 2 ^ 32 - 1 }
         requires lines { rest.line ≤ rest.at + 1 }

@@ -71,7 +71,7 @@ fn skip_char(text: &str, c: char) -> &str
     }
 }
 
-// The first character of a text whose newline pairs are one newline, and the text behind it.
+// The first character of a text whose newline pairs are one newline, and the text after it.
 fn split_piece(text: &str) -> Option<(char, &str)>
     ensures { MatchOption result (IsAtEnd text.now) (λ p. IsFirstPiece text.now p.0 p.1.now) }
 {

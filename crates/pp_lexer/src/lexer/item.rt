@@ -29,7 +29,7 @@ pub struct Token {
     pub value: TokenValue,
     /// Where it stands.
     pub location: Location,
-    /// Whether it is the first of the text or of its line, or stands behind a blank or a comment.
+    /// Whether it is the first of the text or of its line, or stands after a blank or a comment.
     pub leading_whitespace: bool,
     /// Whether only blanks and comments stand before it on its line.
     pub start_of_line: bool,

@@ -41,7 +41,7 @@ pub fn spelled_values()
 {}
 
 /// Values that can be spelled, written with one space between each two, are read back as the same
-/// values in the same order, with a newline behind them if there are any, and without an error.
+/// values in the same order, with a newline after them if there are any, and without an error.
 pub fn respelled()
     ensures { SpellingsAreReadBack }
 {}

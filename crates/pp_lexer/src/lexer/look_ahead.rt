@@ -64,7 +64,7 @@ pub fn begins_number(inner: &mut LexerCharIterator<'_>) -> bool
     if !is_next(inner, '.') {
         return false;
     }
-    let mut behind = inner.twin();
-    behind.next_char();
-    is_digit_next(&mut behind)
+    let mut after = inner.twin();
+    after.next_char();
+    is_digit_next(&mut after)
 }

@@ -83,8 +83,8 @@ fn finish_integer(
 /// Takes the longest number here and its suffix. The outer error is that a float's text found no memory, and comes only
 /// in place of that float. The inner errors, each of which takes as much:
 ///
-/// - [`PreprocessorError::NotSupported64BitLiteral`] where an `l` stands behind it, and
-///   [`PreprocessorError::NotSupported16BitLiteral`] where behind an integer an `s` or behind a float an `h` does, before
+/// - [`PreprocessorError::NotSupported64BitLiteral`] where an `l` stands after it, and
+///   [`PreprocessorError::NotSupported16BitLiteral`] where after an integer an `s` or after a float an `h` does, before
 ///   the next two;
 /// - [`PreprocessorError::IntegerOverflow`] where an integer has no digit or one outside of its base, or is above
 ///   `u64::MAX`;

@@ -24,7 +24,7 @@ pub const COMMENT_SENTINEL_VALUE: char = '\r';
 ///
 /// An iterator of `(char, u32)`, a character and its line in the source, over the characters of
 /// [`SkipBackslashNewline`]. A `//` comment ends before the next newline or at the end of the input.
-/// A `/*` comment ends behind the next `*/` that stands behind its `/*`, or at the end of the input;
+/// A `/*` comment ends after the next `*/` that stands after its `/*`, or at the end of the input;
 /// comments don't nest, and `/*/` is not closed. Each comment is one [`COMMENT_SENTINEL_VALUE`] with
 /// the line of its first `/`. It takes no memory, and after its `None` stays at its end.
 #[derive(Drop)]
@@ -145,7 +145,7 @@ impl<'a> ReplaceComments<'a> {
     }
 
     /// Where the last character's stretch of the source ended, in bytes: 0 before the first one, and
-    /// the length of the source after `None`. A mark's stretch ends behind its comment's last
+    /// the length of the source after `None`. A mark's stretch ends after its comment's last
     /// character, that of a `/*` comment without its end at the end of the source.
     pub fn get_current_offset(&self) -> usize
         ensures value { result ≡ self.now.offset }

@@ -120,7 +120,7 @@ fn take_exponent(text: &mut Scanner<'_>)
     take_digits(10, text)
 }
 
-// Takes the digits behind a point, and the exponent.
+// Takes the digits after a point, and the exponent.
 fn take_fraction(text: &mut Scanner<'_>)
     ensures { Takes fraction text.old text.new }
 {
@@ -128,7 +128,7 @@ fn take_fraction(text: &mut Scanner<'_>)
     take_exponent(text)
 }
 
-// Takes what stands behind `0x`.
+// Takes what stands after `0x`.
 fn take_hex(text: &mut Scanner<'_>)
     ensures { Takes (many is_hex hex_tail) text.old text.new }
 {
@@ -175,7 +175,7 @@ pub fn take_number(inner: &mut LexerCharIterator<'_>) -> u32
 {
     let mut text = Scanner::new(inner);
     take_longest(&mut text);
-    let (behind, length) = text.finish();
-    *inner = behind;
+    let (after, length) = text.finish();
+    *inner = after;
     length
 }

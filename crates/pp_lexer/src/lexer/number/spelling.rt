@@ -4,7 +4,7 @@ ghost use Rattle.std.specs.Prelude.{◌≡◌, ◌==◌, ◌||◌, take};
 ghost use Rattle.pp_lexer.specs.NumberValue.{float_text};
 ghost use Rattle.pp_lexer.specs.Numbers.{is_decimal};
 ghost use Rattle.pp_lexer.specs.Reading.{letters};
-ghost use Rattle.pp_lexer.specs.Spellings.{nothing, begins_with, next_of, behind_first};
+ghost use Rattle.pp_lexer.specs.Spellings.{nothing, begins_with, next_of, after_first};
 
 use crate::lexer::char_iterator::LexerCharIterator;
 use std::marker::Model;
@@ -46,7 +46,7 @@ impl<'a> Spelling<'a> {
 
     pub fn next(&mut self) -> Option<char>
         ensures value { result ≡ next_of self.old }
-        ensures state { self.new ≡ behind_first self.old }
+        ensures state { self.new ≡ after_first self.old }
     {
         if self.left == 0 {
             return None;
@@ -88,7 +88,7 @@ impl<'a> Model for FloatText<'a> {
 // The next character of the float's text that the rest of the spelling gives.
 fn next_of_text(spelling: &mut Spelling<'_>) -> Option<char>
     ensures value { result ≡ next_of (float_text spelling.old) }
-    ensures state { float_text spelling.new ≡ behind_first (float_text spelling.old) }
+    ensures state { float_text spelling.new ≡ after_first (float_text spelling.old) }
 {
     'dropped: loop {
         let c = spelling.next()?;
@@ -112,7 +112,7 @@ impl<'a> FloatText<'a> {
 
     pub fn next(&mut self) -> Option<char>
         ensures value { result ≡ next_of self.old }
-        ensures state { self.new ≡ behind_first self.old }
+        ensures state { self.new ≡ after_first self.old }
     {
         next_of_text(&mut self.spelling)
     }

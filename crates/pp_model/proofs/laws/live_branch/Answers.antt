@@ -1,5 +1,5 @@
-use Rattle.pp_model.proofs.BlockLemmas.{one_branch, none_behind_taken}
+use Rattle.pp_model.proofs.BlockLemmas.{one_branch, none_after_taken}
 use Rattle.pp_model.proofs.laws.live_branch.Goals as goal
 
 pub returns : goal.returns
-returns c = record { one = one_branch; none_behind = none_behind_taken }
+returns c = record { one = one_branch; none_after = none_after_taken }

@@ -8,7 +8,7 @@ use Rattle.pp_plain.specs.Seen.{seen}
 use Rattle.pp_plain.specs.SeenList.{list_state}
 use Rattle.pp_plain.specs.declared.expander.Turn.TheVariants.{Item, Replaced, Called}
 use Rattle.pp_model.specs.declared.outcome.Outcome.TheVariants as outcome
-use Rattle.pp_model.proofs.CollectLemmas.{behind_items-before, behind_lists-before, behind_items-end, Alone-collects, each_at-failed, each_at-more, each_at-end}
+use Rattle.pp_model.proofs.CollectLemmas.{after_items-before, after_lists-before, after_items-end, Alone-collects, each_at-failed, each_at-more, each_at-end}
 use Rattle.pp_plain.proofs.TurnLemmas.{turns_mean, answer_known, resolves_fault, resolves_next}
 use Rattle.pp_plain.proofs.expand.+answers.Goals as goal
 
@@ -44,7 +44,7 @@ emit_alone-turns-preserved t c = record {
 pub collect-items-preserved : goal.collect-items-preserved
 collect-items-preserved t c = record {
   goes_on = λ out h.
-      rw (c.in_ok-push-in-Token.ensures.items, ← behind_items-before c.items.items.items c.in-Token.token out)
+      rw (c.in_ok-push-in-Token.ensures.items, ← after_items-before c.items.items.items c.in-Token.token out)
       (c.items.invariant.goes_on (token_before c.in-Token.token out) (item c.in-Token.token out _ _ _ (rw c.in-Token.is at c.in_ok-token.ensures.emits) h refl));
   spent = omega arith;
 }
@@ -55,7 +55,7 @@ collect-returns-in-Fault-clause-collects t c =
 
 pub collect-returns-in-End-clause-collects : goal.collect-returns-in-End-clause-collects
 collect-returns-in-End-clause-collects t c =
-    rw (← behind_items-end c.items.items.items)
+    rw (← after_items-end c.items.items.items)
     (c.items.invariant.goes_on (Ok []) (done _ _ _ (rw c.in-End.is at c.in_ok-token.ensures.emits) refl))
 
 pub expand_argument-returns-clause-alone : goal.expand_argument-returns-clause-alone
@@ -69,12 +69,12 @@ expand_arguments-returns-in-Err-clause-each t c =
 pub expand_arguments-loop-argument-preserved : goal.expand_arguments-loop-argument-preserved
 expand_arguments-loop-argument-preserved t c = record {
   goes_on = λ out h.
-      rw (c.in_ok-push-in-Ok.ensures.items, ← behind_lists-before c.loop-argument.expanded.items c.in-Ok.list out)
+      rw (c.in_ok-push-in-Ok.ensures.items, ← after_lists-before c.loop-argument.expanded.items c.in-Ok.list out)
       (c.loop-argument.invariant.goes_on (list_before c.in-Ok.list out) (each_at-more (Alone c.args.levels) (meaning_of c.args.visible.now) c.args.hidden.now c.args.arguments.now c.loop-argument.argument-index c.argument-item.result c.deref.result.now c.in-Ok.list out c.loop-argument-test.true c.argument-item.is (c.deref.ensures.value ∙ c.argument.view_is) (rw c.in-Ok.is at c.in_ok-list.ensures.alone) h));
   spent = omega arith;
 }
 
 pub expand_arguments-returns-clause-each : goal.expand_arguments-returns-clause-each
 expand_arguments-returns-clause-each t c =
-    rw (← behind_items-end c.loop-argument.expanded.items)
+    rw (← after_items-end c.loop-argument.expanded.items)
     (c.loop-argument.invariant.goes_on (Ok []) (each_at-end (Alone c.args.levels) (meaning_of c.args.visible.now) c.args.hidden.now c.args.arguments.now c.loop-argument.argument-index c.loop-argument-test.false))

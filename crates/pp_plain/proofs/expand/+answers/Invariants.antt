@@ -8,7 +8,7 @@ use Rattle.pp_model.specs.Reading.{Expander, Listed, argument_reading}
 use Rattle.pp_plain.specs.Seen.{seen}
 use Rattle.pp_plain.specs.SeenList.{list_state}
 use Rattle.pp_model.specs.declared.outcome.Outcome.{Outcome}
-use Rattle.pp_model.proofs.CollectLemmas.{behind_items}
+use Rattle.pp_model.proofs.CollectLemmas.{after_items}
 use Rattle.pp_plain.proofs.expand.+answers.Given as goal
 
 abbrev pub decreases-answer : goal.decreases-answer
@@ -37,7 +37,7 @@ decreases-emit_alone-turns l = l.budget.steps
 
 abbrev pub invariant-collect-items : goal.invariant-collect-items
 invariant-collect-items l = record {
-  goes_on : (out : Result (List Token) Fault) → Collects argument_reading (answers_at l.levels) (seen list_state l.expander) out → Collects argument_reading (answers_at l.levels) (seen list_state l.initial.expander) (behind_items l.items.items out);
+  goes_on : (out : Result (List Token) Fault) → Collects argument_reading (answers_at l.levels) (seen list_state l.expander) out → Collects argument_reading (answers_at l.levels) (seen list_state l.initial.expander) (after_items l.items.items out);
   spent : l.budget.steps ≤ l.initial.budget.steps;
 }
 
@@ -46,6 +46,6 @@ decreases-collect-items l = l.budget.steps
 
 abbrev pub invariant-expand_arguments-loop-argument : goal.invariant-expand_arguments-loop-argument
 invariant-expand_arguments-loop-argument l = record {
-  goes_on : (out : Result (List (List Token)) Fault) → Each (Alone l.levels) (meaning_of l.visible) l.hidden (drop l.argument-index l.arguments) out → Each (Alone l.levels) (meaning_of l.visible) l.hidden l.arguments (behind_items l.expanded.items out);
+  goes_on : (out : Result (List (List Token)) Fault) → Each (Alone l.levels) (meaning_of l.visible) l.hidden (drop l.argument-index l.arguments) out → Each (Alone l.levels) (meaning_of l.visible) l.hidden l.arguments (after_items l.expanded.items out);
   spent : l.budget.steps ≤ l.initial.budget.steps;
 }

@@ -3,12 +3,12 @@ use Rattle.pp_model.specs.Emitting.{answers_at}
 use Rattle.pp_model.specs.LineWords.{LineWords, Words}
 use Rattle.pp_plain.specs.Seen.{seen}
 use Rattle.pp_plain.specs.SeenList.{line_state}
-use Rattle.pp_model.proofs.WordLemmas.{behind_words}
+use Rattle.pp_model.proofs.WordLemmas.{after_words}
 use Rattle.pp_plain.proofs.line_words.read_words.Given as goal
 
 abbrev pub invariant-words : goal.invariant-words
 invariant-words l = record {
-  goes_on : (rest : Words) → LineWords l.kind l.directive (answers_at l.levels) (seen line_state l.expander) rest → LineWords l.kind l.directive (answers_at l.levels) (seen line_state l.initial.expander) (behind_words l.words.items rest);
+  goes_on : (rest : Words) → LineWords l.kind l.directive (answers_at l.levels) (seen line_state l.expander) rest → LineWords l.kind l.directive (answers_at l.levels) (seen line_state l.initial.expander) (after_words l.words.items rest);
   spent : l.budget.steps ≤ l.initial.budget.steps;
 }
 

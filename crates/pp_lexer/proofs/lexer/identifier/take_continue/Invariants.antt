@@ -4,7 +4,7 @@ use Rattle.pp_lexer.specs.Longest.{front_len}
 use Rattle.pp_lexer.specs.Reading.{letters, advanced}
 use Rattle.pp_lexer.proofs.lexer.identifier.take_continue.Given as goal
 
--- the text with the characters still to come, and the reader behind those, stay the same
+-- the text with the characters still to come, and the reader after those, stay the same
 abbrev pub invariant-letters : goal.invariant-letters
 invariant-letters l = record {
   text : l.text ++ take (front_len is_xid_continue (letters l.inner.rest)) (letters l.inner.rest)

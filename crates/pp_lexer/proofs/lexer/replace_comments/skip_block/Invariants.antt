@@ -1,11 +1,11 @@
 use Rattle.std.proofs.Common.{◌≡◌, ◌≤◌, length}
 use Rattle.pp_lexer.specs.Readers.{past_block}
-use Rattle.pp_lexer.proofs.CommentsLemmas.{past_block_behind}
+use Rattle.pp_lexer.proofs.CommentsLemmas.{past_block_after}
 use Rattle.pp_lexer.proofs.lexer.replace_comments.skip_block.Given as goal
 
 abbrev pub invariant-block : goal.invariant-block
 invariant-block l = record {
-  state : past_block_behind l.was_star l.inner ≡ past_block l.fn.inner;
+  state : past_block_after l.was_star l.inner ≡ past_block l.fn.inner;
   forward : l.fn.inner.offset ≤ l.inner.offset;
 }
 

@@ -3,7 +3,7 @@ use Rattle.std.specs.Prelude.{Ok, Err}
 use Rattle.pp_lexer.specs.declared.token.PreprocessorError.TheVariants.{IntegerOverflow, UnexpectedEndOfInput}
 use Rattle.pp_model.specs.Calls.{before, closed, inside, overfull, ended, failed}
 use Rattle.pp_plain.specs.Seen.{seen}
-use Rattle.pp_model.proofs.GatherLemmas.{behind_tokens-before, behind_tokens-closed}
+use Rattle.pp_model.proofs.GatherLemmas.{after_tokens-before, after_tokens-closed}
 use Rattle.pp_plain.proofs.expander.Expander.gather.Goals as goal
 
 pub returns-in-Fault-clause-gathers : goal.returns-in-Fault-clause-gathers
@@ -20,13 +20,13 @@ returns-in-TooMany-clause-gathers g c =
 
 pub returns-in-Closes-clause-gathers : goal.returns-in-Closes-clause-gathers
 returns-in-Closes-clause-gathers g c =
-    rw (← behind_tokens-closed c.tokens.tokens.items c.in-Token.token.location)
+    rw (← after_tokens-closed c.tokens.tokens.items c.in-Token.token.location)
     (c.tokens.invariant.goes_on (Ok (record { tokens = []; closing = c.in-Token.token.location })) (seen g.R.Reader.state c.take.new.self) (closed c.tokens.depth c.tokens.last c.in-Token.token _ _ _ (rw c.in-Token.is at c.in_ok-token.ensures.takes) c.in-Closes.ensures refl))
 
 pub tokens-preserved : goal.tokens-preserved
 tokens-preserved g c = record {
   goes_on = λ rest end h.
-      rw (c.in_ok-push.ensures.items, ← behind_tokens-before c.tokens.tokens.items c.in-Token.token rest)
+      rw (c.in_ok-push.ensures.items, ← after_tokens-before c.tokens.tokens.items c.in-Token.token rest)
       (c.tokens.invariant.goes_on (before c.in-Token.token rest) end (inside c.tokens.depth c.in-Within.deeper c.tokens.last c.in-Token.token _ _ _ rest _ (rw c.in-Token.is at c.in_ok-token.ensures.takes) c.in-Within.ensures h refl));
   spent = omega arith;
 }

@@ -2,7 +2,7 @@ use Rattle.std.proofs.Common.{◌≡◌, ◌∙◌, sym, ap, true, false, refl}
 use Rattle.pp_lexer.specs.Numbers.{is_decimal, is_hex, is_point, is_zero, is_x, hex_tail, decimal_tail, fraction, is_number, begins_number}
 use Rattle.pp_lexer.specs.Scan.{upcoming}
 use Rattle.pp_lexer.specs.Spellings.{many, begins_with}
-use Rattle.pp_lexer.proofs.NumbersLemmas.{point_number_len, digit_number_len, zero_number_len, behind_zero, behind_zero_digits, behind_zero_hex}
+use Rattle.pp_lexer.proofs.NumbersLemmas.{point_number_len, digit_number_len, zero_number_len, after_zero, after_zero_digits, after_zero_hex}
 use Rattle.pp_lexer.proofs.ScanLemmas.{either_then, either_else, either_same}
 use Rattle.pp_lexer.proofs.lexer.number.scan.take_longest.Goals as goal
 
@@ -21,11 +21,11 @@ returns-then-not-take_char c =
 pub returns-then-take_either : goal.returns-then-take_either
 returns-then-take_either c =
     either_else is_number is_number is_point _ _ _ _ c.take_char.ensures.test c.take_char.ensures.moved c.if-take_char.false (λ u. refl)
-    (either_then is_number behind_zero is_zero _ _ _ _ c.take_char-2.ensures.test c.take_char-2.ensures.moved c.if-not-take_char.false (zero_number_len _)
-    (either_then behind_zero (many is_hex hex_tail) is_x _ _ _ _ c.take_either.ensures.test c.take_either.ensures.moved c.if-take_either.true (behind_zero_hex _) c.take_hex.ensures))
+    (either_then is_number after_zero is_zero _ _ _ _ c.take_char-2.ensures.test c.take_char-2.ensures.moved c.if-not-take_char.false (zero_number_len _)
+    (either_then after_zero (many is_hex hex_tail) is_x _ _ _ _ c.take_either.ensures.test c.take_either.ensures.moved c.if-take_either.true (after_zero_hex _) c.take_hex.ensures))
 
 pub returns : goal.returns
 returns c =
     either_else is_number is_number is_point _ _ _ _ c.take_char.ensures.test c.take_char.ensures.moved c.if-take_char.false (λ u. refl)
-    (either_then is_number behind_zero is_zero _ _ _ _ c.take_char-2.ensures.test c.take_char-2.ensures.moved c.if-not-take_char.false (zero_number_len _)
-    (either_else behind_zero (many is_decimal decimal_tail) is_x _ _ _ _ c.take_either.ensures.test c.take_either.ensures.moved c.if-take_either.false (behind_zero_digits _) c.take_decimal-2.ensures))
+    (either_then is_number after_zero is_zero _ _ _ _ c.take_char-2.ensures.test c.take_char-2.ensures.moved c.if-not-take_char.false (zero_number_len _)
+    (either_else after_zero (many is_decimal decimal_tail) is_x _ _ _ _ c.take_either.ensures.test c.take_either.ensures.moved c.if-take_either.false (after_zero_digits _) c.take_decimal-2.ensures))
