@@ -26,10 +26,10 @@ pub added_one : (d : Definition) (old new : Preprocessing) (answer : Result (Uni
 added_one d old new answer done e short (refused given same) = cc
 added_one d old new answer done e short (faulty fault has given same) = cc
 added_one d old new answer done e short (added tokens has given h) =
-    let behind = λ (state : State). with_added (chars d.0.now) tokens state in
+    let after = λ (state : State). with_added (chars d.0.now) tokens state in
     record {
       accepted = All-cons IsAccepted d [] (record { short = short; tokens = rw has refl }) (All-nil IsAccepted);
-      stands = λ state stands. (behind state, first d tokens [] state (d ∷ []) (behind state) has (adds_none (behind state)) refl, h.stands state stands);
+      stands = λ state stands. (after state, first d tokens [] state (d ∷ []) (after state) has (adds_none (after state)) refl, h.stands state stands);
       spent = h.spent;
     }
 
@@ -41,14 +41,14 @@ added_none p = record {
   spent = refl;
 }
 
--- one more behind others
+-- one more after others
 added_more : (ds : List Definition) (d : Definition) (old mid new : Preprocessing) → AreAdded old ds mid → AreAdded mid (d ∷ []) new → AreAdded old (ds ++ (d ∷ [])) new
 added_more ds d old mid new a b = record {
   accepted = All-push IsAccepted ds d a.accepted (All-head IsAccepted d [] b.accepted);
   stands = λ state stands.
       let before = a.stands state stands in
-      let behind = b.stands before.0 before.2 in
-      (behind.0, adds_all ds (d ∷ []) state before.0 behind.0 before.1 behind.1, behind.2);
+      let after = b.stands before.0 before.2 in
+      (after.0, adds_all ds (d ∷ []) state before.0 after.0 before.1 after.1, after.2);
   spent = b.spent ∙ a.spent;
 }
 

@@ -36,7 +36,7 @@ line_ordinary : (line : List Token) → IsLine line → begins_ordinary line ≡
 line_ordinary [] h b = absurd h
 line_ordinary (t ∷ ts) h b = All-cons IsOrdinaryToken t ts b (rw b at h)
 
--- lines stay apart behind another first line that begins alike
+-- lines stay apart after another first line that begins alike
 apart_alike : (line other : List Token) (lines : List (List Token)) → begins_ordinary other ≡ begins_ordinary line → AreApart (line ∷ lines) → AreApart (other ∷ lines)
 apart_alike line other [] e h = tt
 apart_alike line other (next ∷ lines) e (h, hs) = (ap (λ b. b && begins_ordinary next) e ∙ h, hs)
@@ -75,12 +75,12 @@ line_in_front t [] rest (line ∷ lines) e h apart = ap (λ lines. put_before t 
 line_in_front t (u ∷ us) rest lines e h apart = in_front (is_ordinary t.value) refl (line_in_front u us rest lines e)
   where
     in_front : (b : Bool) → is_ordinary t.value ≡ b → (IsLine (u ∷ us) → AreApart ((u ∷ us) ∷ lines) → lines_of ((u ∷ us) ++ rest) ≡ (u ∷ us) ∷ lines) → lines_of ((t ∷ u ∷ us) ++ rest) ≡ (t ∷ u ∷ us) ∷ lines
-    in_front true a behind =
+    in_front true a after =
         let others : AllOrdinary (u ∷ us) = rw a at h in
         let b : is_ordinary u.value ≡ true = All-head IsOrdinaryToken u us others in
         let line : IsLine (u ∷ us) = rw b (All-tail IsOrdinaryToken u us others) in
-        ap (λ those. put_before t those) (behind line (apart_alike (t ∷ u ∷ us) (u ∷ us) lines (b ∙ sym a) apart)) ∙ rw (a, b) refl
-    in_front false a behind = let none = rw a at h in cc
+        ap (λ those. put_before t those) (after line (apart_alike (t ∷ u ∷ us) (u ∷ us) lines (b ∙ sym a) apart)) ∙ rw (a, b) refl
+    in_front false a after = let none = rw a at h in cc
 
 -- no other lines are such a cut
 again : (lines : List (List Token)) → All IsLine lines → AreApart lines → lines_of (in_a_row lines) ≡ lines

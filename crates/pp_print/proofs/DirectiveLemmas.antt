@@ -54,7 +54,7 @@ pub word_alone : (word : List ℕ) (tokens : List Token) (entries : List Entry) 
 word_alone word [] entries u e none = sym (ap (λ es. encode_utf8_all (with_tokens (chars word) es)) (sym e) ∙ encodes-chars word u)
 word_alone word (t ∷ ts) entries u e none = absurd (omega arith)
 
--- a word, a space and the tokens behind it
+-- a word, a space and the tokens after it
 pub word_and_tokens : (word : List ℕ) (tokens : List Token) (entries : List Entry) → IsUtf8 word → preorder tokens ≡ entries → AllOrdinary tokens → 0 < length tokens
     → word ++ (32 ∷ encode_utf8_all (spelled_text (values_of tokens))) ≡ encode_utf8_all (with_tokens (chars word) entries)
 word_and_tokens word [] entries u e h some = absurd (omega arith)

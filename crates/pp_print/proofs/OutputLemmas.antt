@@ -14,13 +14,13 @@ bytes_of line = encode_utf8_all (line_text line)
 abbrev word_of : Token → List ℕ
 word_of t = encode_utf8_all (spelling t.value)
 
--- the lines' bytes, the first of them behind a line that has been begun: with a space where both are of ordinary tokens
-abbrev behind_line : List ℕ → List (List Token) → List (List ℕ)
-behind_line begun [] = begun ∷ []
-behind_line begun (line ∷ lines) =
+-- the lines' bytes, the first of them after a line that has been begun: with a space where both are of ordinary tokens
+abbrev after_line : List ℕ → List (List Token) → List (List ℕ)
+after_line begun [] = begun ∷ []
+after_line begun (line ∷ lines) =
     if begins_ordinary line then (begun ++ (32 ∷ bytes_of line)) ∷ map bytes_of lines else begun ∷ bytes_of line ∷ map bytes_of lines
 
--- a space and the text behind it
+-- a space and the text after it
 pub spaced : (text : List ℕ) → encode_utf8_all (32 ∷ text) ≡ 32 ∷ encode_utf8_all text
 spaced text = ap (λ space. space ++ encode_utf8_all text) (encode_ascii 32 (lit< tt))
 
@@ -30,18 +30,18 @@ in_front t u us = encodes-append (spelling t.value) (32 ∷ spelled_text (values
 
 module _ (t : Token) (ordinary : is_ordinary t.value ≡ true) where
   begins_at : (u : Token) (us : List Token) (lines : List (List Token)) (b : Bool) → is_ordinary u.value ≡ b
-      → behind_line (word_of t) ((u ∷ us) ∷ lines) ≡ map bytes_of (put_before t ((u ∷ us) ∷ lines))
+      → after_line (word_of t) ((u ∷ us) ∷ lines) ≡ map bytes_of (put_before t ((u ∷ us) ∷ lines))
   begins_at u us lines true e = simp (ordinary, e) (ap (λ line. line ∷ map bytes_of lines) (sym (in_front t u us)))
   begins_at u us lines false e = simp (ordinary, e)
 
   -- it begins a line
-  begins : (lines : List (List Token)) → behind_line (word_of t) lines ≡ map bytes_of (put_before t lines)
+  begins : (lines : List (List Token)) → after_line (word_of t) lines ≡ map bytes_of (put_before t lines)
   begins [] = simp ordinary
   begins ([] ∷ lines) = simp ordinary
   begins ((u ∷ us) ∷ lines) = begins_at u us lines (is_ordinary u.value) refl
 
   goes_on_at : (begun : List ℕ) (u : Token) (us : List Token) (lines : List (List Token)) (b : Bool) → is_ordinary u.value ≡ b
-      → behind_line (begun ++ (32 ∷ word_of t)) ((u ∷ us) ∷ lines) ≡ behind_line begun (put_before t ((u ∷ us) ∷ lines))
+      → after_line (begun ++ (32 ∷ word_of t)) ((u ∷ us) ∷ lines) ≡ after_line begun (put_before t ((u ∷ us) ∷ lines))
   goes_on_at begun u us lines true e =
       let rest = encode_utf8_all (spelled_text (values_of (u ∷ us))) in
       simp (ordinary, e)
@@ -49,7 +49,7 @@ module _ (t : Token) (ordinary : is_ordinary t.value ≡ true) where
   goes_on_at begun u us lines false e = simp (ordinary, e)
 
   -- or it goes on with the line that has been begun
-  goes_on : (begun : List ℕ) (lines : List (List Token)) → behind_line (begun ++ (32 ∷ word_of t)) lines ≡ behind_line begun (put_before t lines)
+  goes_on : (begun : List ℕ) (lines : List (List Token)) → after_line (begun ++ (32 ∷ word_of t)) lines ≡ after_line begun (put_before t lines)
   goes_on begun [] = simp ordinary
   goes_on begun ([] ∷ lines) = simp ordinary
   goes_on begun ((u ∷ us) ∷ lines) = goes_on_at begun u us lines (is_ordinary u.value) refl
@@ -61,20 +61,20 @@ module _ (t : Token) (directive : is_ordinary t.value ≡ false) where
   stands (line ∷ lines) = simp directive
 
   -- and ends the line that has been begun
-  ends : (begun : List ℕ) (lines : List (List Token)) → behind_line begun (put_before t lines) ≡ begun ∷ encode_utf8_all (directive_text t.value) ∷ map bytes_of lines
+  ends : (begun : List ℕ) (lines : List (List Token)) → after_line begun (put_before t lines) ≡ begun ∷ encode_utf8_all (directive_text t.value) ∷ map bytes_of lines
   ends begun [] = simp directive
   ends begun (line ∷ lines) = simp directive
 
--- the lines of tokens, behind a line that has been begun and without one
+-- the lines of tokens, after a line that has been begun and without one
 abbrev LinesCome : List Token → Type 0
-LinesCome ts = ((begun : List ℕ) → lines_from (Some begun) ts ≡ behind_line begun (lines_of ts)) × (lines_from None ts ≡ output_lines ts)
+LinesCome ts = ((begun : List ℕ) → lines_from (Some begun) ts ≡ after_line begun (lines_of ts)) × (lines_from None ts ≡ output_lines ts)
 
 come_with : (t : Token) (ts : List Token) (b : Bool) → is_ordinary t.value ≡ b → LinesCome ts → LinesCome (t ∷ ts)
-come_with t ts true e (behind, alone) = (
-  λ begun. rw e (behind (begun ++ (32 ∷ word_of t)) ∙ goes_on t e begun (lines_of ts)),
-  rw e (behind (word_of t) ∙ begins t e (lines_of ts)),
+come_with t ts true e (after, alone) = (
+  λ begun. rw e (after (begun ++ (32 ∷ word_of t)) ∙ goes_on t e begun (lines_of ts)),
+  rw e (after (word_of t) ∙ begins t e (lines_of ts)),
 )
-come_with t ts false e (behind, alone) =
+come_with t ts false e (after, alone) =
     let text = encode_utf8_all (directive_text t.value) in (
       λ begun. rw e (ap (λ lines. begun ∷ text ∷ lines) alone ∙ sym (ends t e begun (lines_of ts))),
       rw e (ap (λ lines. text ∷ lines) alone ∙ sym (stands t e (lines_of ts))),

@@ -8,14 +8,14 @@ use Rattle.pp_rs.specs.Kept.{Preprocessing, Stands}
 use Rattle.pp_rs.specs.declared.token.Token.{Token}
 use Rattle.pp_rs.proofs.ComesLemmas.{gives_nothing, gives_more}
 use Rattle.pp_print.specs.Output.{output_lines, written_lines, output}
-use Rattle.pp_print.specs.Printing.{begun_line, line_behind, ended_lines, lines_from}
+use Rattle.pp_print.specs.Printing.{begun_line, line_after, ended_lines, lines_from}
 use Rattle.pp_print.specs.Runs.{IsPrinted, IsBegun}
 use Rattle.pp_print.specs.SourceRuns.{last_outcome, AreFirstFrom, EndsFrom}
 use Rattle.pp_print.specs.declared.ends.RunEnd.{RunEnd}
 use Rattle.pp_print.proofs.OutputLemmas.{output_lines-from}
 use Rattle.pp_print.proofs.WriteLemmas.{appends_nothing, appends_more}
 
--- Some tokens came first and are printed, but for the line that has been begun. The items to come are those of the state behind
+-- Some tokens came first and are printed, but for the line that has been begun. The items to come are those of the state after
 -- them.
 pub record IsPrinting (start : State) (items : Preprocessing) (line : Option (List ℕ)) (old new : Option (List ℕ)) : Type 0 where
   pub tokens : List Token
@@ -26,7 +26,7 @@ pub record IsPrinting (start : State) (items : Preprocessing) (line : Option (Li
   pub lines : (more : List Token) → output_lines (tokens ++ more) ≡ done ++ lines_from line more
   pub written : Appends old new (written_lines done)
 
--- lines that are written behind others
+-- lines that are written after others
 appends_lines : (a b c : Option (List ℕ)) (first second : List (List ℕ)) → Appends a b (written_lines first) → Appends b c (written_lines second) → Appends a c (written_lines (first ++ second))
 appends_lines a b c first second f s = rw (flat_map-append (λ (line : List ℕ). line ++ (10 ∷ [])) first second) (appends_more a b c (written_lines first) (written_lines second) f s)
 
@@ -44,15 +44,15 @@ printing_starts start items known stands = record {
 
 module _ (start : State) (items : Preprocessing) (line old mid new : Option (List ℕ)) (p : IsPrinting start items line old mid) where
   -- a token is printed: it goes to the line, or ends it
-  pub printing_goes_on : (left : Preprocessing) (t : Token) (behind : State) (longer : Option (List ℕ)) → Comes p.state (outcome.Token t) behind → Stands left behind → longer ≡ line_behind line t.value → Appends mid new (written_lines (ended_lines line t.value))
+  pub printing_goes_on : (left : Preprocessing) (t : Token) (after : State) (longer : Option (List ℕ)) → Comes p.state (outcome.Token t) after → Stands left after → longer ≡ line_after line t.value → Appends mid new (written_lines (ended_lines line t.value))
       → IsPrinting start left longer old new
-  printing_goes_on left t behind longer comes stands f w = rw f (record {
+  printing_goes_on left t after longer comes stands f w = rw f (record {
     tokens = p.tokens ++ (t ∷ []);
-    state = behind;
-    given = gives_more p.tokens t start p.state behind p.given comes;
+    state = after;
+    given = gives_more p.tokens t start p.state after p.given comes;
     stands = stands;
     done = p.done ++ ended_lines line t.value;
-    lines = λ more. ap output_lines (append_assoc p.tokens (t ∷ []) more) ∙ p.lines (t ∷ more) ∙ sym (append_assoc p.done (ended_lines line t.value) (lines_from (line_behind line t.value) more));
+    lines = λ more. ap output_lines (append_assoc p.tokens (t ∷ []) more) ∙ p.lines (t ∷ more) ∙ sym (append_assoc p.done (ended_lines line t.value) (lines_from (line_after line t.value) more));
     written = appends_lines old mid new p.done (ended_lines line t.value) p.written w;
   })
 
@@ -63,10 +63,10 @@ module _ (start : State) (items : Preprocessing) (line old mid new : Option (Lis
       rw whole (appends_lines old mid new p.done (begun_line line) p.written w)
 
   -- at the end, or an error, all before it is printed
-  pub printing_ends : (end : RunEnd) (behind : State) → Comes p.state (last_outcome end) behind → Appends mid new (written_lines (begun_line line)) → IsPrinted (EndsFrom start) end old new
-  printing_ends end behind comes w = record {
+  pub printing_ends : (end : RunEnd) (after : State) → Comes p.state (last_outcome end) after → Appends mid new (written_lines (begun_line line)) → IsPrinted (EndsFrom start) end old new
+  printing_ends end after comes w = record {
     tokens = p.tokens;
-    run = record { before = p.state; gives = p.given; behind = behind; ends = comes };
+    run = record { before = p.state; gives = p.given; after = after; ends = comes };
     written = whole_output w;
   }
 
@@ -74,7 +74,7 @@ module _ (start : State) (items : Preprocessing) (line old mid new : Option (Lis
 pub printing_begun : (start : State) (items : Preprocessing) (line old new : Option (List ℕ)) → IsPrinting start items line old new → IsBegun (AreFirstFrom start) old new
 printing_begun start items line old new p = record {
   tokens = p.tokens;
-  first = record { behind = p.state; gives = p.given };
+  first = record { after = p.state; gives = p.given };
   lines = p.done;
   begin = λ more. (lines_from line more, p.lines more);
   written = p.written;

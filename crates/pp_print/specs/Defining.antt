@@ -10,7 +10,7 @@ use Rattle.pp_print.specs.declared.ends.RunFault.TheVariants.{BadWord, OutOfMemo
 -- All definitions are accepted. Each state that the preprocessor stood for is now one in which they were added.
 pub record AreAdded (old : Preprocessing) (definitions : List Definition) (new : Preprocessing) : Type 0 where
   pub accepted : All IsAccepted definitions
-  pub stands : (state : State) → Stands old state → (behind : State) × Adds state definitions behind × Stands new behind
+  pub stands : (state : State) → Stands old state → (after : State) × Adds state definitions after × Stands new after
   pub spent : is_spent new ≡ is_spent old
 
 -- a fault of a definition has a cause, and comes else where memory is refused

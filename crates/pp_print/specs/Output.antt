@@ -45,7 +45,7 @@ leaf_spelling pragma = []
 abbrev pub spelled_entries : List Entry → List ℕ
 spelled_entries entries = join_with_byte 32 (map (λ e. leaf_spelling e.leaf) entries)
 
--- a directive's word, and behind it a space and the tokens if there are any
+-- a directive's word, and after it a space and the tokens if there are any
 abbrev pub with_tokens : List ℕ → List Entry → List ℕ
 with_tokens word [] = word
 with_tokens word (entry ∷ entries) = word ++ (32 ∷ spelled_entries (entry ∷ entries))
@@ -66,7 +66,7 @@ line_text (t ∷ ts) = if is_ordinary t.value then spelled_text (values_of (t �
 abbrev pub output_lines : List Token → List (List ℕ)
 output_lines tokens = map (λ line. encode_utf8_all (line_text line)) (lines_of tokens)
 
--- the bytes of lines, each with LF behind it
+-- the bytes of lines, each with LF after it
 abbrev pub written_lines : List (List ℕ) → List ℕ
 written_lines lines = flat_map (λ line. line ++ (10 ∷ [])) lines
 

@@ -54,7 +54,7 @@ pub record IsPrinted (IsRun : List Token → RunEnd → Type 0) (end : RunEnd) (
   pub run : IsRun tokens end
   pub written : Appends old new (output tokens)
 
--- whatever tokens come behind these, the output begins with these lines
+-- whatever tokens come after these, the output begins with these lines
 abbrev pub BeginOutput : List Token → List (List ℕ) → Type 0
 BeginOutput tokens lines = (more : List Token) → (left : List (List ℕ)) × (output_lines (tokens ++ more) ≡ lines ++ left)
 

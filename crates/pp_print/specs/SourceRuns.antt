@@ -1,4 +1,4 @@
--- The run of a source: which tokens come of it behind the definitions that were added, and how it ends. Only this file says so.
+-- The run of a source: which tokens come of it after the definitions that were added, and how it ends. Only this file says so.
 use Rattle.std.specs.Prelude.{◌≡◌, ℕ, List, [], ◌∷◌, Result, Ok}
 use Rattle.std.specs.Borrow.{Bor}
 use Rattle.std.specs.Str.{chars}
@@ -22,11 +22,11 @@ tokens_of definition = content_tokens (items_of definition.1.now)
 abbrev pub start_of : List ℕ → State
 start_of source = start (items_of source)
 
--- definitions that are added in order, each to the state behind the one before it, make one state another
+-- definitions that are added in order, each to the state after the one before it, make one state another
 pub data Adds : State → List Definition → State → Type 0 where
-  none : (state : State) (definitions : List Definition) (behind : State) → definitions ≡ [] → behind ≡ state → Adds state definitions behind
-  first : (definition : Definition) (tokens : List Token) (rest : List Definition) (state : State) (definitions : List Definition) (behind : State)
-      → tokens_of definition ≡ Ok tokens → Adds (with_added (chars definition.0.now) tokens state) rest behind → definitions ≡ definition ∷ rest → Adds state definitions behind
+  none : (state : State) (definitions : List Definition) (after : State) → definitions ≡ [] → after ≡ state → Adds state definitions after
+  first : (definition : Definition) (tokens : List Token) (rest : List Definition) (state : State) (definitions : List Definition) (after : State)
+      → tokens_of definition ≡ Ok tokens → Adds (with_added (chars definition.0.now) tokens state) rest after → definitions ≡ definition ∷ rest → Adds state definitions after
 
 -- what comes at the end
 abbrev pub last_outcome : RunEnd → Outcome
@@ -35,8 +35,8 @@ last_outcome (Stopped error location) = outcome.Fault (error, location)
 
 -- from this state these tokens come first
 pub record AreFirstFrom (state : State) (tokens : List Token) : Type 0 where
-  pub behind : State
-  pub gives : Gives state tokens behind
+  pub after : State
+  pub gives : Gives state tokens after
 
 -- from this state these tokens come, and then this end
 abbrev pub EndsFrom : State → List Token → RunEnd → Type 0

@@ -51,7 +51,7 @@ pub fn run<R: Source, W: Sink>(
     ensures write_failed { IsErrOf result RunFault.WriteFailed ↔ (W.failed writer.new ≡ true) }
     ensures unwritten { IfErr result (λ fault. IsBeforeOutput fault → writer.new ≡ writer.old) }
 
-    // What was written is the output of the run of the source behind the definitions or, where memory was
+    // What was written is the output of the run of the source after the definitions or, where memory was
     // refused, nothing or the first lines of that output.
     ensures printed { IfOk result (λ end. IfSome (R.remaining reader.old) (λ source.
         IsPrinted (IsRunOf source defs.now) end (W.contents writer.old) (W.contents writer.new))) }

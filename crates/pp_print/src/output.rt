@@ -10,12 +10,12 @@ ghost use Rattle.pp_rs.specs.Held.{HoldsOrdinary, is_ordinary_leaf};
 ghost use Rattle.pp_rs.specs.Spelling.{spelled_text, values_of};
 ghost use Rattle.pp_print.specs.Input.{IsDeviceFault};
 ghost use Rattle.pp_print.specs.Output.{AllOrdinary, with_tokens, directive_text, written_lines};
-ghost use Rattle.pp_print.specs.Printing.{extended, begun_line, line_behind, ended_lines, ArePrinted, AreBegun};
+ghost use Rattle.pp_print.specs.Printing.{begun_line, line_after, ended_lines, ArePrinted, AreBegun};
 ghost use Rattle.pp_print.specs.Runs.{IsStoppedBySource};
 
 use super::devices::Sink;
 use super::ends::{RunEnd, RunFault};
-use pp_rs::pp::{Preprocessor, spell_tokens};
+use pp_rs::pp::{Preprocessor, push_value, spell_tokens};
 use pp_rs::token::{PreprocessorError, Token, TokenValue, Tokens};
 use std::alloc::{AllocError, Global};
 
@@ -61,7 +61,7 @@ fn print_token<W: Sink>(
 ) -> Result<(), RunFault>
     requires item { HoldsOrdinary token.value }
     requires ready { W.failed writer.old ≡ false }
-    ensures line { OnOk result (option_map string_bytes line.new ≡ line_behind (option_map string_bytes line.old) token.value) }
+    ensures line { OnOk result (option_map string_bytes line.new ≡ line_after (option_map string_bytes line.old) token.value) }
     ensures written { OnOk result (Appends (W.contents writer.old) (W.contents writer.new)
         (written_lines (ended_lines (option_map string_bytes line.old) token.value))) }
     ensures refused { IsErrOf result RunFault.OutOfMemory → writer.new ≡ writer.old }
@@ -69,8 +69,7 @@ fn print_token<W: Sink>(
     ensures err { IfErr result (λ fault. IsDeviceFault RunFault.WriteFailed fault (W.failed writer.new)) }
 {
     if token.is_ordinary() {
-        let word = spell(alloc, &[token])?;
-        *line = Some(extend_line(line.take(), word)?);
+        push_word(alloc, line, &token.value)?;
         return Ok(());
     }
     let directive = spell_directive(alloc, &token.value)?;
@@ -93,16 +92,23 @@ fn print_line<W: Sink>(alloc: Global, line: Option<String>, writer: &mut W) -> R
     write_all(text.as_bytes(), writer)
 }
 
-// The line with one more word: the first one, or one behind a space.
-fn extend_line(line: Option<String>, word: String) -> Result<String, AllocError>
-    ensures { IfOk result (λ text. string_bytes text ≡ extended (option_map string_bytes line) (string_bytes word)) }
+// Takes an ordinary token into the line: as its first word, or after a space.
+fn push_word(alloc: Global, line: &mut Option<String>, value: &TokenValue) -> Result<(), AllocError>
+    requires { IsTrue (is_ordinary value.now) }
+    ensures { OnOk result (option_map string_bytes line.new ≡ line_after (option_map string_bytes line.old) value.now) }
 {
-    let Some(mut text) = line else {
-        return Ok(word);
-    };
-    text.push(' ')?;
-    text.push_str(word.as_str())?;
-    Ok(text)
+    match line {
+        Some(words) => {
+            words.push(' ')?;
+            push_value(words, value)
+        }
+        None => {
+            let mut words = String::new(alloc);
+            push_value(&mut words, value)?;
+            *line = Some(words);
+            Ok(())
+        }
+    }
 }
 
 // The line with its newline, or no text where no line was begun.
@@ -131,7 +137,7 @@ fn spell_directive(alloc: Global, value: &TokenValue) -> Result<String, RunFault
     }
 }
 
-// The word, and behind it a space and the spelled tokens if there are any.
+// The word, and after it a space and the spelled tokens if there are any.
 fn with_tokens(alloc: Global, word: &str, tokens: &Tokens) -> Result<String, RunFault>
     requires { All (λ entry. IsTrue (is_ordinary_leaf entry.leaf)) tokens.now }
     ensures ok { IfOk result (λ text. string_bytes text ≡ encode_utf8_all (with_tokens (chars word.now) tokens.now)) }
@@ -144,7 +150,9 @@ fn with_tokens(alloc: Global, word: &str, tokens: &Tokens) -> Result<String, Run
         return Ok(text);
     }
     let spelled = spell(alloc, tokens)?;
-    Ok(extend_line(Some(text), spelled)?)
+    text.push(' ')?;
+    text.push_str(spelled.as_str())?;
+    Ok(text)
 }
 
 // The tokens as text, with one space between two.

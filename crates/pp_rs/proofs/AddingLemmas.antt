@@ -11,15 +11,16 @@ use Rattle.pp_model.specs.SourceReader.{SourceReader}
 use Rattle.pp_model.specs.Emitting.{expansion_limit}
 use Rattle.pp_rs.specs.Adding.{IsAdded, refused, faulty, added}
 use Rattle.pp_rs.specs.Defined.{Defined, IsChanged, meaning_of}
-use Rattle.pp_rs.specs.Fit.{EndIsLast, IsFit}
+use Rattle.pp_rs.specs.Fit.{EndIsLast, IsFit, IsTold}
 use Rattle.pp_rs.specs.Frames.{Layer, names_of}
 use Rattle.pp_rs.specs.Item.{Fault, Step}
-use Rattle.pp_rs.specs.Kept.{Preprocessing, Stands, is_spent, most_items}
+use Rattle.pp_rs.specs.Kept.{Preprocessing, Stands, is_spent, most_items, errors_left, error_place}
 use Rattle.pp_rs.specs.Left.{AreDefinedAbove, work_of}
 use Rattle.pp_rs.specs.Machine.{Machine}
 use Rattle.pp_rs.specs.Reader.{of_source}
 use Rattle.pp_rs.specs.SettingContent.{IsSetIn}
-use Rattle.pp_rs.specs.Source.{Source}
+use Rattle.pp_rs.specs.Source.{Source, untold_of}
+use Rattle.pp_rs.specs.Untold.{untold_with}
 use Rattle.pp_rs.specs.Stands.{StandsForReader, StandsForHeld, StandsFor}
 use Rattle.pp_rs.specs.declared.pp.step.StepExit.TheVariants.{Error, Continue, Finished}
 use Rattle.pp_rs.proofs.LeftLemmas.{no_more_work}
@@ -90,6 +91,9 @@ module _ (name : Name) (tokens : List Token) (old new : Source) (h : IsSetIn nam
     last = last_added m.held m.frames fit.last;
   }
 
+  pub told_added : (m : Machine) → IsTold m old → IsTold m new
+  told_added m told = subst (λ (source : Source). IsTold m source) (sym h.others) told
+
   -- where nothing was left, nothing is
   pub none_left_added : (m : Machine) (spent : Bool) → (if spent then 0 else work_of expansion_limit m (of_source old)) ≡ 0 → (if spent then 0 else work_of expansion_limit m (of_source new)) ≡ 0
   none_left_added m true e = refl
@@ -98,11 +102,13 @@ module _ (name : Name) (tokens : List Token) (old new : Source) (h : IsSetIn nam
 -- what a call answers, by what was made of the source
 module _ (old : Preprocessing) (name content : List ℕ) (new : Source) where
   pub added_now : (tokens : List Token) → content_tokens (items_of content) ≡ Ok tokens → IsSetIn (chars name) tokens old.source new → IsAdded old name content (Ok tt) (record old { source = new })
-  unfolding Stands is_spent most_items
+  unfolding Stands is_spent most_items errors_left error_place
   added_now tokens e h = added tokens e refl (record {
     stands = λ state stands. stands_added (chars name) tokens old.source new h old.machine state stands;
     spent = refl;
     ended = λ none. none_left_added (chars name) tokens old.source new h old.machine old.spent none;
+    errors = ap (λ (s : Source). untold_with old.machine.held (untold_of s)) h.others;
+    place = refl;
   })
 
   pub faulty_now : (fault : Fault) → content_tokens (items_of content) ≡ Err fault → new ≡ old.source → IsAdded old name content (Err fault) (record old { source = new })

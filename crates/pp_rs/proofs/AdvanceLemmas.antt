@@ -8,7 +8,7 @@ use Rattle.pp_rs.specs.Defined.{Defined, meaning_of, body_tokens}
 use Rattle.pp_rs.specs.Frames.{Layer, layer, Advance, advance, body_token, argument_at}
 use Rattle.pp_rs.specs.Work.{token_steps, body_steps, steps_left}
 
--- a frame behind a step: fewer steps are left, and its name stays
+-- a frame after a step: fewer steps are left, and its name stays
 pub record Advances (f : Layer) (a : Advance) : Type 0 where
   pub lower : steps_left a.after < steps_left f
   pub name : a.after.name ≡ f.name

@@ -5,7 +5,7 @@ use Rattle.std.proofs.lemmas.List.Elements.{All-cons, All-nil, All-append}
 use Rattle.pp_lexer.specs.declared.token.Token.{Token}
 use Rattle.pp_lexer.specs.declared.token.PreprocessorError.{PreprocessorError}
 use Rattle.pp_model.specs.Names.{Name}
-use Rattle.pp_model.specs.Calls.{Fault, pieces, arguments_of, misfit, cut_before, Pieces, is_comma, nesting_behind}
+use Rattle.pp_model.specs.Calls.{Fault, pieces, arguments_of, misfit, cut_before, Pieces, is_comma, nesting_after}
 use Rattle.pp_model.specs.Emitting.{Alone, Each, EachOrRefused, answers_at}
 use Rattle.pp_rs.specs.Calling.{PendingCall}
 use Rattle.pp_rs.specs.Defined.{Defined, meaning_of, body_tokens}
@@ -34,7 +34,7 @@ finish_fault levels definitions hidden call old new h fault e s =
 -- no piece is longer than the tokens
 pub pieces_short : (n : ℕ) (tokens : List Token) → (length (pieces n tokens).first ≤ length tokens) × All (λ (a : List Token). length a ≤ length tokens) (pieces n tokens).others
 pieces_short n [] = (omega arith, All-nil (λ (a : List Token). length a ≤ 0))
-pieces_short n (token ∷ tokens) = cut (is_comma token.value && (n == 0)) (pieces (nesting_behind n token.value) tokens) (pieces_short (nesting_behind n token.value) tokens)
+pieces_short n (token ∷ tokens) = cut (is_comma token.value && (n == 0)) (pieces (nesting_after n token.value) tokens) (pieces_short (nesting_after n token.value) tokens)
   where
     cut : (b : Bool) (ps : Pieces) → (length ps.first ≤ length tokens) × All (λ (a : List Token). length a ≤ length tokens) ps.others → (length (cut_before b token ps).first ≤ length (token ∷ tokens)) × All (λ (a : List Token). length a ≤ length (token ∷ tokens)) (cut_before b token ps).others
     cut true ps h = (omega arith, All-cons (λ (a : List Token). length a ≤ length (token ∷ tokens)) ps.first ps.others (let k = h.0 in omega arith) (λ k d inside. let low = h.1 k d inside in omega arith))

@@ -4,7 +4,7 @@ use Rattle.std.specs.List.{AllByRecursion as Each, cons_option}
 use Rattle.pp_lexer.specs.Lexed.{Seen}
 use Rattle.pp_lexer.specs.declared.token.Location.{Location}
 use Rattle.pp_model.specs.Sights.{sight_of}
-use Rattle.pp_model.specs.Blocks.{part_of, line_with, line_at, block_lines, stays_open, inner_behind, opens, parts_block, parting, Block, open_blocks, blocks_at}
+use Rattle.pp_model.specs.Blocks.{part_of, line_with, line_at, block_lines, stays_open, inner_after, opens, parts_block, parting, Block, open_blocks, blocks_at}
 use Rattle.pp_model.specs.declared.block.BlockLine.{BlockLine}
 use Rattle.pp_model.specs.declared.block.Part.{Part}
 use Rattle.pp_model.specs.declared.sight.Sight.{Sight}
@@ -20,9 +20,9 @@ module _ {X : Type 0} (P : X → Type 0) where
   each_before [] ys all = tt
   each_before (x ∷ xs) ys all = (all.0, each_before xs ys all.1)
 
-  pub each_behind : (xs ys : List X) → Each P (xs ++ ys) → Each P ys
-  each_behind [] ys all = all
-  each_behind (x ∷ xs) ys all = each_behind xs ys all.1
+  pub each_after : (xs ys : List X) → Each P (xs ++ ys) → Each P ys
+  each_after [] ys all = all
+  each_after (x ∷ xs) ys all = each_after xs ys all.1
 
 -- a line stands from one position on, and before another
 abbrev pub StandsWithin : ℕ → ℕ → BlockLine → Type 0
@@ -69,7 +69,7 @@ module _ (P : BlockLine → Type 0) where
   each_parting : (inner : ℕ) (lines : List BlockLine) → Each P lines → Each P (parting inner lines)
   each_parting inner [] all = tt
   each_parting inner (line ∷ later) all =
-      each_if (parts_block line.part inner) line (parting (inner_behind line.part inner) later) all.0 (each_parting (inner_behind line.part inner) later all.1)
+      each_if (parts_block line.part inner) line (parting (inner_after line.part inner) later) all.0 (each_parting (inner_after line.part inner) later all.1)
 
   each_block_if : (begins : Bool) (block : Block) (blocks : List Block) → Each P (marks block) → Each (λ b. Each P (marks b)) blocks → Each (λ b. Each P (marks b)) (if begins then block ∷ blocks else blocks)
   each_block_if true block blocks here all = (here, all)
@@ -107,7 +107,7 @@ blocks_lie_before source position = each_mark (λ line. line.position < position
 -- so does the innermost, and those around it
 pub last_lies_before : (source : List Seen) (position : ℕ) (before : List Block) (block : Block) (inner : List Block) → blocks_at source position ≡ before ++ block ∷ inner → LiesBefore position block
 last_lies_before source position before block inner e =
-    (each_behind (LiesBefore position) before (block ∷ inner) (subst (λ (blocks : List Block). Each (LiesBefore position) blocks) e (blocks_lie_before source position))).0
+    (each_after (LiesBefore position) before (block ∷ inner) (subst (λ (blocks : List Block). Each (LiesBefore position) blocks) e (blocks_lie_before source position))).0
 
 pub around_lie_before : (source : List Seen) (position : ℕ) (before : List Block) (block : Block) (inner : List Block) → blocks_at source position ≡ before ++ block ∷ inner → Each (LiesBefore position) before
 around_lie_before source position before block inner e =

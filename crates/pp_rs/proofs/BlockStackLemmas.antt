@@ -76,7 +76,7 @@ module _ (source : List Seen) (truths : Truths) where
       is_live_innermost source truths position i.before i.block i.split
       ∙ ap (λ live. live && is_branch_live truths i.block) i.stands.live_around ∙ ap (λ live. kept.live_around && live) i.stands.chosen
 
--- a condition that is read behind a block changes nothing of how it is kept
+-- a condition that is read after a block changes nothing of how it is kept
 module _ (source : List Seen) (position : ℕ) (holds : Bool) (truths : Truths) where
   stands_before : (kept : OpenBlock) (block : Block) → LiesBefore position block → StandsForBlock source truths kept block → StandsForBlock source (with_truth position holds truths) kept block
   stands_before kept block before s = record {

@@ -11,7 +11,7 @@ use Rattle.pp_model.specs.Lines.{line_fault, line_tokens, ended_line, only_name}
 use Rattle.pp_model.specs.Sights.{sight_of}
 use Rattle.pp_model.specs.Blocks.{part_of, Block, is_live, are_surroundings_live, has_taken_branch, has_else}
 use Rattle.pp_model.specs.SourceReader.{SourceReader}
-use Rattle.pp_model.specs.Acts.{Acted, passed, failed_at, given, behind_word, behind_line, acted, skipped_by, skipped, only_word, decided, condition, elif_in, else_in, endif_in, block_here, line_item, live_directive, dead_directive, ended_by, live_act, dead_act, act}
+use Rattle.pp_model.specs.Acts.{Acted, passed, failed_at, given, after_word, after_line, acted, skipped_by, skipped, only_word, decided, condition, elif_in, else_in, endif_in, block_here, line_item, live_directive, dead_directive, ended_by, live_act, dead_act, act}
 use Rattle.pp_model.specs.Reads.{Steps, passes, gives, defines, repeats, redefines, decides, undecided, renumbers, unnumbered}
 use Rattle.pp_model.specs.declared.block.Part.TheVariants as part
 use Rattle.pp_model.specs.declared.directive.Directive.{Directive}
@@ -21,34 +21,34 @@ use Rattle.pp_model.specs.declared.sight.Sight.{Sight}
 use Rattle.pp_model.specs.declared.sight.Sight.TheVariants as sight
 use Rattle.pp_model.specs.declared.step.Step.{Step}
 use Rattle.pp_model.specs.declared.step.Step.TheVariants as step
-use Rattle.pp_rs.proofs.KnownBehindLemmas.{HasRead, one_keeps, no_word_keeps, unknown_keeps, line_keeps, opening_keeps, unread_keeps, closing_keeps, parting_keeps, skipping_keeps, choosing_keeps}
+use Rattle.pp_rs.proofs.KnownAfterLemmas.{HasRead, one_keeps, no_word_keeps, unknown_keeps, line_keeps, opening_keeps, unread_keeps, closing_keeps, parting_keeps, skipping_keeps, choosing_keeps}
 
--- it is known behind an act, and where a value is wanted, behind the line
-abbrev KnownBehind : Step → SourceReader → SourceReader → Type 0
-KnownBehind (step.Condition word tokens) r after = (holds : Bool) → HasRead (decided r holds)
-KnownBehind (step.LineNumber word tokens) r after = HasRead (behind_line r)
-KnownBehind _ r after = HasRead after
+-- it is known after an act, and where a value is wanted, after the line
+abbrev KnownAfter : Step → SourceReader → SourceReader → Type 0
+KnownAfter (step.Condition word tokens) r after = (holds : Bool) → HasRead (decided r holds)
+KnownAfter (step.LineNumber word tokens) r after = HasRead (after_line r)
+KnownAfter _ r after = HasRead after
 
 abbrev Keeps : SourceReader → Acted → Type 0
-Keeps r a = KnownBehind a.step r a.after
+Keeps r a = KnownAfter a.step r a.after
 
 module _ (r : SourceReader) (b : HasRead r) where
   value_keeps : {A : Type 0} (value : Result A Fault) (next : A → Acted) → ((a : A) → Keeps r (next a)) → Keeps r (acted value r next)
   value_keeps (Ok a) next h = h a
   value_keeps (Err fault) next h = b
 
-  skipped_by_keeps : (found : Option Fault) → HasRead (behind_line r) → Keeps r (skipped_by found r)
+  skipped_by_keeps : (found : Option Fault) → HasRead (after_line r) → Keeps r (skipped_by found r)
   skipped_by_keeps (Some fault) h = b
   skipped_by_keeps None h = h
 
-  skipped_keeps : HasRead (behind_line r) → Keeps r (skipped r)
-  skipped_keeps = skipped_by_keeps (line_fault (behind_word r))
+  skipped_keeps : HasRead (after_line r) → Keeps r (skipped r)
+  skipped_keeps = skipped_by_keeps (line_fault (after_word r))
 
   condition_keeps : (word : Location) → ((holds : Bool) → HasRead (decided r holds)) → Keeps r (condition word r)
-  condition_keeps word h = value_keeps (line_tokens (behind_word r)) (λ tokens. record { step = step.Condition word tokens; after = r }) (λ tokens. h)
+  condition_keeps word h = value_keeps (line_tokens (after_word r)) (λ tokens. record { step = step.Condition word tokens; after = r }) (λ tokens. h)
 
-  item_keeps : (value : List Token → TokenValue) (word : Location) → HasRead (behind_line r) → Keeps r (line_item value word r)
-  item_keeps value word h = value_keeps (line_tokens (behind_word r)) (λ tokens. given (record { value = value tokens; location = word }) (behind_line r)) (λ tokens. h)
+  item_keeps : (value : List Token → TokenValue) (word : Location) → HasRead (after_line r) → Keeps r (line_item value word r)
+  item_keeps value word h = value_keeps (line_tokens (after_word r)) (λ tokens. given (record { value = value tokens; location = word }) (after_line r)) (λ tokens. h)
 
   end_keeps : (block : Option Block) → Keeps r (ended_by block r)
   end_keeps (Some block) = b
@@ -68,19 +68,19 @@ module _ (r : SourceReader) (b : HasRead r) where
     elif_keeps (Some block) found its = elif_with block (has_else block) (not (are_surroundings_live r.items r.truths block) || has_taken_branch r.truths block) found its refl refl
 
     else_with : (block : Block) (other : Bool) → block_here r ≡ Some block → part_of directive ≡ Some part.Else → has_else block ≡ other
-        → Keeps r (if other then failed_at MoreThanOneElse word r else passed (behind_line r))
+        → Keeps r (if other then failed_at MoreThanOneElse word r else passed (after_line r))
     else_with block true found its is = b
     else_with block false found its is = parting_keeps r b directive word e block found its is
 
-    else_in_keeps : (found : Option Block) → block_here r ≡ found → part_of directive ≡ Some part.Else → Keeps r (else_in found word r (behind_line r))
+    else_in_keeps : (found : Option Block) → block_here r ≡ found → part_of directive ≡ Some part.Else → Keeps r (else_in found word r (after_line r))
     else_in_keeps None found its = b
     else_in_keeps (Some block) found its = else_with block (has_else block) found its refl
 
     else_keeps : part_of directive ≡ Some part.Else → Keeps r (only_word word r (else_in (block_here r) word r))
-    else_keeps its = value_keeps (ended_line word (behind_word r)) (λ end. else_in (block_here r) word r (behind_line r)) (λ end. else_in_keeps (block_here r) refl its)
+    else_keeps its = value_keeps (ended_line word (after_word r)) (λ end. else_in (block_here r) word r (after_line r)) (λ end. else_in_keeps (block_here r) refl its)
 
-    endif_with : (live : Bool) → HasRead (behind_line r) → Keeps r (if live then only_word word r passed else skipped r)
-    endif_with true h = value_keeps (ended_line word (behind_word r)) (λ end. passed (behind_line r)) (λ end. h)
+    endif_with : (live : Bool) → HasRead (after_line r) → Keeps r (if live then only_word word r passed else skipped r)
+    endif_with true h = value_keeps (ended_line word (after_word r)) (λ end. passed (after_line r)) (λ end. h)
     endif_with false h = skipped_keeps h
 
     endif_keeps : (found : Option Block) → block_here r ≡ found → part_of directive ≡ Some part.Closes → Keeps r (endif_in found word r)
@@ -89,16 +89,16 @@ module _ (r : SourceReader) (b : HasRead r) where
 
   module _ (word : Location) where
     live_keeps : (directive : Directive) → is_live r.items r.truths r.position ≡ true → sight_of (drop r.position r.items) ≡ sight.Directive directive word → Keeps r (live_directive directive word r)
-    live_keeps d.Define live e = value_keeps (defined_on word (behind_word r)) (λ named. record { step = step.Defines named; after = behind_line r }) (λ named. line_keeps r b d.Define word e refl)
-    live_keeps d.Undef live e = value_keeps (only_name word (behind_word r)) _ (λ name. line_keeps r b d.Undef word e refl)
+    live_keeps d.Define live e = value_keeps (defined_on word (after_word r)) (λ named. record { step = step.Defines named; after = after_line r }) (λ named. line_keeps r b d.Define word e refl)
+    live_keeps d.Undef live e = value_keeps (only_name word (after_word r)) _ (λ name. line_keeps r b d.Undef word e refl)
     live_keeps d.If live e = condition_keeps word (opening_keeps r b d.If word e refl live)
-    live_keeps d.Ifdef live e = value_keeps (only_name word (behind_word r)) _ (λ name. opening_keeps r b d.Ifdef word e refl live _)
-    live_keeps d.Ifndef live e = value_keeps (only_name word (behind_word r)) _ (λ name. opening_keeps r b d.Ifndef word e refl live _)
+    live_keeps d.Ifdef live e = value_keeps (only_name word (after_word r)) _ (λ name. opening_keeps r b d.Ifdef word e refl live _)
+    live_keeps d.Ifndef live e = value_keeps (only_name word (after_word r)) _ (λ name. opening_keeps r b d.Ifndef word e refl live _)
     live_keeps d.Elif live e = elif_keeps d.Elif word e (block_here r) refl refl
     live_keeps d.Else live e = else_keeps d.Else word e refl
     live_keeps d.Endif live e = endif_keeps d.Endif word e (block_here r) refl refl
     live_keeps d.Error live e = b
-    live_keeps d.Line live e = value_keeps (line_tokens (behind_word r)) (λ tokens. record { step = step.LineNumber word tokens; after = r }) (λ tokens. line_keeps r b d.Line word e refl)
+    live_keeps d.Line live e = value_keeps (line_tokens (after_word r)) (λ tokens. record { step = step.LineNumber word tokens; after = r }) (λ tokens. line_keeps r b d.Line word e refl)
     live_keeps d.Version live e = item_keeps _ word (line_keeps r b d.Version word e refl)
     live_keeps d.Extension live e = item_keeps _ word (line_keeps r b d.Extension word e refl)
     live_keeps d.Pragma live e = item_keeps _ word (line_keeps r b d.Pragma word e refl)
@@ -140,8 +140,8 @@ module _ (r : SourceReader) (b : HasRead r) where
   act_keeps : Keeps r (act r)
   act_keeps = sight_keeps (is_live r.items r.truths r.position) (sight_of (drop r.position r.items)) refl refl
 
-  known_by : (by : Step) → (act r).step ≡ by → KnownBehind by r (act r).after
-  known_by by is = subst (λ (s : Step). KnownBehind s r (act r).after) is act_keeps
+  known_by : (by : Step) → (act r).step ≡ by → KnownAfter by r (act r).after
+  known_by by is = subst (λ (s : Step). KnownAfter s r (act r).after) is act_keeps
 
 module _ (A : Answers) where
   -- so each step keeps it

@@ -35,7 +35,7 @@ last_chosen_more truths first line (next ∷ later) =
     ap (λ chosen. fails_at truths first && chosen) (last_chosen_more truths next line later)
     ∙ sym (and_assoc (fails_at truths first) (list_all (fails_at truths) (next ∷ later)) (holds_at truths line))
 
--- behind a line that parts a block, its branch is live where all earlier conditions are false and the line's own holds
+-- after a line that parts a block, its branch is live where all earlier conditions are false and the line's own holds
 pub branch_live_parted : (truths : Truths) (block : Block) (line : BlockLine) → is_branch_live truths (parted block line) ≡ all_fail truths block && holds_at truths line
 branch_live_parted truths block line = last_chosen_more truths block.first line block.partings
 
@@ -83,7 +83,7 @@ module _ (truths : Truths) (line : BlockLine) where
   pub fails_else : is_else line.part ≡ true → fails_at truths line ≡ true
   fails_else is = ap (λ other. other || is_known_false (truth_at truths line.position)) is
 
--- a condition that is read behind the block tells nothing new of it
+-- a condition that is read after the block tells nothing new of it
 pub settled_before : (live : Bool) (position : ℕ) (holds : Bool) (truths : Truths) (block : Block) → LiesBefore position block → IsSettled live truths block → IsSettled live (with_truth position holds truths) block
 settled_before live position holds truths block before settled =
     all_fail_before position holds truths block before ∙ settled ∙ ap (λ taken. live && not taken) (sym (taken_branch_before position holds truths block before))
@@ -133,7 +133,7 @@ module _ (live : Bool) (truths : Truths) (block : Block) (line : BlockLine) (is 
       all_fail_parted truths block line ∙ both refl (fails_else truths line (ap is_else is)) ∙ and-true (all_fail truths block)
       ∙ settled ∙ ap (λ taken. live && not taken) (sym else_taken)
 
--- An `#elif` of the block that is skipped: in dead surroundings, or behind a branch that was taken.
+-- An `#elif` of the block that is skipped: in dead surroundings, or after a branch that was taken.
 module _ (live : Bool) (truths : Truths) (block : Block) (line : BlockLine) (is : line.part ≡ part.Elif) (unread : IsUnread line.position truths) where
   pub skipped_live : is_branch_live truths (parted block line) ≡ false
   skipped_live = branch_live_parted truths block line ∙ both refl (holds_unread truths line (ap is_else is) unread) ∙ and_false (all_fail truths block)

@@ -19,7 +19,7 @@ use Rattle.pp_rs.proofs.TruthLemmas.{with_truth, IsUnread, branch_live_before, t
 abbrev pub HasChosen : Truths → Block → Type 0
 HasChosen truths block = (mark : ℕ) × IsChosen truths block mark
 
--- No mark of the block stands behind an `#else`. All its conditions were read and are false just where its surroundings are live and no branch
+-- No mark of the block stands after an `#else`. All its conditions were read and are false just where its surroundings are live and no branch
 -- was taken. In live surroundings a mark is chosen, where a branch was taken, or the block has an `#else`.
 pub record IsBranched (source : List Seen) (truths : Truths) (block : Block) : Type 0 where
   pub begins : is_else block.first.part ≡ false
@@ -32,7 +32,7 @@ each_take P zero xs all = tt
 each_take P (suc n) [] all = tt
 each_take P (suc n) (x ∷ xs) all = (all.0, each_take P n xs all.1)
 
--- a condition that is read behind a block changes nothing of it
+-- a condition that is read after a block changes nothing of it
 module _ (source : List Seen) (position : ℕ) (holds : Bool) (truths : Truths) where
   chosen_before : (block : Block) (mark : ℕ) → LiesBefore position block → IsChosen truths block mark → IsChosen (with_truth position holds truths) block mark
   chosen_before block mark before c = record {

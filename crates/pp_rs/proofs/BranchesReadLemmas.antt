@@ -8,7 +8,7 @@ use Rattle.pp_model.specs.declared.block.BlockLine.{BlockLine}
 use Rattle.pp_model.specs.declared.block.Part.TheVariants as part
 use Rattle.pp_rs.specs.Lined.{AreLined}
 use Rattle.pp_rs.specs.OpenBlocks.{IsSettled, AreBefore}
-use Rattle.pp_rs.proofs.BlockPositionLemmas.{each_weaker, each_before, each_behind, LiesBefore, lies_before_later, blocks_lie_before, last_lies_before}
+use Rattle.pp_rs.proofs.BlockPositionLemmas.{each_weaker, each_before, each_after, LiesBefore, lies_before_later, blocks_lie_before, last_lies_before}
 use Rattle.pp_rs.proofs.BranchLemmas.{else_settled, skipped_settled, elif_settled}
 use Rattle.pp_rs.proofs.BranchedLemmas.{IsBranched, all_branched_before, opened_branched, unread_branched, parted_branched}
 use Rattle.pp_rs.proofs.FewerLinesLemmas.{open_between}
@@ -16,7 +16,7 @@ use Rattle.pp_rs.proofs.LinesBeforeLemmas.{AreLinesBefore, AddsLines, lines_here
 use Rattle.pp_rs.proofs.OpenBlocksLemmas.{opened, parted, opens_one, closes_one, parts_one}
 use Rattle.pp_rs.proofs.TruthLemmas.{with_truth, IsUnread, before_unread, before_later, before_more, surroundings_before}
 
--- The lines of blocks are those before the position and those behind it, the conditions that were read stand before it, and of each block that was
+-- The lines of blocks are those before the position and those after it, the conditions that were read stand before it, and of each block that was
 -- open up to it this is known.
 pub record BranchesRead (items : List Seen) (position : ℕ) (truths : Truths) : Type 0 where
   pub lined : AreLined items
@@ -36,11 +36,11 @@ module _ (items : List Seen) (position : ℕ) (truths : Truths) (b : BranchesRea
     lines_then : AreLinesBefore items (position + count) (block_lines 0 (take position items) ++ cons_option found [])
     lines_then = lines_further items position count (block_lines 0 (take position items)) (cons_option found []) b.lines adds
 
-    -- the lines behind these items
+    -- the lines after these items
     pub lines_now : block_lines 0 (take (position + count) items) ≡ block_lines 0 (take position items) ++ cons_option found []
     lines_now = lines_here items (position + count) (block_lines 0 (take position items) ++ cons_option found []) lines_then
 
-    -- behind items that add one line of a block at most, it is known of all blocks, where it is known of those before, and of those that are open there
+    -- after items that add one line of a block at most, it is known of all blocks, where it is known of those before, and of those that are open there
     pub read_further : (new : Truths) → AreBefore (position + count) new → ((place : ℕ) → place ≤ position → AreBranched items new (blocks_at items place))
         → AreBranched items new (blocks_at items (position + count)) → BranchesRead items (position + count) new
     read_further new before earlier now = record {
@@ -116,7 +116,7 @@ module _ (items : List Seen) (line : BlockLine) (truths : Truths) (b : BranchesR
     all_known = subst (λ (blocks : List Block). AreBranched items truths blocks) split (b.read line.position (omega arith))
 
     this_known : IsBranched items truths block
-    this_known = (each_behind (IsBranched items truths) before (block ∷ []) all_known).0
+    this_known = (each_after (IsBranched items truths) before (block ∷ []) all_known).0
 
     -- an `#endif`
     pub read_closed : line.part ≡ part.Closes → BranchesRead items (line.position + count) truths
@@ -149,5 +149,5 @@ module _ (items : List Seen) (line : BlockLine) (truths : Truths) (b : BranchesR
           let around : are_surroundings_live items new block ≡ true = surroundings_before line.position holds truths items block (omega (arith, lies.0)) ∙ live in
           known_read holds some (before ++ parted block line ∷ []) (parts_one (block_lines 0 (take line.position items)) line before block (ap (λ p. parts_block p 0) is) split)
           (each_more (IsBranched items new) before (parted block line) (each_before (IsBranched items new) before (block ∷ []) all)
-          (parted_branched items new block line (each_behind (IsBranched items new) before (block ∷ []) all).0 no_else
+          (parted_branched items new block line (each_after (IsBranched items new) before (block ∷ []) all).0 no_else
           (subst (λ (live_around : Bool). IsSettled live_around new (parted block line)) (sym around) (elif_settled truths block line holds is lies settled untaken))))

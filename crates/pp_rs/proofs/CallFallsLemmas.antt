@@ -1,4 +1,4 @@
--- Each turn of an expander with calls lowers what is left to do, and so does the frame that opens behind a call.
+-- Each turn of an expander with calls lowers what is left to do, and so does the frame that opens after a call.
 use Rattle.std.proofs.Common.{◌≡◌, ℕ, suc, ◌+◌, ◌<◌, ◌≤◌, Bool, true, false, if◌then◌else◌, List, [], ◌∷◌, length, arith, subst, refl, le_trans, Option, Some, None, All, Ok, Err}
 use Rattle.std.specs.Prelude.{Result}
 use Rattle.pp_lexer.specs.declared.token.Token.{Token}
@@ -77,7 +77,7 @@ found_sound n s name definition found sound = opened_sound (definitions_of s) na
 pub pending_few : (name : Name) (line : ℕ) (definition : Definition) (arguments : List (List Token)) (n : Machine) (s : Reader) → IsSoundWith (Some name) n s → length (layer name line definition arguments ∷ n.frames) ≤ most_open s
 pending_few name line definition arguments n s sound = omega (arith, open_names_few (definitions_of s) (name ∷ names_of n.frames) sound, length_names n.frames, names_least s)
 
--- What is known behind a turn: less is left, and macros are open soundly; behind a call there is room for its frame.
+-- What is known after a turn: less is left, and macros are open soundly; after a call there is room for its frame.
 pub record IsPending (levels : ℕ) (m : Machine) (r : Reader) (c : PendingCall) (n : Machine) (s : Reader) : Type 0 where
   pub free : n.held ≡ None
   pub room : IsNoMore (frame_of levels r) (most_open r) (regions m r) (one_more (regions_of n.frames (reads_left s)))
@@ -138,7 +138,7 @@ module _ (levels : ℕ) (m : Machine) (r : Reader) (sound : IsSound m r) where
         sound = with_it;
       }
 
-  -- what is sought behind a name
+  -- what is sought after a name
   seek_falls : (token : Token) (name : Name) (definition : Definition) (c : Sought) (step : Step Taken) (n p q : Machine) (s t : Reader) → IsTokenTaken n s → IsFound n s (name, definition) → Seeks n s c p t → Finds token name definition c step p q → FallsBy levels m r step q t
   seek_falls token name definition c step n p q s t h found (alone next n1 p1 s1 t1 c1 taken_next none told is) finds =
       let quiet : wants_memory next ≡ false = not_refused next told in
@@ -187,7 +187,7 @@ module _ (levels : ℕ) (m : Machine) (r : Reader) (sound : IsSound m r) where
   exit_told Continue h = refl
   exit_told Finished h = refl
 
-  -- each turn lowers what is left; behind a call there is room for its frame
+  -- each turn lowers what is left; after a call there is room for its frame
   pub turn_falls : (step : Step Taken) (n : Machine) (s : Reader) → TurnsTo m r step n s → wants_taken step ≡ false → FallsBy levels m r step n s
   turn_falls step n s (passes exit step1 m1 n1 r1 s1 steps is) told = rw is (exit_falls exit n s steps (exit_told exit (rw is at told)))
   turn_falls step n s (gives token step1 m1 n1 r1 s1 steps none is) told =

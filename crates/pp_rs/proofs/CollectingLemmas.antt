@@ -4,7 +4,7 @@ use Rattle.std.specs.Prelude.{Ok, Err, MatchBool}
 use Rattle.std.proofs.lemmas.List.Elements.{All-nil, All-push}
 use Rattle.pp_lexer.specs.declared.token.Token.{Token}
 use Rattle.pp_model.specs.declared.outcome.Outcome.TheVariants as outcome
-use Rattle.pp_rs.specs.Collecting.{tokens_before_error, first_error, error_or_end, AreItemsFrom, AreItemsOf, StandsBehindItems, IsGivenUp}
+use Rattle.pp_rs.specs.Collecting.{tokens_before_error, first_error, error_or_end, AreItemsFrom, AreItemsOf, StandsAfterItems, IsGivenUp}
 use Rattle.pp_rs.specs.Comes.{State, IsRunFrom}
 use Rattle.pp_rs.specs.Held.{ItemHoldsOrdinary}
 use Rattle.pp_rs.specs.Item.{Fault, Item}
@@ -12,7 +12,7 @@ use Rattle.pp_rs.specs.Kept.{Preprocessing, Stands, is_spent}
 use Rattle.pp_rs.specs.Preprocessing.{is_refusal, IsRefusedItem, IsGivenItem, IsNextItem}
 use Rattle.pp_rs.proofs.ComesLemmas.{gives_nothing, gives_more}
 
--- behind an error nothing changes
+-- after an error nothing changes
 error_stays : (items more : List Item) (fault : Fault) → first_error items ≡ Some fault → first_error (items ++ more) ≡ Some fault
 error_stays [] more fault e = cc
 error_stays (Ok token ∷ items) more fault e = error_stays items more fault e
@@ -42,51 +42,51 @@ no_tokens_more (token ∷ tokens) = ap (λ ts. token ∷ ts) (no_tokens_more tok
 run_as : (state : State) (tokens others : List Token) (fault : Fault) → others ≡ tokens → IsRunFrom state tokens (outcome.Fault fault) → IsRunFrom state others (outcome.Fault fault)
 run_as state tokens others fault e h = subst (λ ts. IsRunFrom state ts (outcome.Fault fault)) (sym e) h
 
-stands_as : (state : State) (items : List Item) (new : Preprocessing) (error other : Option Fault) → other ≡ error → StandsBehindItems state items error new → StandsBehindItems state items other new
-stands_as state items new error other e h = subst (λ x. StandsBehindItems state items x new) (sym e) h
+stands_as : (state : State) (items : List Item) (new : Preprocessing) (error other : Option Fault) → other ≡ error → StandsAfterItems state items error new → StandsAfterItems state items other new
+stands_as state items new error other e h = subst (λ x. StandsAfterItems state items x new) (sym e) h
 
 module _ (state : State) (items : List Item) (now new : Preprocessing) where
   -- one item more
-  item_more : (item : Item) (error : Option Fault) → first_error items ≡ error → StandsBehindItems state items error now → IsGivenItem now (Some item) new
-      → StandsBehindItems state (items ++ item ∷ []) (first_error (items ++ item ∷ [])) new
+  item_more : (item : Item) (error : Option Fault) → first_error items ≡ error → StandsAfterItems state items error now → IsGivenItem now (Some item) new
+      → StandsAfterItems state (items ++ item ∷ []) (first_error (items ++ item ∷ [])) new
   item_more item (Some fault) e h given =
       stands_as state (items ++ item ∷ []) new (Some fault) _ (error_stays items (item ∷ []) fault e) (run_as state _ _ fault (tokens_stay items (item ∷ []) fault e) h)
   item_more (Ok token) None e h given =
-      let next = given.item h.behind h.stands in
+      let next = given.item h.after h.stands in
       stands_as state (items ++ Ok token ∷ []) new None _ (error_of_more items (Ok token ∷ []) e) (record {
-        behind = next.after;
-        gives = rw (tokens_of_more items (Ok token ∷ []) e) (gives_more (tokens_before_error items) token state h.behind next.after h.gives next.emits);
+        after = next.after;
+        gives = rw (tokens_of_more items (Ok token ∷ []) e) (gives_more (tokens_before_error items) token state h.after next.after h.gives next.emits);
         stands = next.goes_on;
       })
   item_more (Err fault) None e h given =
-      let next = given.item h.behind h.stands in
+      let next = given.item h.after h.stands in
       stands_as state (items ++ Err fault ∷ []) new (Some fault) _ (error_of_more items (Err fault ∷ []) e)
       (run_as state (tokens_before_error items) _ fault (tokens_of_more items (Err fault ∷ []) e ∙ no_tokens_more (tokens_before_error items)) (record {
-        before = h.behind;
+        before = h.after;
         gives = h.gives;
-        behind = next.after;
+        after = next.after;
         ends = next.emits;
       }))
 
-  -- behind the last one
-  items_end : (error : Option Fault) → first_error items ≡ error → StandsBehindItems state items error now → IsGivenItem now None new → IsRunFrom state (tokens_before_error items) (error_or_end error)
+  -- after the last one
+  items_end : (error : Option Fault) → first_error items ≡ error → StandsAfterItems state items error now → IsGivenItem now None new → IsRunFrom state (tokens_before_error items) (error_or_end error)
   items_end (Some fault) e h given = h
   items_end None e h given =
-      let next = given.item h.behind h.stands in
-      record { before = h.behind; gives = h.gives; behind = next.after; ends = next.emits }
+      let next = given.item h.after h.stands in
+      record { before = h.after; gives = h.gives; after = next.after; ends = next.emits }
 
--- the items that were gathered, and the preprocessor behind them
+-- the items that were gathered, and the preprocessor after them
 pub record Gathered (old : Preprocessing) (items : List Item) (now : Preprocessing) : Type 0 where
   pub spent : is_spent now ≡ is_spent old
   pub none : is_spent old ≡ true → items ≡ []
-  pub stands : is_spent old ≡ false → (state : State) → Stands old state → StandsBehindItems state items (first_error items) now
+  pub stands : is_spent old ≡ false → (state : State) → Stands old state → StandsAfterItems state items (first_error items) now
   pub holds : All ItemHoldsOrdinary items
 
 pub gathered_none : (old : Preprocessing) (items : List Item) → items ≡ [] → Gathered old items old
 gathered_none old items e = record {
   spent = refl;
   none = λ spent. e;
-  stands = λ ready state stands. rw e (record { behind = state; gives = gives_nothing state; stands = stands });
+  stands = λ ready state stands. rw e (record { after = state; gives = gives_nothing state; stands = stands });
   holds = rw e (All-nil ItemHoldsOrdinary);
 }
 

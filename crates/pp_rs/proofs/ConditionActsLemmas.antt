@@ -1,21 +1,21 @@
 -- What a line whose value was read makes of the source.
 use Rattle.std.proofs.Common.{◌≡◌, ℕ, Bool, List, [], ◌∷◌, ◌++◌, refl, Ok}
 use Rattle.std.specs.Prelude.{ℤ, pos, ◌-ℤ◌}
-use Rattle.pp_lexer.specs.Lexed.{Lexed}
 use Rattle.pp_lexer.specs.declared.token.Location.{Location}
 use Rattle.pp_lexer.specs.declared.token.Token.{Token}
 use Rattle.pp_model.specs.Lines.{line_length, line_tokens}
 use Rattle.pp_rs.specs.Defined.{Defined}
 use Rattle.pp_rs.specs.LineReading.{HasTaken}
 use Rattle.pp_rs.specs.OpenBlocks.{OpenBlock, outer_blocks, block_opened, block_decided}
-use Rattle.pp_rs.specs.Source.{IsBehind, Condition, LineNumber, holds, numbers}
+use Rattle.pp_rs.specs.Source.{IsAfter, Condition, LineNumber, holds, numbers}
 use Rattle.pp_rs.specs.SourceActs.{Acts}
+use Rattle.pp_rs.specs.SourceLexed.{SourceLexed}
 use Rattle.pp_rs.specs.SourceMoves.{opens_if, parts_if, renumbers, unnoted, line_move}
 use Rattle.pp_rs.proofs.SourceActsLemmas.{source_of}
 
-module _ (definitions : List Defined) (blocks : List OpenBlock) (line_offset : ℤ) (has_text has_directive : Bool) (old new : Lexed) (word : Location) (tokens : List Token)
+module _ (definitions : List Defined) (blocks : List OpenBlock) (line_offset : ℤ) (has_text has_directive : Bool) (old new : SourceLexed) (word : Location) (tokens : List Token)
     (is : line_tokens old.rest ≡ Ok tokens) (taken : HasTaken (line_length old.rest) old new) where
-  after_line : (offset : ℤ) (after : List OpenBlock) → IsBehind (line_length old.rest) unnoted after (source_of old definitions blocks offset has_text has_directive) (source_of new definitions after offset has_text has_directive)
+  after_line : (offset : ℤ) (after : List OpenBlock) → IsAfter (line_length old.rest) unnoted after (source_of old definitions blocks offset has_text has_directive) (source_of new definitions after offset has_text has_directive)
   after_line offset after = record { rest = taken.rest; blocks = refl; line_offset = refl; spent = taken.spent; has_text = refl; has_directive = refl }
 
   -- an `#if` opens a block

@@ -24,7 +24,7 @@ use Rattle.pp_rs.specs.Source.{Source, Pauses, Decides, holds, faulty, Renumbers
 use Rattle.pp_rs.specs.SourceMoves as moves
 use Rattle.pp_rs.specs.Stands.{StandsForReader}
 use Rattle.pp_rs.proofs.Simulates.{Simulates}
-use Rattle.pp_rs.proofs.StandsBehindLemmas.{block_here, none_here, innermost_here}
+use Rattle.pp_rs.proofs.StandsAfterLemmas.{block_here, none_here, innermost_here}
 use Rattle.pp_rs.proofs.StandsBlockLemmas.{opened_read, skipped_last, decided_last}
 use Rattle.pp_rs.proofs.StandsLineLemmas.{line_stays}
 use Rattle.pp_rs.proofs.StepHereLemmas.{acts_on, act_here, whole_line, PausesAt, fails_here, skip_simulates, line_simulates}

@@ -10,7 +10,7 @@ use Rattle.pp_model.specs.Emitting.{token_before}
 use Rattle.pp_model.specs.Lines.{◌>>=◌}
 use Rattle.pp_model.specs.Run.{content_from, content_tokens}
 use Rattle.pp_rs.specs.LineReading.{as_next, next_token}
-use Rattle.pp_rs.proofs.LineReadingLemmas.{behind, behind-push}
+use Rattle.pp_rs.proofs.LineReadingLemmas.{tokens_before, tokens_before-push}
 
 token_item : (item : Lexeme) (token : LexerToken) → as_next item ≡ Ok (Some token) → item ≡ Ok token
 token_item (Ok first) token e = let same : first ≡ token = cc in ap (λ (t : LexerToken). Ok t) same
@@ -27,9 +27,9 @@ token_first false first later e = refl
 module _ (rest after : List Seen) (token : LexerToken) (e : next_token rest ≡ Ok (Some token)) (d : after ≡ drop 1 rest) where
   -- another token is the first one of those that are left
   pub content-more : (tokens new : List Token) (first : Token) (whole : Result (List Token) Fault) → is_newline token.value ≡ false → conversion token ≡ Ok first → new ≡ tokens ++ first ∷ []
-      → behind tokens (content_tokens rest) ≡ whole → behind new (content_tokens after) ≡ whole
+      → tokens_before tokens (content_tokens rest) ≡ whole → tokens_before new (content_tokens after) ≡ whole
   content-more tokens new first whole ends is n h =
       let later = content_tokens (drop 1 rest) in
       let all : content_tokens rest ≡ token_before first later =
       content-token rest token e ∙ token_first (is_newline token.value) (conversion token) later ends ∙ ap (λ r. r >>= λ t. token_before t later) is in
-      rw (n, d) (behind-push tokens first later ∙ ap (behind tokens) (sym all) ∙ h)
+      rw (n, d) (tokens_before-push tokens first later ∙ ap (tokens_before tokens) (sym all) ∙ h)

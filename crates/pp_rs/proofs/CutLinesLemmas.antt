@@ -15,7 +15,7 @@ use Rattle.pp_model.specs.declared.sight.Sight.{Sight}
 use Rattle.pp_model.specs.declared.sight.Sight.TheVariants as sight
 use Rattle.pp_rs.proofs.QuietLemmas.{quiet_item}
 use Rattle.pp_rs.proofs.DirectiveLineLemmas.{begins_directive}
-use Rattle.pp_rs.proofs.BlockPositionLemmas.{StandsWithin, line_stands, each_behind, block_lines_within, last_lies_before}
+use Rattle.pp_rs.proofs.BlockPositionLemmas.{StandsWithin, line_stands, each_after, block_lines_within, last_lies_before}
 use Rattle.pp_rs.proofs.SurroundingsLemmas.{none_within, open_at}
 
 alone_value : (position : ℕ) (location : Location) (value : LexerTokenValue) (blank at_start comments : Bool)
@@ -50,7 +50,7 @@ word_quiet : (position : ℕ) (s next : Seen) (later : List Seen) (line : BlockL
     → block_lines (position + 1) (next ∷ later) ≡ block_lines (position + 1 + 1) later
 word_quiet position s next later line (sight.Directive directive word) e found =
     let b = begins_directive (s ∷ next ∷ later) directive word e in
-    let front : s ∷ next ∷ later ≡ b.hash ∷ b.name ∷ b.behind = b.front in
+    let front : s ∷ next ∷ later ≡ b.hash ∷ b.name ∷ b.after = b.front in
     let same : b.name ≡ next = cc in
     quiet_item (position + 1) next later (ap (λ (x : Seen). is_directive_hash x.item) (sym same) ∙ b.plain)
 word_quiet position s next later line sight.End e found = cc
@@ -64,7 +64,7 @@ word_quiet position s next later line (sight.NoWord fault) e found = cc
 among : (position : ℕ) (items : List Seen) (earlier later : List BlockLine) (line : BlockLine) → block_lines position items ≡ earlier ++ line ∷ later → position ≤ line.position
 among position items earlier later line e =
     let within = StandsWithin position (position + length items) in
-    (each_behind within earlier (line ∷ later) (subst (λ (lines : List BlockLine). Each within lines) e (block_lines_within position items))).0.0
+    (each_after within earlier (line ∷ later) (subst (λ (lines : List BlockLine). Each within lines) e (block_lines_within position items))).0.0
 
 abbrev IsCut : ℕ → ℕ → List Seen → List BlockLine → Type 0
 IsCut position n items earlier = block_lines position (take n items) ≡ earlier
@@ -81,56 +81,56 @@ module _ (position : ℕ) (s : Seen) (line : BlockLine) (later : List BlockLine)
   cut_quiet rest q cut (suc n) earlier e at_line =
       quiet_item position s (take n rest) q ∙ cut n earlier (sym (quiet_item position s rest q) ∙ e) (omega (arith, at_line))
 
-  module _ (next : Seen) (behind : List Seen) where
-    -- a number sign behind which no line of a block stands
-    cut_none : line_at position (sight_of (s ∷ next ∷ behind)) ≡ None → IsCutBefore (position + 1) (next ∷ behind) line later → IsCutBefore position (s ∷ next ∷ behind) line later
+  module _ (next : Seen) (after : List Seen) where
+    -- a number sign after which no line of a block stands
+    cut_none : line_at position (sight_of (s ∷ next ∷ after)) ≡ None → IsCutBefore (position + 1) (next ∷ after) line later → IsCutBefore position (s ∷ next ∷ after) line later
     cut_none none cut n earlier e at_line = cut_at n at_line
       where
-        rest_lines : block_lines (position + 1) (next ∷ behind) ≡ earlier ++ line ∷ later
-        rest_lines = sym (ap (λ found. cons_option found (block_lines (position + 1) (next ∷ behind))) none) ∙ e
+        rest_lines : block_lines (position + 1) (next ∷ after) ≡ earlier ++ line ∷ later
+        rest_lines = sym (ap (λ found. cons_option found (block_lines (position + 1) (next ∷ after))) none) ∙ e
 
-        cut_at : (n : ℕ) → line.position ≡ position + n → IsCut position n (s ∷ next ∷ behind) earlier
-        cut_at zero there = absurd (omega (arith, there, among (position + 1) (next ∷ behind) earlier later line rest_lines))
+        cut_at : (n : ℕ) → line.position ≡ position + n → IsCut position n (s ∷ next ∷ after) earlier
+        cut_at zero there = absurd (omega (arith, there, among (position + 1) (next ∷ after) earlier later line rest_lines))
         cut_at (suc zero) there = alone position s ∙ cut zero earlier rest_lines (omega (arith, there))
         cut_at (suc (suc m)) there =
-            ap (λ found. cons_option found (block_lines (position + 1) (next ∷ take m behind))) (ap (line_at position) (same_sight s next (take m behind) behind) ∙ none)
+            ap (λ found. cons_option found (block_lines (position + 1) (next ∷ take m after))) (ap (line_at position) (same_sight s next (take m after) after) ∙ none)
             ∙ cut (suc m) earlier rest_lines (omega (arith, there))
 
     -- a line of a block
-    cut_some : (found : BlockLine) → line_at position (sight_of (s ∷ next ∷ behind)) ≡ Some found → IsCutBefore (position + 1) (next ∷ behind) line later → IsCutBefore position (s ∷ next ∷ behind) line later
+    cut_some : (found : BlockLine) → line_at position (sight_of (s ∷ next ∷ after)) ≡ Some found → IsCutBefore (position + 1) (next ∷ after) line later → IsCutBefore position (s ∷ next ∷ after) line later
     cut_some found is cut n earlier e at_line = cut_at n earlier at_line whole
       where
-        whole : found ∷ block_lines (position + 1) (next ∷ behind) ≡ earlier ++ line ∷ later
-        whole = sym (ap (λ f. cons_option f (block_lines (position + 1) (next ∷ behind))) is) ∙ e
+        whole : found ∷ block_lines (position + 1) (next ∷ after) ≡ earlier ++ line ∷ later
+        whole = sym (ap (λ f. cons_option f (block_lines (position + 1) (next ∷ after))) is) ∙ e
 
-        further : (earlier : List BlockLine) → block_lines (position + 1) (next ∷ behind) ≡ earlier ++ line ∷ later → position + 1 + 1 ≤ line.position
-        further earlier e = among (position + 1 + 1) behind earlier later line (sym (word_quiet position s next behind found (sight_of (s ∷ next ∷ behind)) refl is) ∙ e)
+        further : (earlier : List BlockLine) → block_lines (position + 1) (next ∷ after) ≡ earlier ++ line ∷ later → position + 1 + 1 ≤ line.position
+        further earlier e = among (position + 1 + 1) after earlier later line (sym (word_quiet position s next after found (sight_of (s ∷ next ∷ after)) refl is) ∙ e)
 
-        cut_at : (n : ℕ) (earlier : List BlockLine) → line.position ≡ position + n → found ∷ block_lines (position + 1) (next ∷ behind) ≡ earlier ++ line ∷ later → IsCut position n (s ∷ next ∷ behind) earlier
+        cut_at : (n : ℕ) (earlier : List BlockLine) → line.position ≡ position + n → found ∷ block_lines (position + 1) (next ∷ after) ≡ earlier ++ line ∷ later → IsCut position n (s ∷ next ∷ after) earlier
         cut_at zero [] there e = refl
         cut_at (suc n) [] there e =
             let same : found ≡ line = cc in
-            absurd (omega (arith, there, line_stands position (sight_of (s ∷ next ∷ behind)) found is, ap (λ (l : BlockLine). l.position) same))
+            absurd (omega (arith, there, line_stands position (sight_of (s ∷ next ∷ after)) found is, ap (λ (l : BlockLine). l.position) same))
         cut_at zero (first ∷ earlier) there e =
-            let rest_lines : block_lines (position + 1) (next ∷ behind) ≡ earlier ++ line ∷ later = cc in
+            let rest_lines : block_lines (position + 1) (next ∷ after) ≡ earlier ++ line ∷ later = cc in
             absurd (omega (arith, there, further earlier rest_lines))
         cut_at (suc zero) (first ∷ earlier) there e =
-            let rest_lines : block_lines (position + 1) (next ∷ behind) ≡ earlier ++ line ∷ later = cc in
+            let rest_lines : block_lines (position + 1) (next ∷ after) ≡ earlier ++ line ∷ later = cc in
             absurd (omega (arith, there, further earlier rest_lines))
         cut_at (suc (suc m)) (first ∷ earlier) there e =
-            let rest_lines : block_lines (position + 1) (next ∷ behind) ≡ earlier ++ line ∷ later = cc in
+            let rest_lines : block_lines (position + 1) (next ∷ after) ≡ earlier ++ line ∷ later = cc in
             let same : found ≡ first = cc in
-            ap (λ f. cons_option f (block_lines (position + 1) (next ∷ take m behind))) (ap (line_at position) (same_sight s next (take m behind) behind) ∙ is ∙ ap Some same)
+            ap (λ f. cons_option f (block_lines (position + 1) (next ∷ take m after))) (ap (line_at position) (same_sight s next (take m after) after) ∙ is ∙ ap Some same)
             ∙ ap (λ lines. first ∷ lines) (cut (suc m) earlier rest_lines (omega (arith, there)))
 
-    cut_found : (found : Option BlockLine) → line_at position (sight_of (s ∷ next ∷ behind)) ≡ found → IsCutBefore (position + 1) (next ∷ behind) line later → IsCutBefore position (s ∷ next ∷ behind) line later
+    cut_found : (found : Option BlockLine) → line_at position (sight_of (s ∷ next ∷ after)) ≡ found → IsCutBefore (position + 1) (next ∷ after) line later → IsCutBefore position (s ∷ next ∷ after) line later
     cut_found None is cut = cut_none is cut
     cut_found (Some found) is cut = cut_some found is cut
 
   cut_item : (hash : Bool) (rest : List Seen) → is_directive_hash s.item ≡ hash → IsCutBefore (position + 1) rest line later → IsCutBefore position (s ∷ rest) line later
   cut_item false rest is cut = cut_quiet rest is cut
   cut_item true [] is cut = λ n earlier e at_line. absurd (none_within earlier later line (sym (alone position s) ∙ e))
-  cut_item true (next ∷ behind) is cut = cut_found next behind (line_at position (sight_of (s ∷ next ∷ behind))) refl cut
+  cut_item true (next ∷ after) is cut = cut_found next after (line_at position (sight_of (s ∷ next ∷ after))) refl cut
 
 -- the lines of blocks before one of them are those of the items before it
 pub lines_cut : (items : List Seen) (position : ℕ) (line : BlockLine) (later : List BlockLine) → IsCutBefore position items line later

@@ -24,7 +24,7 @@ use Rattle.pp_rs.proofs.DirectiveBeforeLemmas.{word_adds, no_word_adds}
 use Rattle.pp_rs.proofs.DirectiveLineLemmas.{begins_directive, quiet_word}
 use Rattle.pp_rs.proofs.QuietLemmas.{is_one_item, quiet_item, BeginsNoWord, begins_no_word}
 use Rattle.pp_rs.proofs.Simulates.{Simulates}
-use Rattle.pp_rs.proofs.StandsBehindLemmas.{lined_here}
+use Rattle.pp_rs.proofs.StandsAfterLemmas.{lined_here}
 use Rattle.pp_rs.proofs.StepHereLemmas.{fails_here, pauses_here, skip_simulates}
 use Rattle.pp_rs.proofs.StandsQuietLemmas.{stands_one, stands_two}
 use Rattle.pp_rs.proofs.StandsLineLemmas.{line_stays}
@@ -33,11 +33,11 @@ use Rattle.pp_rs.proofs.EndSimulates.{end_simulates}
 use Rattle.pp_rs.proofs.BlockSimulates.{else_simulates, endif_simulates}
 use Rattle.pp_rs.proofs.ConditionSimulates.{elif_simulates}
 
--- a number sign and a token behind it that is no word add no line of a block
+-- a number sign and a token after it that is no word add no line of a block
 no_word_quiet : (position : ℕ) {rest : List Seen} {fault : Fault} (b : BeginsNoWord fault rest) → AreLined rest → (later : List Seen)
     → block_lines position (b.hash ∷ b.name ∷ later) ≡ block_lines (position + 2) later
 no_word_quiet position b lined later =
-    let there : AreLined (b.hash ∷ b.name ∷ b.behind) = subst AreLined b.front lined in
+    let there : AreLined (b.hash ∷ b.name ∷ b.after) = subst AreLined b.front lined in
     ap (λ shown. cons_option (line_at position shown) (block_lines (position + 1) (b.name ∷ later))) (b.seen later)
     ∙ quiet_item (position + 1) b.name later (there.0 b.goes_on) ∙ ap (λ n. block_lines n later) (omega arith)
 
@@ -58,7 +58,7 @@ module _ {old : Source} {r : SourceReader} (s : StandsForReader old r) (dead : i
       let b = begins_directive old.rest d.Unknown word e in
       pauses_here s dead move new e refl (
         h.0,
-        stands_two s dead e b.hash b.name b.behind refl refl (word_adds old.rest d.Unknown word e) b.front (λ later. quiet_word r.position old.rest later d.Unknown word b refl) h.1 h.2,
+        stands_two s dead e b.hash b.name b.after refl refl (word_adds old.rest d.Unknown word e) b.front (λ later. quiet_word r.position old.rest later d.Unknown word b refl) h.1 h.2,
       )
 
   -- no word
@@ -67,7 +67,7 @@ module _ {old : Source} {r : SourceReader} (s : StandsForReader old r) (dead : i
       let b = begins_no_word old.rest fault e in
       pauses_here s dead move new e refl (
         h.0,
-        stands_two s dead e b.hash b.name b.behind refl refl (no_word_adds old.rest fault e (lined_here old r s)) b.front (no_word_quiet r.position b (lined_here old r s)) h.1 h.2,
+        stands_two s dead e b.hash b.name b.after refl refl (no_word_adds old.rest fault e (lined_here old r s)) b.front (no_word_quiet r.position b (lined_here old r s)) h.1 h.2,
       )
 
   dead_directive_simulates : (directive : Directive) (word : Location) → sight_of old.rest ≡ sight.Directive directive word

@@ -45,17 +45,17 @@ named_least : (r : Result Definition Fault) (name : Name) (place : Location) (n 
 named_least (Err fault) name place n h = tt
 named_least (Ok definition) name place n h = omega arith
 
-defined_behind : (word : Location) (token : LexerToken) (value : LexerTokenValue) (rest : List Seen)
+defined_after : (word : Location) (token : LexerToken) (value : LexerTokenValue) (rest : List Seen)
     → IfOk (name_or_refused token (identifier_of value) >>= λ first. definition_at word rest >>= λ definition. Ok (record { name = first.name; location = first.location; definition = definition })) (λ (named : Named). length named.definition.body ≤ (if is_newline value then 1 else 1 + line_length rest))
-defined_behind word token (LexerIdent name) rest = named_least (definition_at word rest) name token.location (line_length rest) (definition_least word rest)
-defined_behind word token _ rest = tt
+defined_after word token (LexerIdent name) rest = named_least (definition_at word rest) name token.location (line_length rest) (definition_least word rest)
+defined_after word token _ rest = tt
 
 defined_at : (word : Location) (item : Lexeme) (rest : List Seen)
     → IfOk ((item >>= λ token. name_or_refused token (identifier_of token.value)) >>= λ first. definition_at word rest >>= λ definition. Ok (record { name = first.name; location = first.location; definition = definition })) (λ (named : Named). length named.definition.body ≤ (if ends_line item then 1 else 1 + line_length rest))
 defined_at word (Err fault) rest = tt
-defined_at word (Ok token) rest = defined_behind word token token.value rest
+defined_at word (Ok token) rest = defined_after word token token.value rest
 
 -- a macro's body has no more tokens than its line has items
-pub defined_least : (word : Location) (behind : List Seen) → IfOk (defined_on word behind) (λ named. length named.definition.body ≤ line_length behind)
+pub defined_least : (word : Location) (after : List Seen) → IfOk (defined_on word after) (λ named. length named.definition.body ≤ line_length after)
 defined_least word [] = tt
 defined_least word (s ∷ rest) = defined_at word s.item rest

@@ -19,7 +19,7 @@ use Rattle.pp_rs.specs.Lined.{AreLined}
 use Rattle.pp_rs.proofs.DirectiveLineLemmas.{begins_directive}
 use Rattle.pp_rs.proofs.QuietLemmas.{begins_no_word}
 
--- the number sign of a directive stands there, and an item behind it that isn't an error
+-- the number sign of a directive stands there, and an item after it that isn't an error
 abbrev pub begins_with_hash : Sight → Bool
 begins_with_hash (sight.Directive directive word) = true
 begins_with_hash (sight.NoWord fault) = true
@@ -64,13 +64,13 @@ begins_is_directive (sight.Directive directive word) e = cc
 pub item_adds_none : (s : Seen) (rest : List Seen) → is_directive_hash s.item ≡ false → has_directive (s ∷ rest) ≡ has_directive rest
 item_adds_none s rest h = ap (λ b. b || has_directive rest) (begins_is_directive (sight_of (s ∷ rest)) (item_begins_none s.item rest h))
 
--- so many items add a directive, or none, whatever stands behind them
+-- so many items add a directive, or none, whatever stands after them
 abbrev pub AddsDirective : ℕ → List Seen → Bool → Type 0
-AddsDirective count items found = (behind : List Seen) → has_directive (take count items ++ behind) ≡ (found || has_directive behind)
+AddsDirective count items found = (after : List Seen) → has_directive (take count items ++ after) ≡ (found || has_directive after)
 
--- whether a directive stands before a position does not hang on what stands behind it
+-- whether a directive stands before a position does not hang on what stands after it
 abbrev pub IsApart : List Seen → ℕ → Type 0
-IsApart source position = (behind : List Seen) → has_directive (take position source ++ behind) ≡ (has_directive (take position source) || has_directive behind)
+IsApart source position = (after : List Seen) → has_directive (take position source ++ after) ≡ (has_directive (take position source) || has_directive after)
 
 module _ (source : List Seen) (position count : ℕ) (found : Bool) (apart : IsApart source position) (adds : AddsDirective count (drop position source) found) where
   pub directive_further : has_directive (take (position + count) source) ≡ (has_directive (take position source) || found)
@@ -79,23 +79,23 @@ module _ (source : List Seen) (position count : ℕ) (found : Bool) (apart : IsA
       ∙ ap (λ b. has_directive (take position source) || b) (ap has_directive (sym (append-nil (take count (drop position source)))) ∙ adds [] ∙ or-false found)
 
   pub apart_further : IsApart source (position + count)
-  apart_further behind =
-      ap (λ items. has_directive (items ++ behind)) (take-add position count source)
-      ∙ ap has_directive (append_assoc (take position source) (take count (drop position source)) behind)
-      ∙ apart (take count (drop position source) ++ behind)
-      ∙ ap (λ b. has_directive (take position source) || b) (adds behind)
-      ∙ sym (or_assoc (has_directive (take position source)) found (has_directive behind))
-      ∙ ap (λ b. b || has_directive behind) (sym directive_further)
+  apart_further after =
+      ap (λ items. has_directive (items ++ after)) (take-add position count source)
+      ∙ ap has_directive (append_assoc (take position source) (take count (drop position source)) after)
+      ∙ apart (take count (drop position source) ++ after)
+      ∙ ap (λ b. has_directive (take position source) || b) (adds after)
+      ∙ sym (or_assoc (has_directive (take position source)) found (has_directive after))
+      ∙ ap (λ b. b || has_directive after) (sym directive_further)
 
 -- the number sign and the word of a directive
 pub word_adds : (rest : List Seen) (directive : Directive) (word : Location) → sight_of rest ≡ sight.Directive directive word → AddsDirective 2 rest true
-word_adds rest directive word e behind =
+word_adds rest directive word e after =
     let b = begins_directive rest directive word e in
-    ap (λ items. has_directive (take 2 items ++ behind)) b.front ∙ ap (λ shown. is_directive shown || has_directive (b.name ∷ behind)) (b.seen behind)
+    ap (λ items. has_directive (take 2 items ++ after)) b.front ∙ ap (λ shown. is_directive shown || has_directive (b.name ∷ after)) (b.seen after)
 
--- a number sign with a token behind it that is no word
+-- a number sign with a token after it that is no word
 pub no_word_adds : (rest : List Seen) (fault : Fault) → sight_of rest ≡ sight.NoWord fault → AreLined rest → AddsDirective 2 rest false
-no_word_adds rest fault e lined behind =
+no_word_adds rest fault e lined after =
     let b = begins_no_word rest fault e in
-    let there : AreLined (b.hash ∷ b.name ∷ b.behind) = subst AreLined b.front lined in
-    ap (λ items. has_directive (take 2 items ++ behind)) b.front ∙ ap (λ shown. is_directive shown || has_directive (b.name ∷ behind)) (b.seen behind) ∙ item_adds_none b.name behind (there.0 b.goes_on)
+    let there : AreLined (b.hash ∷ b.name ∷ b.after) = subst AreLined b.front lined in
+    ap (λ items. has_directive (take 2 items ++ after)) b.front ∙ ap (λ shown. is_directive shown || has_directive (b.name ∷ after)) (b.seen after) ∙ item_adds_none b.name after (there.0 b.goes_on)

@@ -20,8 +20,8 @@ use Rattle.pp_rs.proofs.QuietLemmas.{quiet_item}
 pub record BeginsDirective (directive : Directive) (word : Location) (rest : List Seen) : Type 0 where
   pub hash : Seen
   pub name : Seen
-  pub behind : List Seen
-  pub front : rest ≡ hash ∷ name ∷ behind
+  pub after : List Seen
+  pub front : rest ≡ hash ∷ name ∷ after
   pub seen : (later : List Seen) → sight_of (hash ∷ name ∷ later) ≡ sight.Directive directive word
   pub plain : is_directive_hash name.item ≡ false
   pub goes_on : ends_line name.item ≡ false
@@ -32,7 +32,7 @@ begins_word : (place : Location) (blank : Bool) (comments : Bool) (location : Lo
 begins_word place blank comments location (LexerIdent text) word_blank at_start word_comments later directive word e = record {
   hash = _;
   name = _;
-  behind = later;
+  after = later;
   front = refl;
   seen = λ rest. e;
   plain = refl;
@@ -51,16 +51,16 @@ begins_with place blank comments (Ok token) others later directive word e =
     begins_word place blank comments token.location token.value token.leading_whitespace token.start_of_line others later directive word e
 begins_with place blank comments (Err fault) others later directive word e = cc
 
-begins_behind : (place : Location) (blank comments : Bool) (rest : List Seen) (directive : Directive) (word : Location)
+begins_after : (place : Location) (blank comments : Bool) (rest : List Seen) (directive : Directive) (word : Location)
     → directive_sight (first_token place rest) ≡ sight.Directive directive word
     → BeginsDirective directive word (record { item = Ok (record { value = Hash; location = place; leading_whitespace = blank; start_of_line = true }); had_comments = comments } ∷ rest)
-begins_behind place blank comments [] directive word e = cc
-begins_behind place blank comments (s ∷ later) directive word e = begins_with place blank comments s.item s.had_comments later directive word e
+begins_after place blank comments [] directive word e = cc
+begins_after place blank comments (s ∷ later) directive word e = begins_with place blank comments s.item s.had_comments later directive word e
 
 begins_token : (location : Location) (value : LexerTokenValue) (blank at_start comments : Bool) (rest : List Seen) (directive : Directive) (word : Location)
     → token_sight (record { value = value; location = location; leading_whitespace = blank; start_of_line = at_start }) rest ≡ sight.Directive directive word
     → BeginsDirective directive word (record { item = Ok (record { value = value; location = location; leading_whitespace = blank; start_of_line = at_start }); had_comments = comments } ∷ rest)
-begins_token location Hash blank true comments rest directive word e = begins_behind location blank comments rest directive word e
+begins_token location Hash blank true comments rest directive word e = begins_after location blank comments rest directive word e
 begins_token location Hash blank false comments rest directive word e = cc
 begins_token location NewLine blank at_start comments rest directive word e = cc
 begins_token location (LexerIdent text) blank at_start comments rest directive word e = cc
@@ -89,7 +89,7 @@ quiet_word position rest later directive word b p =
     ap (λ line. cons_option line (block_lines (position + 1) (b.name ∷ later))) (no_block_line position directive word (sight_of (b.hash ∷ b.name ∷ later)) p (b.seen later))
     ∙ quiet_item (position + 1) b.name later b.plain ∙ ap (λ n. block_lines n later) (omega arith)
 
--- two items are taken, and more behind them
+-- two items are taken, and more after them
 pub take_two : (n : ℕ) (a b : Seen) (rest : List Seen) → take (2 + n) (a ∷ b ∷ rest) ≡ a ∷ b ∷ take n rest
 take_two n a b rest =
     let e : 2 + n ≡ suc (suc n) = omega arith in

@@ -11,15 +11,15 @@ use Rattle.pp_model.specs.Lines.{ends_line, line_length}
 use Rattle.pp_model.specs.Sights.{is_directive_hash}
 use Rattle.pp_model.specs.SourceReader.{is_directive_hash_at, ends_line_at, is_on_directive_line}
 
--- the item at a position is the first one behind it
+-- the item at a position is the first one after it
 pub item_here : (source : List Seen) (position : ℕ) (s : Seen) (rest : List Seen) → drop position source ≡ s ∷ rest → slice_get source position ≡ Some s
 item_here [] zero s rest e = cc
 item_here [] (suc position) s rest e = cc
 item_here (x ∷ xs) zero s rest e = let same : x ≡ s = cc in ap Some same
 item_here (x ∷ xs) (suc position) s rest e = item_here xs position s rest e
 
-pub one_behind : (source : List Seen) (position : ℕ) (s : Seen) (rest : List Seen) → drop position source ≡ s ∷ rest → drop (suc position) source ≡ rest
-one_behind source position s rest e =
+pub one_after : (source : List Seen) (position : ℕ) (s : Seen) (rest : List Seen) → drop position source ≡ s ∷ rest → drop (suc position) source ≡ rest
+one_after source position s rest e =
     let next : suc position ≡ position + 1 = omega arith in
     ap (λ k. drop k source) next ∙ sym (drop-drop 1 position source) ∙ ap (drop 1) e
 
@@ -37,57 +37,57 @@ end_is_no_hash (Ok token) e = newline_begins_none token.value token.start_of_lin
 end_is_no_hash (Err fault) e = cc
 
 module _ (source : List Seen) where
-  -- behind an item a directive's line goes on, or begins
-  pub on_line_behind : (position : ℕ) (s : Seen) (rest : List Seen) → drop position source ≡ s ∷ rest
+  -- after an item a directive's line goes on, or begins
+  pub on_line_after : (position : ℕ) (s : Seen) (rest : List Seen) → drop position source ≡ s ∷ rest
       → is_on_directive_line source (suc position) ≡ (is_directive_hash s.item || (not (ends_line s.item) && is_on_directive_line source position))
-  on_line_behind position s rest e =
+  on_line_after position s rest e =
       ap (λ (found : Option Seen). is_directive_hash_at found || (not (ends_line_at found) && is_on_directive_line source position)) (item_here source position s rest e)
 
-  -- behind the number sign of a directive it has begun
-  pub on_line_behind_hash : (position : ℕ) (s : Seen) (rest : List Seen) → drop position source ≡ s ∷ rest → is_directive_hash s.item ≡ true → is_on_directive_line source (suc position) ≡ true
-  on_line_behind_hash position s rest e hash = on_line_behind position s rest e ∙ ap (λ b. b || (not (ends_line s.item) && is_on_directive_line source position)) hash
+  -- after the number sign of a directive it has begun
+  pub on_line_after_hash : (position : ℕ) (s : Seen) (rest : List Seen) → drop position source ≡ s ∷ rest → is_directive_hash s.item ≡ true → is_on_directive_line source (suc position) ≡ true
+  on_line_after_hash position s rest e hash = on_line_after position s rest e ∙ ap (λ b. b || (not (ends_line s.item) && is_on_directive_line source position)) hash
 
   goes_on : (hash : Bool) (last on : Bool) → last ≡ false → on ≡ true → (hash || (not last && on)) ≡ true
   goes_on true last on e f = refl
   goes_on false true on e f = cc
   goes_on false false on e f = f
 
-  -- and it goes on behind an item that doesn't end it
+  -- and it goes on after an item that doesn't end it
   pub on_line_further : (position : ℕ) (s : Seen) (rest : List Seen) → drop position source ≡ s ∷ rest → ends_line s.item ≡ false → is_on_directive_line source position ≡ true → is_on_directive_line source (suc position) ≡ true
-  on_line_further position s rest e within on = on_line_behind position s rest e ∙ goes_on (is_directive_hash s.item) (ends_line s.item) (is_on_directive_line source position) within on
+  on_line_further position s rest e within on = on_line_after position s rest e ∙ goes_on (is_directive_hash s.item) (ends_line s.item) (is_on_directive_line source position) within on
 
   ended : (hash last on : Bool) → hash ≡ false → last ≡ true → (hash || (not last && on)) ≡ false
   ended true last on h e = cc
   ended false true on h e = refl
   ended false false on h e = cc
 
-  -- behind the end of a line none goes on
-  off_line_behind_end : (position : ℕ) (s : Seen) (rest : List Seen) → drop position source ≡ s ∷ rest → ends_line s.item ≡ true → is_on_directive_line source (suc position) ≡ false
-  off_line_behind_end position s rest e last =
-      on_line_behind position s rest e ∙ ended (is_directive_hash s.item) (ends_line s.item) (is_on_directive_line source position) (end_is_no_hash s.item last) last
+  -- after the end of a line none goes on
+  off_line_after_end : (position : ℕ) (s : Seen) (rest : List Seen) → drop position source ≡ s ∷ rest → ends_line s.item ≡ true → is_on_directive_line source (suc position) ≡ false
+  off_line_after_end position s rest e last =
+      on_line_after position s rest e ∙ ended (is_directive_hash s.item) (ends_line s.item) (is_on_directive_line source position) (end_is_no_hash s.item last) last
 
   off : (hash last on : Bool) → hash ≡ false → on ≡ false → (hash || (not last && on)) ≡ false
   off true last on h e = cc
   off false true on h e = refl
   off false false on h e = e
 
-  -- nor behind an item of a line that has none
+  -- nor after an item of a line that has none
   pub off_line_further : (position : ℕ) (s : Seen) (rest : List Seen) → drop position source ≡ s ∷ rest → is_directive_hash s.item ≡ false → is_on_directive_line source position ≡ false → is_on_directive_line source (suc position) ≡ false
-  off_line_further position s rest e quiet on = on_line_behind position s rest e ∙ off (is_directive_hash s.item) (ends_line s.item) (is_on_directive_line source position) quiet on
+  off_line_further position s rest e quiet on = on_line_after position s rest e ∙ off (is_directive_hash s.item) (ends_line s.item) (is_on_directive_line source position) quiet on
 
   off_by : (position : ℕ) (s : Seen) (rest : List Seen) (last : Bool) → drop position source ≡ s ∷ rest → ends_line s.item ≡ last
       → (drop (line_length rest) rest ≢ [] → is_on_directive_line source (suc position + line_length rest) ≡ false)
       → drop (if last then 1 else 1 + line_length rest) (s ∷ rest) ≢ [] → is_on_directive_line source (position + (if last then 1 else 1 + line_length rest)) ≡ false
   off_by position s rest true e is later left =
       let next : position + 1 ≡ suc position = omega arith in
-      ap (is_on_directive_line source) next ∙ off_line_behind_end position s rest e is
+      ap (is_on_directive_line source) next ∙ off_line_after_end position s rest e is
   off_by position s rest false e is later left =
       let next : position + (1 + line_length rest) ≡ suc position + line_length rest = omega arith in
       let more : 1 + line_length rest ≡ suc (line_length rest) = omega arith in
       ap (is_on_directive_line source) next ∙ later (λ none. left (ap (λ k. drop k (s ∷ rest)) more ∙ none))
 
-  -- a line that is read to its end leaves no directive's line, where something is left behind it
-  pub off_line_behind : (rest : List Seen) (position : ℕ) → drop position source ≡ rest → drop (line_length rest) rest ≢ [] → is_on_directive_line source (position + line_length rest) ≡ false
-  off_line_behind [] position e left = absurd (left refl)
-  off_line_behind (s ∷ rest) position e left =
-      off_by position s rest (ends_line s.item) e refl (off_line_behind rest (suc position) (one_behind source position s rest e)) left
+  -- a line that is read to its end leaves no directive's line, where something is left after it
+  pub off_line_after : (rest : List Seen) (position : ℕ) → drop position source ≡ rest → drop (line_length rest) rest ≢ [] → is_on_directive_line source (position + line_length rest) ≡ false
+  off_line_after [] position e left = absurd (left refl)
+  off_line_after (s ∷ rest) position e left =
+      off_by position s rest (ends_line s.item) e refl (off_line_after rest (suc position) (one_after source position s rest e)) left

@@ -1,4 +1,4 @@
--- Behind the end nothing is left.
+-- After the end nothing is left.
 use Rattle.std.proofs.Common.{◌≡◌, ◌∙◌, ◌⊎◌, inl, inr, ℕ, Bool, true, false, if◌then◌else◌, List, [], ◌∷◌, drop, refl, ap, sym, Option, Some, None}
 use Rattle.std.specs.Prelude.{Result, Ok, Err, MatchBool}
 use Rattle.pp_lexer.specs.Lexed.{Seen}
@@ -23,7 +23,7 @@ use Rattle.pp_rs.specs.SourceMoves.{Effect, gives, gives_item, fails, ends, pass
 use Rattle.pp_rs.specs.Source.{Source, DefinesOver, HasEffect, IsRefusedStep, Makes, Decides, holds, faulty, Renumbers, numbers, unnumbered}
 use Rattle.pp_rs.specs.declared.pp.step.StepExit.TheVariants.{Finished}
 use Rattle.pp_rs.proofs.ItemThereLemmas.{item_there}
-use Rattle.pp_rs.proofs.StandsBehindLemmas.{no_blocks_kept}
+use Rattle.pp_rs.proofs.StandsAfterLemmas.{no_blocks_kept}
 
 abbrev is_end_effect : Effect → Bool
 is_end_effect ends = true
@@ -49,50 +49,50 @@ else_goes_on : (block : Option OpenBlock) (word : Location) → is_end_effect (e
 else_goes_on None word = refl
 else_goes_on (Some block) word = either_goes_on block.with_else (fails (MoreThanOneElse, word)) (parts (block_parted block)) refl refl
 
-endif_goes_on : (block : Option OpenBlock) (word : Location) (behind : List Seen) → is_end_effect (endif_move block word behind).effect ≡ false
-endif_goes_on None word behind = refl
-endif_goes_on (Some block) word behind =
-    either_move_on block.live_around (line_move (ended_line word behind) (λ end. closes) (line_length behind)) (skip_move closes behind)
-    (line_goes_on (ended_line word behind) (λ end. closes) (line_length behind) (λ end. refl)) (skip_goes_on (line_fault behind) closes (line_length behind) refl)
+endif_goes_on : (block : Option OpenBlock) (word : Location) (after : List Seen) → is_end_effect (endif_move block word after).effect ≡ false
+endif_goes_on None word after = refl
+endif_goes_on (Some block) word after =
+    either_move_on block.live_around (line_move (ended_line word after) (λ end. closes) (line_length after)) (skip_move closes after)
+    (line_goes_on (ended_line word after) (λ end. closes) (line_length after) (λ end. refl)) (skip_goes_on (line_fault after) closes (line_length after) refl)
 
-elif_goes_on : (block : Option OpenBlock) (word : Location) (behind : List Seen) → is_end_effect (elif_move block word behind).effect ≡ false
-elif_goes_on None word behind = refl
-elif_goes_on (Some block) word behind =
+elif_goes_on : (block : Option OpenBlock) (word : Location) (after : List Seen) → is_end_effect (elif_move block word after).effect ≡ false
+elif_goes_on None word after = refl
+elif_goes_on (Some block) word after =
     either_move_on block.with_else (failing (ElifAfterElse, word)) _ refl
-    (either_move_on (skips_branches block) (skip_move (parts (block_skipped block)) behind) (line_move (line_tokens behind) (parts_if block word) (line_length behind))
-    (skip_goes_on (line_fault behind) (parts (block_skipped block)) (line_length behind) refl) (line_goes_on (line_tokens behind) (parts_if block word) (line_length behind) (λ tokens. refl)))
+    (either_move_on (skips_branches block) (skip_move (parts (block_skipped block)) after) (line_move (line_tokens after) (parts_if block word) (line_length after))
+    (skip_goes_on (line_fault after) (parts (block_skipped block)) (line_length after) refl) (line_goes_on (line_tokens after) (parts_if block word) (line_length after) (λ tokens. refl)))
 
-live_goes_on : (block : Option OpenBlock) (directive : Directive) (word : Location) (behind : List Seen) → is_end_effect (live_move block directive word behind).effect ≡ false
-live_goes_on block d.Define word behind = line_goes_on (defined_on word behind) defines (line_length behind) (λ named. refl)
-live_goes_on block d.Undef word behind = line_goes_on (only_name word behind) undefines (line_length behind) (λ name. refl)
-live_goes_on block d.If word behind = line_goes_on (line_tokens behind) (opens_if word) (line_length behind) (λ tokens. refl)
-live_goes_on block d.Ifdef word behind = line_goes_on (only_name word behind) (opens_where true word) (line_length behind) (λ name. refl)
-live_goes_on block d.Ifndef word behind = line_goes_on (only_name word behind) (opens_where false word) (line_length behind) (λ name. refl)
-live_goes_on block d.Elif word behind = elif_goes_on block word behind
-live_goes_on block d.Else word behind = line_goes_on (ended_line word behind) (λ end. else_effect block word) (line_length behind) (λ end. else_goes_on block word)
-live_goes_on block d.Endif word behind = endif_goes_on block word behind
-live_goes_on block d.Line word behind = line_goes_on (line_tokens behind) (renumbers word) (line_length behind) (λ tokens. refl)
-live_goes_on block d.Version word behind = line_goes_on (line_entries behind) (λ tokens. gives_item (version tokens (comments_before_end behind)) word) (line_length behind) (λ tokens. refl)
-live_goes_on block d.Extension word behind = line_goes_on (line_entries behind) (λ tokens. gives_item (extension tokens) word) (line_length behind) (λ tokens. refl)
-live_goes_on block d.Pragma word behind = line_goes_on (line_entries behind) (λ tokens. gives_item (pragma tokens) word) (line_length behind) (λ tokens. refl)
-live_goes_on block d.Error word behind = refl
-live_goes_on block d.Unknown word behind = refl
+live_goes_on : (block : Option OpenBlock) (directive : Directive) (word : Location) (after : List Seen) → is_end_effect (live_move block directive word after).effect ≡ false
+live_goes_on block d.Define word after = line_goes_on (defined_on word after) defines (line_length after) (λ named. refl)
+live_goes_on block d.Undef word after = line_goes_on (only_name word after) undefines (line_length after) (λ name. refl)
+live_goes_on block d.If word after = line_goes_on (line_tokens after) (opens_if word) (line_length after) (λ tokens. refl)
+live_goes_on block d.Ifdef word after = line_goes_on (only_name word after) (opens_where true word) (line_length after) (λ name. refl)
+live_goes_on block d.Ifndef word after = line_goes_on (only_name word after) (opens_where false word) (line_length after) (λ name. refl)
+live_goes_on block d.Elif word after = elif_goes_on block word after
+live_goes_on block d.Else word after = line_goes_on (ended_line word after) (λ end. else_effect block word) (line_length after) (λ end. else_goes_on block word)
+live_goes_on block d.Endif word after = endif_goes_on block word after
+live_goes_on block d.Line word after = line_goes_on (line_tokens after) (renumbers word) (line_length after) (λ tokens. refl)
+live_goes_on block d.Version word after = line_goes_on (line_entries after) (λ tokens. gives_item (version tokens (comments_before_end after)) word) (line_length after) (λ tokens. refl)
+live_goes_on block d.Extension word after = line_goes_on (line_entries after) (λ tokens. gives_item (extension tokens) word) (line_length after) (λ tokens. refl)
+live_goes_on block d.Pragma word after = line_goes_on (line_entries after) (λ tokens. gives_item (pragma tokens) word) (line_length after) (λ tokens. refl)
+live_goes_on block d.Error word after = refl
+live_goes_on block d.Unknown word after = refl
 
-dead_goes_on : (block : Option OpenBlock) (directive : Directive) (word : Location) (behind : List Seen) → is_end_effect (dead_move block directive word behind).effect ≡ false
-dead_goes_on block d.If word behind = skip_goes_on (line_fault behind) (opens_unread word) (line_length behind) refl
-dead_goes_on block d.Ifdef word behind = skip_goes_on (line_fault behind) (opens_unread word) (line_length behind) refl
-dead_goes_on block d.Ifndef word behind = skip_goes_on (line_fault behind) (opens_unread word) (line_length behind) refl
-dead_goes_on block d.Elif word behind = elif_goes_on block word behind
-dead_goes_on block d.Else word behind = line_goes_on (ended_line word behind) (λ end. else_effect block word) (line_length behind) (λ end. else_goes_on block word)
-dead_goes_on block d.Endif word behind = endif_goes_on block word behind
-dead_goes_on block d.Unknown word behind = refl
-dead_goes_on block _ word behind = skip_goes_on (line_fault behind) passes (line_length behind) refl
+dead_goes_on : (block : Option OpenBlock) (directive : Directive) (word : Location) (after : List Seen) → is_end_effect (dead_move block directive word after).effect ≡ false
+dead_goes_on block d.If word after = skip_goes_on (line_fault after) (opens_unread word) (line_length after) refl
+dead_goes_on block d.Ifdef word after = skip_goes_on (line_fault after) (opens_unread word) (line_length after) refl
+dead_goes_on block d.Ifndef word after = skip_goes_on (line_fault after) (opens_unread word) (line_length after) refl
+dead_goes_on block d.Elif word after = elif_goes_on block word after
+dead_goes_on block d.Else word after = line_goes_on (ended_line word after) (λ end. else_effect block word) (line_length after) (λ end. else_goes_on block word)
+dead_goes_on block d.Endif word after = endif_goes_on block word after
+dead_goes_on block d.Unknown word after = refl
+dead_goes_on block _ word after = skip_goes_on (line_fault after) passes (line_length after) refl
 
-directive_goes_on : (live : Bool) (block : Option OpenBlock) (directive : Directive) (word : Location) (behind : List Seen) → is_end_effect (directive_move live block directive word behind).effect ≡ false
-directive_goes_on true block directive word behind = live_goes_on block directive word behind
-directive_goes_on false block directive word behind = dead_goes_on block directive word behind
+directive_goes_on : (live : Bool) (block : Option OpenBlock) (directive : Directive) (word : Location) (after : List Seen) → is_end_effect (directive_move live block directive word after).effect ≡ false
+directive_goes_on true block directive word after = live_goes_on block directive word after
+directive_goes_on false block directive word after = dead_goes_on block directive word after
 
--- what stands there is the end only behind all items
+-- what stands there is the end only after all items
 sight_goes_on : (live : Bool) (block : Option OpenBlock) (shown : Sight) (rest : List Seen) → (shown ≡ sight.End → ⊥) → is_end_effect (move_at live block shown rest).effect ≡ false
 sight_goes_on live block sight.End rest h = absurd (h refl)
 sight_goes_on true block sight.NewLine rest h = refl
@@ -138,7 +138,7 @@ finished_ends closes taken note old new h = let e = h.0 in cc
 finished_ends (unfinished word) taken note old new h = let e = h.0 in cc
 finished_ends (renumbers word tokens) taken note old new h = absurd (renumbers_on word tokens taken note old new h)
 
--- behind the end of a source no item is left, and no open block
+-- after the end of a source no item is left, and no open block
 abbrev HasNothing : Source → Type 0
 HasNothing source = (source.rest ≡ []) × (source.blocks ≡ [])
 

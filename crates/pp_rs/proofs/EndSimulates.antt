@@ -16,7 +16,7 @@ use Rattle.pp_rs.specs.Source.{Source, HasEffect}
 use Rattle.pp_rs.specs.Stands.{StandsForReader}
 use Rattle.pp_rs.specs.declared.pp.step.StepExit.TheVariants.{Error}
 use Rattle.pp_rs.proofs.Simulates.{Simulates}
-use Rattle.pp_rs.proofs.StandsBehindLemmas.{block_here, none_here, innermost_here}
+use Rattle.pp_rs.proofs.StandsAfterLemmas.{block_here, none_here, innermost_here}
 use Rattle.pp_rs.proofs.ItemThereLemmas.{none_left}
 use Rattle.pp_rs.proofs.StepHereLemmas.{acts_on, gives_here, fails_here}
 

@@ -1,8 +1,8 @@
--- In the items of a text each line ends: behind a token or an error that ends no line more stands.
+-- In the items of a text each line ends: after a token or an error that ends no line more stands.
 use Rattle.std.proofs.Common.{◌≡◌, ◌≢◌, ◌∙◌, Bool, true, false, List, [], ◌∷◌, ◌++◌, sym, ap, refl, subst}
 use Rattle.pp_lexer.specs.declared.lexer.char_iterator.Spot.{Spot}
 use Rattle.pp_lexer.specs.declared.lexer.Flags.{Flags}
-use Rattle.pp_lexer.specs.Lexed.{Seen, start_of, behind_first_item}
+use Rattle.pp_lexer.specs.Lexed.{Seen, start_of, after_first_item}
 use Rattle.pp_lexer.specs.Passing.{passed, item_seen, newline_seen, seen_from}
 use Rattle.pp_lexer.specs.Reading.{Reading}
 use Rattle.pp_lexer.specs.Segments.{Kind, blank, comment, item, Segment, segments}
@@ -36,7 +36,7 @@ start_ended ss =
     let r : Reading = record { rest = ss; last = last } in
     subst AreEnded (ap (λ l. l.rest) (start_seen r ss last refl)) (ended_from (segments ss) f last).0
 
--- and behind the first of them
-pub ended_behind : (items : List Seen) → AreEnded items → AreEnded (behind_first_item items)
-ended_behind [] h = h
-ended_behind (s ∷ rest) h = h.1
+-- and after the first of them
+pub ended_after : (items : List Seen) → AreEnded items → AreEnded (after_first_item items)
+ended_after [] h = h
+ended_after (s ∷ rest) h = h.1

@@ -3,7 +3,7 @@ use Rattle.std.proofs.Common.{◌≡◌, ◌∙◌, ℕ, List, [], ◌∷◌, re
 use Rattle.std.specs.Prelude.{Ok, Err, unwrap_or}
 use Rattle.pp_lexer.specs.declared.token.Token.{Token}
 use Rattle.pp_model.specs.Names.{Name}
-use Rattle.pp_model.specs.SpliceList.{behind_marks, open_names, outermost_line, followed_by, parameter_of, replacement, replaced}
+use Rattle.pp_model.specs.SpliceList.{after_marks, open_names, outermost_line, followed_by, parameter_of, replacement, replaced}
 use Rattle.pp_model.specs.declared.splice.Entry.{Entry}
 use Rattle.pp_model.specs.declared.splice.Entry.TheVariants.{Plain, End}
 use Rattle.pp_rs.specs.Item.{Step}
@@ -48,8 +48,8 @@ outermost_flat (f ∷ fs) = blind_layer outermost_line (λ token entries. refl) 
 
 -- One step on the list: its first token is given, or a mark at its front is lost at the most.
 abbrev pub StepsList : Step Token → List Entry → List Entry → Type 0
-StepsList (Ok token) old new = behind_marks old ≡ Plain token ∷ new
-StepsList (Err Continue) old new = behind_marks old ≡ behind_marks new
+StepsList (Ok token) old new = after_marks old ≡ Plain token ∷ new
+StepsList (Err Continue) old new = after_marks old ≡ after_marks new
 StepsList (Err Finished) old new = ⊥
 StepsList (Err (Error fault)) old new = ⊥
 

@@ -12,7 +12,7 @@ use Rattle.pp_model.specs.Lines.{◌>>=◌, line_length, line_tokens, comments_b
 use Rattle.pp_model.specs.Sights.{sight_of}
 use Rattle.pp_model.specs.Blocks.{part_of}
 use Rattle.pp_model.specs.SourceReader.{SourceReader, has_live_text_before, is_first_directive}
-use Rattle.pp_model.specs.Acts.{given, line_item, behind_word, behind_line, live_act}
+use Rattle.pp_model.specs.Acts.{given, line_item, after_word, after_line, live_act}
 use Rattle.pp_model.specs.declared.directive.Directive.{Directive}
 use Rattle.pp_model.specs.declared.directive.Directive.TheVariants as d
 use Rattle.pp_model.specs.declared.sight.Sight.TheVariants as sight
@@ -23,7 +23,7 @@ use Rattle.pp_rs.specs.SourceMoves as moves
 use Rattle.pp_rs.specs.Source.{Source, Makes}
 use Rattle.pp_rs.specs.Stands.{StandsForReader}
 use Rattle.pp_rs.proofs.Simulates.{Simulates}
-use Rattle.pp_rs.proofs.StandsBehindLemmas.{behind_here}
+use Rattle.pp_rs.proofs.StandsAfterLemmas.{after_here}
 use Rattle.pp_rs.proofs.StepHereLemmas.{gives_here, line_simulates}
 use Rattle.pp_rs.proofs.StandsLineLemmas.{line_stays}
 
@@ -37,10 +37,10 @@ module _ {old : Source} {r : SourceReader} (s : StandsForReader old r) (alive : 
       → ((tokens : List Token) → value tokens ≡ value_of (item (preorder tokens)) old.has_text old.has_directive)
       → live_act (sight.Directive directive word) r ≡ line_item value word r → Makes (moves.taking_more 2 (moves.item_move item word (drop 2 old.rest))) old move new → Simulates move r new
   item_simulates e item value its same is h =
-      line_simulates s alive move new e line_tokens (λ tokens. given (record { value = value tokens; location = word }) (behind_line r))
+      line_simulates s alive move new e line_tokens (λ tokens. given (record { value = value tokens; location = word }) (after_line r))
       (λ tokens. moves.gives_item (item (preorder tokens)) word) is
       (λ tokens read a shown. rw (shown.0 ∙ ap (λ v. Ok (record { value = v; location = word })) (sym (same tokens)))
-      (record { after = behind_line r; steps = gives_here s alive e a; stands = line_stays s e its shown.1 shown.2 }))
+      (record { after = after_line r; steps = gives_here s alive e a; stands = line_stays s e its shown.1 shown.2 }))
       (subst (λ (m : moves.Move). Makes (moves.taking_more 2 m) old move new)
       (entries_move (line_tokens (drop 2 old.rest)) (λ entries. moves.gives_item (item entries) word) (line_length (drop 2 old.rest))) h)
 
@@ -51,8 +51,8 @@ module _ {old : Source} {r : SourceReader} (s : StandsForReader old r) (alive : 
       item_simulates e (λ entries. version entries (comments_before_end (drop 2 old.rest))) (λ tokens. Version (record {
         tokens = preorder tokens;
         is_first_directive = is_first_directive r.items r.truths r.position;
-        has_comments_before = comments_before_end (behind_word r);
-      })) refl (λ tokens. rw (s.remembers_text, s.remembers_directive, behind_here old r s) refl) refl h
+        has_comments_before = comments_before_end (after_word r);
+      })) refl (λ tokens. rw (s.remembers_text, s.remembers_directive, after_here old r s) refl) refl h
 
   -- an `#extension` is the reader's step
   pub extension_simulates : sight_of old.rest ≡ sight.Directive d.Extension word → Makes (moves.live_move_at (last_block old.blocks) (sight.Directive d.Extension word) old.rest) old move new

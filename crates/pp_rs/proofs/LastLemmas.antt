@@ -8,7 +8,7 @@ last_of_more first [] last e =
     ap (λ x. x ∷ []) same
 last_of_more first (next ∷ others) last e = ap (λ later. first ∷ later) (last_of_more next others last e)
 
--- it stands behind the others
+-- it stands after the others
 pub last_split : {X : Type 0} (xs : List X) (last : X) → slice_get xs (length xs - 1) ≡ Some last → xs ≡ take (length xs - 1) xs ++ last ∷ []
 last_split [] last e = cc
 last_split (first ∷ others) last e =

@@ -1,4 +1,4 @@
--- What a step of a preprocessor is to the runs of the definitions: what they give from the state behind the step they give from
+-- What a step of a preprocessor is to the runs of the definitions: what they give from the state after the step they give from
 -- the state before it.
 use Rattle.std.specs.Prelude.{Ok, Err}
 use Rattle.pp_lexer.specs.declared.token.Token.{Token}
@@ -37,6 +37,6 @@ pub leads_then : (A : Answers) (machine machine_then machine_last : Machine) (so
 leads_then A machine machine_then machine_last source source_then source_last step pauses leads =
     record {
       from = λ e stands.
-          let behind : LeadsFrom A e (Err Continue) machine_then source_then = pauses.from e stands in
-          leads_on A e behind.0 step machine_last source_last behind.2 (leads.from behind.0 behind.1);
+          let after : LeadsFrom A e (Err Continue) machine_then source_then = pauses.from e stands in
+          leads_on A e after.0 step machine_last source_last after.2 (leads.from after.0 after.1);
     }

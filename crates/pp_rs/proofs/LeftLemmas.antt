@@ -3,6 +3,7 @@ use Rattle.std.proofs.Common.{◌≡◌, ◌≢◌, ◌⊎◌, ◌∙◌, inl, i
 use Rattle.std.specs.Prelude.{Err, ◌-◌, ℤ}
 use Rattle.std.specs.Fn.{iterate}
 use Rattle.pp_lexer.specs.Lexed.{Seen}
+use Rattle.pp_lexer.specs.declared.token.Location.{Location}
 use Rattle.pp_lexer.specs.declared.token.Token.{Token}
 use Rattle.pp_rs.specs.CallTurns.{TakesSomething}
 use Rattle.pp_rs.specs.Defined.{Defined}
@@ -31,20 +32,20 @@ abbrev pub SomethingLeft : Machine → Source → Type 0
 SomethingLeft machine source = HoldsMore machine.held ⊎ (machine.frames ≢ []) ⊎ (source.rest ≢ []) ⊎ (source.blocks ≢ [])
 
 -- a source with nothing left is at its end
-empty_source : (definitions : List Defined) (line_offset : ℤ) (has_text has_directive : Bool) (new : Source) (step : Step Token) → StepsSource (record { rest = []; definitions = definitions; blocks = []; line_offset = line_offset; spent = false; has_text = has_text; has_directive = has_directive }) step new → step ≡ Err Finished
-empty_source definitions line_offset has_text has_directive new step (inl h) = absurd (h.some_left refl)
-empty_source definitions line_offset has_text has_directive new step (inr h) = h.0
+empty_source : (places : List Location) (error_place : Option Location) (definitions : List Defined) (line_offset : ℤ) (has_text has_directive : Bool) (new : Source) (step : Step Token) → StepsSource (record { rest = []; places = places; error_place = error_place; definitions = definitions; blocks = []; line_offset = line_offset; spent = false; has_text = has_text; has_directive = has_directive }) step new → step ≡ Err Finished
+empty_source places error_place definitions line_offset has_text has_directive new step (inl h) = absurd (h.some_left refl)
+empty_source places error_place definitions line_offset has_text has_directive new step (inr h) = h.0
 
-read_before : (rest : List Seen) (definitions : List Defined) (blocks : List OpenBlock) (line_offset : ℤ) (has_text has_directive : Bool) (s : Reader) (step : Step Token)
-    → Reads (of_source (record { rest = rest; definitions = definitions; blocks = blocks; line_offset = line_offset; spent = false; has_text = has_text; has_directive = has_directive })) step s → (step ≡ Err Finished → ⊥) → (rest ≢ []) ⊎ (blocks ≢ [])
-read_before (x ∷ rest) definitions blocks line_offset has_text has_directive s step h goes = inl (λ e. cc)
-read_before [] definitions (block ∷ blocks) line_offset has_text has_directive s step h goes = inr (λ e. cc)
-read_before [] definitions [] line_offset has_text has_directive (of_source new) step h goes = absurd (goes (empty_source definitions line_offset has_text has_directive new step h))
-read_before [] definitions [] line_offset has_text has_directive (of_list new) step h goes = absurd h
+read_before : (rest : List Seen) (places : List Location) (error_place : Option Location) (definitions : List Defined) (blocks : List OpenBlock) (line_offset : ℤ) (has_text has_directive : Bool) (s : Reader) (step : Step Token)
+    → Reads (of_source (record { rest = rest; places = places; error_place = error_place; definitions = definitions; blocks = blocks; line_offset = line_offset; spent = false; has_text = has_text; has_directive = has_directive })) step s → (step ≡ Err Finished → ⊥) → (rest ≢ []) ⊎ (blocks ≢ [])
+read_before (x ∷ rest) places error_place definitions blocks line_offset has_text has_directive s step h goes = inl (λ e. cc)
+read_before [] places error_place definitions (block ∷ blocks) line_offset has_text has_directive s step h goes = inr (λ e. cc)
+read_before [] places error_place definitions [] line_offset has_text has_directive (of_source new) step h goes = absurd (goes (empty_source places error_place definitions line_offset has_text has_directive new step h.0))
+read_before [] places error_place definitions [] line_offset has_text has_directive (of_list new) step h goes = absurd h
 
 left_in_source : (old : Source) (s : Reader) (step : Step Token) → old.spent ≡ false → Reads (of_source old) step s → (step ≡ Err Finished → ⊥) → (old.rest ≢ []) ⊎ (old.blocks ≢ [])
 left_in_source old s step unspent h goes =
-    read_before old.rest old.definitions old.blocks old.line_offset old.has_text old.has_directive s step (subst (λ (b : Bool). Reads (of_source (record { rest = old.rest; definitions = old.definitions; blocks = old.blocks; line_offset = old.line_offset; spent = b; has_text = old.has_text; has_directive = old.has_directive })) step s) unspent h) goes
+    read_before old.rest old.places old.error_place old.definitions old.blocks old.line_offset old.has_text old.has_directive s step (subst (λ (b : Bool). Reads (of_source (record { rest = old.rest; places = old.places; error_place = old.error_place; definitions = old.definitions; blocks = old.blocks; line_offset = old.line_offset; spent = b; has_text = old.has_text; has_directive = old.has_directive })) step s) unspent h) goes
 
 reads_more : (frames : List Layer) (old : Source) → (old.rest ≢ []) ⊎ (old.blocks ≢ []) → (frames ≢ []) ⊎ (old.rest ≢ []) ⊎ (old.blocks ≢ [])
 reads_more frames old (inl h) = inr (inl h)
@@ -69,7 +70,7 @@ taking_left m n old s step unspent (moved move step1 m1 n1 r1 s1 free moves is n
 
 -- where something was taken, something was left
 pub some_left : (m : Machine) (old : Source) → old.spent ≡ false → TakesSomething m (of_source old) → SomethingLeft m old
-some_left m old unspent h = taking_left m h.behind old h.reader h.step unspent h.takes h.goes
+some_left m old unspent h = taking_left m h.after old h.reader h.step unspent h.takes h.goes
 
 some_there : {A : Type 0} (items : List A) → items ≢ [] → 0 < length items
 some_there [] left = absurd (left refl)
@@ -119,8 +120,8 @@ through_none : (frame : ℕ → ℕ) (names : ℕ) (xs : List ℕ) → total xs 
 through_none frame names [] e = refl
 through_none frame names (s ∷ rest) e =
     let none : s ≡ 0 = omega arith in
-    let none_behind : total rest ≡ 0 = omega arith in
-    subst (λ (k : ℕ). through frame names rest (iterate (grown frame (names - length rest)) k 0) ≡ 0) (sym none) (through_none frame names rest none_behind)
+    let none_after : total rest ≡ 0 = omega arith in
+    subst (λ (k : ℕ). through frame names rest (iterate (grown frame (names - length rest)) k 0) ≡ 0) (sym none) (through_none frame names rest none_after)
 
 no_steps : (frame : ℕ → ℕ) (names : ℕ) (xs : List ℕ) → total xs ≡ 0 → work_in frame names xs ≡ 0
 no_steps frame names xs e = subst (λ (k : ℕ). through frame names xs k ≡ 0) (sym e) (through_none frame names xs e)

@@ -2,6 +2,8 @@ pub mod SpellingLemmas
 pub mod QuietLemmas
 pub mod LinedLemmas
 pub mod EndedLemmas
+pub mod UntoldLemmas
+pub mod UntoldTurnLemmas
 pub mod HeldLemmas
 pub mod DirectiveLineLemmas
 pub mod SkippedLemmas
@@ -24,6 +26,7 @@ pub mod OpenMacroLemmas
 pub mod OpenNamesLemmas
 pub mod OpenAroundLemmas
 pub mod PieceLemmas
+mod PlainLemmas
 pub mod Walk
 pub mod UnspentLemmas
 pub mod ItemThereLemmas
@@ -43,7 +46,7 @@ pub mod DefineLemmas
 pub mod DefinitionsLemmas
 pub mod LineReadingLemmas
 pub mod ContentLemmas
-pub mod CommentsBehindLemmas
+pub mod CommentsAfterLemmas
 pub mod SourceActsLemmas
 pub mod UnnotedLemmas
 pub mod NotedLemmas
@@ -54,7 +57,7 @@ pub mod DirectiveBeforeLemmas
 pub mod TextBeforeLemmas
 pub mod RememberedLemmas
 pub mod RepliesLemmas
-pub mod StandsBehindLemmas
+pub mod StandsAfterLemmas
 pub mod AddingLemmas
 pub mod ComesLemmas
 pub mod CollectingLemmas
@@ -76,7 +79,7 @@ pub mod ReaderInvariantLemmas
 pub mod FewerLinesLemmas
 pub mod BranchedLemmas
 pub mod BranchesReadLemmas
-pub mod KnownBehindLemmas
+pub mod KnownAfterLemmas
 pub mod BranchActsLemmas
 pub mod LiveBranchLemmas
 pub mod IterateLemmas

@@ -23,7 +23,7 @@ use Rattle.pp_rs.proofs.LineReadLemmas.{reads_broken, reads_then}
 
 -- a name is defined there where it is defined
 defined_there : (levels : ℕ) (definitions : List Defined) (m n : Machine) (l k : Listing) (name : Name) (b : Bool) → ReadsOn levels definitions m l n k → b ≡ is_some (meaning_of definitions name) → ◌≡◌ {A = Result Bool Fault} (Ok b) (Ok (is_defined (expander_of n k) name))
-defined_there levels definitions m n l k name b behind is = ap (λ (x : Bool). let r : Result Bool Fault = Ok x in r) (is ∙ ap (λ (ds : List Defined). is_some (meaning_of ds name)) (sym behind.stands.defined))
+defined_there levels definitions m n l k name b after is = ap (λ (x : Bool). let r : Result Bool Fault = Ok x in r) (is ∙ ap (λ (ds : List Defined). is_some (meaning_of ds name)) (sym after.stands.defined))
 
 told_fault : (fault wanted : Fault) → fault ≡ wanted → ◌≡◌ {A = Result Bool Fault} (Err fault) (Err wanted)
 told_fault fault wanted is = ap (λ (f : Fault). let r : Result Bool Fault = Err f in r) is

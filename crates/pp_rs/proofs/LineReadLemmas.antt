@@ -46,7 +46,7 @@ module _ (levels : ℕ) (definitions : List Defined) (m : Machine) (l : Listing)
 
   -- what is read after something that was read
   pub reads_then : {T : Type 0} (P Q : Result T Fault → Expander Listed → Type 0) (n p : Machine) (k q : Listing) (r : Result T Halt) → ReadsOn levels definitions m l n k → ((x : Result T Fault) (f : Expander Listed) → P x f → Q x f) → Reads {T = T} levels definitions n k P r p q → Reads {T = T} levels definitions m l Q r p q
-  reads_then P Q n p k q (Ok value) before on (read, behind) = (on (Ok value) _ read, record { stands = behind.stands; least = le_trans behind.least before.least })
+  reads_then P Q n p k q (Ok value) before on (read, after) = (on (Ok value) _ read, record { stands = after.stands; least = le_trans after.least before.least })
   reads_then P Q n p k q (Err (halt.Fault fault)) before on (f, read) = (f, on (Err fault) f read)
   reads_then P Q n p k q (Err halt.OutOfMemory) before on reads = tt
 
@@ -83,8 +83,8 @@ module _ (levels : ℕ) (definitions : List Defined) (m : Machine) (l : Listing)
   pub items_end : TurnsOrRefuses n (of_list k) (Err Finished) p (of_list q) → ReadsItem levels definitions m l (Ok None) p q
   items_end turns =
       let h = end_read levels definitions n p k q on.stands (itself (Err Finished) turns refl) in
-      let behind : ReadsOn levels definitions n k p q = h.1 in
-      (on.goes_on outcome.End (expander_of p q) h.0, record { stands = behind.stands; least = omega (arith, on.least, behind.least) })
+      let after : ReadsOn levels definitions n k p q = h.1 in
+      (on.goes_on outcome.End (expander_of p q) h.0, record { stands = after.stands; least = omega (arith, on.least, after.least) })
 
   -- a part of the line was passed, and the items go on
   passed : (p : Machine) → GoesOn levels n k p q → IsOnLine definitions p q → IsWorkLess levels n k p q → ItemsOn levels definitions m l p q

@@ -118,19 +118,19 @@ next_quiet m n r s step list holds (later step1 m1 between n1 r1 s1 t1 steps nex
     next_quiet between n s1 s step h.list (free_held between.held (step_frees m between r s1 (Err Continue) steps)) next told
 
 -- what is held after a turn; after a call it is said elsewhere
-abbrev HoldsBehind : Step Taken → Machine → Type 0
-HoldsBehind (Ok (taken.Token token)) n = IsHeld n.held
-HoldsBehind (Ok (taken.Call c)) n = ⊤
-HoldsBehind (Err Continue) n = IsHeld n.held
-HoldsBehind (Err Finished) n = IsHeld n.held
-HoldsBehind (Err (Error fault)) n = ⊤
+abbrev HoldsAfter : Step Taken → Machine → Type 0
+HoldsAfter (Ok (taken.Token token)) n = IsHeld n.held
+HoldsAfter (Ok (taken.Call c)) n = ⊤
+HoldsAfter (Err Continue) n = IsHeld n.held
+HoldsAfter (Err Finished) n = IsHeld n.held
+HoldsAfter (Err (Error fault)) n = ⊤
 
-free_behind : (step : Step Taken) (n : Machine) → n.held ≡ None → HoldsBehind step n
-free_behind (Ok (taken.Token token)) n e = free_held n.held e
-free_behind (Ok (taken.Call c)) n e = tt
-free_behind (Err Continue) n e = free_held n.held e
-free_behind (Err Finished) n e = free_held n.held e
-free_behind (Err (Error fault)) n e = tt
+free_after : (step : Step Taken) (n : Machine) → n.held ≡ None → HoldsAfter step n
+free_after (Ok (taken.Token token)) n e = free_held n.held e
+free_after (Ok (taken.Call c)) n e = tt
+free_after (Err Continue) n e = free_held n.held e
+free_after (Err Finished) n e = free_held n.held e
+free_after (Err (Error fault)) n e = tt
 
 not_refused : (next : Step Token) → is_refusal next ≡ false → wants_memory next ≡ false
 not_refused (Ok token) h = refl
@@ -138,7 +138,7 @@ not_refused (Err Continue) h = refl
 not_refused (Err Finished) h = refl
 not_refused (Err (Error fault)) h = h
 
-sought_holds : (token : Token) (name : Name) (definition : Definition) (c : Sought) (step : Step Taken) (n p q : Machine) (s t : Reader) → IsList s → n.held ≡ None → Seeks n s c p t → Finds token name definition c step p q → HoldsBehind step q
+sought_holds : (token : Token) (name : Name) (definition : Definition) (c : Sought) (step : Step Taken) (n p q : Machine) (s t : Reader) → IsList s → n.held ≡ None → Seeks n s c p t → Finds token name definition c step p q → HoldsAfter step q
 sought_holds token name definition c step n p q s t list free (alone next n1 p1 s1 t1 c1 taken_next none told is) found =
     let found' : Finds token name definition (no_call next) step p q = subst (λ (x : Sought). Finds token name definition x step p q) is found in
     let quiet = next_quiet n p s t next list (free_held n.held free) taken_next (not_refused next told) in
@@ -146,14 +146,14 @@ sought_holds token name definition c step n p q s t list free (alone next n1 p1 
 sought_holds token name definition c step n p q s t list free (called next paren n1 between p1 s1 u t1 g c1 taken_next at gathers is) found =
     go g (subst (λ (x : Sought). Finds token name definition x step p q) is found)
   where
-    go : (g : Result Gathered Fault) → Finds token name definition (sought_by paren g) step p q → HoldsBehind step q
+    go : (g : Result Gathered Fault) → Finds token name definition (sought_by paren g) step p q → HoldsAfter step q
     go (Err fault) h = rw h.0 tt
     go (Ok g) h = rw h.0 tt
 
-turn_holds : (m n : Machine) (r s : Reader) (step : Step Taken) → IsList r → IsHeld m.held → TurnsTo m r step n s → HoldsBehind step n
-turn_holds m n r s step list holds (passes exit step1 m1 n1 r1 s1 steps is) = free_behind step n (step_frees m n r s (Err exit) steps)
-turn_holds m n r s step list holds (gives token step1 m1 n1 r1 s1 steps none is) = free_behind step n (step_frees m n r s (Ok token) steps)
-turn_holds m p r s step list holds (object token name definition step1 m1 n p1 r1 s1 steps some plain is at) = free_behind step p (ap (λ (k : Machine). k.held) at ∙ step_frees m n r s (Ok token) steps)
+turn_holds : (m n : Machine) (r s : Reader) (step : Step Taken) → IsList r → IsHeld m.held → TurnsTo m r step n s → HoldsAfter step n
+turn_holds m n r s step list holds (passes exit step1 m1 n1 r1 s1 steps is) = free_after step n (step_frees m n r s (Err exit) steps)
+turn_holds m n r s step list holds (gives token step1 m1 n1 r1 s1 steps none is) = free_after step n (step_frees m n r s (Ok token) steps)
+turn_holds m p r s step list holds (object token name definition step1 m1 n p1 r1 s1 steps some plain is at) = free_after step p (ap (λ (k : Machine). k.held) at ∙ step_frees m n r s (Ok token) steps)
 turn_holds m q r t step list holds (seeks token name definition c step1 m1 n p q1 r1 s t1 steps some function sought found) =
     sought_holds token name definition c step n p q s t (step_quiet m n r s (Ok token) list holds steps refl).list (step_frees m n r s (Ok token) steps) sought found
 

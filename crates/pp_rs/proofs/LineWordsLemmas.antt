@@ -10,7 +10,7 @@ use Rattle.pp_model.specs.LineWords as line
 use Rattle.pp_model.specs.declared.word.LineKind.{LineKind}
 use Rattle.pp_model.specs.declared.word.Word.{Word}
 use Rattle.pp_model.specs.declared.word.Word.TheVariants.{Plain, Defined}
-use Rattle.pp_model.proofs.WordLemmas.{behind_words, behind_words-before, behind_words-end}
+use Rattle.pp_model.proofs.WordLemmas.{after_words, after_words-before, after_words-end}
 use Rattle.pp_rs.specs.Defined as definitions
 use Rattle.pp_rs.specs.LineItems.{IsOnLine, ReadsItem, ReadsOperand, expander_of}
 use Rattle.pp_rs.specs.Machine.{Machine}
@@ -19,7 +19,7 @@ use Rattle.pp_rs.specs.declared.pp.halt.Halt.TheVariants as halt
 
 -- What the reading of a line has reached: its words so far, after which those from here on come.
 pub record WordsOn (kind : LineKind) (directive : Location) (levels : ℕ) (defined : List definitions.Defined) (m : Machine) (l : Listing) (words : List Word) (n : Machine) (k : Listing) : Type 0 where
-  pub goes_on : (rest : Words) → LineWords kind directive (answers_at levels) (expander_of n k) rest → LineWords kind directive (answers_at levels) (expander_of m l) (behind_words words rest)
+  pub goes_on : (rest : Words) → LineWords kind directive (answers_at levels) (expander_of n k) rest → LineWords kind directive (answers_at levels) (expander_of m l) (after_words words rest)
   pub stands : IsOnLine defined n k
 
 pub words_start : (kind : LineKind) (directive : Location) (levels : ℕ) (defined : List definitions.Defined) (m : Machine) (l : Listing) (words : List Word) → IsOnLine defined m l → words ≡ [] → WordsOn kind directive levels defined m l words m l
@@ -28,7 +28,7 @@ words_start kind directive levels defined m l words on none = rw none (record { 
 module _ (kind : LineKind) (directive : Location) (levels : ℕ) (defined : List definitions.Defined) (m : Machine) (l : Listing) (words : List Word) (n : Machine) (k : Listing) (on : WordsOn kind directive levels defined m l words n k) (p : Machine) (q : Listing) where
   -- the words so far with what ends them are those of the line
   end_with : (ending : Option Fault) (w : Words) → w ≡ record { words = words; ending = ending } → LineWords kind directive (answers_at levels) (expander_of n k) (record { words = []; ending = ending }) → LineWords kind directive (answers_at levels) (expander_of m l) w
-  end_with ending w is h = rw (is, ← behind_words-end words ending) (on.goes_on (record { words = []; ending = ending }) h)
+  end_with ending w is h = rw (is, ← after_words-end words ending) (on.goes_on (record { words = []; ending = ending }) h)
 
   pub words_end : (w : Words) → ReadsItem levels defined n k (Ok None) p q → w ≡ record { words = words; ending = None } → LineWords kind directive (answers_at levels) (expander_of m l) w
   words_end w item is = end_with None w is (line.ended (expander_of n k) (expander_of p q) (record { words = []; ending = None }) item.0 refl)
@@ -43,7 +43,7 @@ module _ (kind : LineKind) (directive : Location) (levels : ℕ) (defined : List
     pub words_plain : (word : Token) (more : List Word) → reading kind token ≡ line.word word → more ≡ words ++ Plain word ∷ [] → WordsOn kind directive levels defined m l more p q
     words_plain word more reads is =
         rw is (record {
-          goes_on = λ rest h. rw (← behind_words-before words (Plain word) rest) (on.goes_on (word_before (Plain word) rest) (line.plain token word (expander_of n k) (expander_of p q) rest (word_before (Plain word) rest) item.0 reads h refl));
+          goes_on = λ rest h. rw (← after_words-before words (Plain word) rest) (on.goes_on (word_before (Plain word) rest) (line.plain token word (expander_of n k) (expander_of p q) rest (word_before (Plain word) rest) item.0 reads h refl));
           stands = item.1.stands;
         })
 
@@ -51,7 +51,7 @@ module _ (kind : LineKind) (directive : Location) (levels : ℕ) (defined : List
     words_answered answer u v more reads operand is =
         let w : Word = Defined token.location (Ok answer) in
         rw is (record {
-          goes_on = λ rest h. rw (← behind_words-before words w rest) (on.goes_on (word_before w rest) (line.answered token answer (expander_of n k) (expander_of p q) (expander_of u v) rest (word_before w rest) item.0 reads operand.0 h refl));
+          goes_on = λ rest h. rw (← after_words-before words w rest) (on.goes_on (word_before w rest) (line.answered token answer (expander_of n k) (expander_of p q) (expander_of u v) rest (word_before w rest) item.0 reads operand.0 h refl));
           stands = operand.1.stands;
         })
 

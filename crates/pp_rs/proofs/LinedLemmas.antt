@@ -1,4 +1,4 @@
--- In the items of a text the number sign of a directive stands first, or behind a NewLine: neither a token nor an error stands before it on its line.
+-- In the items of a text the number sign of a directive stands first, or after a NewLine: neither a token nor an error stands before it on its line.
 use Rattle.std.proofs.Common.{◌≡◌, ◌∙◌, ℕ, zero, suc, Bool, true, false, ◌&&◌, List, [], ◌∷◌, ◌++◌, drop, refl, sym, ap, subst}
 use Rattle.std.specs.Prelude.{Result, Ok, Err}
 use Rattle.pp_lexer.specs.declared.lexer.char_iterator.Spot.{Spot}
@@ -27,7 +27,7 @@ same_newline (Integer i) = refl
 same_newline (Float f) = refl
 same_newline (Punct p) = refl
 
--- an item ends a line where the lexer is at a line's start behind it
+-- an item ends a line where the lexer is at a line's start after it
 pub ends_with : (f : Flags) (first last : Spot) (r : Result TokenValue PreprocessorError) → ends_line (lexeme_seen f first last r) ≡ is_newline_result r
 ends_with f first last (Ok value) = same_newline value
 ends_with f first last (Err fault) = refl
@@ -74,9 +74,9 @@ lined_at_start ss =
 pub items_lined : (text : List ℕ) → AreLined (items_of text)
 items_lined text = lined_at_start (spots_of text)
 
--- the same behind some of the items
-pub lined_behind : (n : ℕ) (items : List Seen) → AreLined items → AreLined (drop n items)
-lined_behind zero [] h = h
-lined_behind (suc n) [] h = h
-lined_behind zero (s ∷ rest) h = h
-lined_behind (suc n) (s ∷ rest) h = lined_behind n rest h.1
+-- the same after some of the items
+pub lined_after : (n : ℕ) (items : List Seen) → AreLined items → AreLined (drop n items)
+lined_after zero [] h = h
+lined_after (suc n) [] h = h
+lined_after zero (s ∷ rest) h = h
+lined_after (suc n) (s ∷ rest) h = lined_after n rest h.1

@@ -9,7 +9,7 @@ use Rattle.pp_model.specs.Emitting.{Emits, Alone, Collects, done, failed, item, 
 use Rattle.pp_model.specs.SpliceList.{spliced}
 use Rattle.pp_model.specs.declared.outcome.Outcome.{Outcome}
 use Rattle.pp_model.specs.declared.outcome.Outcome.TheVariants as outcome
-use Rattle.pp_model.proofs.CollectLemmas.{behind_items, behind_items-before, behind_items-end, Alone-collects}
+use Rattle.pp_model.proofs.CollectLemmas.{after_items, after_items-before, after_items-end, Alone-collects}
 use Rattle.pp_rs.specs.Calling.{PendingCall}
 use Rattle.pp_rs.specs.CallTurns.{TurnsTo}
 use Rattle.pp_rs.specs.Defined.{Defined, meaning_of}
@@ -31,7 +31,7 @@ pub record Reached (levels : ℕ) (definitions : List Defined) (hidden : List Na
   pub state : Expander Listed
   pub stands : StandsListed false definitions hidden m l state
   pub sound : IsSound m (of_list l)
-  pub goes_on : (out : Result (List Token) Fault) → Collects argument_reading (answers_at levels) state out → Alone levels tokens (meaning_of definitions) hidden (behind_items items out)
+  pub goes_on : (out : Result (List Token) Fault) → Collects argument_reading (answers_at levels) state out → Alone levels tokens (meaning_of definitions) hidden (after_items items out)
   pub least : length items + work_of levels m (of_list l) ≤ most_alone levels definitions (length tokens)
 
 pub reached_start : (levels : ℕ) (definitions : List Defined) (hidden : List Name) (tokens items : List Token) (m : Machine) (l : Listing) → m ≡ record { held = None; frames = [] } → l ≡ record { tokens = tokens; definitions = definitions; hidden = hidden; is_line = false } → items ≡ [] → Reached levels definitions hidden tokens m l items
@@ -41,11 +41,11 @@ reached_start levels definitions hidden tokens items m l e f g =
       state = reading_of tokens (meaning_of definitions) hidden;
       stands = record { holds = refl; list = refl; reader = (refl, refl, refl, refl); names = refl };
       sound = record { apart = tt; defined = tt };
-      goes_on = λ out collects. Alone-collects levels tokens (meaning_of definitions) hidden (behind_items [] out) (rw (no_items out) collects);
+      goes_on = λ out collects. Alone-collects levels tokens (meaning_of definitions) hidden (after_items [] out) (rw (no_items out) collects);
       least = omega (arith, start_work levels start);
     })
   where
-    no_items : (out : Result (List Token) Fault) → behind_items [] out ≡ out
+    no_items : (out : Result (List Token) Fault) → after_items [] out ≡ out
     no_items (Ok rest) = refl
     no_items (Err fault) = refl
 
@@ -59,7 +59,7 @@ module _ (levels : ℕ) (definitions : List Defined) (hidden : List Name) (token
         state = h.0;
         stands = h.2;
         sound = f.sound;
-        goes_on = λ out collects. rw (← behind_items-before items token out) (r.goes_on (token_before token out) (item token out (token_before token out) r.state h.0 h.1 collects refl));
+        goes_on = λ out collects. rw (← after_items-before items token out) (r.goes_on (token_before token out) (item token out (token_before token out) r.state h.0 h.1 collects refl));
         least = omega (arith, r.least, f.falls, length-append items (token ∷ []));
       })
 
@@ -90,7 +90,7 @@ module _ (levels : ℕ) (definitions : List Defined) (hidden : List Name) (token
   pub reached_end : TurnsTo m (of_list l) (Err Finished) n (of_list k) → Alone levels tokens (meaning_of definitions) hidden (Ok items)
   reached_end turns =
       let h = listed_leads false definitions hidden (answers_at levels) m n l k (Err Finished) r.state r.stands turns refl in
-      rw (← behind_items-end items) (r.goes_on (Ok []) (done r.state h.0 (Ok []) h.1 refl))
+      rw (← after_items-end items) (r.goes_on (Ok []) (done r.state h.0 (Ok []) h.1 refl))
 
   pub reached_short : length items ≤ most_alone levels definitions (length tokens)
   reached_short = omega (arith, r.least)

@@ -3,7 +3,7 @@ use Rattle.std.proofs.Common.{◌≡◌, ◌∙◌, inl, inr, true, false, ℕ, 
 use Rattle.std.specs.Prelude.{if◌then◌else◌, ◌||◌, ◌&&◌, Ok, Err}
 use Rattle.pp_lexer.specs.declared.token.Token.{Token}
 use Rattle.pp_model.specs.Names.{Name, is_in, is_same_name, defined_name}
-use Rattle.pp_model.specs.Reading.{Reading, ReadsListed, Expander, Listed, first_listed, behind_listed, masked}
+use Rattle.pp_model.specs.Reading.{Reading, ReadsListed, Expander, Listed, first_listed, after_listed, masked}
 use Rattle.pp_model.specs.Calls.{Answers, arguments_of, site_of}
 use Rattle.pp_model.specs.Definitions.{Definitions}
 use Rattle.pp_model.specs.declared.splice.Entry.{Entry}
@@ -33,19 +33,19 @@ module _ (is_line : Bool) (definitions : List Defined) (hidden : List Name) wher
   IsListed (of_source source) x = ⊥
   IsListed (of_list l) x = (x ≡ record { tokens = l.tokens; visible = meaning_of l.definitions }) × (l.hidden ≡ hidden) × (l.is_line ≡ is_line) × (l.definitions ≡ definitions)
 
-  behind : (old new : Listing) (x : Listed) (tokens : List Token) → x.tokens ≡ tokens → x ≡ record { tokens = old.tokens; visible = meaning_of old.definitions } → old.hidden ≡ hidden → old.is_line ≡ is_line → old.definitions ≡ definitions → new ≡ record old { tokens = behind_listed tokens } → IsListed (of_list new) (record x { tokens = behind_listed x.tokens })
-  behind old new x tokens e is names plain same at =
-      rw at (ap (λ (ts : List Token). record x { tokens = behind_listed ts }) e ∙ ap (λ (z : Listed). record z { tokens = behind_listed tokens }) is, names, plain, same)
+  after : (old new : Listing) (x : Listed) (tokens : List Token) → x.tokens ≡ tokens → x ≡ record { tokens = old.tokens; visible = meaning_of old.definitions } → old.hidden ≡ hidden → old.is_line ≡ is_line → old.definitions ≡ definitions → new ≡ record old { tokens = after_listed tokens } → IsListed (of_list new) (record x { tokens = after_listed x.tokens })
+  after old new x tokens e is names plain same at =
+      rw at (ap (λ (ts : List Token). record x { tokens = after_listed ts }) e ∙ ap (λ (z : Listed). record z { tokens = after_listed tokens }) is, names, plain, same)
 
-  listed_simulates : (tokens : List Token) (old new : Listing) (x : Listed) (step : Step Token) → old.tokens ≡ tokens → IsListed (of_list old) x → step ≡ listed_step tokens → new ≡ record old { tokens = behind_listed tokens } → ReadsTo (listed_reading is_line) IsListed hidden step x (of_list new)
+  listed_simulates : (tokens : List Token) (old new : Listing) (x : Listed) (step : Step Token) → old.tokens ≡ tokens → IsListed (of_list old) x → step ≡ listed_step tokens → new ≡ record old { tokens = after_listed tokens } → ReadsTo (listed_reading is_line) IsListed hidden step x (of_list new)
   listed_simulates [] old new x step e (is, names, plain, same) gives at =
-      let y : Listed = record x { tokens = behind_listed x.tokens } in
+      let y : Listed = record x { tokens = after_listed x.tokens } in
       let tokens : x.tokens ≡ [] = ap (λ (z : Listed). z.tokens) is ∙ e in
-      rw gives (y, (sym (ap first_listed tokens), refl), behind old new x [] tokens is names plain same at)
+      rw gives (y, (sym (ap first_listed tokens), refl), after old new x [] tokens is names plain same at)
   listed_simulates (token ∷ rest) old new x step e (is, names, plain, same) gives at =
-      let y : Listed = record x { tokens = behind_listed x.tokens } in
+      let y : Listed = record x { tokens = after_listed x.tokens } in
       let tokens : x.tokens ≡ token ∷ rest = ap (λ (z : Listed). z.tokens) is ∙ e in
-      rw gives (y, (sym (ap first_listed tokens), refl), behind old new x (token ∷ rest) tokens is names plain same at)
+      rw gives (y, (sym (ap first_listed tokens), refl), after old new x (token ∷ rest) tokens is names plain same at)
 
   pub list_simulates : (r s : Reader) (x : Listed) (step : Step Token) → IsListed r x → Reads r step s → wants_memory step ≡ false → ReadsTo (listed_reading is_line) IsListed hidden step x s
   list_simulates (of_list old) (of_list new) x step listed (inl h) told = listed_simulates old.tokens old new x step refl listed h.0 h.1

@@ -9,10 +9,10 @@ use Rattle.pp_model.specs.Run.{items_of}
 use Rattle.pp_model.specs.SourceReader.{SourceReader, start_of}
 use Rattle.pp_model.proofs.BlockLemmas.{one_branch}
 use Rattle.pp_rs.specs.LiveBranch.{AtMostOneIsChosen, HasLiveBranches, RunHasLiveBranches}
-use Rattle.pp_rs.proofs.BlockPositionLemmas.{each_weaker, each_behind}
+use Rattle.pp_rs.proofs.BlockPositionLemmas.{each_weaker, each_after}
 use Rattle.pp_rs.proofs.BranchActsLemmas.{step_keeps_branches}
 use Rattle.pp_rs.proofs.BranchedLemmas.{IsBranched}
-use Rattle.pp_rs.proofs.KnownBehindLemmas.{HasRead}
+use Rattle.pp_rs.proofs.KnownAfterLemmas.{HasRead}
 use Rattle.pp_rs.proofs.LastLemmas.{last_split}
 use Rattle.pp_rs.proofs.LinedLemmas.{items_lined}
 use Rattle.pp_rs.proofs.LinesBeforeLemmas.{no_lines_before}
@@ -25,9 +25,9 @@ at_most_one source truths block b mark other one two = one_branch truths block m
 live_branches : (r : SourceReader) → HasRead r → HasLiveBranches r
 live_branches r known = record {
   at_most_one = λ position within. each_weaker (IsBranched r.items r.truths) (AtMostOneIsChosen r.truths) (at_most_one r.items r.truths) (blocks_at r.items position) (known.read position within);
-  one = λ position block behind ends with_else live.
-      let all = subst (λ (blocks : List Block). Each (IsBranched r.items r.truths) blocks) (last_split (blocks_at r.items position) block ends.open_there) (known.read position (omega (arith, behind))) in
-      let this : IsBranched r.items r.truths block = (each_behind (IsBranched r.items r.truths) _ (block ∷ []) all).0 in
+  one = λ position block after ends with_else live.
+      let all = subst (λ (blocks : List Block). Each (IsBranched r.items r.truths) blocks) (last_split (blocks_at r.items position) block ends.open_there) (known.read position (omega (arith, after))) in
+      let this : IsBranched r.items r.truths block = (each_after (IsBranched r.items r.truths) _ (block ∷ []) all).0 in
       (this.covered live (ap (λ other. has_taken_branch r.truths block || other) with_else ∙ or-true (has_taken_branch r.truths block)), at_most_one r.items r.truths block this);
 }
 

@@ -1,5 +1,6 @@
 -- Steps of taking, as the code makes them.
 use Rattle.std.proofs.Common.{◌≡◌, ◌∙◌, false, true, List, [], ◌∷◌, ◌++◌, ◌<◌, ℕ, arith, refl, sym, ap, subst, Option, Some, None, Result, Ok, Err, MatchResult}
+use Rattle.std.specs.Prelude.{is_some}
 use Rattle.pp_lexer.specs.declared.token.Token.{Token}
 use Rattle.pp_lexer.specs.declared.token.Location.{Location}
 use Rattle.pp_lexer.specs.declared.token.PreprocessorError.TheVariants.{LineOverflow, IntegerOverflow, UnexpectedEndOfInput}
@@ -9,7 +10,7 @@ use Rattle.pp_rs.specs.Item.{Step, is_out_of_memory}
 use Rattle.pp_rs.specs.Frames.{Layer}
 use Rattle.pp_rs.specs.Machine.{Machine, is_pause, step_of_outcome, taken_as, StepsTaking, held, moved, TakesNext, now, later, GathersNext, closed, inside, overfull, ended, failed}
 use Rattle.pp_rs.specs.Left.{regions, regions_of, holding_step, reads_left}
-use Rattle.pp_model.proofs.GatherLemmas.{behind_tokens, behind_tokens-before, behind_tokens-closed}
+use Rattle.pp_model.proofs.GatherLemmas.{after_tokens, after_tokens-before, after_tokens-closed}
 use Rattle.pp_rs.specs.Reach.{total}
 use Rattle.pp_rs.specs.Reader.{Reader}
 use Rattle.pp_rs.proofs.SpendLemmas.{step_spends, next_spends, total_one_more}
@@ -18,8 +19,12 @@ use Rattle.pp_rs.specs.declared.pp.step.StepExit.{StepExit}
 use Rattle.pp_rs.specs.declared.pp.step.StepExit.TheVariants.{Error, Continue, Finished}
 
 -- what is held is taken
-pub takes_held : (m : Machine) (old new : Option (Step Token)) (frames : List Layer) (step : Step Token) (r : Reader) → m ≡ record { held = old; frames = frames } → old ≡ Some step → new ≡ None → StepsTaking m r step (record { held = new; frames = frames }) r
-takes_held m old new frames step r e f g = held step m (record { held = new; frames = frames }) r r (ap (λ (k : Machine). k.held) e ∙ f) (rw (e, g) refl) refl
+pub takes_held : (m n : Machine) (step : Step Token) (r : Reader) → m.held ≡ Some step → n ≡ record m { held = None } → StepsTaking m r step n r
+takes_held m n step r is at = held step m n r r is at refl
+
+pub none_held : (o : Option (Step Token)) → is_some o ≡ false → o ≡ None
+none_held None e = refl
+none_held (Some step) e = cc
 
 -- a step of the frames or the reader that gives no token
 pub takes_exit : (m : Machine) (old new : Option (Step Token)) (frames after : List Layer) (move step : Step Token) (exit : StepExit) (r s : Reader) → m ≡ record { held = old; frames = frames } → old ≡ None → new ≡ None
@@ -39,18 +44,19 @@ takes_step m old new frames after move r s e f g moves is =
     same (Ok token) apart = rw apart refl
     same (Err exit) apart = refl
 
+-- what a step of the frames or the reader is once it is taken
+pub takes_shown : (m : Machine) (old new : Option (Step Token)) (frames after : List Layer) (move step : Step Token) (r s : Reader) → m ≡ record { held = old; frames = frames } → old ≡ None → new ≡ None
+    → Moves frames r move after s → step ≡ taken_as move after s → StepsTaking m r step (record { held = new; frames = after }) s
+takes_shown m old new frames after move step r s e f g moves is =
+    moved move step m (record { held = new; frames = after }) r s (ap (λ (k : Machine). k.held) e ∙ f)
+    (subst (λ (fs : List Layer). Moves fs r move after s) (sym (ap (λ (k : Machine). k.frames) e)) moves) is g
+
 -- a token that is taken
-pub takes_token : (m : Machine) (old new : Option (Step Token)) (frames after : List Layer) (move step : Step Token) (token : Token) (r s : Reader) → m ≡ record { held = old; frames = frames } → old ≡ None → new ≡ None
-    → Moves frames r move after s → move ≡ Ok token
-    → MatchResult step (λ taken. taken_in after s token ≡ outcome.Token taken) (λ exit. (exit ≡ Error (LineOverflow, token.location)) × (taken_in after s token ≡ outcome.Fault (LineOverflow, token.location)))
-    → StepsTaking m r step (record { held = new; frames = after }) s
-takes_token m old new frames after move step token r s e f g moves is taken =
-    moved (Ok token) step m (record { held = new; frames = after }) r s (ap (λ (k : Machine). k.held) e ∙ f)
-    (subst (λ (x : Step Token). Moves m.frames r x after s) is (subst (λ (fs : List Layer). Moves fs r move after s) (sym (ap (λ (k : Machine). k.frames) e)) moves)) (go step taken) g
-  where
-    go : (step : Step Token) → MatchResult step (λ taken. taken_in after s token ≡ outcome.Token taken) (λ exit. (exit ≡ Error (LineOverflow, token.location)) × (taken_in after s token ≡ outcome.Fault (LineOverflow, token.location))) → step ≡ taken_as (Ok token) after s
-    go (Ok t) h = ap step_of_outcome (sym h)
-    go (Err exit) h = ap Err h.0 ∙ ap step_of_outcome (sym h.1)
+pub shows_token : (frames : List Layer) (reader : Reader) (token : Token) (step : Step Token)
+    → MatchResult step (λ taken. taken_in frames reader token ≡ outcome.Token taken) (λ exit. (exit ≡ Error (LineOverflow, token.location)) × (taken_in frames reader token ≡ outcome.Fault (LineOverflow, token.location)))
+    → step ≡ taken_as (Ok token) frames reader
+shows_token frames reader token (Ok t) h = ap step_of_outcome (sym h)
+shows_token frames reader token (Err exit) h = ap Err h.0 ∙ ap step_of_outcome (sym h.1)
 
 -- what is taken next from here on is taken next from the beginning on
 abbrev pub LeadsToNext : Machine → Reader → Machine → Reader → Type 0
@@ -84,9 +90,9 @@ next_falls m n r s token next =
     let free : regions n s ≡ regions_of n.frames (reads_left s) = ap (λ o. holding_step o (regions_of n.frames (reads_left s))) h.free in
     omega (arith, h.spends.least, total_one_more (regions_of n.frames (reads_left s)), ap total free)
 
--- how the search goes on from here is how it goes on from the beginning, behind these tokens
+-- how the search goes on from here is how it goes on from the beginning, after these tokens
 abbrev pub Gathering : Location → Machine → Reader → List Token → ℕ → Location → Machine → Reader → Type 0
-Gathering paren m r tokens k last n s = (rest : Result Gathered Fault) (p : Machine) (t : Reader) → GathersNext k last n s rest p t → GathersNext 0 paren m r (behind_tokens tokens rest) p t
+Gathering paren m r tokens k last n s = (rest : Result Gathered Fault) (p : Machine) (t : Reader) → GathersNext k last n s rest p t → GathersNext 0 paren m r (after_tokens tokens rest) p t
 
 module _ (paren : Location) (m : Machine) (r : Reader) (tokens : List Token) (k : ℕ) (last : Location) (n : Machine) (s : Reader) (so_far : Gathering paren m r tokens k last n s) (p : Machine) (t : Reader) where
   pub gathers_fault : (fault : Fault) → TakesNext n s (Err (Error fault)) p t → is_out_of_memory fault.0 ≡ false → GathersNext 0 paren m r (Err fault) p t
@@ -99,11 +105,11 @@ module _ (paren : Location) (m : Machine) (r : Reader) (tokens : List Token) (k 
   gathers_never g next = absurd (let bad : true ≡ false = next_no_pause n p s t (Err Continue) next in cc)
 
   pub gathers_closed : (token : Token) → TakesNext n s (Ok token) p t → nesting k token.value ≡ closes → GathersNext 0 paren m r (Ok (record { tokens = tokens; closing = token.location })) p t
-  gathers_closed token next out = rw (← behind_tokens-closed tokens token.location) (so_far (Ok (record { tokens = []; closing = token.location })) p t (closed k last token n p s t (Ok (record { tokens = []; closing = token.location })) next out refl))
+  gathers_closed token next out = rw (← after_tokens-closed tokens token.location) (so_far (Ok (record { tokens = []; closing = token.location })) p t (closed k last token n p s t (Ok (record { tokens = []; closing = token.location })) next out refl))
 
   pub gathers_overfull : (token : Token) → TakesNext n s (Ok token) p t → nesting k token.value ≡ too_many → GathersNext 0 paren m r (Err (IntegerOverflow, token.location)) p t
   gathers_overfull token next out = so_far (Err (IntegerOverflow, token.location)) p t (overfull k last token n p s t (Err (IntegerOverflow, token.location)) next out refl)
 
   pub gathers_more : (token : Token) (l : ℕ) (more : List Token) → TakesNext n s (Ok token) p t → nesting k token.value ≡ within l → more ≡ tokens ++ token ∷ [] → Gathering paren m r more l token.location p t
   gathers_more token l more next in_call is =
-      rw is (λ rest q u gathers. rw (← behind_tokens-before tokens token rest) (so_far (before token rest) q u (inside k l last token n p q s t u rest (before token rest) next in_call gathers refl)))
+      rw is (λ rest q u gathers. rw (← after_tokens-before tokens token rest) (so_far (before token rest) q u (inside k l last token n p q s t u rest (before token rest) next in_call gathers refl)))

@@ -43,78 +43,78 @@ pub record IsWithin (move : Move) (count : ℕ) : Type 0 where
 failing_within : (fault : Fault) (count : ℕ) → IsWithin (failing fault) count
 failing_within fault count = record { small = record { untold = refl; adds = omega arith }; taken = omega arith }
 
-module _ (word : Location) (behind : List Seen) where
-  line_within : {A : Type 0} (r : Result A Fault) (effect : A → Effect) → ((value : A) → r ≡ Ok value → IsSmall (effect value) (line_length behind)) → IsWithin (line_move r effect (line_length behind)) (length behind)
-  line_within (Ok value) effect small = record { small = small value refl; taken = line_length_least behind }
-  line_within (Err fault) effect small = failing_within fault (length behind)
+module _ (word : Location) (after : List Seen) where
+  line_within : {A : Type 0} (r : Result A Fault) (effect : A → Effect) → ((value : A) → r ≡ Ok value → IsSmall (effect value) (line_length after)) → IsWithin (line_move r effect (line_length after)) (length after)
+  line_within (Ok value) effect small = record { small = small value refl; taken = line_length_least after }
+  line_within (Err fault) effect small = failing_within fault (length after)
 
-  skip_within : (effect : Effect) → IsSmall effect (line_length behind) → IsWithin (skip_move effect behind) (length behind)
-  skip_within effect small = go (line_fault behind)
+  skip_within : (effect : Effect) → IsSmall effect (line_length after) → IsWithin (skip_move effect after) (length after)
+  skip_within effect small = go (line_fault after)
     where
-      go : (o : Option Fault) → IsWithin (skip_by o effect (line_length behind)) (length behind)
-      go (Some fault) = failing_within fault (length behind)
-      go None = record { small = small; taken = line_length_least behind }
+      go : (o : Option Fault) → IsWithin (skip_by o effect (line_length after)) (length after)
+      go (Some fault) = failing_within fault (length after)
+      go None = record { small = small; taken = line_length_least after }
 
-  define_small : (named : Named) → defined_on word behind ≡ Ok named → IsSmall (defines named) (line_length behind)
+  define_small : (named : Named) → defined_on word after ≡ Ok named → IsSmall (defines named) (line_length after)
   define_small named e =
-      let low : length named.definition.body ≤ line_length behind = subst (λ (r : Result Named Fault). IfOk r (λ n. length n.definition.body ≤ line_length behind)) e (defined_least word behind) in
+      let low : length named.definition.body ≤ line_length after = subst (λ (r : Result Named Fault). IfOk r (λ n. length n.definition.body ≤ line_length after)) e (defined_least word after) in
       record { untold = refl; adds = omega (arith, low) }
 
-  else_small : (block : Option OpenBlock) → IsSmall (else_effect block word) (line_length behind)
+  else_small : (block : Option OpenBlock) → IsSmall (else_effect block word) (line_length after)
   else_small None = record { untold = refl; adds = omega arith }
   else_small (Some block) = go block.with_else
     where
-      go : (b : Bool) → IsSmall (if b then fails (MoreThanOneElse, word) else parts (block_parted block)) (line_length behind)
+      go : (b : Bool) → IsSmall (if b then fails (MoreThanOneElse, word) else parts (block_parted block)) (line_length after)
       go true = record { untold = refl; adds = omega arith }
       go false = record { untold = refl; adds = omega arith }
 
-  else_within : (block : Option OpenBlock) → IsWithin (else_move block word behind) (length behind)
-  else_within block = line_within (ended_line word behind) (λ end. else_effect block word) (λ value e. else_small block)
+  else_within : (block : Option OpenBlock) → IsWithin (else_move block word after) (length after)
+  else_within block = line_within (ended_line word after) (λ end. else_effect block word) (λ value e. else_small block)
 
-  elif_within : (block : Option OpenBlock) → IsWithin (elif_move block word behind) (length behind)
-  elif_within None = failing_within _ (length behind)
+  elif_within : (block : Option OpenBlock) → IsWithin (elif_move block word after) (length after)
+  elif_within None = failing_within _ (length after)
   elif_within (Some block) = go block.with_else (skips_branches block)
     where
-      go : (b c : Bool) → IsWithin (if b then failing (ElifAfterElse, word) else if c then skip_move (parts (block_skipped block)) behind else line_move (line_tokens behind) (parts_if block word) (line_length behind)) (length behind)
-      go true c = failing_within _ (length behind)
+      go : (b c : Bool) → IsWithin (if b then failing (ElifAfterElse, word) else if c then skip_move (parts (block_skipped block)) after else line_move (line_tokens after) (parts_if block word) (line_length after)) (length after)
+      go true c = failing_within _ (length after)
       go false true = skip_within (parts (block_skipped block)) (record { untold = refl; adds = omega arith })
-      go false false = line_within (line_tokens behind) (parts_if block word) (λ value is. record { untold = refl; adds = omega arith })
+      go false false = line_within (line_tokens after) (parts_if block word) (λ value is. record { untold = refl; adds = omega arith })
 
-  endif_within : (block : Option OpenBlock) → IsWithin (endif_move block word behind) (length behind)
-  endif_within None = failing_within _ (length behind)
+  endif_within : (block : Option OpenBlock) → IsWithin (endif_move block word after) (length after)
+  endif_within None = failing_within _ (length after)
   endif_within (Some block) = go block.live_around
     where
-      small : IsSmall closes (line_length behind)
+      small : IsSmall closes (line_length after)
       small = record { untold = refl; adds = omega arith }
 
-      go : (b : Bool) → IsWithin (if b then line_move (ended_line word behind) (λ end. closes) (line_length behind) else skip_move closes behind) (length behind)
-      go true = line_within (ended_line word behind) (λ end. closes) (λ value e. small)
+      go : (b : Bool) → IsWithin (if b then line_move (ended_line word after) (λ end. closes) (line_length after) else skip_move closes after) (length after)
+      go true = line_within (ended_line word after) (λ end. closes) (λ value e. small)
       go false = skip_within closes small
 
-  item_within : (item : List Entry → DirectiveItem) → IsWithin (item_move item word behind) (length behind)
-  item_within item = line_within (line_entries behind) (λ tokens. gives_item (item tokens) word) (λ value is. record { untold = refl; adds = omega arith })
+  item_within : (item : List Entry → DirectiveItem) → IsWithin (item_move item word after) (length after)
+  item_within item = line_within (line_entries after) (λ tokens. gives_item (item tokens) word) (λ value is. record { untold = refl; adds = omega arith })
 
   module _ (block : Option OpenBlock) where
-    live_within : (directive : Directive) → IsWithin (live_move block directive word behind) (length behind)
-    live_within d.Define = line_within (defined_on word behind) defines define_small
-    live_within d.Undef = line_within (only_name word behind) undefines (λ value is. record { untold = refl; adds = omega arith })
-    live_within d.If = line_within (line_tokens behind) (opens_if word) (λ value is. record { untold = refl; adds = omega arith })
-    live_within d.Ifdef = line_within (only_name word behind) (opens_where true word) (λ value is. record { untold = refl; adds = omega arith })
-    live_within d.Ifndef = line_within (only_name word behind) (opens_where false word) (λ value is. record { untold = refl; adds = omega arith })
+    live_within : (directive : Directive) → IsWithin (live_move block directive word after) (length after)
+    live_within d.Define = line_within (defined_on word after) defines define_small
+    live_within d.Undef = line_within (only_name word after) undefines (λ value is. record { untold = refl; adds = omega arith })
+    live_within d.If = line_within (line_tokens after) (opens_if word) (λ value is. record { untold = refl; adds = omega arith })
+    live_within d.Ifdef = line_within (only_name word after) (opens_where true word) (λ value is. record { untold = refl; adds = omega arith })
+    live_within d.Ifndef = line_within (only_name word after) (opens_where false word) (λ value is. record { untold = refl; adds = omega arith })
     live_within d.Elif = elif_within block
     live_within d.Else = else_within block
     live_within d.Endif = endif_within block
-    live_within d.Line = line_within (line_tokens behind) (renumbers word) (λ value is. record { untold = refl; adds = omega arith })
-    live_within d.Version = item_within (λ tokens. version tokens (comments_before_end behind))
+    live_within d.Line = line_within (line_tokens after) (renumbers word) (λ value is. record { untold = refl; adds = omega arith })
+    live_within d.Version = item_within (λ tokens. version tokens (comments_before_end after))
     live_within d.Extension = item_within extension
     live_within d.Pragma = item_within pragma
-    live_within d.Error = failing_within _ (length behind)
-    live_within d.Unknown = failing_within _ (length behind)
+    live_within d.Error = failing_within _ (length after)
+    live_within d.Unknown = failing_within _ (length after)
 
-    unread_within : IsWithin (skip_move (opens_unread word) behind) (length behind)
+    unread_within : IsWithin (skip_move (opens_unread word) after) (length after)
     unread_within = skip_within (opens_unread word) (record { untold = refl; adds = omega arith })
 
-    dead_within : (directive : Directive) → IsWithin (dead_move block directive word behind) (length behind)
+    dead_within : (directive : Directive) → IsWithin (dead_move block directive word after) (length after)
     dead_within d.If = unread_within
     dead_within d.Ifdef = unread_within
     dead_within d.Ifndef = unread_within
@@ -124,6 +124,6 @@ module _ (word : Location) (behind : List Seen) where
     dead_within d.Unknown = record { small = record { untold = refl; adds = omega arith }; taken = omega arith }
     dead_within _ = skip_within passes (record { untold = refl; adds = omega arith })
 
-    pub directive_within : (live : Bool) (directive : Directive) → IsWithin (directive_move live block directive word behind) (length behind)
+    pub directive_within : (live : Bool) (directive : Directive) → IsWithin (directive_move live block directive word after) (length after)
     directive_within true directive = live_within directive
     directive_within false directive = dead_within directive

@@ -1,26 +1,30 @@
 -- What the loop of `next` has reached, and what its answers are to the state that it began in.
-use Rattle.std.proofs.Common.{◌≡◌, ◌<◌, ◌≤◌, ◌⊎◌, inl, inr, Bool, true, false, if◌then◌else◌, refl, sym, subst, Option, Some, None, arith}
-use Rattle.std.specs.Prelude.{Ok, Err, MatchBool}
+use Rattle.std.proofs.Common.{◌≡◌, ◌∙◌, ◌<◌, ◌≤◌, ◌⊎◌, inl, inr, Bool, true, false, if◌then◌else◌, List, [], ◌∷◌, refl, sym, ap, subst, Option, Some, None, arith}
+use Rattle.std.specs.Prelude.{Ok, Err, MatchBool, unwrap_or}
 use Rattle.pp_lexer.specs.PreprocessorError.{out_of_memory}
+use Rattle.pp_lexer.specs.declared.token.Location.{Location}
 use Rattle.pp_lexer.specs.declared.token.Token.{Token}
 use Rattle.pp_model.specs.Emitting.{answers_at, expansion_limit}
 use Rattle.pp_model.specs.Calls.{Fault}
 use Rattle.pp_model.specs.Reading.{Expander}
 use Rattle.pp_model.specs.SourceReader.{SourceReader}
-use Rattle.pp_rs.specs.Fit.{IsFit}
+use Rattle.pp_rs.specs.Fit.{EndIsLast, IsFit, IsTold}
 use Rattle.pp_rs.specs.Held.{HoldsOrdinary}
 use Rattle.pp_rs.specs.Item.{Item, Step, is_out_of_memory, wants_memory}
 use Rattle.pp_rs.specs.Left.{work_of}
+use Rattle.pp_rs.specs.LexerErrors.{ErrorAt}
 use Rattle.pp_rs.specs.Machine.{Machine}
 use Rattle.pp_rs.specs.Reader.{of_source}
-use Rattle.pp_rs.specs.Source.{Source}
+use Rattle.pp_rs.specs.Source.{Source, untold_of}
 use Rattle.pp_rs.specs.SourceTurns.{TurnsSource, StepsOver}
 use Rattle.pp_rs.specs.Stands.{StandsFor}
-use Rattle.pp_rs.specs.Kept.{Preprocessing, Stands, is_spent, most_items}
-use Rattle.pp_rs.specs.Preprocessing.{IsLessLeft, IsRefusedItem, IsGivenItem, IsNextItem}
+use Rattle.pp_rs.specs.Kept.{Preprocessing, Stands, is_spent, most_items, errors_left, error_place}
+use Rattle.pp_rs.specs.Preprocessing.{IsLessLeft, IsErrorAt, of_lexer, of_its_own, IsRefusedItem, IsGivenItem, IsNextItem}
+use Rattle.pp_rs.specs.Untold.{with_read, IsToldBut}
 use Rattle.pp_rs.specs.declared.pp.step.StepExit.TheVariants.{Error, Continue, Finished}
 use Rattle.pp_rs.proofs.Leads.{LeadsFrom, Leads, leads_then}
 use Rattle.pp_rs.proofs.LeftLemmas.{SomethingLeft, some_left, left_is_work, no_work}
+use Rattle.pp_rs.proofs.UntoldTurnLemmas.{errors_of, ErrorsLeft, turn_errors}
 use Rattle.pp_rs.proofs.SourceTurnLemmas.{turned_source, source_fits, source_lowers, source_ends, source_some, source_turn_leads}
 
 -- a state from which the same comes next as from the first
@@ -29,14 +33,18 @@ pub record Reached (machine : Machine) (source : Source) (machine_now : Machine)
   pub leads : Leads (answers_at expansion_limit) machine source (Err Continue) machine_now source_now
   pub left : SomethingLeft machine_now source_now → SomethingLeft machine source
   pub less : work_of expansion_limit machine_now (of_source source_now) ≤ work_of expansion_limit machine (of_source source)
+  pub told : IsTold machine_now source_now
+  pub errors : errors_of machine_now source_now ≡ errors_of machine source
 
 -- the state that it begins in
-pub reached_first : (machine now : Machine) (source source_now : Source) → now ≡ machine → source_now ≡ source → IsFit now source_now → Reached machine source now source_now
+pub reached_first : (machine now : Machine) (source source_now : Source) → now ≡ machine → source_now ≡ source → IsFit now source_now × IsTold now source_now → Reached machine source now source_now
 reached_first machine now source source_now e f fit = rw (e, f) (record {
-  fit = rw (e, f) at fit;
+  fit = rw (e, f) at fit.0;
   leads = record { from = λ s stands. (s, stands, λ o g emits. emits) };
   left = λ left. left;
   less = omega arith;
+  told = rw (e, f) at fit.1;
+  errors = refl;
 })
 
 module _ (machine now after : Machine) (source source_now source_after : Source) (r : Reached machine source now source_now) where
@@ -61,6 +69,11 @@ module _ (machine now after : Machine) (source source_now source_after : Source)
   leads_last step h told =
       leads_then (answers_at expansion_limit) machine now after source source_now source_after step r.leads (source_turn_leads expansion_limit now after source_now source_after step r.fit (turned step h told) told)
 
+  -- what a turn leaves of the errors of the lexer
+  errors_last : (step : Step Token) → Over step → wants_memory step ≡ false → ErrorsLeft step (errors_of machine source) after source_after
+  errors_last step h told =
+      subst (λ (es : List ErrorAt). ErrorsLeft step es after source_after) r.errors (turn_errors expansion_limit now after source_now source_after step (turned step h told) told r.told)
+
   -- a pause
   pub reached_more : Over (Err Continue) → Reached machine source after source_after
   reached_more h =
@@ -70,20 +83,28 @@ module _ (machine now after : Machine) (source source_now source_after : Source)
         leads = leads_last (Err Continue) h refl;
         left = λ left. left_now (Err Continue) h (λ e. cc);
         less = omega (arith, less, r.less);
+        told = (errors_last (Err Continue) h refl).0;
+        errors = (errors_last (Err Continue) h refl).1;
       }
 
   pub falls_more : Over (Err Continue) → work_of expansion_limit after (of_source source_after) < work_of expansion_limit now (of_source source_now)
   falls_more h = falls (Err Continue) h refl (λ e. cc)
 
-  -- what holds behind a token, behind the end and behind a fault
-  pub token_fits : (token : Token) → Over (Ok token) → IsFit after source_after
-  token_fits token h = fits (Ok token) h refl
+  -- what holds after a token, after the end and after a fault, whose place was taken
+  pub token_fits : (token : Token) → Over (Ok token) → IsFit after source_after × IsTold after source_after
+  token_fits token h = (fits (Ok token) h refl, (errors_last (Ok token) h refl).0)
 
-  pub end_fits : Over (Err Finished) → IsFit after source_after
-  end_fits h = fits (Err Finished) h refl
+  pub end_fits : Over (Err Finished) → IsFit after source_after × IsTold after source_after
+  end_fits h = (fits (Err Finished) h refl, (errors_last (Err Finished) h refl).0)
 
-  pub fault_fits : (fault : Fault) → Over (Err (Error fault)) → is_out_of_memory fault.0 ≡ false → IsFit after source_after
-  fault_fits fault h told = fits (Err (Error fault)) h told
+  pub fault_fits : (fault : Fault) (told_source : Source) → told_source ≡ record source_after { error_place = None } → Over (Err (Error fault)) → is_out_of_memory fault.0 ≡ false → IsFit after told_source × IsTold after told_source
+  fault_fits fault told_source is h told =
+      let fit = fits (Err (Error fault)) h told in
+      let free = (errors_last (Err (Error fault)) h told).0 in
+      rw is (
+        record { unspent = fit.unspent; sound = fit.sound; last = subst (λ (o : Option (Step Token)). EndIsLast o after.frames (of_source (record source_after { error_place = None }))) (sym free) tt },
+        subst (λ (o : Option (Step Token)). IsToldBut o (untold_of (record source_after { error_place = None }))) (sym free) refl,
+      )
 
   -- the answers from a state that isn't spent
   module _ (old : Preprocessing) (fresh : old.spent ≡ false) (starts : old.machine ≡ machine) (begins : old.source ≡ source) where
@@ -102,69 +123,98 @@ module _ (machine now after : Machine) (source source_now source_after : Source)
       less_left = less;
     }
 
-    -- less is left behind a token or a fault
-    less_last : (step : Step Token) → Over step → wants_memory step ≡ false → (step ≡ Err Finished → ⊥) → most_items (record { machine = after; source = source_after; spent = false }) < most_items old
+    -- less is left after a token or a fault
+    less_last : (step : Step Token) (place : Location) → Over step → wants_memory step ≡ false → (step ≡ Err Finished → ⊥) → most_items (record { machine = after; source = source_after; spent = false; place = place }) < most_items old
     unfolding most_items
-    less_last step turn told goes =
+    less_last step place turn told goes =
         let lower = falls step turn told goes in
         omega (arith, lower, r.less, most_first)
 
-    pub next_token : (token : Token) (spent : Bool) → spent ≡ false → Over (Ok token) → HoldsOrdinary token.value
-        → IsNextItem old (Some (Ok token)) (record { machine = after; source = source_after; spent = spent })
-    unfolding Stands is_spent
-    next_token token true fresh_now turn holds = cc
-    next_token token false fresh_now turn holds =
-        as_next (Some (Ok token)) (record { machine = after; source = source_after; spent = false }) (inr (record {
+    errors_first : errors_left old ≡ errors_of machine source
+    unfolding errors_left
+    errors_first = rw (starts, begins) refl
+
+    pub next_token : (token : Token) (spent : Bool) (place : Location) → spent ≡ false → place ≡ old.place → Over (Ok token) → HoldsOrdinary token.value
+        → IsNextItem old (Some (Ok token)) (record { machine = after; source = source_after; spent = spent; place = place })
+    unfolding Stands is_spent errors_left error_place
+    next_token token true place fresh_now same turn holds = cc
+    next_token token false place fresh_now same turn holds =
+        as_next (Some (Ok token)) (record { machine = after; source = source_after; spent = false; place = place }) (inr (record {
           item = λ e stands.
               let leads : LeadsFrom (answers_at expansion_limit) e (Ok token) after source_after = (leads_last (Ok token) turn refl).from e (stands_first e stands) in
               record { after = leads.0; emits = leads.1; goes_on = leads.2 };
           no_refusal = refl;
           holds = holds;
+          tells = ((errors_last (Ok token) turn refl).1 ∙ sym errors_first, same);
           spent = refl;
-        })) (less_last (Ok token) turn refl (λ e. cc))
+        })) (less_last (Ok token) place turn refl (λ e. cc))
 
-    end_last : Over (Err Finished) → most_items (record { machine = after; source = source_after; spent = false }) ≡ 0
+    end_last : (place : Location) → Over (Err Finished) → most_items (record { machine = after; source = source_after; spent = false; place = place }) ≡ 0
     unfolding most_items
-    end_last turn =
+    end_last place turn =
         let e = source_ends expansion_limit now source_now source_after r.fit after (turned (Err Finished) turn refl) in
         no_work expansion_limit after source_after e.0 e.1 e.2 e.3
 
-    pub next_end : (spent : Bool) → spent ≡ false → Over (Err Finished) → IsNextItem old None (record { machine = after; source = source_after; spent = spent })
-    unfolding Stands is_spent
-    next_end true fresh_now turn = cc
-    next_end false fresh_now turn =
-        as_next None (record { machine = after; source = source_after; spent = false }) (inr (record {
+    -- at the end each error was told
+    none_untold : Over (Err Finished) → errors_of after source_after ≡ []
+    none_untold turn =
+        let e = source_ends expansion_limit now source_now source_after r.fit after (turned (Err Finished) turn refl) in
+        rw (e.0, e.2) refl
+
+    pub next_end : (spent : Bool) (place : Location) → spent ≡ false → place ≡ old.place → Over (Err Finished) → IsNextItem old None (record { machine = after; source = source_after; spent = spent; place = place })
+    unfolding Stands is_spent errors_left error_place
+    next_end true place fresh_now same turn = cc
+    next_end false place fresh_now same turn =
+        as_next None (record { machine = after; source = source_after; spent = false; place = place }) (inr (record {
           item = λ e stands.
               let leads : LeadsFrom (answers_at expansion_limit) e (Err Finished) after source_after = (leads_last (Err Finished) turn refl).from e (stands_first e stands) in
               record { after = leads.0; emits = leads.1; goes_on = leads.2 };
           no_refusal = refl;
           holds = tt;
+          tells = (errors_first ∙ sym (errors_last (Err Finished) turn refl).1 ∙ none_untold turn, none_untold turn, same);
           spent = refl;
-        })) (end_last turn)
+        })) (end_last place turn)
 
-    next_fault : (fault : Fault) → Over (Err (Error fault)) → is_out_of_memory fault.0 ≡ false
-        → IsNextItem old (Some (Err fault)) (record { machine = after; source = source_after; spent = false })
-    unfolding is_spent
-    next_fault fault turn told =
-        as_next (Some (Err fault)) (record { machine = after; source = source_after; spent = false }) (inr (record {
-          item = λ e stands.
-              let leads : LeadsFrom (answers_at expansion_limit) e (Err (Error fault)) after source_after = (leads_last (Err (Error fault)) turn told).from e (stands_first e stands) in
-              record { after = leads.0; emits = leads.1; goes_on = tt };
-          no_refusal = told;
-          holds = tt;
-          spent = refl;
-        })) (less_last (Err (Error fault)) turn told (λ e. cc))
+    -- a fault is told where it stands: the place that was taken is that of an error of the lexer
+    module _ (fault : Fault) (told_source : Source) (place : Location) (is : told_source ≡ record source_after { error_place = None }) where
+      error_told : (taken : Option Location) (left : List ErrorAt) → errors_of machine source ≡ with_read fault taken left → place ≡ unwrap_or taken fault.1 → errors_left (record { machine = after; source = told_source; spent = false; place = place }) ≡ left
+          → IsErrorAt fault old (record { machine = after; source = told_source; spent = false; place = place })
+      unfolding error_place
+      error_told (Some there) left e at same = of_lexer (errors_first ∙ e ∙ ap (λ (es : List ErrorAt). record { item = fault; place = there } ∷ es) (sym same) ∙ ap (λ (p : Location). record { item = fault; place = p } ∷ errors_left (record { machine = after; source = told_source; spent = false; place = place })) (sym at))
+      error_told None left e at same = of_its_own at (same ∙ sym e ∙ sym errors_first)
 
-    next_refusal : (fault : Fault) → Over (Err (Error fault)) → IsNextItem old (Some (Err out_of_memory)) (record { machine = after; source = source_after; spent = true })
-    unfolding is_spent most_items
-    next_refusal fault turn =
-        let left : SomethingLeft machine source = left_now (Err (Error fault)) turn (λ e. cc) in
-        as_next (Some (Err out_of_memory)) (record { machine = after; source = source_after; spent = true }) (inl (record { item = refl; spent = refl })) (omega (arith, left_is_work expansion_limit machine source left, most_first))
+      errors_now : Over (Err (Error fault)) → is_out_of_memory fault.0 ≡ false → errors_left (record { machine = after; source = told_source; spent = false; place = place }) ≡ (untold_of source_after).later
+      unfolding errors_left
+      errors_now turn told = rw (is, (errors_last (Err (Error fault)) turn told).0) refl
 
-    pub next_error : (fault : Fault) (want : Bool) → is_out_of_memory fault.0 ≡ want → Over (Err (Error fault))
-        → IsNextItem old (Some (Err (if want then out_of_memory else fault))) (record { machine = after; source = source_after; spent = want })
-    next_error fault true e turn = next_refusal fault turn
-    next_error fault false e turn = next_fault fault turn e
+      less_now : Over (Err (Error fault)) → is_out_of_memory fault.0 ≡ false → most_items (record { machine = after; source = told_source; spent = false; place = place }) < most_items old
+      unfolding most_items
+      less_now turn told = rw is (less_last (Err (Error fault)) place turn told (λ e. cc))
+
+      next_fault : Over (Err (Error fault)) → is_out_of_memory fault.0 ≡ false → place ≡ unwrap_or source_after.error_place fault.1
+          → IsNextItem old (Some (Err fault)) (record { machine = after; source = told_source; spent = false; place = place })
+      unfolding is_spent
+      next_fault turn told at =
+          as_next (Some (Err fault)) (record { machine = after; source = told_source; spent = false; place = place }) (inr (record {
+            item = λ e stands.
+                let leads : LeadsFrom (answers_at expansion_limit) e (Err (Error fault)) after source_after = (leads_last (Err (Error fault)) turn told).from e (stands_first e stands) in
+                record { after = leads.0; emits = leads.1; goes_on = tt };
+            no_refusal = told;
+            holds = tt;
+            tells = error_told source_after.error_place (untold_of source_after).later (errors_last (Err (Error fault)) turn told).1 at (errors_now turn told);
+            spent = refl;
+          })) (less_now turn told)
+
+      next_refusal : Over (Err (Error fault)) → IsNextItem old (Some (Err out_of_memory)) (record { machine = after; source = told_source; spent = true; place = place })
+      unfolding is_spent most_items
+      next_refusal turn =
+          let left : SomethingLeft machine source = left_now (Err (Error fault)) turn (λ e. cc) in
+          as_next (Some (Err out_of_memory)) (record { machine = after; source = told_source; spent = true; place = place }) (inl (record { item = refl; spent = refl })) (omega (arith, left_is_work expansion_limit machine source left, most_first))
+
+      pub next_error : (want : Bool) → is_out_of_memory fault.0 ≡ want → Over (Err (Error fault)) → place ≡ unwrap_or source_after.error_place (if want then out_of_memory else fault).1
+          → IsNextItem old (Some (Err (if want then out_of_memory else fault))) (record { machine = after; source = told_source; spent = want; place = place })
+      next_error true e turn at = next_refusal turn
+      next_error false e turn at = next_fault turn e at
 
 -- once memory was refused
 pub next_none : (old : Preprocessing) → old.spent ≡ true → IsNextItem old None old

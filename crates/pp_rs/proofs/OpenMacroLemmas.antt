@@ -1,6 +1,7 @@
 -- Open macros, which the expander keeps with the innermost last.
 use Rattle.std.proofs.Common.{◌≡◌, ◌∙◌, ℕ, ◌-◌, ◌+◌, ◌<◌, ◌⊎◌, Bool, true, false, ◌||◌, List, [], ◌∷◌, ◌++◌, length, get_or, take, drop, reverse, set, refl, ap, sym, arith, Option, Some, None, slice_get, Err, inl, inr, get_or-set_same}
 use Rattle.std.specs.List.{list_any}
+use Rattle.std.specs.Prelude.{is_none}
 use Rattle.std.proofs.Math.Seq.{take-length}
 use Rattle.std.proofs.lemmas.List.{reverse-append, length-map, length-reverse, take_more, length-set, take-set}
 use Rattle.pp_lexer.specs.PreprocessorError.{out_of_memory}
@@ -12,7 +13,7 @@ use Rattle.pp_rs.specs.Reader.{Reader}
 use Rattle.pp_rs.specs.Turns.{Moves, frame_move}
 use Rattle.pp_rs.specs.declared.pp.step.StepExit.TheVariants.{Error, Continue}
 use Rattle.pp_rs.specs.OpenNames.{Position, AreNamesOf, IsOpenedAt, IsClosedAt}
-use Rattle.pp_rs.proofs.FrameLemmas.{TellsAdvance}
+use Rattle.pp_rs.proofs.FrameLemmas.{TellsStep}
 use Rattle.pp_rs.proofs.OpenNamesLemmas.{names_open, names_close}
 
 or_left_comm : (a b c : Bool) → (a || (b || c)) ≡ (b || (a || c))
@@ -73,37 +74,36 @@ reverse_set_last xs v some =
     rw (e, get_or-set_same, take-set) at h
 
 -- a step of the innermost frame, which stays open
-frame_moves : (advanced : Option Advance) (fs : List Layer) (v : Layer) (step : Step Token) → TellsAdvance advanced (Some step) v → ((step ≡ (frame_move fs advanced).gives) × (v ∷ fs ≡ (frame_move fs advanced).after)) ⊎ (step ≡ Err (Error out_of_memory))
-frame_moves advanced fs v step (inl refused) = inr cc
-frame_moves (Some a) fs v step (inr (given, after)) = inl (cc, ap (λ w. w ∷ fs) after)
-frame_moves None fs v step (inr none) = inr cc
+frame_moves : (advanced : Option Advance) (fs : List Layer) (v : Layer) (step : Step Token) → is_none advanced ≡ false → TellsStep advanced step v → ((step ≡ (frame_move fs advanced).gives) × (v ∷ fs ≡ (frame_move fs advanced).after)) ⊎ (step ≡ Err (Error out_of_memory))
+frame_moves advanced fs v step goes (inl refused) = inr refused
+frame_moves (Some a) fs v step goes (inr (given, after)) = inl (given, ap (λ w. w ∷ fs) after)
+frame_moves None fs v step goes (inr none) = cc
 
 -- a step of the last of them is a step of the frames
-pub last_moves : (fs : List Layer) (f v : Layer) (step : Step Token) (reader : Reader) (n : ℕ) → n ≡ length fs → 0 < n → f ≡ get_or fs (n - 1) f → TellsAdvance (advance f) (Some step) v → Moves (reverse fs) reader step (reverse (set fs (n - 1) v)) reader
-last_moves fs f v step reader n e some last advances =
+pub last_moves : (fs : List Layer) (f v : Layer) (step : Step Token) (reader : Reader) (n : ℕ) → n ≡ length fs → 0 < n → f ≡ get_or fs (n - 1) f → is_none (advance f) ≡ false → TellsStep (advance f) step v → Moves (reverse fs) reader step (reverse (set fs (n - 1) v)) reader
+last_moves fs f v step reader n e some last goes advances =
     let more = rw e at some in
     let is = rw e at last in
-    rw (e, reverse_last fs f more, ← is, reverse_set_last fs v more) (refl, frame_moves (advance f) (reverse (take (length fs - 1) fs)) v step advances)
+    rw (e, reverse_last fs f more, ← is, reverse_set_last fs v more) (refl, frame_moves (advance f) (reverse (take (length fs - 1) fs)) v step goes advances)
 
 -- what a move of the frames gives, and the frames after it
 abbrev EndsFrame : List Layer → Option Advance → List Layer → Step Token → Type 0
 EndsFrame fs advanced after step = ((step ≡ (frame_move fs advanced).gives) × (after ≡ (frame_move fs advanced).after)) ⊎ (step ≡ Err (Error out_of_memory))
 
 -- the innermost frame is at its end
-frame_ends : (advanced : Option Advance) (fs after : List Layer) (v : Layer) → TellsAdvance advanced None v → after ≡ fs
+frame_ends : (advanced : Option Advance) (fs after : List Layer) → is_none advanced ≡ true → after ≡ fs
     → EndsFrame fs advanced after (Err Continue)
-frame_ends advanced fs after v (inl refused) is = inr cc
-frame_ends (Some a) fs after v (inr (given, then_after)) is = inr cc
-frame_ends None fs after v (inr none) is = inl (refl, is)
+frame_ends (Some a) fs after ends is = cc
+frame_ends None fs after ends is = inl (refl, is)
 
 -- the last of them is closed
-pub last_closes : (fs after : List Layer) (f v : Layer) (reader : Reader) (n : ℕ) → n ≡ length fs → 0 < n → f ≡ get_or fs (n - 1) f → TellsAdvance (advance f) None v → after ≡ drop 1 (reverse (set fs (n - 1) v))
+pub last_closes : (fs after : List Layer) (f : Layer) (reader : Reader) (n : ℕ) → n ≡ length fs → 0 < n → f ≡ get_or fs (n - 1) f → is_none (advance f) ≡ true → after ≡ drop 1 (reverse (set fs (n - 1) f))
     → Moves (reverse fs) reader (Err Continue) after reader
-last_closes fs after f v reader n e some last ends is =
+last_closes fs after f reader n e some last ends is =
     let more = rw e at some in
     let at_end = rw e at last in
     let left = rw e at is in
-    rw (reverse_last fs f more, ← at_end) (refl, frame_ends (advance f) (reverse (take (length fs - 1) fs)) after v ends (left ∙ ap (drop 1) (reverse_set_last fs v more)))
+    rw (reverse_last fs f more, ← at_end) (refl, frame_ends (advance f) (reverse (take (length fs - 1) fs)) after ends (left ∙ ap (drop 1) (reverse_set_last fs f more)))
 
 -- a step keeps the names
 pub names_kept : (fs : List Layer) (f v : Layer) (n : ℕ) → n ≡ length fs → 0 < n → f ≡ get_or fs (n - 1) f → v.name ≡ f.name → names_of (reverse (set fs (n - 1) v)) ≡ names_of (reverse fs)

@@ -1,6 +1,6 @@
--- A pause of an expander: what is taken and emitted behind it is so before it.
+-- A pause of an expander: what is taken and emitted after it is so before it.
 use Rattle.std.proofs.Common.{◌≡◌, ◌∙◌, List, sym, Some, None}
-use Rattle.pp_model.specs.SpliceList.{behind_marks}
+use Rattle.pp_model.specs.SpliceList.{after_marks}
 use Rattle.pp_model.specs.Reading.{Reading, Expander}
 use Rattle.pp_model.specs.Taking.{Takes, held, listed, read}
 use Rattle.pp_model.specs.Calls.{Answers}
@@ -8,7 +8,7 @@ use Rattle.pp_model.specs.Emitting.{Emits, itself, object, name_alone, call_refu
 use Rattle.pp_model.specs.declared.outcome.Outcome.{Outcome}
 use Rattle.pp_model.specs.declared.splice.Entry.{Entry}
 
--- a pause: what is taken behind it is taken before it
+-- a pause: what is taken after it is taken before it
 abbrev pub PausesTo : {R : Type 0} → Reading R → Expander R → Expander R → Type 0
 PausesTo {R} I e f = (o : Outcome) (h : Expander R) → Takes I f o h → Takes I e o h
 
@@ -21,7 +21,7 @@ pause_emits I A e f takes o g (call_refused x o1 fault m f1 h g1 t n k calls is)
 pause_emits I A e f takes o g (call x o1 arguments line m f1 h i g1 t n k calls next) = call x o1 arguments line m e h i g1 (takes x h t) n k calls next
 
 -- the end marks at the front of the list may be lost
-pub list_pauses : {R : Type 0} (I : Reading R) (e : Expander R) (entries : List Entry) → e.held ≡ None → behind_marks e.list ≡ behind_marks entries → PausesTo I e (record e { list = entries })
+pub list_pauses : {R : Type 0} (I : Reading R) (e : Expander R) (entries : List Entry) → e.held ≡ None → after_marks e.list ≡ after_marks entries → PausesTo I e (record e { list = entries })
 list_pauses I e entries free same o h (held o1 f1 h1 is at) = let bad : Some o ≡ None = sym is ∙ free in cc
 list_pauses I e entries free same o h (listed o1 token rest f1 h1 is front becomes at) = listed o token rest e h free (same ∙ front) becomes at
 list_pauses I e entries free same o h (read x o1 r f1 h1 is front reads becomes at) = read x o r e h free (same ∙ front) reads becomes at

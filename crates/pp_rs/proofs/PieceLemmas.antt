@@ -5,10 +5,10 @@ use Rattle.pp_lexer.specs.declared.token.Punct.TheVariants.{Comma}
 use Rattle.pp_lexer.specs.declared.token.Token.{Token}
 use Rattle.pp_lexer.specs.declared.token.TokenValue.{TokenValue}
 use Rattle.pp_lexer.specs.declared.token.TokenValue.TheVariants.{Punct}
-use Rattle.pp_model.specs.Calls.{arguments_of, pieces, Pieces, cut_before, is_comma, nesting_behind}
+use Rattle.pp_model.specs.Calls.{arguments_of, pieces, Pieces, cut_before, is_comma, nesting_after}
 
 -- a comma opens and closes nothing
-kept_open : (depth : ℕ) (value : TokenValue) → is_comma value ≡ true → nesting_behind depth value ≡ depth
+kept_open : (depth : ℕ) (value : TokenValue) → is_comma value ≡ true → nesting_after depth value ≡ depth
 kept_open depth (Punct Comma) h = refl
 kept_open depth _ h = cc
 
@@ -25,9 +25,9 @@ one_more n false false = omega arith
 pub ends_piece : (tokens rest old : List Token) (token : Token) (depth : ℕ) (done after : List (List Token)) (piece empty : List Token) → arguments_of tokens ≡ done ++ ((piece ++ (pieces depth old).first) ∷ (pieces depth old).others)
     → old ≡ token ∷ rest → (is_comma token.value && (depth == 0)) ≡ true → after ≡ done ++ piece ∷ [] → empty ≡ [] → arguments_of tokens ≡ after ++ ((empty ++ (pieces depth rest).first) ∷ (pieces depth rest).others)
 ends_piece tokens rest old token depth done after piece empty cut is ends closed none =
-    let kept : nesting_behind depth token.value ≡ depth = kept_open depth token.value (first_true (is_comma token.value) (depth == 0) ends) in
+    let kept : nesting_after depth token.value ≡ depth = kept_open depth token.value (first_true (is_comma token.value) (depth == 0) ends) in
     let here : pieces depth old ≡ cut_before true token (pieces depth rest) =
-    ap (pieces depth) is ∙ ap (λ (b : Bool). cut_before b token (pieces (nesting_behind depth token.value) rest)) ends ∙ ap (λ (n : ℕ). cut_before true token (pieces n rest)) kept in
+    ap (pieces depth) is ∙ ap (λ (b : Bool). cut_before b token (pieces (nesting_after depth token.value) rest)) ends ∙ ap (λ (n : ℕ). cut_before true token (pieces n rest)) kept in
     cut ∙ ap (λ (p : Pieces). done ++ ((piece ++ p.first) ∷ p.others)) here
     ∙ ap (λ (first : List Token). done ++ (first ∷ ((pieces depth rest).first ∷ (pieces depth rest).others))) (append-nil piece)
     ∙ sym (append_assoc done (piece ∷ []) ((pieces depth rest).first ∷ (pieces depth rest).others))
@@ -36,18 +36,18 @@ ends_piece tokens rest old token depth done after piece empty cut is ends closed
 
 -- an argument goes on
 pub grows_piece : (tokens rest old : List Token) (token : Token) (depth deeper : ℕ) (done : List (List Token)) (piece grown : List Token) → arguments_of tokens ≡ done ++ ((piece ++ (pieces depth old).first) ∷ (pieces depth old).others)
-    → old ≡ token ∷ rest → (is_comma token.value && (depth == 0)) ≡ false → deeper ≡ nesting_behind depth token.value → grown ≡ piece ++ token ∷ [] → arguments_of tokens ≡ done ++ ((grown ++ (pieces deeper rest).first) ∷ (pieces deeper rest).others)
-grows_piece tokens rest old token depth deeper done piece grown cut is goes_on behind more =
+    → old ≡ token ∷ rest → (is_comma token.value && (depth == 0)) ≡ false → deeper ≡ nesting_after depth token.value → grown ≡ piece ++ token ∷ [] → arguments_of tokens ≡ done ++ ((grown ++ (pieces deeper rest).first) ∷ (pieces deeper rest).others)
+grows_piece tokens rest old token depth deeper done piece grown cut is goes_on after more =
     let here : pieces depth old ≡ cut_before false token (pieces deeper rest) =
-    ap (pieces depth) is ∙ ap (λ (b : Bool). cut_before b token (pieces (nesting_behind depth token.value) rest)) goes_on ∙ ap (λ (n : ℕ). cut_before false token (pieces n rest)) (sym behind) in
+    ap (pieces depth) is ∙ ap (λ (b : Bool). cut_before b token (pieces (nesting_after depth token.value) rest)) goes_on ∙ ap (λ (n : ℕ). cut_before false token (pieces n rest)) (sym after) in
     cut ∙ ap (λ (p : Pieces). done ++ ((piece ++ p.first) ∷ p.others)) here
     ∙ ap (λ (first : List Token). done ++ (first ∷ (pieces deeper rest).others)) (sym (append_assoc piece (token ∷ []) (pieces deeper rest).first) ∙ ap (λ (ts : List Token). ts ++ (pieces deeper rest).first) (sym more))
 
 -- so many parentheses are open at most
-pub piece_within : (rest old : List Token) (token : Token) (depth deeper n : ℕ) → depth + length old ≤ n → old ≡ token ∷ rest → deeper ≡ nesting_behind depth token.value → deeper + length rest ≤ n
-piece_within rest old token depth deeper n few is behind =
+pub piece_within : (rest old : List Token) (token : Token) (depth deeper n : ℕ) → depth + length old ≤ n → old ≡ token ∷ rest → deeper ≡ nesting_after depth token.value → deeper + length rest ≤ n
+piece_within rest old token depth deeper n few is after =
     let here : depth + length (token ∷ rest) ≤ n = rw is at few in
-    let more : deeper ≤ depth + 1 = rw behind (one_more depth _ _) in
+    let more : deeper ≤ depth + 1 = rw after (one_more depth _ _) in
     omega (arith, here, more)
 
 pub piece_ended : (rest old : List Token) (token : Token) (depth n : ℕ) → depth + length old ≤ n → old ≡ token ∷ rest → depth + length rest ≤ n

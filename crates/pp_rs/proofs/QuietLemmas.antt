@@ -1,4 +1,4 @@
--- Items among which no line of a block stands, whatever stands behind them.
+-- Items among which no line of a block stands, whatever stands after them.
 use Rattle.std.proofs.Common.{◌≡◌, ℕ, suc, ◌+◌, Bool, true, false, ◌&&◌, List, [], ◌∷◌, ◌++◌, length, ◌≤◌, take, refl, ap, Option, Some, None, arith}
 use Rattle.std.specs.Prelude.{Result, Ok, Err}
 use Rattle.std.specs.List.{cons_option}
@@ -38,7 +38,7 @@ quiet_lexeme position (Err fault) comments rest h = refl
 pub quiet_item : (position : ℕ) (s : Seen) (rest : List Seen) → is_directive_hash s.item ≡ false → block_lines position (s ∷ rest) ≡ block_lines (position + 1) rest
 quiet_item position s rest h = quiet_lexeme position s.item s.had_comments rest h
 
--- one item is taken, and more behind it
+-- one item is taken, and more after it
 pub take_more : (n : ℕ) (s : Seen) (rest : List Seen) → take (1 + n) (s ∷ rest) ≡ s ∷ take n rest
 take_more n s rest =
     let e : 1 + n ≡ suc n = omega arith in
@@ -46,7 +46,7 @@ take_more n s rest =
 
 -- so many items in front add no line of a block
 abbrev pub IsQuietLine : ℕ → List Seen → List Seen → ℕ → Type 0
-IsQuietLine position rest behind n = block_lines position (take n rest ++ behind) ≡ block_lines (position + n) behind
+IsQuietLine position rest after n = block_lines position (take n rest ++ after) ≡ block_lines (position + n) after
 
 -- a newline, a token of the text, or a number sign that begins no line
 abbrev pub is_one_item : Sight → Bool
@@ -78,9 +78,9 @@ one_lexeme (Ok token) rest h = one_value token.location token.value token.leadin
 one_lexeme (Err fault) rest h = cc
 
 -- where such an item stands in front, it adds no line of a block
-pub quiet_one : (position : ℕ) (rest behind : List Seen) → is_one_item (sight_of rest) ≡ true → block_lines position (take 1 rest ++ behind) ≡ block_lines (position + 1) behind
-quiet_one position [] behind h = cc
-quiet_one position (s ∷ rest) behind h = quiet_item position s behind (one_lexeme s.item rest h)
+pub quiet_one : (position : ℕ) (rest after : List Seen) → is_one_item (sight_of rest) ≡ true → block_lines position (take 1 rest ++ after) ≡ block_lines (position + 1) after
+quiet_one position [] after h = cc
+quiet_one position (s ∷ rest) after h = quiet_item position s after (one_lexeme s.item rest h)
 
 -- such an item is there
 pub one_there : (rest : List Seen) → is_one_item (sight_of rest) ≡ true → 1 ≤ length rest
@@ -98,24 +98,24 @@ pub one_in_front : (rest : List Seen) → is_one_item (sight_of rest) ≡ true �
 one_in_front [] h = cc
 one_in_front (s ∷ rest) h = record { first = s; later = rest; front = refl; quiet = one_lexeme s.item rest h }
 
--- a number sign of a directive with a token behind it that is no word
+-- a number sign of a directive with a token after it that is no word
 pub record BeginsNoWord (fault : Fault) (rest : List Seen) : Type 0 where
   pub hash : Seen
   pub name : Seen
-  pub behind : List Seen
-  pub front : rest ≡ hash ∷ name ∷ behind
+  pub after : List Seen
+  pub front : rest ≡ hash ∷ name ∷ after
   pub seen : (later : List Seen) → sight_of (hash ∷ name ∷ later) ≡ sight.NoWord fault
   pub goes_on : ends_line hash.item ≡ false
 
-no_word_behind : (place : Location) (blank comments : Bool) (rest : List Seen) (fault : Fault) → directive_sight (first_token place rest) ≡ sight.NoWord fault
+no_word_after : (place : Location) (blank comments : Bool) (rest : List Seen) (fault : Fault) → directive_sight (first_token place rest) ≡ sight.NoWord fault
     → BeginsNoWord fault (record { item = Ok (record { value = Hash; location = place; leading_whitespace = blank; start_of_line = true }); had_comments = comments } ∷ rest)
-no_word_behind place blank comments [] fault e = cc
-no_word_behind place blank comments (name ∷ behind) fault e = record { hash = _; name = name; behind = behind; front = refl; seen = λ later. e; goes_on = refl }
+no_word_after place blank comments [] fault e = cc
+no_word_after place blank comments (name ∷ after) fault e = record { hash = _; name = name; after = after; front = refl; seen = λ later. e; goes_on = refl }
 
 no_word_token : (location : Location) (value : LexerTokenValue) (blank at_start comments : Bool) (rest : List Seen) (fault : Fault)
     → token_sight (record { value = value; location = location; leading_whitespace = blank; start_of_line = at_start }) rest ≡ sight.NoWord fault
     → BeginsNoWord fault (record { item = Ok (record { value = value; location = location; leading_whitespace = blank; start_of_line = at_start }); had_comments = comments } ∷ rest)
-no_word_token location Hash blank true comments rest fault e = no_word_behind location blank comments rest fault e
+no_word_token location Hash blank true comments rest fault e = no_word_after location blank comments rest fault e
 no_word_token location Hash blank false comments rest fault e = cc
 no_word_token location NewLine blank at_start comments rest fault e = cc
 no_word_token location (LexerIdent name) blank at_start comments rest fault e = cc
@@ -127,7 +127,7 @@ no_word_lexeme : (item : Lexeme) (comments : Bool) (rest : List Seen) (fault : F
 no_word_lexeme (Ok token) comments rest fault e = no_word_token token.location token.value token.leading_whitespace token.start_of_line comments rest fault e
 no_word_lexeme (Err error) comments rest fault e = cc
 
--- where no word is seen behind a number sign, both items stand in front
+-- where no word is seen after a number sign, both items stand in front
 pub begins_no_word : (rest : List Seen) (fault : Fault) → sight_of rest ≡ sight.NoWord fault → BeginsNoWord fault rest
 begins_no_word [] fault e = cc
 begins_no_word (s ∷ rest) fault e = no_word_lexeme s.item s.had_comments rest fault e

@@ -23,13 +23,13 @@ use Rattle.pp_rs.proofs.TurnLeadsLemmas.{wants_taken}
 use Rattle.pp_rs.proofs.UnspentLemmas.{steps_unspent}
 
 reads_ready : (r s : Reader) (step : Step Token) → IsReady r → Reads r step s → wants_memory step ≡ false → IsReady s
-reads_ready (of_source old) (of_source new) step ready h told = steps_unspent old new step ready old.spent refl told h
+reads_ready (of_source old) (of_source new) step ready h told = steps_unspent old new step ready old.spent refl told h.0
 reads_ready (of_list old) (of_list new) step ready h told = tt
 reads_ready (of_source old) (of_list new) step ready h told = absurd h
 reads_ready (of_list old) (of_source new) step ready h told = absurd h
 
 reads_end : (r s : Reader) → IsReady r → Reads r (Err Finished) s → NothingIn s
-reads_end (of_source old) (of_source new) ready h = source_end old new old.spent refl ready h
+reads_end (of_source old) (of_source new) ready h = source_end old new old.spent refl ready h.0
 reads_end (of_list old) (of_list new) ready h = tt
 reads_end (of_source old) (of_list new) ready h = absurd h
 reads_end (of_list old) (of_source new) ready h = absurd h
@@ -65,16 +65,16 @@ taken_told : (move : Step Token) (fs : List Layer) (r : Reader) → wants_memory
 taken_told (Ok token) fs r h = refl
 taken_told (Err exit) fs r h = h
 
--- nothing is held behind what was taken
+-- nothing is held after what was taken
 pub step_free : (m n : Machine) (r s : Reader) (step : Step Token) → StepsTaking m r step n s → n.held ≡ None
 step_free m n r s step (held step1 m1 n1 r1 s1 is at same) = rw at refl
 step_free m n r s step (moved move step1 m1 n1 r1 s1 free moves is none) = none
 
-next_free : (m n : Machine) (r s : Reader) (step : Step Token) → TakesNext m r step n s → n.held ≡ None
+pub next_free : (m n : Machine) (r s : Reader) (step : Step Token) → TakesNext m r step n s → n.held ≡ None
 next_free m n r s step (now step1 m1 n1 r1 s1 steps goes) = step_free m n r s step steps
 next_free m n r s step (later step1 m1 between n1 r1 s1 t1 steps next) = next_free between n s1 s step next
 
-gather_free : (k : ℕ) (last : Location) (m n : Machine) (r s : Reader) (g : Result Gathered Fault) → GathersNext k last m r g n s → n.held ≡ None
+pub gather_free : (k : ℕ) (last : Location) (m n : Machine) (r s : Reader) (g : Result Gathered Fault) → GathersNext k last m r g n s → n.held ≡ None
 gather_free k last m n r s g (closed k1 last1 token m1 n1 r1 s1 g1 next out is) = next_free m n r s (Ok token) next
 gather_free k last m n r s g (inside k1 l last1 token m1 between n1 r1 s1 t1 rest g1 next in_call more is) = gather_free l token.location between n s1 s rest more
 gather_free k last m n r s g (overfull k1 last1 token m1 n1 r1 s1 g1 next out is) = next_free m n r s (Ok token) next
@@ -132,7 +132,7 @@ seeks_ready : (m n : Machine) (r s : Reader) (c : Sought) → IsReady r → Seek
 seeks_ready m n r s c ready (alone next m1 n1 r1 s1 c1 taken none told is) = next_ready m n r s next ready taken (not_refused next told)
 seeks_ready m n r s c ready (called next paren m1 between n1 r1 s1 t1 g c1 taken at gathers is) = gather_ready 0 paren between n s1 s g (next_ready m between r s1 next ready taken (paren_told next paren at)) gathers
 
--- what is held behind a search is what was found, or nothing
+-- what is held after a search is what was found, or nothing
 held_last : (next : Step Token) (m n : Machine) (r s : Reader) → IsReady r → m.held ≡ None → TakesNext m r next n s → EndIsLast (Some next) n.frames s
 held_last (Ok token) m n r s ready free next = tt
 held_last (Err Continue) m n r s ready free next = tt
@@ -185,9 +185,9 @@ turn_end m q r t step e ready last (seeks token name definition c step1 m1 n p q
 
 -- but for the end, something is taken
 pub turn_some : (m n : Machine) (r s : Reader) (step : Step Taken) → TurnsTo m r step n s → (step ≡ Err Finished → ⊥) → TakesSomething m r
-turn_some m n r s step (passes Continue step1 m1 n1 r1 s1 steps is) goes = record { step = Err Continue; behind = n; reader = s; takes = steps; goes = refl }
-turn_some m n r s step (passes (Error fault) step1 m1 n1 r1 s1 steps is) goes = record { step = Err (Error fault); behind = n; reader = s; takes = steps; goes = refl }
+turn_some m n r s step (passes Continue step1 m1 n1 r1 s1 steps is) goes = record { step = Err Continue; after = n; reader = s; takes = steps; goes = refl }
+turn_some m n r s step (passes (Error fault) step1 m1 n1 r1 s1 steps is) goes = record { step = Err (Error fault); after = n; reader = s; takes = steps; goes = refl }
 turn_some m n r s step (passes Finished step1 m1 n1 r1 s1 steps is) goes = absurd (goes is)
-turn_some m n r s step (gives token step1 m1 n1 r1 s1 steps none is) goes = record { step = Ok token; behind = n; reader = s; takes = steps; goes = refl }
-turn_some m p r s step (object token name definition step1 m1 n p1 r1 s1 steps some plain is at) goes = record { step = Ok token; behind = n; reader = s; takes = steps; goes = refl }
-turn_some m q r t step (seeks token name definition c step1 m1 n p q1 r1 s t1 steps some function sought found) goes = record { step = Ok token; behind = n; reader = s; takes = steps; goes = refl }
+turn_some m n r s step (gives token step1 m1 n1 r1 s1 steps none is) goes = record { step = Ok token; after = n; reader = s; takes = steps; goes = refl }
+turn_some m p r s step (object token name definition step1 m1 n p1 r1 s1 steps some plain is at) goes = record { step = Ok token; after = n; reader = s; takes = steps; goes = refl }
+turn_some m q r t step (seeks token name definition c step1 m1 n p q1 r1 s t1 steps some function sought found) goes = record { step = Ok token; after = n; reader = s; takes = steps; goes = refl }

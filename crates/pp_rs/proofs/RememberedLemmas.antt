@@ -11,11 +11,11 @@ use Rattle.pp_model.specs.declared.directive.Directive.{Directive}
 use Rattle.pp_model.specs.declared.sight.Sight.{Sight}
 use Rattle.pp_model.specs.declared.sight.Sight.TheVariants as sight
 use Rattle.pp_rs.specs.OpenBlocks.{OpenBlock, last_block, is_live_in}
-use Rattle.pp_rs.specs.Source.{Source, IsBehind}
+use Rattle.pp_rs.specs.Source.{Source, IsAfter}
 use Rattle.pp_rs.specs.SourceMoves.{Note, notes_text, notes_directive, directive_line}
 use Rattle.pp_rs.proofs.DirectiveBeforeLemmas.{begins_with_hash, hash_in_front, item_adds_none, AddsDirective, IsApart, directive_further, apart_further}
 use Rattle.pp_rs.proofs.DirectiveLineLemmas.{begins_directive, take_two}
-use Rattle.pp_rs.proofs.DirectivePlaceLemmas.{one_behind, off_line_further, off_line_behind}
+use Rattle.pp_rs.proofs.DirectivePlaceLemmas.{one_after, off_line_further, off_line_after}
 use Rattle.pp_rs.proofs.TextBeforeLemmas.{text_one, text_two, text_line}
 
 -- a source remembers what stands before a position
@@ -45,7 +45,7 @@ or_either false b false e = e
 
 module _ (old new : Source) (items : List Seen) (truths : Truths) (position : ℕ) (front : old.rest ≡ drop position items) (before : IsRemembered old items truths position) where
   -- a directive that was read, or none
-  module _ (count : ℕ) (note : Note) (blocks : List OpenBlock) (b : IsBehind count note blocks old new) (found : Bool) (noted : notes_directive note ≡ found) (adds : AddsDirective count (drop position items) found) where
+  module _ (count : ℕ) (note : Note) (blocks : List OpenBlock) (b : IsAfter count note blocks old new) (found : Bool) (noted : notes_directive note ≡ found) (adds : AddsDirective count (drop position items) found) where
     directive_remembered : new.has_directive ≡ has_directive (take (position + count) items)
     directive_remembered =
         b.has_directive ∙ or_either (notes_directive note) found old.has_directive noted ∙ ap (λ h. h || found) before.directive
@@ -56,7 +56,7 @@ module _ (old new : Source) (items : List Seen) (truths : Truths) (position : �
 
   -- an item that is no number sign of a directive
   module _ (live : Bool) (alive : is_live_in (last_block old.blocks) ≡ live) (is : is_live items truths position ≡ live) (s : Seen) (rest : List Seen) (e : old.rest ≡ s ∷ rest) (quiet : is_directive_hash s.item ≡ false)
-      (note : Note) (text : notes_text note ≡ (live && is_text (sight_of old.rest))) (none : notes_directive note ≡ false) (b : IsBehind 1 note old.blocks old new) where
+      (note : Note) (text : notes_text note ≡ (live && is_text (sight_of old.rest))) (none : notes_directive note ≡ false) (b : IsAfter 1 note old.blocks old new) where
     here : drop position items ≡ s ∷ rest
     here = sym front ∙ e
 
@@ -64,7 +64,7 @@ module _ (old new : Source) (items : List Seen) (truths : Truths) (position : �
     off h = before.off_line (alive ∙ h) (λ nothing. cc)
 
     adds_none : AddsDirective 1 (drop position items) false
-    adds_none behind = ap (λ shown. has_directive (take 1 shown ++ behind)) here ∙ item_adds_none s behind quiet
+    adds_none after = ap (λ shown. has_directive (take 1 shown ++ after)) here ∙ item_adds_none s after quiet
 
     pub one_remembered : IsRemembered new items truths (position + 1)
     one_remembered =
@@ -79,9 +79,9 @@ module _ (old new : Source) (items : List Seen) (truths : Truths) (position : �
               ap (is_on_directive_line items) next ∙ off_line_further items position s rest here quiet (off still);
         }
 
-  -- the number sign of a directive in dead text, and what stands behind it
+  -- the number sign of a directive in dead text, and what stands after it
   module _ (dead : is_live_in (last_block old.blocks) ≡ false) (shown : Sight) (e : sight_of old.rest ≡ shown) (begins : begins_with_hash shown ≡ true) (a s : Seen) (rest : List Seen) (two : old.rest ≡ a ∷ s ∷ rest)
-      (note : Note) (text : notes_text note ≡ false) (found : Bool) (noted : notes_directive note ≡ found) (adds : AddsDirective 2 old.rest found) (b : IsBehind 2 note old.blocks old new) where
+      (note : Note) (text : notes_text note ≡ false) (found : Bool) (noted : notes_directive note ≡ found) (adds : AddsDirective 2 old.rest found) (b : IsAfter 2 note old.blocks old new) where
     adds_here : AddsDirective 2 (drop position items) found
     adds_here = subst (λ (shown_items : List Seen). AddsDirective 2 shown_items found) front adds
 
@@ -100,32 +100,32 @@ module _ (old new : Source) (items : List Seen) (truths : Truths) (position : �
 
   -- a directive's line, with a condition that was read on it or without
   module _ (directive : Directive) (word : Location) (e : sight_of old.rest ≡ sight.Directive directive word) (later : Truths) (same : has_live_text_before items later position ≡ has_live_text_before items truths position)
-      (blocks : List OpenBlock) (b : IsBehind (2 + line_length (drop 2 old.rest)) directive_line blocks old new) where
+      (blocks : List OpenBlock) (b : IsAfter (2 + line_length (drop 2 old.rest)) directive_line blocks old new) where
     line_adds : AddsDirective (2 + line_length (drop 2 old.rest)) (drop position items) true
-    line_adds behind =
+    line_adds after =
         let d = begins_directive old.rest directive word e in
         let n = line_length (drop 2 old.rest) in
-        let whole : take (2 + n) (drop position items) ≡ d.hash ∷ d.name ∷ take n d.behind = ap (λ there. take (2 + n) there) (sym front ∙ d.front) ∙ take_two n d.hash d.name d.behind in
-        ap (λ there. has_directive (there ++ behind)) whole ∙ ap (λ shown. is_directive shown || has_directive (d.name ∷ (take n d.behind ++ behind))) (d.seen (take n d.behind ++ behind))
+        let whole : take (2 + n) (drop position items) ≡ d.hash ∷ d.name ∷ take n d.after = ap (λ there. take (2 + n) there) (sym front ∙ d.front) ∙ take_two n d.hash d.name d.after in
+        ap (λ there. has_directive (there ++ after)) whole ∙ ap (λ shown. is_directive shown || has_directive (d.name ∷ (take n d.after ++ after))) (d.seen (take n d.after ++ after))
 
     pub line_remembered : IsRemembered new items later (position + (2 + line_length (drop 2 old.rest)))
     line_remembered =
         let d = begins_directive old.rest directive word e in
         let n = line_length (drop 2 old.rest) in
-        let there : drop position items ≡ d.hash ∷ d.name ∷ d.behind = sym front ∙ d.front in
-        let two : drop 2 old.rest ≡ d.behind = ap (drop 2) d.front in
-        let hash : is_directive_hash d.hash.item ≡ true = hash_in_front d.hash (d.name ∷ d.behind) (sight.Directive directive word) (d.seen d.behind) refl in
+        let there : drop position items ≡ d.hash ∷ d.name ∷ d.after = sym front ∙ d.front in
+        let two : drop 2 old.rest ≡ d.after = ap (drop 2) d.front in
+        let hash : is_directive_hash d.hash.item ≡ true = hash_in_front d.hash (d.name ∷ d.after) (sight.Directive directive word) (d.seen d.after) refl in
         let none : is_text (sight_of (drop position items)) ≡ false = ap (λ found. is_text (sight_of found)) (sym front) ∙ ap is_text e in
         let reaches : has_live_text_before items later (position + (2 + n)) ≡ has_live_text_before items later position
-        = ap (λ found. has_live_text_before items later (position + (2 + line_length found))) two ∙ text_line items later position d.hash d.name d.behind there hash d.goes_on none in
+        = ap (λ found. has_live_text_before items later (position + (2 + line_length found))) two ∙ text_line items later position d.hash d.name d.after there hash d.goes_on none in
         record {
           text = b.has_text ∙ before.text ∙ sym same ∙ sym reaches;
           directive = directive_remembered (2 + n) directive_line blocks b true refl line_adds;
           apart = apart_remembered (2 + n) directive_line blocks b true refl line_adds;
           off_line = λ alive left.
-              let behind_two : drop (suc (suc position)) items ≡ d.behind = one_behind items (suc position) d.name d.behind (one_behind items position d.hash (d.name ∷ d.behind) there) in
-              let place : position + (2 + n) ≡ suc (suc position) + line_length d.behind = omega (arith, ap line_length two) in
+              let after_two : drop (suc (suc position)) items ≡ d.after = one_after items (suc position) d.name d.after (one_after items position d.hash (d.name ∷ d.after) there) in
+              let place : position + (2 + n) ≡ suc (suc position) + line_length d.after = omega (arith, ap line_length two) in
               ap (is_on_directive_line items) place
-              ∙ off_line_behind items d.behind (suc (suc position)) behind_two
+              ∙ off_line_after items d.after (suc (suc position)) after_two
               (λ nothing. left (b.rest ∙ sym (drop-drop n 2 old.rest) ∙ ap (λ found. drop (line_length found) found) two ∙ nothing));
         }

@@ -26,7 +26,7 @@ module _ (old new : Preprocessing) (ready : is_spent old ≡ false) where
   added_answered name content (refused given same) = cc
   added_answered name content (faulty fault has given same) = cc
   added_answered name content (added tokens has given h) =
-      goes_on refl (h.spent ∙ ready) (λ state stands. let behind = with_added (chars name) tokens state in (behind, adds name content tokens _ _ state behind has refl refl refl, h.stands state stands))
+      goes_on refl (h.spent ∙ ready) (λ state stands. let after = with_added (chars name) tokens state in (after, adds name content tokens _ _ state after has refl refl refl, h.stands state stands))
 
   -- one that was refused, for another reason than want of memory
   pub refused_answered : (name content : List ℕ) (fault : Fault) → is_out_of_memory fault.0 ≡ false → IsAdded old name content (Err fault) new → IsAnswered old (add_define name content) (reply.Refused fault) new
@@ -70,13 +70,13 @@ module _ (old new : Preprocessing) (ready : is_spent old ≡ false) where
 pub calls_more : (calls : List Called) (i : ℕ) (other : Called) → i < length calls → map call_of (take (i + 1) calls) ≡ map call_of (take i calls) ++ call_of (get_or calls i other) ∷ []
 calls_more calls i other within = ap (map call_of) (take_more calls i other within) ∙ map-append call_of (take i calls) (get_or calls i other ∷ [])
 
--- and those behind it
+-- and those after it
 pub calls_cut : (calls : List Called) (i : ℕ) (other : Called) → i < length calls → map call_of calls ≡ map call_of (take i calls) ++ call_of (get_or calls i other) ∷ map call_of (drop (i + 1) calls)
 calls_cut calls i other within =
     ap (map call_of) (sym (take-append-drop (i + 1) calls)) ∙ map-append call_of (take (i + 1) calls) (drop (i + 1) calls) ∙ ap (λ (cs : List Call). cs ++ map call_of (drop (i + 1) calls)) (calls_more calls i other within)
     ∙ append_assoc (map call_of (take i calls)) (call_of (get_or calls i other) ∷ []) (map call_of (drop (i + 1) calls))
 
--- the calls that were answered, and the preprocessor behind them
+-- the calls that were answered, and the preprocessor after them
 pub record Replied (source : List ℕ) (calls : List Call) (replies : List Reply) (now : Preprocessing) : Type 0 where
   pub unspent : is_spent now ≡ false
   pub state : State

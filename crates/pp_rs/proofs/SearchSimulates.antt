@@ -10,7 +10,7 @@ use Rattle.pp_model.specs.Taking as taking
 use Rattle.pp_model.specs.Taking.{Takes, line_number}
 use Rattle.pp_model.specs.Calls as calls
 use Rattle.pp_model.specs.Calls.{Fault, Gathered, Gathers, before, paren_at}
-use Rattle.pp_model.specs.SpliceList.{behind_marks}
+use Rattle.pp_model.specs.SpliceList.{after_marks}
 use Rattle.pp_model.specs.declared.outcome.Outcome.{Outcome}
 use Rattle.pp_model.specs.declared.outcome.Outcome.TheVariants as outcome
 use Rattle.pp_rs.specs.Item.{Step, wants_memory}
@@ -24,14 +24,14 @@ use Rattle.pp_rs.proofs.PauseLemmas.{PausesTo, list_pauses}
 use Rattle.pp_rs.proofs.TakingLemmas.{taken_flat}
 
 module _ {R : Type 0} (I : Reading R) (StandsR : Reader → R → Type 0) (hidden : List Name) where
-  -- what a step of a reader is to the reader that it stands for; of what stands behind a fault nothing is said
+  -- what a step of a reader is to the reader that it stands for; of what stands after a fault nothing is said
   abbrev pub ReadsTo : Step Token → R → Reader → Type 0
   ReadsTo (Ok token) x s = (y : R) × I.Reads x (outcome.Token token) y × StandsR s y
   ReadsTo (Err Continue) x s = (y : R) × StandsR s y × ((o : Outcome) (z : R) → I.Reads y o z → I.Reads x o z)
   ReadsTo (Err Finished) x s = (y : R) × I.Reads x outcome.End y × StandsR s y
   ReadsTo (Err (Error fault)) x s = (y : R) × I.Reads x (outcome.Fault fault) y
 
-  -- what is held is held in the definitions' expander; behind a fault that is held nothing is said of the reader
+  -- what is held is held in the definitions' expander; after a fault that is held nothing is said of the reader
   abbrev pub StandsHeld : Option (Step Token) → Reader → R → Type 0
   StandsHeld (Some (Err (Error fault))) r x = ⊤
   StandsHeld (Some (Err Continue)) r x = ⊥
@@ -79,41 +79,41 @@ module _ {R : Type 0} (I : Reading R) (StandsR : Reader → R → Type 0) (hidde
         let none : e.held ≡ None = stands.holds ∙ ap (option_map outcome_of_step) free in
         let becomes = taken_flat (I.shown_line e.reader) n.frames r token (λ line. shows r e.reader line reader) in
         taken_steps (taken_in n.frames r token) e f n r
-        (taking.listed (taken_in n.frames r token) token (flat n.frames) e f none (ap behind_marks stands.list ∙ steps) (sym becomes) refl)
+        (taking.listed (taken_in n.frames r token) token (flat n.frames) e f none (ap after_marks stands.list ∙ steps) (sym becomes) refl)
         (record { holds = none ∙ sym (ap (option_map outcome_of_step) freed); list = refl; reader = rw freed reader; names = stands.names }) stands.names freed (taken_no_end n.frames r token)
     list_steps m n r (Err Continue) e stands free freed reader steps =
         let none : e.held ≡ None = stands.holds ∙ ap (option_map outcome_of_step) free in
-        (record e { list = flat n.frames }, record { holds = none ∙ sym (ap (option_map outcome_of_step) freed); list = refl; reader = rw freed reader; names = stands.names }, list_pauses I e (flat n.frames) none (ap behind_marks stands.list ∙ steps))
+        (record e { list = flat n.frames }, record { holds = none ∙ sym (ap (option_map outcome_of_step) freed); list = refl; reader = rw freed reader; names = stands.names }, list_pauses I e (flat n.frames) none (ap after_marks stands.list ∙ steps))
     list_steps m n r (Err Finished) e stands free freed reader steps = absurd steps
     list_steps m n r (Err (Error fault)) e stands free freed reader steps = absurd steps
 
     -- the reader may pause where the list holds no token
-    reader_pause : (e : Expander R) (y : R) → e.held ≡ None → behind_marks e.list ≡ [] → ((o : Outcome) (z : R) → I.Reads y o z → I.Reads e.reader o z) → PausesTo I e (record e { list = []; reader = y })
+    reader_pause : (e : Expander R) (y : R) → e.held ≡ None → after_marks e.list ≡ [] → ((o : Outcome) (z : R) → I.Reads y o z → I.Reads e.reader o z) → PausesTo I e (record e { list = []; reader = y })
     reader_pause e y free empty on o h (taking.held o1 f1 h1 is at) = let bad : Some o ≡ None = sym is ∙ free in cc
     reader_pause e y free empty on o h (taking.listed o1 token rest f1 h1 is front becomes at) = cc
     reader_pause e y free empty on o h (taking.read x o1 z f1 h1 is front reads becomes at) = taking.read x o z e h free empty (on x z reads) becomes at
 
     read_steps : (m n : Machine) (r s : Reader) (move : Step Token) (e : Expander R) → StandsIn m r e → m.held ≡ None → n.held ≡ None → m.frames ≡ [] → n.frames ≡ [] → ReadsTo move e.reader s → StepsTo (taken_as move n.frames s) e n s
-    read_steps m n r s (Ok token) e stands free freed start end (y, reads, behind) =
+    read_steps m n r s (Ok token) e stands free freed start end (y, reads, after) =
         let f : Expander R = record e { list = []; reader = y } in
         let none : e.held ≡ None = stands.holds ∙ ap (option_map outcome_of_step) free in
-        let empty : behind_marks e.list ≡ [] = ap behind_marks stands.list ∙ ap (λ fs. behind_marks (flat fs)) start in
-        let becomes = taken_flat (I.shown_line y) n.frames s token (λ line. shows s y line behind) in
+        let empty : after_marks e.list ≡ [] = ap after_marks stands.list ∙ ap (λ fs. after_marks (flat fs)) start in
+        let becomes = taken_flat (I.shown_line y) n.frames s token (λ line. shows s y line after) in
         let same : taken_in n.frames s token ≡ taking.taken_token (I.shown_line y) [] token = sym becomes ∙ ap (λ fs. taking.taken_token (I.shown_line y) (flat fs) token) end in
         taken_steps (taken_in n.frames s token) e f n s
         (taking.read (outcome.Token token) (taken_in n.frames s token) y e f none empty reads same refl)
-        (record { holds = none ∙ sym (ap (option_map outcome_of_step) freed); list = sym (ap flat end); reader = rw freed behind; names = stands.names }) stands.names freed (taken_no_end n.frames s token)
-    read_steps m n r s (Err Continue) e stands free freed start end (y, behind, on) =
+        (record { holds = none ∙ sym (ap (option_map outcome_of_step) freed); list = sym (ap flat end); reader = rw freed after; names = stands.names }) stands.names freed (taken_no_end n.frames s token)
+    read_steps m n r s (Err Continue) e stands free freed start end (y, after, on) =
         let none : e.held ≡ None = stands.holds ∙ ap (option_map outcome_of_step) free in
-        let empty : behind_marks e.list ≡ [] = ap behind_marks stands.list ∙ ap (λ fs. behind_marks (flat fs)) start in
-        (record e { list = []; reader = y }, record { holds = none ∙ sym (ap (option_map outcome_of_step) freed); list = sym (ap flat end); reader = rw freed behind; names = stands.names }, reader_pause e y none empty on)
-    read_steps m n r s (Err Finished) e stands free freed start end (y, reads, behind) =
+        let empty : after_marks e.list ≡ [] = ap after_marks stands.list ∙ ap (λ fs. after_marks (flat fs)) start in
+        (record e { list = []; reader = y }, record { holds = none ∙ sym (ap (option_map outcome_of_step) freed); list = sym (ap flat end); reader = rw freed after; names = stands.names }, reader_pause e y none empty on)
+    read_steps m n r s (Err Finished) e stands free freed start end (y, reads, after) =
         let none : e.held ≡ None = stands.holds ∙ ap (option_map outcome_of_step) free in
-        let empty : behind_marks e.list ≡ [] = ap behind_marks stands.list ∙ ap (λ fs. behind_marks (flat fs)) start in
-        (record e { list = []; reader = y }, taking.read outcome.End outcome.End y e (record e { list = []; reader = y }) none empty reads refl refl, record { holds = none ∙ sym (ap (option_map outcome_of_step) freed); list = sym (ap flat end); reader = rw freed behind; names = stands.names })
+        let empty : after_marks e.list ≡ [] = ap after_marks stands.list ∙ ap (λ fs. after_marks (flat fs)) start in
+        (record e { list = []; reader = y }, taking.read outcome.End outcome.End y e (record e { list = []; reader = y }) none empty reads refl refl, record { holds = none ∙ sym (ap (option_map outcome_of_step) freed); list = sym (ap flat end); reader = rw freed after; names = stands.names })
     read_steps m n r s (Err (Error fault)) e stands free freed start end (y, reads) =
         let none : e.held ≡ None = stands.holds ∙ ap (option_map outcome_of_step) free in
-        let empty : behind_marks e.list ≡ [] = ap behind_marks stands.list ∙ ap (λ fs. behind_marks (flat fs)) start in
+        let empty : after_marks e.list ≡ [] = ap after_marks stands.list ∙ ap (λ fs. after_marks (flat fs)) start in
         (record e { list = []; reader = y }, taking.read (outcome.Fault fault) (outcome.Fault fault) y e (record e { list = []; reader = y }) none empty reads refl refl, stands.names, stands.names, sym (ap flat end), none, freed)
 
     taken_told : (move : Step Token) (fs : List Layer) (r : Reader) → wants_memory (taken_as move fs r) ≡ false → wants_memory move ≡ false
@@ -163,7 +163,7 @@ module _ {R : Type 0} (I : Reading R) (StandsR : Reader → R → Type 0) (hidde
     next_frees m n r s step (now step1 m1 n1 r1 s1 steps goes) = step_frees m n r s step steps
     next_frees m n r s step (later step1 m1 between n1 r1 s1 t1 steps next) = next_frees between n s1 s step next
 
-    -- behind a token the machine stands for the state behind it
+    -- after a token the machine stands for the state after it
     pub token_stands : (token : Token) (m n : Machine) (r s : Reader) (e : Expander R) → StandsIn m r e → TakesNext m r (Ok token) n s → (f : Expander R) × Takes I e (outcome.Token token) f × StandsIn n s f
     token_stands token m n r s e stands next =
         let h = next_simulates m n r s (Ok token) e stands next refl in

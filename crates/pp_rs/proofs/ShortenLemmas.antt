@@ -1,4 +1,4 @@
--- A move takes more than it adds: fewer items and open blocks are left behind it.
+-- A move takes more than it adds: fewer items and open blocks are left after it.
 use Rattle.std.proofs.Common.{◌≡◌, ℕ, ◌+◌, ◌-◌, ◌<◌, ◌≤◌, Bool, true, false, if◌then◌else◌, List, [], ◌∷◌, length, drop, length-drop, refl, ap, arith, Option, Some, None}
 use Rattle.std.proofs.lemmas.Option.{slice_get_within}
 use Rattle.pp_lexer.specs.Lexed.{Seen}
@@ -12,19 +12,19 @@ use Rattle.pp_rs.specs.SourceMoves.{Effect, fails, ends, unnoted, Move, directiv
 use Rattle.pp_rs.proofs.DirectiveLineLemmas.{begins_directive}
 use Rattle.pp_rs.proofs.MoveSizeLemmas.{effect_adds, tells_block, IsWithin, directive_within}
 
--- an effect behind which nothing failed, and which is not the end
+-- an effect after which nothing failed, and which is not the end
 abbrev pub moves_on : Effect → Bool
 moves_on (fails fault) = false
 moves_on ends = false
 moves_on _ = true
 
--- so many items, open blocks and tokens that were defined are there behind a move at most
-abbrev pub left_behind : Move → ℕ → ℕ → ℕ
-left_behind move items blocks = if tells_block move.effect then items + (blocks - 1) else items - move.taken + blocks + effect_adds move.effect
+-- so many items, open blocks and tokens that were defined are there after a move at most
+abbrev pub left_after : Move → ℕ → ℕ → ℕ
+left_after move items blocks = if tells_block move.effect then items + (blocks - 1) else items - move.taken + blocks + effect_adds move.effect
 
 -- what is taken is more than is added
 abbrev pub Shortens : Move → ℕ → ℕ → Type 0
-Shortens move items blocks = moves_on move.effect ≡ true → left_behind move items blocks < items + blocks
+Shortens move items blocks = moves_on move.effect ≡ true → left_after move items blocks < items + blocks
 
 two_items : (rest : List Seen) (directive : Directive) (word : Location) → sight_of rest ≡ sight.Directive directive word → 2 ≤ length rest
 two_items rest directive word e =
@@ -32,7 +32,7 @@ two_items rest directive word e =
     omega (arith, front)
 
 module _ (blocks : List OpenBlock) (rest : List Seen) where
-  within_shortens : (move : Move) → IsWithin move (length (drop 2 rest)) → 2 ≤ length rest → left_behind (taking_more 2 move) (length rest) (length blocks) < length rest + length blocks
+  within_shortens : (move : Move) → IsWithin move (length (drop 2 rest)) → 2 ≤ length rest → left_after (taking_more 2 move) (length rest) (length blocks) < length rest + length blocks
   within_shortens move within two = rw within.small.untold (omega (arith, within.small.adds, within.taken, length-drop 2 rest))
 
   directive_shortens : (live : Bool) (directive : Directive) (word : Location) → sight_of rest ≡ sight.Directive directive word → Shortens (move_at live (last_block blocks) (sight.Directive directive word) rest) (length rest) (length blocks)

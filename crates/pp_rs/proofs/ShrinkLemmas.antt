@@ -9,7 +9,7 @@ use Rattle.pp_model.specs.declared.definition.Named.{Named}
 use Rattle.pp_rs.specs.Defined.{meaning_of, body_tokens}
 use Rattle.pp_rs.specs.Item.{Step}
 use Rattle.pp_rs.specs.OpenBlocks.{OpenBlock, outer_blocks, block_opened, block_unread, block_decided}
-use Rattle.pp_rs.specs.Source.{Source, IsBehind, IsBehindFault, IsBehindBlock, DefinesOver, holds_where, HasEffect, Makes, IsRefusedStep, StepsSource, Decides, holds, faulty, Renumbers, numbers, unnumbered}
+use Rattle.pp_rs.specs.Source.{Source, IsAfter, IsAfterFault, IsAfterBlock, DefinesOver, holds_where, HasEffect, Makes, IsRefusedStep, StepsSource, Decides, holds, faulty, Renumbers, numbers, unnumbered}
 use Rattle.pp_rs.specs.SourceMoves.{Effect, gives, gives_item, fails, ends, passes, defines, undefines, opens_where, opens_if, opens_unread, parts, parts_if, closes, unfinished, renumbers, Note, Move, move_of}
 use Rattle.pp_rs.specs.Work.{goes_on, most_reads, most_names, most_steps}
 use Rattle.pp_rs.specs.declared.pp.step.StepExit.TheVariants.{Finished}
@@ -26,18 +26,18 @@ parted_least : (blocks : List OpenBlock) (block : OpenBlock) → length (outer_b
 parted_least blocks block = omega (arith, length_push (outer_blocks blocks) block, length-take (length blocks - 1) blocks)
 
 module _ (old new : Source) where
-  behind_shrinks : (taken adds : ℕ) (note : Note) (blocks : List OpenBlock) → IsBehind taken note blocks old new → length new.definitions ≤ length old.definitions + 1 → body_tokens new.definitions + length blocks ≤ body_tokens old.definitions + length old.blocks + adds
+  after_shrinks : (taken adds : ℕ) (note : Note) (blocks : List OpenBlock) → IsAfter taken note blocks old new → length new.definitions ≤ length old.definitions + 1 → body_tokens new.definitions + length blocks ≤ body_tokens old.definitions + length old.blocks + adds
       → length old.rest - taken + length old.blocks + adds < length old.rest + length old.blocks → length blocks ≤ length old.blocks + adds → Shrinks old new
-  behind_shrinks taken adds note blocks behind names more low few =
-      let left : length new.rest ≡ length old.rest - taken = ap length behind.rest ∙ length-drop taken old.rest in
-      let still : length new.blocks ≡ length blocks = ap length behind.blocks in
+  after_shrinks taken adds note blocks after names more low few =
+      let left : length new.rest ≡ length old.rest - taken = ap length after.rest ∙ length-drop taken old.rest in
+      let still : length new.blocks ≡ length blocks = ap length after.blocks in
       record { shorter = omega arith; names = omega arith; steps = omega arith }
 
-  passed_shrinks : (taken adds : ℕ) (note : Note) (blocks : List OpenBlock) → IsBehind taken note blocks old new → new.definitions ≡ old.definitions → length old.rest - taken + length old.blocks + adds < length old.rest + length old.blocks → length blocks ≤ length old.blocks + adds → Shrinks old new
-  passed_shrinks taken adds note blocks behind same low few =
+  passed_shrinks : (taken adds : ℕ) (note : Note) (blocks : List OpenBlock) → IsAfter taken note blocks old new → new.definitions ≡ old.definitions → length old.rest - taken + length old.blocks + adds < length old.rest + length old.blocks → length blocks ≤ length old.blocks + adds → Shrinks old new
+  passed_shrinks taken adds note blocks after same low few =
       let names : length new.definitions ≡ length old.definitions = ap length same in
       let more : body_tokens new.definitions ≡ body_tokens old.definitions = ap body_tokens same in
-      behind_shrinks taken adds note blocks behind (omega arith) (omega arith) low few
+      after_shrinks taken adds note blocks after (omega arith) (omega arith) low few
 
   stays_shrinks : new.definitions ≡ old.definitions → most_reads new < most_reads old → Shrinks old new
   stays_shrinks same shorter =
@@ -45,14 +45,14 @@ module _ (old new : Source) where
       let more : body_tokens new.definitions ≡ body_tokens old.definitions = ap body_tokens same in
       record { shorter = shorter; names = omega arith; steps = omega arith }
 
-  fault_shrinks : IsBehindFault old new → Shrinks old new
-  fault_shrinks behind = stays_shrinks behind.definitions (omega (arith, behind.fewer))
+  fault_shrinks : IsAfterFault old new → Shrinks old new
+  fault_shrinks after = stays_shrinks after.definitions (omega (arith, after.fewer))
 
-  block_shrinks : IsBehindBlock old new → length old.rest + (length old.blocks - 1) < length old.rest + length old.blocks → Shrinks old new
-  block_shrinks behind low = stays_shrinks behind.definitions (omega (arith, ap length behind.rest, ap length behind.blocks, length-take (length old.blocks - 1) old.blocks))
+  block_shrinks : IsAfterBlock old new → length old.rest + (length old.blocks - 1) < length old.rest + length old.blocks → Shrinks old new
+  block_shrinks after low = stays_shrinks after.definitions (omega (arith, ap length after.rest, ap length after.blocks, length-take (length old.blocks - 1) old.blocks))
 
   define_shrinks : (named : Named) (o : Option Definition) (taken : ℕ) (note : Note) (step : Step Token) → length old.rest - taken + length old.blocks + length named.definition.body < length old.rest + length old.blocks → DefinesOver named o taken note old step new → Shrinks old new
-  define_shrinks named None taken note step low h = behind_shrinks taken (length named.definition.body) note old.blocks h.1 h.2.names (omega (arith, h.2.tokens)) low (omega arith)
+  define_shrinks named None taken note step low h = after_shrinks taken (length named.definition.body) note old.blocks h.1 h.2.names (omega (arith, h.2.tokens)) low (omega arith)
   define_shrinks named (Some before) taken note step low (inl h) = passed_shrinks taken (length named.definition.body) note old.blocks h.2 h.3 low (omega arith)
   define_shrinks named (Some before) taken note step low (inr h) = fault_shrinks h.2
 
@@ -78,7 +78,7 @@ module _ (old new : Source) where
   effect_shrinks (defines named) taken note step low h not_end = define_shrinks old new named (meaning_of old.definitions named.name) taken note step (low refl) h
   effect_shrinks (undefines name) taken note step low h not_end =
       let names : length new.definitions ≤ length old.definitions + 0 = h.2.names in
-      behind_shrinks old new taken 0 note old.blocks h.1 (omega arith) (omega (arith, h.2.tokens)) (low refl) (omega arith)
+      after_shrinks old new taken 0 note old.blocks h.1 (omega arith) (omega (arith, h.2.tokens)) (low refl) (omega arith)
   effect_shrinks (opens_where wanted word name) taken note step low h not_end =
       let block = block_opened word (holds_where wanted (meaning_of old.definitions name)) in
       passed_shrinks old new taken 1 note (old.blocks ++ block ∷ []) h.1 h.2 (low refl) (omega (arith, length_push old.blocks block))
@@ -90,7 +90,7 @@ module _ (old new : Source) where
   effect_shrinks (unfinished word) taken note step low h not_end = block_shrinks old new h.1 (low refl)
   effect_shrinks (renumbers word tokens) taken note step low h not_end = renumbers_shrinks old new word tokens taken note step (low refl) h
 
-  -- so does a step behind which reading goes on
+  -- so does a step after which reading goes on
   pub source_shrinks : (step : Step Token) → StepsSource old step new → goes_on step ≡ true → Shrinks old new
   source_shrinks step h on = go old.spent h
     where

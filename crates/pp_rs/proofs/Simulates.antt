@@ -13,13 +13,13 @@ use Rattle.pp_rs.specs.Source.{Source, StepsSource}
 use Rattle.pp_rs.specs.Stands.{StandsForReader}
 use Rattle.pp_rs.specs.declared.pp.step.StepExit.TheVariants.{Error, Continue, Finished}
 
--- a step that gives nothing, a token or the end, and the reader behind it
+-- a step that gives nothing, a token or the end, and the reader after it
 pub record Simulated (o : Option Outcome) (r : SourceReader) (new : Source) : Type 0 where
   pub after : SourceReader
   pub steps : Steps (answers_at expansion_limit) r o after
   pub stands : StandsForReader new after
 
--- a step that gives a fault; of what stands behind it nothing is said
+-- a step that gives a fault; of what stands after it nothing is said
 pub record SimulatedFault (fault : Fault) (r : SourceReader) : Type 0 where
   pub after : SourceReader
   pub steps : Steps (answers_at expansion_limit) r (Some (outcome.Fault fault)) after

@@ -35,7 +35,7 @@ reads_source old new x (Err Finished) h = (h.after, here outcome.End x h.after h
 reads_source old new x (Err (Error fault)) h = (h.after, here (outcome.Fault fault) x h.after h.steps)
 
 pub sources_simulate : (r s : Reader) (x : SourceReader) (step : Step Token) → IsSource r x → Reads r step s → wants_memory step ≡ false → ReadsTo source_rules IsSource [] step x s
-sources_simulate (of_source old) (of_source new) x step stands h told = reads_source old new x step (source_simulates old new x step stands h told)
+sources_simulate (of_source old) (of_source new) x step stands h told = reads_source old new x step (source_simulates old new x step stands h.0 told)
 sources_simulate (of_source old) (of_list new) x step stands h told = absurd h
 sources_simulate (of_list old) s x step stands h told = absurd stands
 

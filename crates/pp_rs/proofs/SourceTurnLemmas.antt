@@ -1,4 +1,4 @@
--- A turn over a source, behind which a call is finished: what holds behind it, how much is left, and what it is to the definitions' expander.
+-- A turn over a source, after which a call is finished: what holds after it, how much is left, and what it is to the definitions' expander.
 use Rattle.std.proofs.Common.{◌≡◌, ◌∙◌, inl, inr, ℕ, zero, suc, ◌-◌, ◌<◌, ◌≤◌, true, false, List, [], ◌∷◌, ◌++◌, length, refl, ap, sym, subst, arith, Option, Some, None, Ok, Err, All}
 use Rattle.pp_lexer.specs.PreprocessorError.{out_of_memory}
 use Rattle.pp_lexer.specs.declared.token.Token.{Token}
@@ -82,8 +82,8 @@ module _ (levels : ℕ) (m n : Machine) (r s : Source) where
   turned_source step (inl h) told = h
   turned_source step (inr h) told = absurd (let bad : true ≡ false = rw h.fault at told in cc)
 
--- what holds behind a turn: less is left, but at the end
-record IsBehind (levels : ℕ) (m : Machine) (old : Source) (step : Step Token) (n : Machine) (new : Source) : Type 0 where
+-- what holds after a turn: less is left, but at the end
+record IsAfter (levels : ℕ) (m : Machine) (old : Source) (step : Step Token) (n : Machine) (new : Source) : Type 0 where
   less : (step ≡ Err Finished → ⊥) → work_of levels n (of_source new) < work_of levels m (of_source old)
   sound : IsSound n (of_source new)
   last : EndIsLast n.held n.frames (of_source new)
@@ -100,11 +100,11 @@ module _ (levels : ℕ) (m : Machine) (old new : Source) (fit : IsFit m old) whe
       let at : p ≡ record { held = None; frames = layer c.name c.closing.line c.definition o.arguments ∷ n.frames } = o.opens ∙ ap (λ (h : Option (Step Token)). record { held = h; frames = layer c.name c.closing.line c.definition o.arguments ∷ n.frames }) pend.free in
       rw at (pending_opens lower m (of_source old) c n (of_source new) o.arguments pend least)
 
-  call_behind : (c : PendingCall) (n p : Machine) (step : Step Token) → IsPending levels m (of_source old) c n (of_source new) → FollowsCall levels new.definitions c n step p → IsBehind levels m old step p new
-  call_behind c n p step pend (opened is o) =
+  call_after : (c : PendingCall) (n p : Machine) (step : Step Token) → IsPending levels m (of_source old) c n (of_source new) → FollowsCall levels new.definitions c n step p → IsAfter levels m old step p new
+  call_after c n p step pend (opened is o) =
       let less = opened_less levels refl c n p pend o in
       record { less = λ goes. less.falls; sound = less.sound; last = free_last p.held p (ap (λ (x : Machine). x.held) o.opens ∙ pend.free) }
-  call_behind c n p step pend (refused fault is answers same) =
+  call_after c n p step pend (refused fault is answers same) =
       let r = of_source old in
       let s = of_source new in
       let level = frame_steps_level (most_bodies r) (most_open r) levels in
@@ -116,18 +116,18 @@ module _ (levels : ℕ) (m : Machine) (old new : Source) (fit : IsFit m old) whe
         last = free_last n.held n pend.free;
       })
 
-  less_behind : (step : Step Token) (n p : Machine) → p ≡ n → EndIsLast n.held n.frames (of_source new) → IsLess levels m (of_source old) n (of_source new) → IsBehind levels m old step p new
-  less_behind step n p same last less = rw same (record { less = λ goes. less.falls; sound = less.sound; last = last })
+  less_after : (step : Step Token) (n p : Machine) → p ≡ n → EndIsLast n.held n.frames (of_source new) → IsLess levels m (of_source old) n (of_source new) → IsAfter levels m old step p new
+  less_after step n p same last less = rw same (record { less = λ goes. less.falls; sound = less.sound; last = last })
 
-  follows_behind : (step : Step Token) (n p : Machine) (t : Step Taken) → TurnsTo m (of_source old) t n (of_source new) → FollowsTurn levels new.definitions t n step p → wants_memory step ≡ false → IsBehind levels m old step p new
-  follows_behind step n p (Ok (taken.Token token)) turns follows told =
-      less_behind step n p follows.1 (turn_last m n (of_source old) (of_source new) (Ok (taken.Token token)) fit.unspent turns) (turn_falls levels m (of_source old) fit.sound (Ok (taken.Token token)) n (of_source new) turns refl)
-  follows_behind step n p (Ok (taken.Call c)) turns follows told = call_behind c n p step (turn_falls levels m (of_source old) fit.sound (Ok (taken.Call c)) n (of_source new) turns refl) follows
-  follows_behind step n p (Err Continue) turns follows told =
-      less_behind step n p follows.1 (turn_last m n (of_source old) (of_source new) (Err Continue) fit.unspent turns) (turn_falls levels m (of_source old) fit.sound (Err Continue) n (of_source new) turns refl)
-  follows_behind step n p (Err (Error fault)) turns follows told =
-      less_behind step n p follows.1 (turn_last m n (of_source old) (of_source new) (Err (Error fault)) fit.unspent turns) (turn_falls levels m (of_source old) fit.sound (Err (Error fault)) n (of_source new) turns (rw follows.0 at told))
-  follows_behind step n p (Err Finished) turns follows told =
+  follows_after : (step : Step Token) (n p : Machine) (t : Step Taken) → TurnsTo m (of_source old) t n (of_source new) → FollowsTurn levels new.definitions t n step p → wants_memory step ≡ false → IsAfter levels m old step p new
+  follows_after step n p (Ok (taken.Token token)) turns follows told =
+      less_after step n p follows.1 (turn_last m n (of_source old) (of_source new) (Ok (taken.Token token)) fit.unspent turns) (turn_falls levels m (of_source old) fit.sound (Ok (taken.Token token)) n (of_source new) turns refl)
+  follows_after step n p (Ok (taken.Call c)) turns follows told = call_after c n p step (turn_falls levels m (of_source old) fit.sound (Ok (taken.Call c)) n (of_source new) turns refl) follows
+  follows_after step n p (Err Continue) turns follows told =
+      less_after step n p follows.1 (turn_last m n (of_source old) (of_source new) (Err Continue) fit.unspent turns) (turn_falls levels m (of_source old) fit.sound (Err Continue) n (of_source new) turns refl)
+  follows_after step n p (Err (Error fault)) turns follows told =
+      less_after step n p follows.1 (turn_last m n (of_source old) (of_source new) (Err (Error fault)) fit.unspent turns) (turn_falls levels m (of_source old) fit.sound (Err (Error fault)) n (of_source new) turns (rw follows.0 at told))
+  follows_after step n p (Err Finished) turns follows told =
       let sound : IsSound n (of_source new) = turn_falls levels m (of_source old) fit.sound (Err Finished) n (of_source new) turns refl in
       rw follows.1 (record { less = λ goes. absurd (goes follows.0); sound = sound; last = turn_last m n (of_source old) (of_source new) (Err Finished) fit.unspent turns })
 
@@ -139,20 +139,20 @@ module _ (levels : ℕ) (m : Machine) (old new : Source) (fit : IsFit m old) whe
   taken_told step n p (Err (Error fault)) follows told = rw follows.0 at told
 
   module _ (step : Step Token) (n : Machine) (h : TurnsSource levels m old step n new) (told : wants_memory step ≡ false) where
-    behind : IsBehind levels m old step n new
-    behind = follows_behind step h.between n h.taken h.turns h.follows told
+    after : IsAfter levels m old step n new
+    after = follows_after step h.between n h.taken h.turns h.follows told
 
     pub source_fits : IsFit n new
     source_fits = record {
       unspent = turn_ready m h.between (of_source old) (of_source new) h.taken fit.unspent h.turns (taken_told step h.between n h.taken h.follows told);
-      sound = behind.sound;
-      last = behind.last;
+      sound = after.sound;
+      last = after.last;
     }
 
     pub source_lowers : (step ≡ Err Finished → ⊥) → work_of levels n (of_source new) < work_of levels m (of_source old)
-    source_lowers goes = behind.less goes
+    source_lowers goes = after.less goes
 
-  -- behind the end nothing is left
+  -- after the end nothing is left
   pub source_ends : (n : Machine) → TurnsSource levels m old (Err Finished) n new → (n.held ≡ None) × (n.frames ≡ []) × (new.rest ≡ []) × (new.blocks ≡ [])
   source_ends n h = go h.taken h.between h.turns h.follows
     where

@@ -24,7 +24,7 @@ chars-punctuator _ = refl
 pub chars-decimal : (n : ℕ) → n < 2 ^ 64 → chars (decimal n) ≡ decimal n
 chars-decimal n h = chars-IsAscii (decimal n) (IsAscii-decimal n h)
 
--- an integer written behind a text
+-- an integer written after a text
 module _ (i : Integer) (old digits : List ℕ) (u : IsUtf8 old) (fits : i.value < 2 ^ 64) (written : digits ≡ old ++ decimal i.value) where
   pub chars-digits : chars digits ≡ chars old ++ decimal i.value
   chars-digits = ap chars written ∙ chars-append old (decimal i.value) u ∙ ap (λ t. chars old ++ t) (chars-decimal i.value fits)
@@ -36,13 +36,13 @@ module _ (i : Integer) (old digits : List ℕ) (u : IsUtf8 old) (fits : i.value 
   unfolding chars
   unsigned-pushed new v e f = rw e (ap chars f ∙ chars-append digits (117 ∷ []) v ∙ ap (λ t. t ++ (117 ∷ [])) chars-digits ∙ append_assoc (chars old) (decimal i.value) (117 ∷ []))
 
--- a text put behind another puts its characters behind those of the other
+-- a text put after another puts its characters after those of the other
 pub chars-pushed : {E : Type 0} (r : Result (Unit {0}) E) (new old more : List ℕ) → IsUtf8 old → new ≡ (if is_ok r then old ++ more else old)
     → OnOk r (chars new ≡ chars old ++ chars more)
 chars-pushed (Ok x) new old more u e = ap chars e ∙ chars-append old more u
 chars-pushed (Err x) new old more u e = tt
 
--- the spellings behind a first one, each behind a space
+-- the spellings after a first one, each after a space
 abbrev pub spaced_spellings : List TokenValue → List ℕ
 spaced_spellings [] = []
 spaced_spellings (v ∷ vs) = 32 ∷ (spelling v ++ spaced_spellings vs)
@@ -52,7 +52,7 @@ pub spelled_text-cons : (v : TokenValue) (vs : List TokenValue) → spelled_text
 spelled_text-cons v [] = sym (append-nil (spelling v))
 spelled_text-cons v (w ∷ ws) = ap (λ t. spelling v ++ (32 ∷ t)) (spelled_text-cons w ws)
 
--- a text to which the tokens behind the first are added one by one
+-- a text to which the tokens after the first are added one by one
 pub spelled_none : (text : List ℕ) (ts : List Token) → length ts ≡ 0 → text ≡ [] → chars text ≡ spelled_text (values_of ts)
 spelled_none text [] e f = rw f chars-nil
 spelled_none text (t ∷ ts) e f = absurd (omega arith)
@@ -75,8 +75,8 @@ module _ (whole text : List ℕ) (others : List Token) (i : ℕ) (so_far : chars
   pub spelled_all : length others ≤ i → chars text ≡ whole
   spelled_all high = sym (append-nil (chars text)) ∙ ap (λ t. chars text ++ t) (sym (at_drop_all (λ ts. spaced_spellings (values_of ts)) others i high)) ∙ so_far
 
--- what holds of each token holds of those behind the first
-pub all_behind_first : (P : Token → Type 0) (ts others : List Token) (t x : Token) (i : ℕ) → All P ts → ts ≡ t ∷ others → i < length others → x ≡ get_or others i x → P x
-all_behind_first P ts others t x i all e low is =
+-- what holds of each token holds of those after the first
+pub all_after_first : (P : Token → Type 0) (ts others : List Token) (t x : Token) (i : ℕ) → All P ts → ts ≡ t ∷ others → i < length others → x ≡ get_or others i x → P x
+all_after_first P ts others t x i all e low is =
     let n : length ts ≡ suc (length others) = ap length e in
     subst P (ap (λ l. get_or l (suc i) x) e ∙ sym is) (all (suc i) x (omega arith))

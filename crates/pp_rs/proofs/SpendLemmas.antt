@@ -1,4 +1,4 @@
--- Each step of taking spends: fewer steps are left in the regions, and there is room for a frame behind a token.
+-- Each step of taking spends: fewer steps are left in the regions, and there is room for a frame after a token.
 use Rattle.std.proofs.Common.{◌≡◌, ◌∙◌, ◌⊎◌, inl, inr, ℕ, suc, ◌+◌, ◌-◌, ◌<◌, ◌≤◌, Bool, true, false, if◌then◌else◌, List, [], ◌∷◌, length, arith, le_trans, lt_of_le_of_lt, lt_of_lt_of_le, ap, sym, refl, Option, Some, None, IfSome, IfOk, MatchBool, unwrap_or, Result, Ok, Err}
 use Rattle.std.specs.Fn.{iterate}
 use Rattle.pp_lexer.specs.declared.token.Token.{Token}
@@ -9,7 +9,7 @@ use Rattle.pp_model.specs.Taking.{line_number}
 use Rattle.pp_model.specs.declared.outcome.Outcome.TheVariants as outcome
 use Rattle.pp_rs.specs.Frames.{Layer, Advance, advance, outermost_frame_line}
 use Rattle.pp_rs.specs.Item.{Step, wants_memory}
-use Rattle.pp_model.specs.Reading.{behind_listed}
+use Rattle.pp_model.specs.Reading.{after_listed}
 use Rattle.pp_rs.specs.Defined.{body_tokens}
 use Rattle.pp_rs.specs.Left.{reads_left, most_open, most_bodies, one_more, holding_step, regions_of, regions}
 use Rattle.pp_rs.specs.Machine.{Machine, is_pause, step_of_outcome, taken_as, StepsTaking, held, moved, TakesNext, now, later, GathersNext, closed, inside, overfull, ended, failed}
@@ -104,7 +104,7 @@ source_read (Err Continue) old new h told = let k = source_shrinks old new (Err 
 source_read (Err Finished) old new h told = rw (source_end_stays old new h) (record { spends = refl; tightens = tightens_not (of_source old) })
 source_read (Err (Error fault)) old new h told = let k = source_shrinks old new (Err (Error fault)) h (rw told refl) in record { spends = k.shorter; tightens = shrinks_tightens old new k }
 
-list_read : (tokens : List Token) (step : Step Token) (old new : Listing) → old.tokens ≡ tokens → step ≡ listed_step tokens → new ≡ record old { tokens = behind_listed tokens } → IsRead step (of_list old) (of_list new)
+list_read : (tokens : List Token) (step : Step Token) (old new : Listing) → old.tokens ≡ tokens → step ≡ listed_step tokens → new ≡ record old { tokens = after_listed tokens } → IsRead step (of_list old) (of_list new)
 list_read [] step old new e is at =
     let same : new ≡ old = at ∙ ap (λ (t : List Token). record old { tokens = t }) (sym e) in
     rw (is, same) (record { spends = refl; tightens = tightens_not (of_list old) })
@@ -114,7 +114,7 @@ list_read (token ∷ tokens) step old new e is at =
     rw is (record { spends = less; tightens = record { names = omega (arith, ap length same); bodies = omega (arith, ap body_tokens same) } })
 
 pub reader_read : (step : Step Token) (r s : Reader) → Reads r step s → wants_memory step ≡ false → IsRead step r s
-reader_read step (of_source old) (of_source new) h told = source_read step old new h told
+reader_read step (of_source old) (of_source new) h told = source_read step old new h.0 told
 reader_read step (of_list old) (of_list new) (inl h) told = list_read old.tokens step old new refl h.0 h.1
 reader_read step (of_list old) (of_list new) (inr h) told = absurd (let bad : true ≡ false = rw h at told in cc)
 reader_read step (of_source old) (of_list new) h told = absurd h
@@ -256,7 +256,7 @@ module _ (frame : ℕ → ℕ) (names : ℕ) (level : IsLevel frame) where
         free = k.free;
       }
 
-  -- behind the `)` there is room for a frame, and each token that was gathered took a step
+  -- after the `)` there is room for a frame, and each token that was gathered took a step
   pub record IsGathered (g : Gathered) (m n : Machine) (r s : Reader) : Type 0 where
     pub spends : IsNoMore frame names (regions m r) (one_more (regions n s))
     pub least : length g.tokens + total (one_more (regions n s)) ≤ total (regions m r)
@@ -289,7 +289,7 @@ module _ (frame : ℕ → ℕ) (names : ℕ) (level : IsLevel frame) where
   gather_leaves l last m n r s o (ended l1 last1 m1 n1 r1 s1 g next is) = rw is tt
   gather_leaves l last m n r s o (failed l1 last1 fault m1 n1 r1 s1 g next told is) = rw is tt
 
-  -- no more is left behind what comes next, and behind a search, however it ends
+  -- no more is left after what comes next, and after a search, however it ends
   pub record IsLeft (m n : Machine) (r s : Reader) : Type 0 where
     pub spends : IsNoMore frame names (regions m r) (regions n s)
     pub tightens : Tightens r s

@@ -1,4 +1,4 @@
--- Behind a line that opens, parts or closes a block the source stands for its reader.
+-- After a line that opens, parts or closes a block the source stands for its reader.
 use Rattle.std.proofs.Common.{◌≡◌, ◌∙◌, ◌+◌, Bool, true, false, ◌&&◌, not, List, [], ◌∷◌, ◌++◌, refl, subst, Some, arith}
 use Rattle.pp_lexer.specs.Lexed.{Seen}
 use Rattle.pp_lexer.specs.declared.token.Location.{Location}
@@ -6,7 +6,7 @@ use Rattle.pp_lexer.specs.declared.token.Token.{Token}
 use Rattle.pp_model.specs.Sights.{sight_of}
 use Rattle.pp_model.specs.Blocks.{part_of}
 use Rattle.pp_model.specs.SourceReader.{SourceReader}
-use Rattle.pp_model.specs.Acts.{behind_line, decided}
+use Rattle.pp_model.specs.Acts.{after_line, decided}
 use Rattle.pp_model.specs.declared.block.Part.{Part}
 use Rattle.pp_model.specs.declared.block.Part.TheVariants as part
 use Rattle.pp_model.specs.declared.directive.Directive.{Directive}
@@ -18,7 +18,7 @@ use Rattle.pp_rs.specs.Source.{Source, Pauses}
 use Rattle.pp_rs.specs.Stands.{StandsForReader}
 use Rattle.pp_rs.proofs.BlockStepLemmas.{AddsLine, opens_read, opens_unread, closes_last, parts_else, parts_skipped, parts_read}
 use Rattle.pp_rs.proofs.LinesBeforeLemmas.{AddsLines, adds_one}
-use Rattle.pp_rs.proofs.StandsBehindLemmas.{live_now, split_here}
+use Rattle.pp_rs.proofs.StandsAfterLemmas.{live_now, split_here}
 use Rattle.pp_rs.proofs.TextBeforeLemmas.{text_before_truth}
 use Rattle.pp_rs.proofs.TruthLemmas.{with_truth, before_unread, before_later, before_more}
 use Rattle.pp_rs.proofs.StepHereLemmas.{whole_line, PausesAt}
@@ -36,7 +36,7 @@ module _ {old : Source} {r : SourceReader} (s : StandsForReader old r) {directiv
   module _ {move : Step Token} {new : Source} where
     -- a skipped line that opens a block
     pub opened_unread : is_live_in (last_block old.blocks) ≡ false → part_of directive ≡ Some part.Opens
-        → Pauses (whole_line old.rest) moves.directive_line (old.blocks ++ block_unread word ∷ []) old move new → PausesAt move new (behind_line r)
+        → Pauses (whole_line old.rest) moves.directive_line (old.blocks ++ block_unread word ∷ []) old move new → PausesAt move new (after_line r)
     opened_unread dead its h =
         block_pauses s e r.truths (old.blocks ++ block_unread word ∷ []) its refl
         (opens_unread r.items (block_line r word part.Opens) (r.position + whole_line old.rest) (adds_here part.Opens its) r.truths
@@ -53,7 +53,7 @@ module _ {old : Source} {r : SourceReader} (s : StandsForReader old r) {directiv
 
     -- a line that closes the innermost block
     pub closed_last : (kept : OpenBlock) → last_block old.blocks ≡ Some kept → part_of directive ≡ Some part.Closes
-        → Pauses (whole_line old.rest) moves.directive_line (outer_blocks old.blocks) old move new → PausesAt move new (behind_line r)
+        → Pauses (whole_line old.rest) moves.directive_line (outer_blocks old.blocks) old move new → PausesAt move new (after_line r)
     closed_last kept found its h =
         block_pauses s e r.truths (outer_blocks old.blocks) its refl
         (closes_last r.items (block_line r word part.Closes) (r.position + whole_line old.rest) (adds_here part.Closes its) r.truths (outer_blocks old.blocks) kept
@@ -61,7 +61,7 @@ module _ {old : Source} {r : SourceReader} (s : StandsForReader old r) {directiv
 
     -- an `#else` of the innermost block
     pub parted_last : (kept : OpenBlock) → last_block old.blocks ≡ Some kept → part_of directive ≡ Some part.Else
-        → Pauses (whole_line old.rest) moves.directive_line (outer_blocks old.blocks ++ block_parted kept ∷ []) old move new → PausesAt move new (behind_line r)
+        → Pauses (whole_line old.rest) moves.directive_line (outer_blocks old.blocks ++ block_parted kept ∷ []) old move new → PausesAt move new (after_line r)
     parted_last kept found its h =
         block_pauses s e r.truths (outer_blocks old.blocks ++ block_parted kept ∷ []) its refl
         (parts_else r.items (block_line r word part.Else) (r.position + whole_line old.rest) (adds_here part.Else its) r.truths (outer_blocks old.blocks) kept
@@ -69,7 +69,7 @@ module _ {old : Source} {r : SourceReader} (s : StandsForReader old r) {directiv
 
     -- an `#elif` of the innermost block that is skipped
     pub skipped_last : (kept : OpenBlock) → last_block old.blocks ≡ Some kept → part_of directive ≡ Some part.Elif → kept.live_around && not kept.taken ≡ false
-        → Pauses (whole_line old.rest) moves.directive_line (outer_blocks old.blocks ++ block_skipped kept ∷ []) old move new → PausesAt move new (behind_line r)
+        → Pauses (whole_line old.rest) moves.directive_line (outer_blocks old.blocks ++ block_skipped kept ∷ []) old move new → PausesAt move new (after_line r)
     skipped_last kept found its skips h =
         block_pauses s e r.truths (outer_blocks old.blocks ++ block_skipped kept ∷ []) its refl
         (parts_skipped r.items (block_line r word part.Elif) (r.position + whole_line old.rest) (adds_here part.Elif its) r.truths (outer_blocks old.blocks) kept

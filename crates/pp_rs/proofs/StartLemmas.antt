@@ -1,13 +1,17 @@
 -- A preprocessor at the start of a source stands for the start of its run.
-use Rattle.std.proofs.Common.{ℕ, List, [], None, false, refl, arith}
+use Rattle.std.proofs.Common.{◌≡◌, ℕ, List, [], None, false, refl, arith}
 use Rattle.std.specs.Prelude.{pos}
+use Rattle.pp_lexer.specs.Location.{nowhere}
+use Rattle.pp_lexer.specs.Items.{places_of}
+use Rattle.pp_lexer.specs.Spots.{spots_of}
 use Rattle.pp_model.specs.Run.{items_of, start}
-use Rattle.pp_rs.specs.Kept.{Preprocessing, Stands}
+use Rattle.pp_rs.specs.Kept.{Preprocessing, Stands, errors_left}
+use Rattle.pp_rs.specs.LexerErrors.{lexer_errors}
 use Rattle.pp_rs.proofs.LinedLemmas.{items_lined}
 
 -- what it keeps
 abbrev pub start_of : List ℕ → Preprocessing
-start_of text = record { machine = record { held = None; frames = [] }; source = record { rest = items_of text; definitions = []; blocks = []; line_offset = pos 0; spent = false; has_text = false; has_directive = false }; spent = false }
+start_of text = record { machine = record { held = None; frames = [] }; source = record { rest = items_of text; places = places_of (spots_of text); error_place = None; definitions = []; blocks = []; line_offset = pos 0; spent = false; has_text = false; has_directive = false }; spent = false; place = nowhere }
 
 -- it stands for the state in which a run of its items begins
 pub start_stands : (text : List ℕ) → Stands (start_of text) (start (items_of text))
@@ -21,15 +25,20 @@ start_stands text = record {
     definitions = refl;
     line_offset = refl;
     lined = items_lined text;
-    lines = λ behind. refl;
+    lines = λ after. refl;
     blocks = tt;
     truths = tt;
     unfinished = refl;
     unspent = refl;
     remembers_text = refl;
     remembers_directive = refl;
-    directives = λ behind. refl;
+    directives = λ after. refl;
     off_line = λ live left. refl;
   };
   hidden = refl;
 }
+
+-- all errors of its text are still to be told
+pub start_errors : (text : List ℕ) → errors_left (start_of text) ≡ lexer_errors text
+unfolding errors_left
+start_errors text = refl

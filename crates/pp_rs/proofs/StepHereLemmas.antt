@@ -8,7 +8,7 @@ use Rattle.pp_model.specs.Lines.{line_length, line_fault}
 use Rattle.pp_model.specs.Sights.{sight_of}
 use Rattle.pp_model.specs.Blocks.{is_live}
 use Rattle.pp_model.specs.SourceReader.{SourceReader}
-use Rattle.pp_model.specs.Acts.{Acted, passed, behind_word, behind_line, skipped_by, skipped, acted, live_act, dead_act, act}
+use Rattle.pp_model.specs.Acts.{Acted, passed, after_word, after_line, skipped_by, skipped, acted, live_act, dead_act, act}
 use Rattle.pp_model.specs.Emitting.{answers_at, expansion_limit}
 use Rattle.pp_model.specs.Reads.{Steps, passes, gives}
 use Rattle.pp_model.specs.declared.outcome.Outcome.{Outcome}
@@ -22,7 +22,7 @@ use Rattle.pp_rs.specs.Source.{Source, HasEffect, Makes}
 use Rattle.pp_rs.specs.Stands.{StandsForReader}
 use Rattle.pp_rs.specs.declared.pp.step.StepExit.TheVariants.{Error, Continue}
 use Rattle.pp_rs.proofs.Simulates.{Simulates}
-use Rattle.pp_rs.proofs.StandsBehindLemmas.{live_now, behind_here}
+use Rattle.pp_rs.proofs.StandsAfterLemmas.{live_now, after_here}
 
 -- what acts on the text at a reader, live or dead
 abbrev pub acts_on : Bool → Sight → SourceReader → Acted
@@ -32,7 +32,7 @@ acts_on live shown r = if live then live_act shown r else dead_act shown r
 abbrev pub whole_line : List Seen → ℕ
 whole_line rest = 2 + line_length (drop 2 rest)
 
--- a pause, behind which the source stands for this reader
+-- a pause, after which the source stands for this reader
 abbrev pub PausesAt : Step Token → Source → SourceReader → Type 0
 PausesAt move new t = (move ≡ Err Continue) × StandsForReader new t
 
@@ -65,14 +65,14 @@ module _ {old : Source} {r : SourceReader} (s : StandsForReader old r) {live : B
       let a = act_here s alive e ∙ is in
       rw h.0 (record { after = t; steps = passes None r t (ap (λ x. x.step) a) refl (sym (ap (λ x. x.after) a)); stands = h.1 })
 
-  -- a line whose value is read behind its word
-  module _ {A : Type 0} (read : List Seen → Result A Fault) (next : A → Acted) (effect : A → moves.Effect) (is : acts_on live shown r ≡ acted (read (behind_word r)) r next)
+  -- a line whose value is read after its word
+  module _ {A : Type 0} (read : List Seen → Result A Fault) (next : A → Acted) (effect : A → moves.Effect) (is : acts_on live shown r ≡ acted (read (after_word r)) r next)
       (goes_on : (value : A) → read (drop 2 old.rest) ≡ Ok value → acts_on live shown r ≡ next value
       → HasEffect (effect value) (whole_line old.rest) moves.directive_line old move new → Simulates move r new) where
     line_found : (found : Result A Fault) → read (drop 2 old.rest) ≡ found → Makes (moves.taking_more 2 (moves.line_move found effect (line_length (drop 2 old.rest)))) old move new
         → Simulates move r new
-    line_found (Ok value) same h = goes_on value same (is ∙ ap (λ found. acted found r next) (ap read (behind_here old r s) ∙ same)) h
-    line_found (Err fault) same h = fails_here (is ∙ ap (λ found. acted found r next) (ap read (behind_here old r s) ∙ same)) h.0
+    line_found (Ok value) same h = goes_on value same (is ∙ ap (λ found. acted found r next) (ap read (after_here old r s) ∙ same)) h
+    line_found (Err fault) same h = fails_here (is ∙ ap (λ found. acted found r next) (ap read (after_here old r s) ∙ same)) h.0
 
     -- the line is the reader's step, where it is with each value that it may have
     pub line_simulates : Makes (moves.taking_more 2 (moves.line_move (read (drop 2 old.rest)) effect (line_length (drop 2 old.rest)))) old move new → Simulates move r new
@@ -80,11 +80,11 @@ module _ {old : Source} {r : SourceReader} (s : StandsForReader old r) {live : B
 
   -- a line that is skipped
   module _ (effect : moves.Effect) (is : acts_on live shown r ≡ skipped r)
-      (stands : HasEffect effect (whole_line old.rest) moves.directive_line old move new → PausesAt move new (behind_line r)) where
+      (stands : HasEffect effect (whole_line old.rest) moves.directive_line old move new → PausesAt move new (after_line r)) where
     skip_found : (found : Option Fault) → line_fault (drop 2 old.rest) ≡ found → Makes (moves.taking_more 2 (moves.skip_by found effect (line_length (drop 2 old.rest)))) old move new
         → Simulates move r new
-    skip_found (Some fault) same h = fails_here (is ∙ ap (λ found. skipped_by found r) (ap line_fault (behind_here old r s) ∙ same)) h.0
-    skip_found None same h = pauses_here (is ∙ ap (λ found. skipped_by found r) (ap line_fault (behind_here old r s) ∙ same)) (stands h)
+    skip_found (Some fault) same h = fails_here (is ∙ ap (λ found. skipped_by found r) (ap line_fault (after_here old r s) ∙ same)) h.0
+    skip_found None same h = pauses_here (is ∙ ap (λ found. skipped_by found r) (ap line_fault (after_here old r s) ∙ same)) (stands h)
 
     -- the line is the reader's step, where its effect is a pause
     pub skip_simulates : Makes (moves.taking_more 2 (moves.skip_move effect (drop 2 old.rest))) old move new → Simulates move r new

@@ -1,4 +1,4 @@
--- Steps behind which reading goes on, and those that want memory.
+-- Steps after which reading goes on, and those that want memory.
 use Rattle.std.proofs.Common.{◌≡◌, ◌≢◌, Bool, true, false, not, ◌&&◌, refl, ap, Err}
 use Rattle.pp_lexer.specs.PreprocessorError.{out_of_memory}
 use Rattle.pp_lexer.specs.declared.token.Token.{Token}
@@ -10,7 +10,7 @@ use Rattle.pp_rs.specs.declared.pp.step.StepExit.TheVariants.{Error, Finished}
 pub refused_wants : (step : Step Token) → step ≡ Err (Error out_of_memory) → wants_memory step ≡ true
 refused_wants step e = ap wants_memory e
 
--- a step behind which reading goes on is not the end
+-- a step after which reading goes on is not the end
 pub goes_on_not_end : (step : Step Token) → goes_on step ≡ true → step ≢ Err Finished
 goes_on_not_end step on end = let bad : goes_on step ≡ false = ap goes_on end in absurd (cc)
 

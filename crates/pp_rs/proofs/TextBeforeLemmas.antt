@@ -5,7 +5,7 @@ use Rattle.pp_model.specs.Blocks.{Truths, is_live}
 use Rattle.pp_model.specs.Lines.{ends_line, line_length}
 use Rattle.pp_model.specs.Sights.{sight_of, is_text, is_directive_hash}
 use Rattle.pp_model.specs.SourceReader.{is_on_directive_line, is_live_text, has_live_text_before}
-use Rattle.pp_rs.proofs.DirectivePlaceLemmas.{one_behind, on_line_behind_hash, on_line_further}
+use Rattle.pp_rs.proofs.DirectivePlaceLemmas.{one_after, on_line_after_hash, on_line_further}
 use Rattle.pp_rs.proofs.TruthLemmas.{with_truth, is_live_before}
 
 -- a position on a directive's line, in dead text, or where no token of the text stands
@@ -55,7 +55,7 @@ module _ (source : List Seen) (truths : Truths) where
       let two : position + 2 ≡ suc position + 1 = omega arith in
       let next : suc position ≡ position + 1 = omega arith in
       ap (has_live_text_before source truths) two
-      ∙ none_more (suc position) (on_line_no_text (suc position) (on_line_behind_hash source position a (b ∷ rest) e hash))
+      ∙ none_more (suc position) (on_line_no_text (suc position) (on_line_after_hash source position a (b ∷ rest) e hash))
       ∙ ap (has_live_text_before source truths) next
       ∙ none_more position (ap (λ text. text && not (is_on_directive_line source position) && is_live source truths position) quiet)
 
@@ -72,7 +72,7 @@ module _ (source : List Seen) (truths : Truths) where
   text_rest : (rest : List Seen) (position : ℕ) → drop position source ≡ rest → is_on_directive_line source position ≡ true → has_live_text_before source truths (position + line_length rest) ≡ has_live_text_before source truths position
   text_rest [] position e on = ap (has_live_text_before source truths) (omega arith)
   text_rest (s ∷ rest) position e on =
-      line_by position s rest (ends_line s.item) on (λ within. text_rest rest (suc position) (one_behind source position s rest e) (on_line_further source position s rest e within on))
+      line_by position s rest (ends_line s.item) on (λ within. text_rest rest (suc position) (one_after source position s rest e) (on_line_further source position s rest e within on))
 
   -- a directive's line
   pub text_line : (position : ℕ) (a b : Seen) (rest : List Seen) → drop position source ≡ a ∷ b ∷ rest → is_directive_hash a.item ≡ true → ends_line b.item ≡ false → is_text (sight_of (drop position source)) ≡ false
@@ -80,10 +80,10 @@ module _ (source : List Seen) (truths : Truths) where
   text_line position a b rest e hash within quiet =
       let whole : position + (2 + line_length rest) ≡ suc (suc position) + line_length rest = omega arith in
       let two : suc (suc position) ≡ position + 2 = omega arith in
-      let next = one_behind source position a (b ∷ rest) e in
+      let next = one_after source position a (b ∷ rest) e in
       ap (has_live_text_before source truths) whole
-      ∙ text_rest rest (suc (suc position)) (one_behind source (suc position) b rest next)
-      (on_line_further source (suc position) b rest next within (on_line_behind_hash source position a (b ∷ rest) e hash))
+      ∙ text_rest rest (suc (suc position)) (one_after source (suc position) b rest next)
+      (on_line_further source (suc position) b rest next within (on_line_after_hash source position a (b ∷ rest) e hash))
       ∙ ap (has_live_text_before source truths) two ∙ text_two position a b rest e hash quiet
 
 -- a condition that is read later changes nothing

@@ -77,7 +77,7 @@ module _ {R : Type 0} (I : Reading R) (StandsR : Reader → R → Type 0) (hidde
           ∙ ap (λ d. as_opening token (if is_in name (names_of n.frames) then None else opened_by name d)) (sym (sees s f.reader name reader))
       go _ = refl
 
-  -- behind a token the reader stands
+  -- after a token the reader stands
   token_stands : (m n : Machine) (r s : Reader) (token : Token) (e : Expander R) → StandsIn I StandsR hidden m r e → StepsTaking m r (Ok token) n s → (f : Expander R) × Takes I e (outcome.Token token) f × StandsIn I StandsR hidden n s f × StandsR s f.reader
   token_stands m n r s token e stands steps =
       let h = step_simulates I StandsR hidden simulates shows m n r s (Ok token) e stands steps refl in
@@ -126,7 +126,7 @@ module _ {R : Type 0} (I : Reading R) (StandsR : Reader → R → Type 0) (hidde
         (λ arguments answers o l emits. emitting.call (outcome.Token token) o arguments g.closing.line m e f k l takes opens function (calls.whole (outcome.Token first) paren g (Ok arguments) f h k (calls.fits arguments g.closing.line) takes_paren at gathers answers refl) emits),
       )
 
-  -- what is sought behind a name
+  -- what is sought after a name
   seek_leads : (token : Token) (name : Name) (definition : Definition) (c : Sought) (step : Step Taken) (n p q : Machine) (s t : Reader) (e f : Expander R) → Takes I e (outcome.Token token) f → StandsIn I StandsR hidden n s f
       → opening I f (outcome.Token token) ≡ Some (record { token = token; name = name; definition = definition }) → definition.function_like ≡ true → Seeks n s c p t → Finds token name definition c step p q → LeadsTo step e q t
   seek_leads token name definition c step n p q s t e f takes stands opens function (alone next n1 p1 s1 t1 c1 taken_next none told is) found =

@@ -7,7 +7,7 @@ use Rattle.pp_model.specs.Names.{Name}
 use Rattle.pp_model.specs.Run.{items_of, content_tokens, with_added}
 use Rattle.pp_rs.specs.Comes.{State}
 use Rattle.pp_rs.specs.Item.{Fault}
-use Rattle.pp_rs.specs.Kept.{Preprocessing, Stands, is_spent, most_items}
+use Rattle.pp_rs.specs.Kept.{Preprocessing, Stands, is_spent, most_items, errors_left, error_place}
 
 -- Each state that the preprocessor stood for is now one in which the name stands for a macro of these tokens. Where nothing was left,
 -- nothing is.
@@ -15,8 +15,10 @@ pub record IsWithAdded (name : Name) (tokens : List Token) (old new : Preprocess
   pub stands : (state : State) → Stands old state → Stands new (with_added name tokens state)
   pub spent : is_spent new ≡ is_spent old
   pub ended : most_items old ≡ 0 → most_items new ≡ 0
+  pub errors : errors_left new ≡ errors_left old
+  pub place : error_place new ≡ error_place old
 
--- What a call answers, and the preprocessor behind it.
+-- What a call answers, and the preprocessor after it.
 pub data IsAdded (old : Preprocessing) (name content : List ℕ) (answer : Result (Unit {0}) Fault) (new : Preprocessing) : Type 0 where
   -- memory was refused
   refused : answer ≡ Err out_of_memory → new ≡ old → IsAdded old name content answer new

@@ -29,7 +29,7 @@ abbrev pub is_refusal : Step Token → Bool
 is_refusal (Err (Error fault)) = is_out_of_memory fault.0
 is_refusal _ = false
 
--- what is behind the name of a function-like macro: no call, the fault of one, or one whose tokens are gathered
+-- what is after the name of a function-like macro: no call, the fault of one, or one whose tokens are gathered
 pub data Sought : Type 0 where
   no_call : Step Token → Sought
   refused : Fault → Sought
@@ -43,7 +43,7 @@ pub data Seeks : Machine → Reader → Sought → Machine → Reader → Type 0
   alone : (next : Step Token) (m n : Machine) (r s : Reader) (c : Sought) → TakesNext m r next n s → paren_of next ≡ None → is_refusal next ≡ false → c ≡ no_call next → Seeks m r c n s
   called : (next : Step Token) (paren : Location) (m n p : Machine) (r s t : Reader) (g : Result Gathered Fault) (c : Sought) → TakesNext m r next n s → paren_of next ≡ Some paren → GathersNext 0 paren n s g p t → c ≡ sought_by paren g → Seeks m r c p t
 
--- what is sought behind a name that was taken
+-- what is sought after a name that was taken
 abbrev pub Finds : Token → Name → Definition → Sought → Step Taken → Machine → Machine → Type 0
 Finds token name definition (no_call next) step n p = (step ≡ Ok (taken.Token token)) × (p ≡ record n { held = Some next })
 Finds token name definition (refused fault) step n p = (step ≡ Err (Error fault)) × (p ≡ n)
@@ -69,9 +69,9 @@ TakenHoldsOrdinary (taken.Call call) = ⊤
 -- something is taken, and not the end
 pub record TakesSomething (m : Machine) (r : Reader) : Type 0 where
   pub step : Step Token
-  pub behind : Machine
+  pub after : Machine
   pub reader : Reader
-  pub takes : StepsTaking m r step behind reader
+  pub takes : StepsTaking m r step after reader
   pub goes : is_end step ≡ false
 
 -- a turn that was refused memory, where something was taken

@@ -24,7 +24,7 @@ abbrev pub error_or_end : Option Fault → Outcome
 error_or_end None = outcome.End
 error_or_end (Some fault) = outcome.Fault fault
 
--- Up to and with their first error item these are the items that come from the state, all of them where none is an error. Behind an error
+-- Up to and with their first error item these are the items that come from the state, all of them where none is an error. After an error
 -- nothing is said.
 abbrev pub AreItemsFrom : State → List Item → Type 0
 AreItemsFrom state items = IsRunFrom state (tokens_before_error items) (error_or_end (first_error items))
@@ -33,23 +33,23 @@ AreItemsFrom state items = IsRunFrom state (tokens_before_error items) (error_or
 abbrev pub AreItemsOf : Preprocessing → List Item → Type 0
 AreItemsOf old items = MatchBool (is_spent old) (items ≡ []) ((state : State) → Stands old state → AreItemsFrom state items)
 
--- these tokens come from the state, and the preprocessor stands for the state behind them
-pub record StandsBehind (state : State) (tokens : List Token) (new : Preprocessing) : Type 0 where
-  pub behind : State
-  pub gives : Gives state tokens behind
-  pub stands : Stands new behind
+-- these tokens come from the state, and the preprocessor stands for the state after them
+pub record StandsAfter (state : State) (tokens : List Token) (new : Preprocessing) : Type 0 where
+  pub after : State
+  pub gives : Gives state tokens after
+  pub stands : Stands new after
 
--- the same of items, where none of them is an error: behind an error nothing is said
-abbrev pub StandsBehindItems : State → List Item → Option Fault → Preprocessing → Type 0
-StandsBehindItems state items None new = StandsBehind state (tokens_before_error items) new
-StandsBehindItems state items (Some fault) new = IsRunFrom state (tokens_before_error items) (outcome.Fault fault)
+-- the same of items, where none of them is an error: after an error nothing is said
+abbrev pub StandsAfterItems : State → List Item → Option Fault → Preprocessing → Type 0
+StandsAfterItems state items None new = StandsAfter state (tokens_before_error items) new
+StandsAfterItems state items (Some fault) new = IsRunFrom state (tokens_before_error items) (outcome.Fault fault)
 
--- these items were given up, and the preprocessor goes on behind them
-pub record GoesOnBehind (old new : Preprocessing) : Type 0 where
+-- these items were given up, and the preprocessor goes on after them
+pub record GoesOnAfter (old new : Preprocessing) : Type 0 where
   pub items : List Item
-  pub stands : (state : State) → Stands old state → StandsBehindItems state items (first_error items) new
+  pub stands : (state : State) → Stands old state → StandsAfterItems state items (first_error items) new
   pub spent : is_spent new ≡ false
 
 -- memory was refused: for an item, now or before, and then nothing comes for good; or for the list of them
 abbrev pub IsGivenUp : Preprocessing → Preprocessing → Type 0
-IsGivenUp old new = (is_spent new ≡ true) ⊎ GoesOnBehind old new
+IsGivenUp old new = (is_spent new ≡ true) ⊎ GoesOnAfter old new

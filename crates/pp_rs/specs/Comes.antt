@@ -22,12 +22,12 @@ Comes state outcome after = by_rules (answers_at expansion_limit) state outcome 
 
 -- these tokens come next, one after another
 pub data Gives : State → List Token → State → Type 0 where
-  nothing : (tokens : List Token) (state behind : State) → tokens ≡ [] → behind ≡ state → Gives state tokens behind
-  first : (token : Token) (rest tokens : List Token) (state next behind : State) → Comes state (outcome.Token token) next → Gives next rest behind → tokens ≡ token ∷ rest → Gives state tokens behind
+  nothing : (tokens : List Token) (state after : State) → tokens ≡ [] → after ≡ state → Gives state tokens after
+  first : (token : Token) (rest tokens : List Token) (state next after : State) → Comes state (outcome.Token token) next → Gives next rest after → tokens ≡ token ∷ rest → Gives state tokens after
 
 -- from this state these tokens come, and then this
 pub record IsRunFrom (state : State) (tokens : List Token) (last : Outcome) : Type 0 where
   pub before : State
   pub gives : Gives state tokens before
-  pub behind : State
-  pub ends : Comes before last behind
+  pub after : State
+  pub ends : Comes before last after

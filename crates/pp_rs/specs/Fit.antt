@@ -6,7 +6,8 @@ use Rattle.pp_rs.specs.Item.{Step}
 use Rattle.pp_rs.specs.Left.{IsSound}
 use Rattle.pp_rs.specs.Machine.{Machine}
 use Rattle.pp_rs.specs.Reader.{Reader, of_source, of_list}
-use Rattle.pp_rs.specs.Source.{Source}
+use Rattle.pp_rs.specs.Source.{Source, untold_of}
+use Rattle.pp_rs.specs.Untold.{IsToldBut}
 use Rattle.pp_rs.specs.declared.pp.step.StepExit.TheVariants.{Finished}
 
 -- a source with no item left, and no open block
@@ -28,3 +29,7 @@ pub record IsFit (machine : Machine) (source : Source) : Type 0 where
   pub unspent : source.spent ≡ false
   pub sound : IsSound machine (of_source source)
   pub last : EndIsLast machine.held machine.frames (of_source source)
+
+-- each error of the lexer that was read was told, but for one that is held
+abbrev pub IsTold : Machine → Source → Type 0
+IsTold machine source = IsToldBut machine.held (untold_of source)

@@ -1,21 +1,26 @@
--- What a preprocessor keeps: the states of a run that it stands for, whether memory was refused, and how much is left. Nothing here has to
--- be believed. Contracts of public calls say what holds of `Stands`, `is_spent` and `most_items`, whatever these are, and proofs of callers
--- can't look into them.
-use Rattle.std.specs.Prelude.{Bool, if◌then◌else◌, ℕ}
+-- What a preprocessor keeps: the states of a run that it stands for, whether memory was refused, how much is left, which errors of the lexer
+-- were not told yet, and where the error stands that was given last. Nothing here has to be believed. Contracts of public calls say what
+-- holds of `Stands`, `is_spent`, `most_items`, `errors_left` and `error_place`, whatever these are, and proofs of callers can't look into
+-- them.
+use Rattle.std.specs.Prelude.{Bool, if◌then◌else◌, ℕ, List}
+use Rattle.pp_lexer.specs.declared.token.Location.{Location}
 use Rattle.pp_model.specs.Emitting.{expansion_limit}
 use Rattle.pp_model.specs.Reading.{Expander}
 use Rattle.pp_model.specs.SourceReader.{SourceReader}
 use Rattle.pp_rs.specs.Left.{work_of}
+use Rattle.pp_rs.specs.LexerErrors.{ErrorAt}
 use Rattle.pp_rs.specs.Machine.{Machine}
 use Rattle.pp_rs.specs.Reader.{of_source}
-use Rattle.pp_rs.specs.Source.{Source}
+use Rattle.pp_rs.specs.Source.{Source, untold_of}
 use Rattle.pp_rs.specs.Stands.{StandsFor}
+use Rattle.pp_rs.specs.Untold.{untold_with}
 
--- the macros that are open with what is held, the source behind them, and whether memory was refused
+-- the macros that are open with what is held, the source after them, whether memory was refused, and where the last error stands
 pub record Preprocessing : Type 0 where
   pub machine : Machine
   pub source : Source
   pub spent : Bool
+  pub place : Location
 
 -- a state of a run that it stands for
 unfoldable pub Stands : Preprocessing → Expander SourceReader → Type 0
@@ -28,3 +33,11 @@ is_spent p = p.spent
 -- no more items come than this
 unfoldable pub most_items : Preprocessing → ℕ
 most_items p = if p.spent then 0 else work_of expansion_limit p.machine (of_source p.source)
+
+-- the errors of the lexer that were not told yet, each with where it stands
+unfoldable pub errors_left : Preprocessing → List ErrorAt
+errors_left p = untold_with p.machine.held (untold_of p.source)
+
+-- where the error stands that was given last
+unfoldable pub error_place : Preprocessing → Location
+error_place p = p.place

@@ -12,6 +12,10 @@ pub use Rattle.pp_lexer.specs.ItemLaws
 pub mod Item
 pub mod Held
 pub mod Kept
+pub mod LexerErrors
+pub mod Untold
+pub mod SourceLexed
+pub mod Plain
 pub mod Preprocessing
 pub mod Defined
 pub mod DirectiveItems

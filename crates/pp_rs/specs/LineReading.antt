@@ -1,6 +1,6 @@
--- What the reading of a part of a line gives, and where the lexer stands behind it.
+-- What the reading of a part of a line gives, and where the lexer stands after it.
 use Rattle.std.specs.Prelude.{◌≡◌, ◌≢◌, ℕ, ◌≤◌, ◌<◌, Bool, false, if◌then◌else◌, not, List, [], ◌∷◌, length, drop, Option, Some, None, Result, Ok, Err, ⊤, IsTrue, IfOk, IfSome}
-use Rattle.pp_lexer.specs.Lexed.{Seen, Lexed}
+use Rattle.pp_lexer.specs.Lexed.{Seen}
 use Rattle.pp_lexer.specs.Items.{Lexeme}
 use Rattle.pp_lexer.specs.TokenValue.{is_ordinary}
 use Rattle.pp_lexer.specs.declared.lexer.item.Token.{Token as LexerToken}
@@ -12,6 +12,7 @@ use Rattle.pp_model.specs.Emitting.{token_before}
 use Rattle.pp_model.specs.Lines.{◌>>=◌, line_tokens, line_length, line_fault, comments_before_end, ended_line}
 use Rattle.pp_model.specs.declared.definition.Named.{Named}
 use Rattle.pp_model.specs.declared.definition.Placed.{Placed}
+use Rattle.pp_rs.specs.SourceLexed.{SourceLexed}
 use Rattle.pp_rs.specs.declared.pp.lines.DefineLine.{DefineLine}
 use Rattle.pp_rs.specs.declared.pp.lines.PlacedName.{PlacedName}
 use Rattle.pp_rs.specs.declared.pp.halt.Halt.{Halt}
@@ -24,23 +25,23 @@ Meets shows (Err (halt.Fault fault)) wanted = wanted ≡ Err fault
 Meets shows (Err halt.OutOfMemory) wanted = ⊤
 
 -- so many items were taken
-pub record HasTaken (taken : ℕ) (old new : Lexed) : Type 0 where
+pub record HasTaken (taken : ℕ) (old new : SourceLexed) : Type 0 where
   pub rest : new.rest ≡ drop taken old.rest
   pub spent : new.spent ≡ false
 
--- behind a fault: nothing is said of how far the lexer went
-pub record HasGoneOn (old new : Lexed) : Type 0 where
+-- after a fault: nothing is said of how far the lexer went
+pub record HasGoneOn (old new : SourceLexed) : Type 0 where
   pub rest : length new.rest ≤ length old.rest
   pub spent : new.spent ≡ false
 
 -- a value takes so many items
-abbrev pub TakesItems : {A : Type 0} → ℕ → Lexed → Result A Halt → Lexed → Type 0
+abbrev pub TakesItems : {A : Type 0} → ℕ → SourceLexed → Result A Halt → SourceLexed → Type 0
 TakesItems taken old (Ok value) new = HasTaken taken old new
 TakesItems taken old (Err (halt.Fault fault)) new = HasGoneOn old new
 TakesItems taken old (Err halt.OutOfMemory) new = ⊤
 
--- behind a fault something was taken
-abbrev pub FaultTakesSome : {A : Type 0} → Result A Halt → Lexed → Lexed → Type 0
+-- after a fault something was taken
+abbrev pub FaultTakesSome : {A : Type 0} → Result A Halt → SourceLexed → SourceLexed → Type 0
 FaultTakesSome (Ok value) old new = ⊤
 FaultTakesSome (Err (halt.Fault fault)) old new = length new.rest < length old.rest
 FaultTakesSome (Err halt.OutOfMemory) old new = ⊤
@@ -56,14 +57,14 @@ abbrev pub IsWithinLine : Option LexerToken → Type 0
 IsWithinLine None = ⊥
 IsWithinLine (Some token) = is_newline token.value ≡ false
 
--- behind a token that doesn't end its line something is left
+-- after a token that doesn't end its line something is left
 abbrev pub LeavesSome : Option LexerToken → List Seen → Type 0
 LeavesSome token rest = IsWithinLine token → rest ≢ []
 
 -- whether a comment stands before the end of a line whose first token was read, where this is known of what was read
-abbrev pub comments_behind : Option Token → List Seen → Bool → Bool
-comments_behind None rest before = before
-comments_behind (Some token) rest before = comments_before_end rest
+abbrev pub comments_after : Option Token → List Seen → Bool → Bool
+comments_after None rest before = before
+comments_after (Some token) rest before = comments_before_end rest
 
 abbrev pub as_next : Lexeme → Result (Option LexerToken) Fault
 as_next (Ok token) = Ok (Some token)
@@ -86,25 +87,25 @@ abbrev pub next_line_token : List Seen → Result (Option Token) Fault
 next_line_token rest = next_token rest >>= line_token
 
 -- the tokens of a line whose first one was read
-abbrev pub tokens_behind : Option Token → List Seen → Result (List Token) Fault
-tokens_behind None rest = Ok []
-tokens_behind (Some token) rest = token_before token (line_tokens rest)
+abbrev pub tokens_after : Option Token → List Seen → Result (List Token) Fault
+tokens_after None rest = Ok []
+tokens_after (Some token) rest = token_before token (line_tokens rest)
 
-abbrev pub length_behind : Option Token → List Seen → ℕ
-length_behind None rest = 0
-length_behind (Some token) rest = line_length rest
+abbrev pub length_after : Option Token → List Seen → ℕ
+length_after None rest = 0
+length_after (Some token) rest = line_length rest
 
 abbrev pub unless_fault : {A : Type 0} → Option Fault → Result A Fault → Result A Fault
 unless_fault (Some fault) line = Err fault
 unless_fault None line = line
 
-abbrev pub goes_on_behind : Lexeme → Result Bool Fault
-goes_on_behind item = item >>= λ token. Ok (not (is_newline token.value))
+abbrev pub goes_on_after : Lexeme → Result Bool Fault
+goes_on_after item = item >>= λ token. Ok (not (is_newline token.value))
 
--- whether the line goes on behind its first token
+-- whether the line goes on after its first token
 abbrev pub line_goes_on : List Seen → Result Bool Fault
 line_goes_on [] = Ok false
-line_goes_on (s ∷ rest) = goes_on_behind s.item
+line_goes_on (s ∷ rest) = goes_on_after s.item
 
 -- a line that is skipped, but for the lexer's errors
 abbrev pub skipped_line : List Seen → Result (Unit {0}) Fault

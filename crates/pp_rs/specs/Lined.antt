@@ -9,12 +9,12 @@ abbrev pub BeginsNoDirective : List Seen → Type 0
 BeginsNoDirective [] = ⊤
 BeginsNoDirective (s ∷ rest) = is_directive_hash s.item ≡ false
 
--- behind an item that ends no line, a token or an error, stands no number sign of a directive
+-- after an item that ends no line, a token or an error, stands no number sign of a directive
 abbrev pub AreLined : List Seen → Type 0
 AreLined [] = ⊤
 AreLined (s ∷ rest) = (ends_line s.item ≡ false → BeginsNoDirective rest) × AreLined rest
 
--- behind an item that ends no line more stands
+-- after an item that ends no line more stands
 abbrev pub AreEnded : List Seen → Type 0
 AreEnded [] = ⊤
 AreEnded (s ∷ rest) = (ends_line s.item ≡ false → rest ≢ []) × AreEnded rest

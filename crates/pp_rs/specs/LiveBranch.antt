@@ -11,7 +11,7 @@ use Rattle.pp_model.specs.Sights.{sight_of}
 use Rattle.pp_model.specs.SourceReader.{SourceReader}
 use Rattle.pp_model.specs.declared.block.BlockLine.{BlockLine}
 
--- Of a block's marks one is chosen: its first line, behind which no parting stands, or the line behind which so many stand.
+-- Of a block's marks one is chosen: its first line, after which no parting stands, or the line after which so many stand.
 pub record IsChosen (truths : Truths) (block : Block) (mark : ℕ) : Type 0 where
   pub stands : mark ≤ length block.partings
   pub chosen : is_last_chosen truths block.first (take mark block.partings) ≡ true

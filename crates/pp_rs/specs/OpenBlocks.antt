@@ -28,7 +28,7 @@ block_opened word holds = record { word = word; live_around = true; taken = hold
 abbrev pub block_unread : Location → OpenBlock
 block_unread word = record { word = word; live_around = false; taken = false; with_else = false; chosen = false }
 
--- the block behind its `#else`, whose branch is chosen where no other was taken
+-- the block after its `#else`, whose branch is chosen where no other was taken
 abbrev pub block_parted : OpenBlock → OpenBlock
 block_parted block = record block { with_else = true; chosen = block.live_around && not block.taken }
 

@@ -1,6 +1,6 @@
 -- The parameters of a macro, as the code reads them.
 use Rattle.std.specs.Prelude.{false, true, Bool, if◌then◌else◌, List, [], ◌∷◌, Option, Some, None, Result, Ok, Err, ⊤}
-use Rattle.pp_lexer.specs.Lexed.{Seen, Lexed}
+use Rattle.pp_lexer.specs.Lexed.{Seen}
 use Rattle.pp_lexer.specs.declared.lexer.item.Token.{Token as LexerToken}
 use Rattle.pp_lexer.specs.declared.token.Location.{Location}
 use Rattle.pp_model.specs.Calls.{Fault}
@@ -10,6 +10,7 @@ use Rattle.pp_model.specs.Lines.{◌>>=◌, first_token, line_tokens}
 use Rattle.pp_model.specs.Definitions.{Definition}
 use Rattle.pp_model.specs.Names.{Name}
 use Rattle.pp_rs.specs.LineReading.{HasGoneOn}
+use Rattle.pp_rs.specs.SourceLexed.{SourceLexed}
 use Rattle.pp_rs.specs.declared.pp.halt.Halt.{Halt}
 use Rattle.pp_rs.specs.declared.pp.halt.Halt.TheVariants as halt
 
@@ -38,12 +39,12 @@ abbrev pub alone : Option Name → Option (List Name)
 alone None = None
 alone (Some name) = Some (name ∷ [])
 
--- how the lexer stands behind a value or a fault
-abbrev pub GoesOn : {A : Type 0} → Result A Halt → Lexed → Lexed → Type 0
+-- how the lexer stands after a value or a fault
+abbrev pub GoesOn : {A : Type 0} → Result A Halt → SourceLexed → SourceLexed → Type 0
 GoesOn (Ok value) old new = HasGoneOn old new
 GoesOn (Err (halt.Fault fault)) old new = HasGoneOn old new
 GoesOn (Err halt.OutOfMemory) old new = ⊤
 
--- a macro with parameters, behind its `(`
+-- a macro with parameters, after its `(`
 abbrev pub function_at : Location → List Seen → Result Definition Fault
-function_at word rest = parameters word rest >>= λ list. line_tokens list.behind >>= λ body. Ok (record { function_like = true; parameters = list.names; body = body })
+function_at word rest = parameters word rest >>= λ list. line_tokens list.after >>= λ body. Ok (record { function_like = true; parameters = list.names; body = body })

@@ -2,13 +2,13 @@
 use Rattle.std.specs.Prelude.{ℕ, zero, suc, ◌+◌, ◌*◌, ◌-◌, ◌≤◌, ◌<◌, List, [], ◌∷◌, length}
 use Rattle.std.specs.Fn.{iterate}
 
--- So much is at hand at most, where this much was, behind one more token of a region over which so many names may open. The
+-- So much is at hand at most, where this much was, after one more token of a region over which so many names may open. The
 -- token may open a frame, of so many steps at most as `frame` says of what is at hand.
 abbrev pub grown : (ℕ → ℕ) → ℕ → ℕ → ℕ
 grown frame zero c = suc c
 grown frame (suc names) c = suc (iterate (grown frame names) (frame c) (c + frame c))
 
--- the same behind all regions, the innermost first, over the last of which so many names may open
+-- the same after all regions, the innermost first, over the last of which so many names may open
 abbrev pub through : (ℕ → ℕ) → ℕ → List ℕ → ℕ → ℕ
 through frame names [] c = c
 through frame names (s ∷ regions) c = through frame names regions (iterate (grown frame (names - length regions)) s c)

@@ -1,14 +1,15 @@
--- What stands behind the frames, as the interface object of a reader shows it.
+-- What stands after the frames, as the interface object of a reader shows it.
 use Rattle.std.specs.Prelude.{◌≡◌, ◌⊎◌, ℕ, pos, ◌+ℤ◌, Bool, ◌||◌, ◌&&◌, if◌then◌else◌, List, [], ◌∷◌, Option, Some, None, Ok, Err}
 use Rattle.pp_lexer.specs.PreprocessorError.{out_of_memory}
 use Rattle.pp_lexer.specs.declared.token.Token.{Token}
 use Rattle.pp_model.specs.Definitions.{Definitions}
 use Rattle.pp_model.specs.LineValues.{as_line_number}
 use Rattle.pp_model.specs.Names.{Name, is_in, is_same_name, defined_name}
-use Rattle.pp_model.specs.Reading.{behind_listed}
+use Rattle.pp_model.specs.Reading.{after_listed}
 use Rattle.pp_rs.specs.Item.{Step}
 use Rattle.pp_rs.specs.Defined.{Defined, meaning_of}
-use Rattle.pp_rs.specs.Source.{Source, StepsSource}
+use Rattle.pp_rs.specs.Source.{Source, untold_of, StepsSource}
+use Rattle.pp_rs.specs.Untold.{StepTells}
 use Rattle.pp_rs.specs.declared.pp.step.StepExit.TheVariants.{Error, Finished}
 
 -- The tokens of an argument, or of the line of a directive, with what is defined there and the names that are open around.
@@ -29,11 +30,11 @@ listed_step (token ∷ tokens) = Ok token
 
 -- the next token, or the end, unless memory is refused
 abbrev pub StepsListed : Listing → Step Token → Listing → Type 0
-StepsListed old step new = ((step ≡ listed_step old.tokens) × (new ≡ record old { tokens = behind_listed old.tokens })) ⊎ (step ≡ Err (Error out_of_memory))
+StepsListed old step new = ((step ≡ listed_step old.tokens) × (new ≡ record old { tokens = after_listed old.tokens })) ⊎ (step ≡ Err (Error out_of_memory))
 
--- one step of a reader, which stays of its kind
+-- one step of a reader, which stays of its kind; of a source it tells the errors of the lexer too
 abbrev pub Reads : Reader → Step Token → Reader → Type 0
-Reads (of_source old) step (of_source new) = StepsSource old step new
+Reads (of_source old) step (of_source new) = StepsSource old step new × StepTells step (untold_of old) (untold_of new)
 Reads (of_list old) step (of_list new) = StepsListed old step new
 Reads _ step _ = ⊥
 

@@ -1,4 +1,4 @@
--- What the code finds behind the name of a function-like macro.
+-- What the code finds after the name of a function-like macro.
 use Rattle.std.specs.Prelude.{◌≡◌, true, false, [], ◌∷◌, Option, Some, None, Result, Ok, Err, ⊤}
 use Rattle.pp_model.specs.Names.{Name}
 use Rattle.pp_model.specs.Definitions.{Definition}

@@ -1,4 +1,4 @@
--- What a directive does, where the source stands behind its word or its number sign.
+-- What a directive does, where the source stands after its word or its number sign.
 use Rattle.std.specs.Prelude.{◌≡◌, ◌≤◌, ◌+◌, Bool, true, false, if◌then◌else◌, List, length, drop, Option, Some, None, Result, Ok, Err, ⊤}
 use Rattle.pp_lexer.specs.Lexed.{Seen}
 use Rattle.pp_lexer.specs.declared.lexer.item.Token.{Token as LexerToken}
@@ -23,7 +23,7 @@ use Rattle.pp_rs.specs.declared.pp.halt.Halt.{Halt}
 use Rattle.pp_rs.specs.declared.pp.halt.Halt.TheVariants as halt
 use Rattle.pp_rs.specs.declared.pp.step.StepExit.TheVariants.{Continue}
 
--- behind a fault: nothing is said of how far the reader went, nor of which blocks are open, but that no more items and blocks are left
+-- after a fault: nothing is said of how far the reader went, nor of which blocks are open, but that no more items and blocks are left
 pub record HasKept (old new : Source) : Type 0 where
   pub left : length new.rest + length new.blocks ≤ length old.rest + length old.blocks
   pub definitions : new.definitions ≡ old.definitions
@@ -56,19 +56,19 @@ Acts move old result new = ActsAs (λ done. Err Continue) move old result new
 abbrev pub Gives : Move → Source → Result (Option Token) Halt → Source → Type 0
 Gives move old result new = ActsAs as_pause move old result new
 
--- what a directive comes to behind its number sign, where this is its word and these items stand behind that
+-- what a directive comes to after its number sign, where this is its word and these items stand after that
 abbrev pub live_word_move : Option OpenBlock → Result Placed Fault → List Seen → Move
-live_word_move block (Ok word) behind = taking_more 1 (directive_move true block (directive_of word.name) word.location behind)
-live_word_move block (Err fault) behind = failing fault
+live_word_move block (Ok word) after = taking_more 1 (directive_move true block (directive_of word.name) word.location after)
+live_word_move block (Err fault) after = failing fault
 
--- the same in dead text, where this is the token behind the number sign
+-- the same in dead text, where this is the token after the number sign
 abbrev pub dead_name_move : Option OpenBlock → Location → Option Name → List Seen → Move
-dead_name_move block location (Some name) behind = taking_more 1 (directive_move false block (directive_of name) location behind)
-dead_name_move block location None behind = record { effect = passes; taken = 1; note = unnoted }
+dead_name_move block location (Some name) after = taking_more 1 (directive_move false block (directive_of name) location after)
+dead_name_move block location None after = record { effect = passes; taken = 1; note = unnoted }
 
 abbrev pub dead_word_move : Option OpenBlock → Result LexerToken Fault → List Seen → Move
-dead_word_move block (Ok token) behind = dead_name_move block token.location (identifier_of token.value) behind
-dead_word_move block (Err fault) behind = failing fault
+dead_word_move block (Ok token) after = dead_name_move block token.location (identifier_of token.value) after
+dead_word_move block (Err fault) after = failing fault
 
 -- the same in live or dead text
 abbrev pub word_move : Bool → Option OpenBlock → Location → List Seen → Move

@@ -72,7 +72,7 @@ skip_by (Some fault) effect taken = failing fault
 skip_by None effect taken = record { effect = effect; taken = taken; note = unnoted }
 
 abbrev pub skip_move : Effect → List Seen → Move
-skip_move effect behind = skip_by (line_fault behind) effect (line_length behind)
+skip_move effect after = skip_by (line_fault after) effect (line_length after)
 
 -- an `#else` of the innermost block, once its line has ended
 abbrev pub else_effect : Option OpenBlock → Location → Effect
@@ -80,56 +80,56 @@ else_effect None word = fails (ElseOutsideOfBlock, word)
 else_effect (Some block) word = if block.with_else then fails (MoreThanOneElse, word) else parts (block_parted block)
 
 abbrev pub else_move : Option OpenBlock → Location → List Seen → Move
-else_move block word behind = line_move (ended_line word behind) (λ end. else_effect block word) (line_length behind)
+else_move block word after = line_move (ended_line word after) (λ end. else_effect block word) (line_length after)
 
 -- the `#endif` of the innermost block
 abbrev pub endif_move : Option OpenBlock → Location → List Seen → Move
-endif_move None word behind = failing (EndifOutsideOfBlock, word)
-endif_move (Some block) word behind =
-    if block.live_around then line_move (ended_line word behind) (λ end. closes) (line_length behind) else skip_move closes behind
+endif_move None word after = failing (EndifOutsideOfBlock, word)
+endif_move (Some block) word after =
+    if block.live_around then line_move (ended_line word after) (λ end. closes) (line_length after) else skip_move closes after
 
 -- an `#elif` of the innermost block: it is skipped where it can't be the first branch to be taken
 abbrev pub elif_move : Option OpenBlock → Location → List Seen → Move
-elif_move None word behind = failing (ElifOutsideOfBlock, word)
-elif_move (Some block) word behind =
+elif_move None word after = failing (ElifOutsideOfBlock, word)
+elif_move (Some block) word after =
     if block.with_else then failing (ElifAfterElse, word)
-    else if skips_branches block then skip_move (parts (block_skipped block)) behind
-    else line_move (line_tokens behind) (parts_if block word) (line_length behind)
+    else if skips_branches block then skip_move (parts (block_skipped block)) after
+    else line_move (line_tokens after) (parts_if block word) (line_length after)
 
 -- a line that is an item
 abbrev pub item_move : (List Entry → DirectiveItem) → Location → List Seen → Move
-item_move item word behind = line_move (line_entries behind) (λ tokens. gives_item (item tokens) word) (line_length behind)
+item_move item word after = line_move (line_entries after) (λ tokens. gives_item (item tokens) word) (line_length after)
 
--- a directive in live text, where these items stand behind its word
+-- a directive in live text, where these items stand after its word
 abbrev pub live_move : Option OpenBlock → Directive → Location → List Seen → Move
-live_move block d.Define word behind = line_move (defined_on word behind) defines (line_length behind)
-live_move block d.Undef word behind = line_move (only_name word behind) undefines (line_length behind)
-live_move block d.If word behind = line_move (line_tokens behind) (opens_if word) (line_length behind)
-live_move block d.Ifdef word behind = line_move (only_name word behind) (opens_where true word) (line_length behind)
-live_move block d.Ifndef word behind = line_move (only_name word behind) (opens_where false word) (line_length behind)
-live_move block d.Elif word behind = elif_move block word behind
-live_move block d.Else word behind = else_move block word behind
-live_move block d.Endif word behind = endif_move block word behind
-live_move block d.Error word behind = failing (ErrorDirective, word)
-live_move block d.Line word behind = line_move (line_tokens behind) (renumbers word) (line_length behind)
-live_move block d.Version word behind = item_move (λ tokens. version tokens (comments_before_end behind)) word behind
-live_move block d.Extension word behind = item_move extension word behind
-live_move block d.Pragma word behind = item_move pragma word behind
-live_move block d.Unknown word behind = failing (UnknownDirective, word)
+live_move block d.Define word after = line_move (defined_on word after) defines (line_length after)
+live_move block d.Undef word after = line_move (only_name word after) undefines (line_length after)
+live_move block d.If word after = line_move (line_tokens after) (opens_if word) (line_length after)
+live_move block d.Ifdef word after = line_move (only_name word after) (opens_where true word) (line_length after)
+live_move block d.Ifndef word after = line_move (only_name word after) (opens_where false word) (line_length after)
+live_move block d.Elif word after = elif_move block word after
+live_move block d.Else word after = else_move block word after
+live_move block d.Endif word after = endif_move block word after
+live_move block d.Error word after = failing (ErrorDirective, word)
+live_move block d.Line word after = line_move (line_tokens after) (renumbers word) (line_length after)
+live_move block d.Version word after = item_move (λ tokens. version tokens (comments_before_end after)) word after
+live_move block d.Extension word after = item_move extension word after
+live_move block d.Pragma word after = item_move pragma word after
+live_move block d.Unknown word after = failing (UnknownDirective, word)
 
 -- a directive in dead text
 abbrev pub dead_move : Option OpenBlock → Directive → Location → List Seen → Move
-dead_move block d.If word behind = skip_move (opens_unread word) behind
-dead_move block d.Ifdef word behind = skip_move (opens_unread word) behind
-dead_move block d.Ifndef word behind = skip_move (opens_unread word) behind
-dead_move block d.Elif word behind = elif_move block word behind
-dead_move block d.Else word behind = else_move block word behind
-dead_move block d.Endif word behind = endif_move block word behind
-dead_move block d.Unknown word behind = record { effect = passes; taken = 0; note = unnoted }
-dead_move block _ word behind = skip_move passes behind
+dead_move block d.If word after = skip_move (opens_unread word) after
+dead_move block d.Ifdef word after = skip_move (opens_unread word) after
+dead_move block d.Ifndef word after = skip_move (opens_unread word) after
+dead_move block d.Elif word after = elif_move block word after
+dead_move block d.Else word after = else_move block word after
+dead_move block d.Endif word after = endif_move block word after
+dead_move block d.Unknown word after = record { effect = passes; taken = 0; note = unnoted }
+dead_move block _ word after = skip_move passes after
 
 abbrev pub directive_move : Bool → Option OpenBlock → Directive → Location → List Seen → Move
-directive_move live block directive word behind = if live then live_move block directive word behind else dead_move block directive word behind
+directive_move live block directive word after = if live then live_move block directive word after else dead_move block directive word after
 
 -- so many items more, the number sign and the word of a directive among them
 abbrev pub taking_more : ℕ → Move → Move

@@ -1,4 +1,4 @@
--- One turn of the expander over a source, behind which a call is finished at once (docs/RULES.md, Expansion 1 to 10).
+-- One turn of the expander over a source, after which a call is finished at once (docs/RULES.md, Expansion 1 to 10).
 use Rattle.std.specs.Prelude.{◌≡◌, ◌⊎◌, ℕ, List, [], ◌++◌, Ok, Err}
 use Rattle.pp_lexer.specs.PreprocessorError.{out_of_memory}
 use Rattle.pp_lexer.specs.declared.token.Token.{Token}
@@ -17,7 +17,7 @@ use Rattle.pp_rs.specs.declared.pp.calls.Taken.{Taken}
 use Rattle.pp_rs.specs.declared.pp.calls.Taken.TheVariants as taken
 use Rattle.pp_rs.specs.declared.pp.step.StepExit.TheVariants.{Error, Continue}
 
--- behind a call its frame is open, which pauses, or its fault is given
+-- after a call its frame is open, which pauses, or its fault is given
 pub data FollowsCall (levels : ℕ) (definitions : List Defined) (call : PendingCall) (old : Machine) (step : Step Token) (new : Machine) : Type 0 where
   opened : step ≡ Err Continue → IsOpened levels definitions (names_of old.frames ++ []) call old new → FollowsCall levels definitions call old step new
   refused : (fault : Fault) → step ≡ Err (Error fault) → answers_at levels call.definition (site_at call definitions (names_of old.frames ++ [])) (Err fault) → new ≡ old → FollowsCall levels definitions call old step new
@@ -28,11 +28,11 @@ FollowsTurn levels definitions (Ok (taken.Token token)) old step new = (step ≡
 FollowsTurn levels definitions (Ok (taken.Call call)) old step new = FollowsCall levels definitions call old step new
 FollowsTurn levels definitions (Err exit) old step new = (step ≡ Err exit) × (new ≡ old)
 
-pub record TurnsSource (levels : ℕ) (old : Machine) (source : Source) (step : Step Token) (new : Machine) (behind : Source) : Type 0 where
+pub record TurnsSource (levels : ℕ) (old : Machine) (source : Source) (step : Step Token) (new : Machine) (after : Source) : Type 0 where
   pub taken : Step Taken
   pub between : Machine
-  pub turns : TurnsTo old (of_source source) taken between (of_source behind)
-  pub follows : FollowsTurn levels behind.definitions taken between step new
+  pub turns : TurnsTo old (of_source source) taken between (of_source after)
+  pub follows : FollowsTurn levels after.definitions taken between step new
 
 -- memory was refused, where something was taken
 pub record IsRefusedOver (old : Machine) (source : Source) (step : Step Token) : Type 0 where
@@ -41,4 +41,4 @@ pub record IsRefusedOver (old : Machine) (source : Source) (step : Step Token) :
 
 -- a turn, unless memory is refused
 abbrev pub StepsOver : ℕ → Machine → Source → Step Token → Machine → Source → Type 0
-StepsOver levels old source step new behind = TurnsSource levels old source step new behind ⊎ IsRefusedOver old source step
+StepsOver levels old source step new after = TurnsSource levels old source step new after ⊎ IsRefusedOver old source step

@@ -14,7 +14,7 @@ use Rattle.pp_rs.specs.OpenBlocks.{last_block, is_live_in, StandForBlocks, AreBe
 use Rattle.pp_rs.specs.Source.{Source}
 use Rattle.pp_rs.specs.declared.pp.step.StepExit.TheVariants.{Error, Continue}
 
--- A reader of a source: what is left to read stands behind its position, the lines of blocks are those before it and those behind it, and
+-- A reader of a source: what is left to read stands after its position, the lines of blocks are those before it and those after it, and
 -- the blocks that are kept are those that are open there. It remembers whether a live token of the text was read, and a directive. No
 -- number sign of a directive stands directly before its position; in live text the position isn't on a directive's line, but at the end.
 pub record StandsForReader (source : Source) (reader : SourceReader) : Type 0 where
@@ -23,17 +23,17 @@ pub record StandsForReader (source : Source) (reader : SourceReader) : Type 0 wh
   pub definitions : reader.definitions ≡ meaning_of source.definitions
   pub line_offset : reader.line_offset ≡ source.line_offset
   pub lined : AreLined reader.items
-  pub lines : (behind : List Seen) → block_lines 0 (take reader.position reader.items ++ behind) ≡ block_lines 0 (take reader.position reader.items) ++ block_lines reader.position behind
+  pub lines : (after : List Seen) → block_lines 0 (take reader.position reader.items ++ after) ≡ block_lines 0 (take reader.position reader.items) ++ block_lines reader.position after
   pub blocks : StandForBlocks reader.items reader.truths source.blocks (blocks_at reader.items reader.position)
   pub truths : AreBefore reader.position reader.truths
   pub unfinished : reader.unfinished ≡ length (blocks_at reader.items (length reader.items))
   pub unspent : source.spent ≡ false
   pub remembers_text : source.has_text ≡ has_live_text_before reader.items reader.truths reader.position
   pub remembers_directive : source.has_directive ≡ has_directive (take reader.position reader.items)
-  pub directives : (behind : List Seen) → has_directive (take reader.position reader.items ++ behind) ≡ (has_directive (take reader.position reader.items) || has_directive behind)
+  pub directives : (after : List Seen) → has_directive (take reader.position reader.items ++ after) ≡ (has_directive (take reader.position reader.items) || has_directive after)
   pub off_line : is_live_in (last_block source.blocks) ≡ true → source.rest ≢ [] → is_on_directive_line reader.items reader.position ≡ false
 
--- what is held comes next; behind a fault that is held nothing is said of the reader, and a pause is never held
+-- what is held comes next; after a fault that is held nothing is said of the reader, and a pause is never held
 abbrev pub StandsForHeld : Option (Step Token) → Source → SourceReader → Type 0
 StandsForHeld (Some (Err (Error fault))) source reader = ⊤
 StandsForHeld (Some (Err Continue)) source reader = ⊥

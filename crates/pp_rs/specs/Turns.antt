@@ -1,4 +1,4 @@
--- One step of the frames, or of the reader behind them, and what a token that is taken becomes and opens (docs/RULES.md,
+-- One step of the frames, or of the reader after them, and what a token that is taken becomes and opens (docs/RULES.md,
 -- Expansion 1 to 4 and 10).
 use Rattle.std.specs.Prelude.{◌≡◌, Bool, false, if◌then◌else◌, List, [], ◌∷◌, Option, Some, None, Ok, Err, ◌⊎◌, unwrap_or}
 use Rattle.pp_lexer.specs.PreprocessorError.{out_of_memory}

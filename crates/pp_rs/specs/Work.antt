@@ -43,6 +43,6 @@ abbrev pub is_end : Step Token → Bool
 is_end (Err Finished) = true
 is_end _ = false
 
--- reading goes on behind each other step
+-- reading goes on after each other step
 abbrev pub goes_on : Step Token → Bool
 goes_on step = not (is_end step) && not (wants_memory step)

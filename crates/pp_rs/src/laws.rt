@@ -4,7 +4,7 @@
 ghost use Rattle.std.specs.Prelude.{ℕ};
 ghost use Rattle.pp_lexer.specs.ItemLaws.{TokensLieWithin, TokensHaveLines, ItemsAreFinite};
 ghost use Rattle.pp_lexer.specs.PhaseLaws.{PairsCountOnce, LinesCountNewlines, SourcesNeverFall};
-ghost use Rattle.pp_model.specs.BlockLaws.{OneBranch, NoneBehindTaken, DeadTextGivesNothing};
+ghost use Rattle.pp_model.specs.BlockLaws.{OneBranch, NoneAfterTaken, DeadTextGivesNothing};
 ghost use Rattle.pp_model.specs.Emitting.{answers_at};
 ghost use Rattle.pp_model.specs.ExpansionLaws.{OneReads};
 ghost use Rattle.pp_model.specs.Reads.{source_reading};
@@ -58,7 +58,7 @@ pub fn no_line_name()
     pp_model::laws::run_no_line_name()
 }
 
-/// The end of a source is for good: behind it no item is given, whatever definitions are added.
+/// The end of a source is for good: after it no item is given, whatever definitions are added.
 pub fn end_stays()
     ensures item { (level : ℕ) → EndStays (answers_at level) }
     ensures replies { (level : ℕ) → RunEndsForGood (answers_at level) }
@@ -66,11 +66,11 @@ pub fn end_stays()
     pp_model::laws::run_end()
 }
 
-/// Of a block's branches at most one is live, and behind one that was taken none is. Of a block that was read to its
+/// Of a block's branches at most one is live, and after one that was taken none is. Of a block that was read to its
 /// `#endif`, that has an `#else` and begins in live text, just one is.
 pub fn live_branch()
     ensures one { OneBranch }
-    ensures none_behind { NoneBehindTaken }
+    ensures none_after { NoneAfterTaken }
     ensures read { (level : ℕ) → RunHasLiveBranches (answers_at level) }
 {
     pp_model::laws::live_branch()
@@ -99,7 +99,7 @@ pub fn one_reading()
     pp_model::laws::one_source_reading()
 }
 
-/// Calls that follow one another from the start of a source, each in the state behind the one before, are a run. Equal sources
+/// Calls that follow one another from the start of a source, each in the state after the one before, are a run. Equal sources
 /// and calls have equal replies, up to and with the first error item.
 pub fn runs()
     ensures chains { (level : ℕ) → ChainsAreRuns (answers_at level) }

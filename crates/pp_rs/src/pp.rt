@@ -37,7 +37,7 @@ pub use convert::{convert_lexer_token, convert_lexer_token_to_step};
 pub use pp_model::call::{Call, Reply};
 pub use pp_model::outcome::Outcome;
 pub use preprocessor::{Preprocessor, PreprocessorItem};
-pub use spelling::spell_tokens;
+pub use spelling::{push_value, spell_tokens};
 pub use step::{Step, StepExit};
 
 /// How many expansions of arguments may stand inside each other.

@@ -42,7 +42,7 @@ fn gather(alloc: Global, pp: &mut Preprocessor<'_>) -> Result<Vec<PreprocessorIt
 /// function.
 ///
 /// The error is `OutOfMemory`, where memory is refused, and what was gathered is given up. Where memory for an item is
-/// refused, `next` gives `None` for good. Where the list of the items can't grow, `next` goes on behind those that were
+/// refused, `next` gives `None` for good. Where the list of the items can't grow, `next` goes on after those that were
 /// gathered.
 pub fn preprocess_all(
     alloc: Global,

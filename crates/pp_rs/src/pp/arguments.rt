@@ -1,8 +1,9 @@
 //! Arguments of calls, each expanded alone.
 
 ghost use Rattle.std.specs.Prelude.{◌≡◌, ◌&&◌, ◌==◌, ◌≤◌, ◌⊎◌, ◌∷◌, ◌++◌, ◌-◌, ◌<◌, ◌^◌, [], IfOk, OnOk, OnErr, All, length, Ok, Err};
+ghost use Rattle.std.specs.List.{list_all};
 ghost use Rattle.pp_lexer.specs.PreprocessorError.{out_of_memory};
-ghost use Rattle.pp_model.specs.Calls.{arguments_of, misfit, is_one_empty, is_comma, nesting_behind};
+ghost use Rattle.pp_model.specs.Calls.{arguments_of, misfit, is_one_empty, is_comma, nesting_after};
 ghost use Rattle.pp_model.specs.Emitting.{Alone, Each};
 ghost use Rattle.pp_rs.specs.CallTurns.{TurnsTo};
 ghost use Rattle.pp_rs.specs.Defined.{meaning_of};
@@ -11,12 +12,14 @@ ghost use Rattle.pp_rs.specs.Frames.{layer, names_of};
 ghost use Rattle.pp_rs.specs.Held.{AllHoldOrdinary};
 ghost use Rattle.pp_rs.specs.Left.{most_alone};
 ghost use Rattle.pp_rs.specs.Machine.{Satisfies};
+ghost use Rattle.pp_rs.specs.Plain.{is_plain};
 ghost use Rattle.pp_rs.specs.Reader.{of_list};
 ghost use Rattle.pp_rs.specs.declared.pp.step.StepExit.TheVariants.{Error};
 
 use crate::pp::calls::{Call, Caller, ExpandedArguments, Taken, is_left_paren, is_right_paren};
 use crate::pp::define::Define;
 use crate::pp::definitions::Definitions;
+use crate::pp::expander::is_line_name;
 use crate::pp::frames::TokenList;
 use crate::pp::halt::Halt;
 use crate::pp::list_lexer::ListLexer;
@@ -41,10 +44,10 @@ fn ends_argument(depth: usize, value: &TokenValue) -> bool
     is_comma(value) && depth == 0
 }
 
-// How many parentheses are open behind a token, where so many are open before it.
-fn nesting_behind(depth: usize, value: &TokenValue) -> usize
+// How many parentheses are open after a token, where so many are open before it.
+fn nesting_after(depth: usize, value: &TokenValue) -> usize
     requires { depth < 2 ^ 63 }
-    ensures { result ≡ nesting_behind depth value.now }
+    ensures { result ≡ nesting_after depth value.now }
 {
     if is_left_paren(value) {
         depth + 1
@@ -69,7 +72,7 @@ fn arguments_of(alloc: Global, tokens: Vec<Token>) -> Result<ExpandedArguments, 
             piece = Vec::new(alloc);
             continue;
         }
-        depth = nesting_behind(depth, &token.value);
+        depth = nesting_after(depth, &token.value);
         piece.push(token)?;
     }
     pieces.push(TokenList::new(piece))?;
@@ -165,6 +168,27 @@ fn expand_arguments(
     Ok(ExpandedArguments::new(expanded))
 }
 
+// Whether the value gives itself: it is neither `__LINE__` nor a name that is defined.
+fn is_plain(value: &TokenValue, definitions: &Definitions) -> bool
+    ensures { result ≡ is_plain definitions.now value.now }
+{
+    match value {
+        TokenValue::Ident(name) => {
+            !is_line_name(value) && definitions.find(name.as_str()).is_none()
+        }
+        _ => true,
+    }
+}
+
+// Whether each token gives itself.
+fn are_plain(tokens: &[Token], definitions: &Definitions) -> bool
+    ensures { result ≡ list_all (λ token. is_plain definitions.now token.value) tokens.now }
+{
+    tokens
+        .iter()
+        .all(|token| is_plain(&token.value, definitions))
+}
+
 // What a list of tokens comes to alone.
 #[cycle(answers)]
 fn expand_argument(
@@ -177,9 +201,12 @@ fn expand_argument(
     ensures alone { Satisfies result (λ out. Alone levels tokens (meaning_of definitions.now) hidden.now out) }
     ensures least { IfOk result (λ out. IsShort levels definitions.now (length tokens) out) }
 {
+    if are_plain(tokens.as_slice(), definitions) {
+        return Ok(tokens);
+    }
     let mut lexer = ListLexer::argument(tokens.into_tokens(), definitions, &*hidden);
     let mut caller = Caller::new(alloc);
-    let mut items = Vec::new(alloc);
+    let mut items = Vec::with_capacity(alloc, 16)?;
     'items: loop {
         match step_list(&mut caller, &mut lexer) {
             Ok(Taken::Token(token)) => items.push(token)?,

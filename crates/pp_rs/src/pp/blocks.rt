@@ -49,7 +49,7 @@ impl OpenBlock {
         }
     }
 
-    /// The block behind its `#else`, whose branch is chosen where no other was taken.
+    /// The block after its `#else`, whose branch is chosen where no other was taken.
     pub fn parted(self) -> OpenBlock
         ensures { result ≡ spec.block_parted self }
     {

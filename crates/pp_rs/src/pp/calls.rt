@@ -1,6 +1,6 @@
 //! Calls of function-like macros: taking, and the search for their arguments.
 
-ghost use Rattle.std.specs.Prelude.{◌≡◌, ◌⊎◌, ◌∷◌, ◌++◌, [], OnOk, ℕ, Bool, true, false, All, IfOk, IfSome, MatchResult, Ok, Err, Some, None, option_map};
+ghost use Rattle.std.specs.Prelude.{◌≡◌, ◌⊎◌, ◌∷◌, ◌++◌, [], OnOk, ℕ, Bool, true, false, All, IfOk, IfSome, MatchResult, Ok, Err, Some, None, IsSome, option_map};
 ghost use Rattle.pp_lexer.specs.PreprocessorError.{out_of_memory};
 ghost use Rattle.pp_model.specs.Calls.{is_left_paren, is_right_paren, nesting};
 ghost use Rattle.pp_rs.specs.CallNesting.{nesting_named};
@@ -8,7 +8,7 @@ ghost use Rattle.pp_rs.specs.Seeking.{FindsBy, Enters, FollowsToken};
 ghost use Rattle.pp_rs.specs.Frames.{layer, names_of};
 ghost use Rattle.pp_rs.specs.Held.{HoldsOrdinary, AllHoldOrdinary};
 ghost use Rattle.pp_rs.specs.CallTurns.{TurnsOrRefuses, is_refusal, paren_of, TakenHoldsOrdinary};
-ghost use Rattle.pp_rs.specs.Machine.{StepsTaking, TakesNext, GathersNext, Satisfies, is_pause};
+ghost use Rattle.pp_rs.specs.Machine.{StepsTaking, TakesNext, GathersNext, Satisfies, taken_as, is_pause};
 ghost use Rattle.pp_rs.specs.Turns.{taken_in, opens, opens_value};
 ghost use Rattle.pp_lexer.specs.declared.token.TokenValue.TheVariants as value;
 ghost use Rattle.pp_rs.specs.declared.pp.step.StepExit.TheVariants.{Error, Continue};
@@ -144,7 +144,7 @@ impl Model for Caller {
 pub enum Nesting {
     /// It closes the call.
     Closes,
-    /// So many inner parentheses are open behind it.
+    /// So many inner parentheses are open after it.
     Within(u32),
     /// It opens one too many.
     TooMany,
@@ -203,7 +203,7 @@ fn nesting_of(depth: u32, value: &TokenValue) -> Nesting
     }
 }
 
-/// What stands behind the name of a function-like macro.
+/// What stands after the name of a function-like macro.
 #[derive(Drop)]
 pub enum Found {
     /// No call.
@@ -252,6 +252,14 @@ fn is_pause(step: &Step<Token>) -> bool
     }
 }
 
+// A refusal of memory, apart so that a token is moved without it.
+#[inline(never)]
+fn refused() -> Step<Taken>
+    ensures { result ≡ Err (Error out_of_memory) }
+{
+    Err(StepExit::Error(out_of_memory()))
+}
+
 impl Caller {
     /// An expander in which nothing is open or held.
     pub fn new(alloc: Global) -> Caller
@@ -269,16 +277,41 @@ impl Caller {
         ensures steps { StepsTaking self.old (reader lexer.old) result self.new (reader lexer.new) }
         ensures holds { IfOk result (λ token. HoldsOrdinary token.value) }
     {
+        if self.held.is_some() {
+            return self.take_held();
+        }
+        let step = self.processor.advance(lexer);
+        if gives_line_name(&step) {
+            return self.show_line(&*lexer, step);
+        }
+        step
+    }
+
+    // Takes what is held. It stands apart, as `show_line` does, so that other tokens are moved
+    // less.
+    #[inline(never)]
+    fn take_held(&mut self) -> Step<Token>
+        requires { IsSome self.old.held }
+        ensures held { self.old.held ≡ Some result }
+        ensures left { self.new ≡ record self.old { held = None } }
+        ensures holds { IfOk result (λ token. HoldsOrdinary token.value) }
+    {
         match self.held.take() {
             Some(step) => step,
-            None => {
-                let step = self.processor.advance(lexer);
-                if !gives_line_name(&step) {
-                    return step;
-                }
-                let token = step?;
-                self.processor.take_in(&*lexer, token)
-            }
+            None => unreachable!(),
+        }
+    }
+
+    // A `__LINE__` that was read becomes a number.
+    #[inline(never)]
+    fn show_line(&self, lexer: &dyn MeLexer, step: Step<Token>) -> Step<Token>
+        requires { IfOk step (λ token. HoldsOrdinary token.value) }
+        ensures shows { result ≡ taken_as step self.now.frames (reader lexer.now) }
+        ensures holds { IfOk result (λ token. HoldsOrdinary token.value) }
+    {
+        match step {
+            Ok(token) => self.processor.take_in(lexer, token),
+            Err(exit) => Err(exit),
         }
     }
 
@@ -299,7 +332,7 @@ impl Caller {
     fn gather(&mut self, lexer: &mut dyn MeLexer, paren: Location) -> Result<Gathered, Halt>
         ensures gathers { Satisfies result (λ g. GathersNext 0 paren self.old (reader lexer.old) g self.new (reader lexer.new)) }
     {
-        let mut tokens = Vec::new(self.alloc);
+        let mut tokens = Vec::with_capacity(self.alloc, 16)?;
         let mut last = paren;
         let mut depth: u32 = 0;
         'tokens: loop {
@@ -336,7 +369,7 @@ impl Caller {
         }
     }
 
-    // What stands behind the name of a function-like macro. What is no call is held.
+    // What stands after the name of a function-like macro. What is no call is held.
     fn seek(&mut self, lexer: &mut dyn MeLexer) -> Result<Found, Halt>
         ensures finds { FindsBy self.old (reader lexer.old) result self.new (reader lexer.new) }
     {
@@ -400,49 +433,51 @@ impl Caller {
         }
     }
 
-    // What the name stands for, unless its macro is open.
-    fn find_macro(&self, lexer: &dyn MeLexer, name: &Text) -> Result<Option<Rc<Define>>, AllocError>
-        ensures { IfOk result (λ found. option_map (λ define. (name.now, define.value)) found ≡ opens_value self.now.frames (reader lexer.now) (value.Ident name.now)) }
+    // What the value stands for as a name, unless its macro is open.
+    fn find_macro(
+        &self,
+        lexer: &dyn MeLexer,
+        value: &TokenValue,
+    ) -> Result<Option<Rc<Define>>, AllocError>
+        ensures { IfOk result (λ found. option_map (λ define. define.value) found ≡ option_map (λ opening. opening.1) (opens_value self.now.frames (reader lexer.now) value.now)) }
     {
-        self.processor.find_macro(lexer, name)
+        match value {
+            TokenValue::Ident(name) => self.processor.find_macro(lexer, name),
+            _ => Ok(None),
+        }
     }
 
-    // A name that is taken opens its macro, begins its call, or is given.
-    fn follow_name(
-        &mut self,
-        lexer: &mut dyn MeLexer,
-        name: Text,
-        location: Location,
-    ) -> Step<Taken>
-        ensures follows { FollowsToken (opens_value self.old.frames (reader lexer.old) (value.Ident name)) (record { value = value.Ident name; location = location }) self.old (reader lexer.old) result self.new (reader lexer.new) ⊎ (result ≡ Err (Error out_of_memory)) }
+    // A name that is taken opens its macro, or begins its call.
+    #[inline(never)]
+    fn enter(&mut self, lexer: &mut dyn MeLexer, token: Token, define: Rc<Define>) -> Step<Taken>
+        requires opens { option_map (λ opening. opening.1) (opens self.old.frames (reader lexer.old) token) ≡ Some define.value }
+        requires holds { HoldsOrdinary token.value }
+        ensures follows { FollowsToken (opens self.old.frames (reader lexer.old) token) token self.old (reader lexer.old) result self.new (reader lexer.new) ⊎ (result ≡ Err (Error out_of_memory)) }
         ensures holds { IfOk result TakenHoldsOrdinary }
     {
-        match self.find_macro(&*lexer, &name) {
-            Ok(Some(define)) => {
+        let location = token.location;
+        match token.value {
+            TokenValue::Ident(name) => {
                 if define.is_function_like() {
                     self.enter_call(lexer, name, location, define)
                 } else {
                     self.open_plain(name, location.line, define)
                 }
             }
-            Ok(None) => Ok(Taken::Token(Token {
-                value: TokenValue::Ident(name),
-                location,
-            })),
-            Err(_) => Err(StepExit::Error(out_of_memory())),
+            value => Ok(Taken::Token(Token { value, location })),
         }
     }
 
-    // A token that is taken.
+    // A token that is taken opens its macro, begins its call, or is given.
     fn follow(&mut self, lexer: &mut dyn MeLexer, token: Token) -> Step<Taken>
         requires { HoldsOrdinary token.value }
         ensures follows { FollowsToken (opens self.old.frames (reader lexer.old) token) token self.old (reader lexer.old) result self.new (reader lexer.new) ⊎ (result ≡ Err (Error out_of_memory)) }
         ensures holds { IfOk result TakenHoldsOrdinary }
     {
-        let location = token.location;
-        match token.value {
-            TokenValue::Ident(name) => self.follow_name(lexer, name, location),
-            value => Ok(Taken::Token(Token { value, location })),
+        match self.find_macro(&*lexer, &token.value) {
+            Ok(None) => Ok(Taken::Token(token)),
+            Ok(Some(define)) => self.enter(lexer, token, define),
+            Err(_) => refused(),
         }
     }
 

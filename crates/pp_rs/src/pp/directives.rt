@@ -1,7 +1,8 @@
 //! The source's reader: directives act, and the tokens between them are given.
 
-ghost use Rattle.std.specs.Prelude.{◌≡◌, ◌≢◌, ◌||◌, ◌-◌, ◌^◌, ◌<◌, [], length, drop, false, true, Ok, Err, is_ok, IfOk, IfSome, option_map, Some, pos, ◌+ℤ◌, ◌-ℤ◌};
+ghost use Rattle.std.specs.Prelude.{◌≡◌, ◌≢◌, ◌||◌, ◌-◌, ◌^◌, ◌<◌, [], length, drop, false, true, Ok, Err, is_ok, IfOk, IfSome, option_map, Some, None, pos, ◌+ℤ◌, ◌-ℤ◌};
 ghost use Rattle.std.specs.Str.{chars};
+ghost use Rattle.pp_lexer.specs.Items.{places_of};
 ghost use Rattle.pp_lexer.specs.Lexed.{start_of};
 ghost use Rattle.pp_lexer.specs.Spots.{spots_of};
 ghost use Rattle.pp_lexer.specs.declared.lexer.item.TokenValue.TheVariants.{NewLine};
@@ -17,9 +18,10 @@ ghost use Rattle.pp_rs.specs.Item.{as_step};
 ghost use Rattle.pp_rs.specs.LineReading.{named};
 ghost use Rattle.pp_rs.specs.OpenBlocks.{last_block, is_live_in, block_skipped};
 ghost use Rattle.pp_rs.specs.SettingContent.{SetsContent};
-ghost use Rattle.pp_rs.specs.Source.{StepsSource};
+ghost use Rattle.pp_rs.specs.Source.{StepsSource, untold_of};
 ghost use Rattle.pp_rs.specs.SourceActs.{Acts, ActsAs, Gives, live_word_move, dead_word_move, word_move, defining};
 ghost use Rattle.pp_rs.specs.SourceMoves as moves;
+ghost use Rattle.pp_rs.specs.Untold.{Tells, ExitTells, StepTells};
 
 use crate::lexer;
 use crate::pp::blocks::{Blocks, OpenBlock};
@@ -43,7 +45,7 @@ use std::alloc::Global;
 use std::marker::Model;
 use std::rc::Rc;
 
-/// The source behind the lexer, with its directives.
+/// The source after the lexer, with its directives.
 #[derive(Drop)]
 pub struct DirectiveProcessor<'a> {
     alloc: Global,
@@ -60,7 +62,7 @@ impl<'a> Model for DirectiveProcessor<'a> {
 
     ghost Value = { Source };
 
-    ghost view = { λ p. record { rest = p.lexer.rest; definitions = p.definitions; blocks = p.blocks; line_offset = p.line_offset; spent = p.lexer.spent; has_text = p.has_text; has_directive = p.has_directive } };
+    ghost view = { λ p. record { rest = p.lexer.rest; places = p.lexer.places; error_place = p.lexer.error_place; definitions = p.definitions; blocks = p.blocks; line_offset = p.line_offset; spent = p.lexer.spent; has_text = p.has_text; has_directive = p.has_directive } };
 }
 
 impl<'a> DirectiveProcessor<'a> {
@@ -69,7 +71,7 @@ impl<'a> DirectiveProcessor<'a> {
     /// Takes no memory and reads nothing yet.
     pub fn new(alloc: Global, input: &'a str) -> DirectiveProcessor<'a>
         requires { length input.now < 2 ^ 32 - 1 }
-        ensures { result ≡ record { rest = (start_of (spots_of input.now)).rest; definitions = []; blocks = []; line_offset = pos 0; spent = false; has_text = false; has_directive = false } }
+        ensures { result ≡ record { rest = (start_of (spots_of input.now)).rest; places = places_of (spots_of input.now); error_place = None; definitions = []; blocks = []; line_offset = pos 0; spent = false; has_text = false; has_directive = false } }
     {
         DirectiveProcessor {
             alloc,
@@ -104,6 +106,14 @@ impl<'a> DirectiveProcessor<'a> {
         u32::try_from(shown).ok()
     }
 
+    /// Where the error of the lexer stands that was read and not told yet, which is told now.
+    pub fn take_error_place(&mut self) -> Option<Location>
+        ensures place { result ≡ self.old.error_place }
+        ensures others { self.new ≡ record self.old { error_place = None } }
+    {
+        self.lexer.take_error_place()
+    }
+
     /// Lets the name stand for the tokens of a content of fewer than 2^32 - 1 bytes from now on, whatever it stood for.
     /// Where that is refused, nothing changes.
     pub fn set_content(&mut self, name: &str, content: &str) -> Result<(), Halt>
@@ -127,7 +137,8 @@ impl<'a> DirectiveProcessor<'a> {
     // Lets a name stand for what its line says. A name that stands for that already keeps its old definition.
     fn add(&mut self, line: DefineLine) -> Result<(), Halt>
         requires { self.old.spent ≡ false }
-        ensures { Acts (defining (named line)) self.old result self.new }
+        ensures acts { Acts (defining (named line)) self.old result self.new }
+        ensures errors { Tells result (untold_of self.old) (untold_of self.new) }
     {
         if let Some(before) = self.definitions.find(line.name.as_str()) {
             if before.is_same(&line.define) {
@@ -141,19 +152,21 @@ impl<'a> DirectiveProcessor<'a> {
         Ok(())
     }
 
-    // Does what a `#define` line says, behind its word.
+    // Does what a `#define` line says, after its word.
     fn define(&mut self, word: Location) -> Result<(), Halt>
         requires { self.old.spent ≡ false }
-        ensures { Acts (moves.directive_move true (last_block self.old.blocks) d.Define word self.old.rest) self.old result self.new }
+        ensures acts { Acts (moves.directive_move true (last_block self.old.blocks) d.Define word self.old.rest) self.old result self.new }
+        ensures errors { Tells result (untold_of self.old) (untold_of self.new) }
     {
         let line = define_line(self.alloc, word, &mut self.lexer)?;
         self.add(line)
     }
 
-    // Does what an `#undef` line says, behind its word.
+    // Does what an `#undef` line says, after its word.
     fn undef(&mut self, word: Location) -> Result<(), Halt>
         requires { self.old.spent ≡ false }
-        ensures { Acts (moves.line_move (only_name word self.old.rest) moves.undefines (line_length self.old.rest)) self.old result self.new }
+        ensures acts { Acts (moves.line_move (only_name word self.old.rest) moves.undefines (line_length self.old.rest)) self.old result self.new }
+        ensures errors { Tells result (untold_of self.old) (untold_of self.new) }
     {
         let name = only_name(word, &mut self.lexer)?;
         self.definitions.remove(name.as_str());
@@ -163,7 +176,8 @@ impl<'a> DirectiveProcessor<'a> {
     // Opens a block where the name on the line is defined, or where it isn't.
     fn open_where(&mut self, wanted: bool, word: Location) -> Result<(), Halt>
         requires { self.old.spent ≡ false }
-        ensures { Acts (moves.line_move (only_name word self.old.rest) (moves.opens_where wanted word) (line_length self.old.rest)) self.old result self.new }
+        ensures acts { Acts (moves.line_move (only_name word self.old.rest) (moves.opens_where wanted word) (line_length self.old.rest)) self.old result self.new }
+        ensures errors { Tells result (untold_of self.old) (untold_of self.new) }
     {
         let name = only_name(word, &mut self.lexer)?;
         let is_defined = self.definitions.find(name.as_str()).is_some();
@@ -176,7 +190,8 @@ impl<'a> DirectiveProcessor<'a> {
     // Opens a block where the condition on the line holds.
     fn open_if(&mut self, word: Location) -> Result<(), Halt>
         requires { self.old.spent ≡ false }
-        ensures { Acts (moves.line_move (line_tokens self.old.rest) (moves.opens_if word) (line_length self.old.rest)) self.old result self.new }
+        ensures acts { Acts (moves.line_move (line_tokens self.old.rest) (moves.opens_if word) (line_length self.old.rest)) self.old result self.new }
+        ensures errors { Tells result (untold_of self.old) (untold_of self.new) }
     {
         let tokens = rest_of_line(self.alloc, &mut self.lexer)?;
         let holds = condition(self.alloc, word, tokens, &self.definitions)?;
@@ -187,17 +202,19 @@ impl<'a> DirectiveProcessor<'a> {
     // Opens a block in dead text, whatever stands on its line.
     fn open_unread(&mut self, word: Location) -> Result<(), Halt>
         requires { self.old.spent ≡ false }
-        ensures { Acts (moves.skip_move (moves.opens_unread word) self.old.rest) self.old result self.new }
+        ensures acts { Acts (moves.skip_move (moves.opens_unread word) self.old.rest) self.old result self.new }
+        ensures errors { Tells result (untold_of self.old) (untold_of self.new) }
     {
         self.blocks.push(OpenBlock::unread(word))?;
         skip_line(&mut self.lexer)
     }
 
-    // Skips the branch behind an `#elif` of the innermost block.
+    // Skips the branch after an `#elif` of the innermost block.
     fn skip_branch(&mut self, block: OpenBlock) -> Result<(), Halt>
         requires unspent { self.old.spent ≡ false }
         requires innermost { last_block self.old.blocks ≡ Some block }
-        ensures { Acts (moves.skip_move (moves.parts (block_skipped block)) self.old.rest) self.old result self.new }
+        ensures acts { Acts (moves.skip_move (moves.parts (block_skipped block)) self.old.rest) self.old result self.new }
+        ensures errors { Tells result (untold_of self.old) (untold_of self.new) }
     {
         skip_line(&mut self.lexer)?;
         self.blocks.replace_last(block.skipped());
@@ -208,7 +225,8 @@ impl<'a> DirectiveProcessor<'a> {
     fn part_if(&mut self, block: OpenBlock, word: Location) -> Result<(), Halt>
         requires unspent { self.old.spent ≡ false }
         requires innermost { last_block self.old.blocks ≡ Some block }
-        ensures { Acts (moves.line_move (line_tokens self.old.rest) (moves.parts_if block word) (line_length self.old.rest)) self.old result self.new }
+        ensures acts { Acts (moves.line_move (line_tokens self.old.rest) (moves.parts_if block word) (line_length self.old.rest)) self.old result self.new }
+        ensures errors { Tells result (untold_of self.old) (untold_of self.new) }
     {
         let tokens = rest_of_line(self.alloc, &mut self.lexer)?;
         let holds = condition(self.alloc, word, tokens, &self.definitions)?;
@@ -219,7 +237,8 @@ impl<'a> DirectiveProcessor<'a> {
     // Does what an `#elif` line says, after its word.
     fn elif_line(&mut self, word: Location) -> Result<(), Halt>
         requires { self.old.spent ≡ false }
-        ensures { Acts (moves.elif_move (last_block self.old.blocks) word self.old.rest) self.old result self.new }
+        ensures acts { Acts (moves.elif_move (last_block self.old.blocks) word self.old.rest) self.old result self.new }
+        ensures errors { Tells result (untold_of self.old) (untold_of self.new) }
     {
         let Some(block) = self.blocks.last() else {
             return Err(Halt::Fault((PreprocessorError::ElifOutsideOfBlock, word)));
@@ -233,10 +252,11 @@ impl<'a> DirectiveProcessor<'a> {
         self.part_if(block, word)
     }
 
-    // Does what an `#else` line says, behind its word.
+    // Does what an `#else` line says, after its word.
     fn else_line(&mut self, word: Location) -> Result<(), Halt>
         requires { self.old.spent ≡ false }
-        ensures { Acts (moves.else_move (last_block self.old.blocks) word self.old.rest) self.old result self.new }
+        ensures acts { Acts (moves.else_move (last_block self.old.blocks) word self.old.rest) self.old result self.new }
+        ensures errors { Tells result (untold_of self.old) (untold_of self.new) }
     {
         ended_line(word, &mut self.lexer)?;
         let Some(block) = self.blocks.last() else {
@@ -249,10 +269,11 @@ impl<'a> DirectiveProcessor<'a> {
         Ok(())
     }
 
-    // Does what an `#endif` line says, behind its word: the block closes, whatever else stands on the line.
+    // Does what an `#endif` line says, after its word: the block closes, whatever else stands on the line.
     fn endif_line(&mut self, word: Location) -> Result<(), Halt>
         requires { self.old.spent ≡ false }
-        ensures { Acts (moves.endif_move (last_block self.old.blocks) word self.old.rest) self.old result self.new }
+        ensures acts { Acts (moves.endif_move (last_block self.old.blocks) word self.old.rest) self.old result self.new }
+        ensures errors { Tells result (untold_of self.old) (untold_of self.new) }
     {
         let Some(block) = self.blocks.pop() else {
             return Err(Halt::Fault((PreprocessorError::EndifOutsideOfBlock, word)));
@@ -270,7 +291,8 @@ impl<'a> DirectiveProcessor<'a> {
     // Does what a `#line` line says, after its word: the next lines are numbered from there.
     fn number_lines(&mut self, word: Location) -> Result<(), Halt>
         requires { self.old.spent ≡ false }
-        ensures { Acts (moves.line_move (line_tokens self.old.rest) (moves.renumbers word) (line_length self.old.rest)) self.old result self.new }
+        ensures acts { Acts (moves.line_move (line_tokens self.old.rest) (moves.renumbers word) (line_length self.old.rest)) self.old result self.new }
+        ensures errors { Tells result (untold_of self.old) (untold_of self.new) }
     {
         let tokens = rest_of_line(self.alloc, &mut self.lexer)?;
         let number = line_number(self.alloc, word, tokens, &self.definitions)?;
@@ -281,7 +303,8 @@ impl<'a> DirectiveProcessor<'a> {
     // Skips the line.
     fn skip(&mut self) -> Result<(), Halt>
         requires { self.old.spent ≡ false }
-        ensures { Acts (moves.skip_move moves.passes self.old.rest) self.old result self.new }
+        ensures acts { Acts (moves.skip_move moves.passes self.old.rest) self.old result self.new }
+        ensures errors { Tells result (untold_of self.old) (untold_of self.new) }
     {
         skip_line(&mut self.lexer)
     }
@@ -292,6 +315,7 @@ impl<'a> DirectiveProcessor<'a> {
         requires left { self.old.rest ≢ [] }
         ensures acts { ActsAs (λ token. Ok token) (moves.live_move (last_block self.old.blocks) d.Version word self.old.rest) self.old result self.new }
         ensures holds { IfOk result (λ token. HoldsOrdinary token.value) }
+        ensures errors { Tells result (untold_of self.old) (untold_of self.new) }
     {
         let tokens = line_tokens(self.alloc, &mut self.lexer)?;
         let value = TokenValue::Version(Version {
@@ -311,6 +335,7 @@ impl<'a> DirectiveProcessor<'a> {
         requires left { self.old.rest ≢ [] }
         ensures acts { ActsAs (λ token. Ok token) (moves.live_move (last_block self.old.blocks) d.Extension word self.old.rest) self.old result self.new }
         ensures holds { IfOk result (λ token. HoldsOrdinary token.value) }
+        ensures errors { Tells result (untold_of self.old) (untold_of self.new) }
     {
         let tokens = line_tokens(self.alloc, &mut self.lexer)?;
         let value = TokenValue::Extension(Extension {
@@ -329,6 +354,7 @@ impl<'a> DirectiveProcessor<'a> {
         requires left { self.old.rest ≢ [] }
         ensures acts { ActsAs (λ token. Ok token) (moves.live_move (last_block self.old.blocks) d.Pragma word self.old.rest) self.old result self.new }
         ensures holds { IfOk result (λ token. HoldsOrdinary token.value) }
+        ensures errors { Tells result (untold_of self.old) (untold_of self.new) }
     {
         let tokens = line_tokens(self.alloc, &mut self.lexer)?;
         Ok(Token {
@@ -337,11 +363,12 @@ impl<'a> DirectiveProcessor<'a> {
         })
     }
 
-    // Does what a directive that is no item says in live text, behind its word.
+    // Does what a directive that is no item says in live text, after its word.
     fn act_live(&mut self, directive: Directive, word: Location) -> Result<(), Halt>
         requires unspent { self.old.spent ≡ false }
         requires silent { is_item directive ≡ false }
-        ensures { Acts (moves.directive_move true (last_block self.old.blocks) directive word self.old.rest) self.old result self.new }
+        ensures acts { Acts (moves.directive_move true (last_block self.old.blocks) directive word self.old.rest) self.old result self.new }
+        ensures errors { Tells result (untold_of self.old) (untold_of self.new) }
     {
         match directive {
             Directive::Define => self.define(word),
@@ -358,12 +385,13 @@ impl<'a> DirectiveProcessor<'a> {
         }
     }
 
-    // What a directive gives in live text, behind its word.
+    // What a directive gives in live text, after its word.
     fn give_live(&mut self, directive: Directive, word: Location) -> Result<Option<Token>, Halt>
         requires unspent { self.old.spent ≡ false }
         requires left { self.old.rest ≢ [] }
         ensures gives { Gives (moves.directive_move true (last_block self.old.blocks) directive word self.old.rest) self.old result self.new }
         ensures holds { IfOk result (λ given. IfSome given (λ token. HoldsOrdinary token.value)) }
+        ensures errors { Tells result (untold_of self.old) (untold_of self.new) }
     {
         match directive {
             Directive::Version => Ok(Some(self.version(word)?)),
@@ -376,10 +404,11 @@ impl<'a> DirectiveProcessor<'a> {
         }
     }
 
-    // Does what a directive says in dead text, behind its word.
+    // Does what a directive says in dead text, after its word.
     fn act_dead(&mut self, directive: Directive, word: Location) -> Result<(), Halt>
         requires { self.old.spent ≡ false }
-        ensures { Acts (moves.directive_move false (last_block self.old.blocks) directive word self.old.rest) self.old result self.new }
+        ensures acts { Acts (moves.directive_move false (last_block self.old.blocks) directive word self.old.rest) self.old result self.new }
+        ensures errors { Tells result (untold_of self.old) (untold_of self.new) }
     {
         match directive {
             Directive::If | Directive::Ifdef | Directive::Ifndef => self.open_unread(word),
@@ -391,11 +420,12 @@ impl<'a> DirectiveProcessor<'a> {
         }
     }
 
-    // What a directive gives in live text, behind its number sign.
+    // What a directive gives in live text, after its number sign.
     fn read_live(&mut self, hash: Location) -> Result<Option<Token>, Halt>
         requires { self.old.spent ≡ false }
         ensures gives { Gives (live_word_move (last_block self.old.blocks) (first_name hash self.old.rest) (drop 1 self.old.rest)) self.old result self.new }
         ensures holds { IfOk result (λ given. IfSome given (λ token. HoldsOrdinary token.value)) }
+        ensures errors { Tells result (untold_of self.old) (untold_of self.new) }
     {
         let word = first_name(hash, &mut self.lexer)?;
         let given = self.give_live(directive_of(&word.name), word.location)?;
@@ -403,10 +433,11 @@ impl<'a> DirectiveProcessor<'a> {
         Ok(given)
     }
 
-    // Does what a directive says in dead text, behind its number sign. Where no word stands there, nothing is said.
+    // Does what a directive says in dead text, after its number sign. Where no word stands there, nothing is said.
     fn read_dead(&mut self, hash: Location) -> Result<(), Halt>
         requires { self.old.spent ≡ false }
-        ensures { Acts (dead_word_move (last_block self.old.blocks) (first_token hash self.old.rest) (drop 1 self.old.rest)) self.old result self.new }
+        ensures acts { Acts (dead_word_move (last_block self.old.blocks) (first_token hash self.old.rest) (drop 1 self.old.rest)) self.old result self.new }
+        ensures errors { Tells result (untold_of self.old) (untold_of self.new) }
     {
         let token = first_token(hash, &mut self.lexer)?;
         let word = token.location;
@@ -420,11 +451,12 @@ impl<'a> DirectiveProcessor<'a> {
         }
     }
 
-    // What a directive gives, behind its number sign.
+    // What a directive gives, after its number sign.
     fn read_directive(&mut self, hash: Location) -> Result<Option<Token>, Halt>
         requires { self.old.spent ≡ false }
         ensures gives { Gives (word_move (is_live_in (last_block self.old.blocks)) (last_block self.old.blocks) hash self.old.rest) self.old result self.new }
         ensures holds { IfOk result (λ given. IfSome given (λ token. HoldsOrdinary token.value)) }
+        ensures errors { Tells result (untold_of self.old) (untold_of self.new) }
     {
         if self.is_live() {
             return self.read_live(hash);
@@ -439,6 +471,7 @@ impl<'a> DirectiveProcessor<'a> {
         ensures is { result ≡ as_step (conversion token) }
         ensures holds { IfOk result (λ token. HoldsOrdinary token.value) }
         ensures remembers { self.new ≡ record self.old { has_text = is_ok result || self.old.has_text } }
+        ensures errors { StepTells result (untold_of self.old) (untold_of self.new) }
     {
         let token = convert_lexer_token_to_step(token)?;
         self.has_text = true;
@@ -448,7 +481,8 @@ impl<'a> DirectiveProcessor<'a> {
     // Tells the innermost of the blocks that are open at the end of the source, or the end.
     fn end(&mut self) -> StepExit
         requires { self.old.spent ≡ false → self.old.rest ≡ [] }
-        ensures { StepsSource self.old (Err result) self.new }
+        ensures reads { StepsSource self.old (Err result) self.new }
+        ensures errors { ExitTells result (untold_of self.old) (untold_of self.new) }
     {
         if self.lexer.is_spent() {
             return StepExit::Finished;
@@ -470,6 +504,7 @@ impl<'a> DirectiveProcessor<'a> {
     pub fn step(&mut self) -> Step<Token>
         ensures reads { StepsSource self.old result self.new }
         ensures holds { IfOk result (λ token. HoldsOrdinary token.value) }
+        ensures errors { StepTells result (untold_of self.old) (untold_of self.new) }
     {
         let Some(token) = self.lexer.next_token()? else {
             return Err(self.end());

@@ -43,8 +43,8 @@ impl Model for MacroProcessor {
     ghost invariant = { λ p. AreNamesOf p.open_names (names_of (reverse p.frames.items)) };
 }
 
-// Whether the token is `__LINE__`.
-fn is_line_name(value: &TokenValue) -> bool
+/// Whether the token is `__LINE__`.
+pub fn is_line_name(value: &TokenValue) -> bool
     ensures { result ≡ is_identifier line_name value.now }
 {
     match value {
@@ -126,13 +126,11 @@ impl MacroProcessor {
         let Some(frame) = self.frames.last_mut() else {
             return lexer.step();
         };
-        match frame.advance(self.alloc) {
-            Some(step) => step,
-            None => {
-                self.close();
-                Err(StepExit::Continue)
-            }
+        if frame.is_spent() {
+            self.close();
+            return Err(StepExit::Continue);
         }
+        frame.advance(self.alloc)
     }
 
     // A token that is taken: `__LINE__` becomes a number at once.

@@ -1,17 +1,17 @@
 //! Frames: macros that are open, each with how far its body and its arguments are read.
 
-ghost use Rattle.std.specs.Prelude.{◌≡◌, ◌⊎◌, ◌<◌, ◌^◌, IfOk, IfSome, IsTrue, All, MatchOption, Some, None, Ok, Err, option_map, slice_get, position};
+ghost use Rattle.std.specs.Prelude.{◌≡◌, ◌⊎◌, ◌<◌, ◌^◌, IfOk, IfSome, IsTrue, All, MatchOption, Some, None, Ok, Err, option_map, slice_get, position, is_none};
 ghost use Rattle.pp_lexer.specs.PreprocessorError.{out_of_memory};
 ghost use Rattle.pp_model.specs.Names.{is_same_name};
 ghost use Rattle.pp_model.specs.SpliceList.{parameter_of};
 ghost use Rattle.pp_rs.specs.Frames.{layer, argument_at, advance};
 ghost use Rattle.pp_rs.specs.Held.{HoldsOrdinary, AllHoldOrdinary};
 ghost use Rattle.pp_rs.specs.Turns.{as_pause};
-ghost use Rattle.pp_rs.specs.declared.pp.step.StepExit.TheVariants.{Error};
+ghost use Rattle.pp_rs.specs.declared.pp.step.StepExit.TheVariants.{Error, Continue};
 
 use crate::pp::define::Define;
 use crate::pp::step::{Step, StepExit};
-use crate::token::{Text, Token, TokenValue};
+use crate::token::{Text, Token, TokenValue, out_of_memory};
 use std::alloc::Global;
 use std::marker::Model;
 use std::rc::Rc;
@@ -131,7 +131,18 @@ fn argument_token(arguments: &[TokenList], index: usize, position: usize) -> Opt
 pub fn give(alloc: Global, token: &Token) -> Step<Token>
     ensures { (result ≡ Err (Error out_of_memory)) ⊎ (result ≡ Ok token.now) }
 {
-    token.clone(alloc).map_err(StepExit::Error)
+    match token.clone(alloc) {
+        Ok(copy) => Ok(copy),
+        Err(_) => refused_token(),
+    }
+}
+
+// A refusal of memory, apart so that a token is moved without it.
+#[inline(never)]
+fn refused_token() -> Step<Token>
+    ensures { result ≡ Err (Error out_of_memory) }
+{
+    Err(StepExit::Error(out_of_memory()))
 }
 
 impl Frame {
@@ -164,30 +175,40 @@ impl Frame {
         self.line
     }
 
-    /// The next step of the frame, or `None` where its body has ended. A parameter and the end
-    /// of an argument are pauses.
-    pub fn advance(&mut self, alloc: Global) -> Option<Step<Token>>
-        ensures step { (result ≡ Some (Err (Error out_of_memory))) ⊎ MatchOption (advance self.old) (result ≡ None) (λ step. (result ≡ Some (as_pause step.gives)) × (self.new ≡ step.after)) }
+    /// Whether its body has ended, and no argument is being read.
+    pub fn is_spent(&self) -> bool
+        ensures { result ≡ is_none (advance self.now) }
+    {
+        match self.expanding {
+            Some(_) => false,
+            None => self.define.body().len() <= self.position,
+        }
+    }
+
+    /// The next step of the frame. A parameter and the end of an argument are pauses, and so is
+    /// the end of the body.
+    pub fn advance(&mut self, alloc: Global) -> Step<Token>
+        ensures step { (result ≡ Err (Error out_of_memory)) ⊎ MatchOption (advance self.old) (result ≡ Err Continue) (λ step. (result ≡ as_pause step.gives) × (self.new ≡ step.after)) }
         ensures name { self.new.name ≡ self.old.name }
-        ensures holds { IfSome result (λ step. IfOk step (λ token. HoldsOrdinary token.value)) }
+        ensures holds { IfOk result (λ token. HoldsOrdinary token.value) }
     {
         if let Some(index) = self.expanding {
             let Some(token) = argument_token(&self.arguments, index, self.argument_position) else {
                 self.expanding = None;
-                return Some(Err(StepExit::Continue));
+                return Err(StepExit::Continue);
             };
             self.argument_position += 1;
-            return Some(give(alloc, token));
+            return give(alloc, token);
         }
         let Some(token) = token_at(self.define.body(), self.position) else {
-            return None;
+            return Err(StepExit::Continue);
         };
         self.position += 1;
         if let Some(index) = parameter_of(self.define.parameters(), &token.value) {
             self.expanding = Some(index);
             self.argument_position = 0;
-            return Some(Err(StepExit::Continue));
+            return Err(StepExit::Continue);
         }
-        Some(give(alloc, token))
+        give(alloc, token)
     }
 }

@@ -5,7 +5,7 @@ ghost use Rattle.std.specs.Option.{option_copied};
 ghost use Rattle.pp_expression.specs.Arithmetic.{is_zero};
 ghost use Rattle.pp_expression.specs.FirstFault.{Evaluates};
 ghost use Rattle.pp_model.specs.Emitting.{answers_at, expansion_limit};
-ghost use Rattle.pp_model.specs.LineValues.{IsCondition, IsFollowed, IsLineNumber, Numbers, alone_on_line, as_line_number, ended_early, fault_of_operand, line_of, symbol_of, told_fault, unless_followed, unwanted_word, word_from_end, words_behind};
+ghost use Rattle.pp_model.specs.LineValues.{IsCondition, IsFollowed, IsLineNumber, Numbers, alone_on_line, as_line_number, ended_early, fault_of_operand, line_of, symbol_of, told_fault, unless_followed, unwanted_word, word_from_end, words_after};
 ghost use Rattle.pp_rs.specs.Defined.{meaning_of};
 ghost use Rattle.pp_rs.specs.Held.{AllHoldOrdinary};
 ghost use Rattle.pp_rs.specs.Machine.{Satisfies};
@@ -225,8 +225,8 @@ fn as_line_number(value: Value) -> Option<u32>
 }
 
 // The words after an expression.
-fn words_behind(words: Words, left: usize) -> Words
-    ensures { result ≡ words_behind left words }
+fn words_after(words: Words, left: usize) -> Words
+    ensures { result ≡ words_after left words }
 {
     let mut words = words;
     let count = words.words.len().saturating_sub(left);
@@ -249,8 +249,8 @@ fn numbers(alloc: Global, directive: Location, words: Words) -> Result<u32, Halt
     if value.left == 0 {
         return Ok(number);
     }
-    let behind = words_behind(words, value.left);
-    followed(alloc, directive, &behind, number)
+    let after = words_after(words, value.left);
+    followed(alloc, directive, &after, number)
 }
 
 /// The line number of a `#line`, or its first fault.

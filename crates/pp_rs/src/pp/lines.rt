@@ -10,6 +10,8 @@ ghost use Rattle.pp_rs.specs.DirectiveItems.{line_entries};
 ghost use Rattle.pp_rs.specs.Held.{is_ordinary_leaf};
 ghost use Rattle.pp_rs.specs.LineReading as spec;
 ghost use Rattle.pp_rs.specs.ParameterReading.{function_at};
+ghost use Rattle.pp_rs.specs.SourceLexed.{untold_at};
+ghost use Rattle.pp_rs.specs.Untold.{Tells};
 
 use crate::lexer;
 use crate::pp::convert::convert_lexer_token;
@@ -25,6 +27,7 @@ pub fn first_token(word: Location, lexer: &mut SourceLexer<'_>) -> Result<lexer:
     requires { lexer.old.spent ≡ false }
     ensures is { spec.Meets (λ t. t) result (first_token word lexer.old.rest) }
     ensures takes { spec.TakesItems 1 lexer.old result lexer.new }
+    ensures errors { Tells result (untold_at lexer.old) (untold_at lexer.new) }
     ensures left { IfOk result (λ token. spec.LeavesSome (Some token) lexer.new.rest) }
 {
     match lexer.next_token()? {
@@ -69,6 +72,7 @@ pub fn first_name(word: Location, lexer: &mut SourceLexer<'_>) -> Result<PlacedN
     requires { lexer.old.spent ≡ false }
     ensures is { spec.Meets spec.placed result (first_name word lexer.old.rest) }
     ensures takes { spec.TakesItems 1 lexer.old result lexer.new }
+    ensures errors { Tells result (untold_at lexer.old) (untold_at lexer.new) }
     ensures left { IfOk result (λ name. lexer.new.rest ≢ []) }
 {
     let token = first_token(word, lexer)?;
@@ -84,6 +88,7 @@ pub fn ended_line(word: Location, lexer: &mut SourceLexer<'_>) -> Result<(), Hal
     requires { lexer.old.spent ≡ false }
     ensures is { spec.Meets (λ t. t) result (ended_line word lexer.old.rest) }
     ensures takes { spec.TakesItems 1 lexer.old result lexer.new }
+    ensures errors { Tells result (untold_at lexer.old) (untold_at lexer.new) }
 {
     let token = first_token(word, lexer)?;
     match token.value {
@@ -97,17 +102,19 @@ pub fn only_name(word: Location, lexer: &mut SourceLexer<'_>) -> Result<Text, Ha
     requires { lexer.old.spent ≡ false }
     ensures is { spec.Meets (λ t. t) result (only_name word lexer.old.rest) }
     ensures takes { spec.TakesItems (line_length lexer.old.rest) lexer.old result lexer.new }
+    ensures errors { Tells result (untold_at lexer.old) (untold_at lexer.new) }
 {
     let first = first_name(word, lexer)?;
     ended_line(word, lexer)?;
     Ok(first.name)
 }
 
-// Passes a token. Whether the line goes on behind it.
+// Passes a token. Whether the line goes on after it.
 fn pass_token(lexer: &mut SourceLexer<'_>) -> Result<bool, Halt>
     requires { lexer.old.spent ≡ false }
     ensures is { spec.Meets (λ t. t) result (spec.line_goes_on lexer.old.rest) }
     ensures takes { spec.TakesItems 1 lexer.old result lexer.new }
+    ensures errors { Tells result (untold_at lexer.old) (untold_at lexer.new) }
     ensures fault { spec.FaultTakesSome result lexer.old lexer.new }
 {
     match lexer.next_token()? {
@@ -121,6 +128,7 @@ pub fn skip_line(lexer: &mut SourceLexer<'_>) -> Result<(), Halt>
     requires { lexer.old.spent ≡ false }
     ensures is { spec.Meets (λ t. t) result (spec.skipped_line lexer.old.rest) }
     ensures takes { spec.TakesItems (line_length lexer.old.rest) lexer.old result lexer.new }
+    ensures errors { Tells result (untold_at lexer.old) (untold_at lexer.new) }
     ensures fault { spec.FaultTakesSome result lexer.old lexer.new }
 {
     'line: while pass_token(lexer)? {}
@@ -132,6 +140,7 @@ pub fn endif_end(live_around: bool, word: Location, lexer: &mut SourceLexer<'_>)
     requires { lexer.old.spent ≡ false }
     ensures is { spec.Meets (λ t. t) result (spec.endif_end live_around word lexer.old.rest) }
     ensures takes { spec.TakesItems (line_length lexer.old.rest) lexer.old result lexer.new }
+    ensures errors { Tells result (untold_at lexer.old) (untold_at lexer.new) }
 {
     if live_around {
         ended_line(word, lexer)
@@ -159,6 +168,7 @@ pub fn next_line_token(lexer: &mut SourceLexer<'_>) -> Result<Option<Token>, Hal
     requires { lexer.old.spent ≡ false }
     ensures is { spec.Meets (λ t. t) result (spec.next_line_token lexer.old.rest) }
     ensures takes { spec.TakesItems 1 lexer.old result lexer.new }
+    ensures errors { Tells result (untold_at lexer.old) (untold_at lexer.new) }
     ensures ordinary { spec.IsOrdinaryIfOk result }
     ensures comments { IfOk result (λ next. lexer.new.had_comments ≡ comments_before lexer.old.rest lexer.old.at_end) }
     ensures left { IfOk result (λ next. IfSome next (λ t. lexer.new.rest ≢ [])) }
@@ -182,9 +192,10 @@ pub fn line_tokens_from(
     requires unspent { lexer.old.spent ≡ false }
     requires ordinary { IfSome first (λ t. IsTrue (is_ordinary t.value)) }
     requires left { IfSome first (λ t. lexer.old.rest ≢ []) }
-    ensures is { spec.Meets (λ tokens. tokens.items) result (spec.tokens_behind first lexer.old.rest) }
-    ensures takes { spec.TakesItems (spec.length_behind first lexer.old.rest) lexer.old result lexer.new }
-    ensures comments { IfOk result (λ tokens. lexer.new.had_comments ≡ spec.comments_behind first lexer.old.rest lexer.old.had_comments) }
+    ensures is { spec.Meets (λ tokens. tokens.items) result (spec.tokens_after first lexer.old.rest) }
+    ensures takes { spec.TakesItems (spec.length_after first lexer.old.rest) lexer.old result lexer.new }
+    ensures errors { Tells result (untold_at lexer.old) (untold_at lexer.new) }
+    ensures comments { IfOk result (λ tokens. lexer.new.had_comments ≡ spec.comments_after first lexer.old.rest lexer.old.had_comments) }
     ensures ordinary { IfOk result (λ tokens. All (λ t. IsTrue (is_ordinary t.value)) tokens.items) }
 {
     let mut tokens = Vec::new(alloc);
@@ -201,6 +212,7 @@ pub fn rest_of_line(alloc: Global, lexer: &mut SourceLexer<'_>) -> Result<Vec<To
     requires { lexer.old.spent ≡ false }
     ensures is { spec.Meets (λ tokens. tokens.items) result (line_tokens lexer.old.rest) }
     ensures takes { spec.TakesItems (line_length lexer.old.rest) lexer.old result lexer.new }
+    ensures errors { Tells result (untold_at lexer.old) (untold_at lexer.new) }
     ensures comments { IfOk result (λ tokens. lexer.old.rest ≢ [] → lexer.new.had_comments ≡ comments_before_end lexer.old.rest) }
     ensures ordinary { IfOk result (λ tokens. All (λ t. IsTrue (is_ordinary t.value)) tokens.items) }
 {
@@ -214,6 +226,7 @@ pub fn line_tokens(alloc: Global, lexer: &mut SourceLexer<'_>) -> Result<Tokens,
     requires left { lexer.old.rest ≢ [] }
     ensures is { spec.Meets (λ t. t) result (line_entries lexer.old.rest) }
     ensures takes { spec.TakesItems (line_length lexer.old.rest) lexer.old result lexer.new }
+    ensures errors { Tells result (untold_at lexer.old) (untold_at lexer.new) }
     ensures comments { IfOk result (λ tokens. lexer.new.had_comments ≡ comments_before_end lexer.old.rest) }
     ensures ordinary { IfOk result (λ tokens. All (λ entry. IsTrue (is_ordinary_leaf entry.leaf)) tokens) }
 {
@@ -230,8 +243,8 @@ pub struct DefineLine {
     pub define: Define,
 }
 
-// The definition behind a macro's name and the `(` that stands directly behind that.
-fn function_behind(
+// The definition after a macro's name and the `(` that stands directly after that.
+fn function_after(
     alloc: Global,
     word: Location,
     lexer: &mut SourceLexer<'_>,
@@ -239,20 +252,22 @@ fn function_behind(
     requires { lexer.old.spent ≡ false }
     ensures is { spec.Meets (λ d. d) result (function_at word lexer.old.rest) }
     ensures takes { spec.TakesItems (line_length lexer.old.rest) lexer.old result lexer.new }
+    ensures errors { Tells result (untold_at lexer.old) (untold_at lexer.new) }
 {
     let names = parameters(alloc, word, lexer)?;
     let body = rest_of_line(alloc, lexer)?;
     Ok(Define::function_like(names, body))
 }
 
-// The definition behind a macro's name.
+// The definition after a macro's name.
 fn definition(alloc: Global, word: Location, lexer: &mut SourceLexer<'_>) -> Result<Define, Halt>
     requires { lexer.old.spent ≡ false }
     ensures is { spec.Meets (λ d. d) result (definition_at word lexer.old.rest) }
     ensures takes { spec.TakesItems (line_length lexer.old.rest) lexer.old result lexer.new }
+    ensures errors { Tells result (untold_at lexer.old) (untold_at lexer.new) }
 {
     match lexer.next_token()? {
-        Some(token) if is_attached_paren(&token) => function_behind(alloc, word, lexer),
+        Some(token) if is_attached_paren(&token) => function_after(alloc, word, lexer),
         token => {
             let first = line_token(token)?;
             let body = line_tokens_from(alloc, first, lexer)?;
@@ -261,7 +276,7 @@ fn definition(alloc: Global, word: Location, lexer: &mut SourceLexer<'_>) -> Res
     }
 }
 
-/// What a `#define` line says, behind its word.
+/// What a `#define` line says, after its word.
 pub fn define_line(
     alloc: Global,
     word: Location,
@@ -270,6 +285,7 @@ pub fn define_line(
     requires { lexer.old.spent ≡ false }
     ensures is { spec.Meets spec.named result (defined_on word lexer.old.rest) }
     ensures takes { spec.TakesItems (line_length lexer.old.rest) lexer.old result lexer.new }
+    ensures errors { Tells result (untold_at lexer.old) (untold_at lexer.new) }
 {
     let PlacedName { name, location } = first_name(word, lexer)?;
     let define = definition(alloc, word, lexer)?;

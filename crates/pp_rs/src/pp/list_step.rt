@@ -11,7 +11,7 @@ use crate::pp::list_lexer::ListLexer;
 use crate::pp::step::Step;
 use crate::token::Token;
 
-/// One step of the expander, where a list stands behind the frames.
+/// One step of the expander, where a list stands after the frames.
 pub fn step_list(caller: &mut Caller, list: &mut ListLexer<'_>) -> Step<Taken>
     ensures turns { TurnsOrRefuses caller.old (of_list list.old) result caller.new (of_list list.new) }
     ensures holds { IfOk result TakenHoldsOrdinary }
@@ -19,7 +19,7 @@ pub fn step_list(caller: &mut Caller, list: &mut ListLexer<'_>) -> Step<Taken>
     caller.step(list)
 }
 
-/// What is taken next and not looked up, where a list stands behind the frames.
+/// What is taken next and not looked up, where a list stands after the frames.
 pub fn take_list(caller: &mut Caller, list: &mut ListLexer<'_>) -> Step<Token>
     ensures takes { TakesNext caller.old (of_list list.old) result caller.new (of_list list.new) }
     ensures holds { IfOk result (λ token. HoldsOrdinary token.value) }

@@ -5,6 +5,8 @@ ghost use Rattle.pp_model.specs.DefineLines.{parameters};
 ghost use Rattle.pp_model.specs.Names.{is_in};
 ghost use Rattle.pp_rs.specs.LineReading as spec;
 ghost use Rattle.pp_rs.specs.ParameterReading.{ends_parameters, one_parameter, first_parameter, alone, GoesOn};
+ghost use Rattle.pp_rs.specs.SourceLexed.{untold_at};
+ghost use Rattle.pp_rs.specs.Untold.{Tells};
 
 use crate::lexer;
 use crate::pp::halt::Halt;
@@ -25,6 +27,7 @@ fn one_parameter(names: &[Text], word: Location, lexer: &mut SourceLexer<'_>) ->
     requires { lexer.old.spent ≡ false }
     ensures is { spec.Meets (λ name. names.now ++ name ∷ []) result (one_parameter word names.now lexer.old.rest) }
     ensures takes { spec.TakesItems 1 lexer.old result lexer.new }
+    ensures errors { Tells result (untold_at lexer.old) (untold_at lexer.new) }
 {
     let token = first_token(word, lexer)?;
     let location = token.location;
@@ -45,6 +48,7 @@ fn first_parameter(word: Location, lexer: &mut SourceLexer<'_>) -> Result<Option
     requires { lexer.old.spent ≡ false }
     ensures is { spec.Meets alone result (first_parameter word lexer.old.rest) }
     ensures takes { spec.TakesItems 1 lexer.old result lexer.new }
+    ensures errors { Tells result (untold_at lexer.old) (untold_at lexer.new) }
 {
     let token = first_token(word, lexer)?;
     match token.value {
@@ -54,11 +58,12 @@ fn first_parameter(word: Location, lexer: &mut SourceLexer<'_>) -> Result<Option
     }
 }
 
-// Whether the parameters end behind one of them. A comma goes on.
+// Whether the parameters end after one of them. A comma goes on.
 fn ends_parameters(word: Location, lexer: &mut SourceLexer<'_>) -> Result<bool, Halt>
     requires { lexer.old.spent ≡ false }
     ensures is { spec.Meets (λ b. b) result (ends_parameters word lexer.old.rest) }
     ensures takes { spec.TakesItems 1 lexer.old result lexer.new }
+    ensures errors { Tells result (untold_at lexer.old) (untold_at lexer.new) }
 {
     let token = first_token(word, lexer)?;
     match token.value {
@@ -68,15 +73,16 @@ fn ends_parameters(word: Location, lexer: &mut SourceLexer<'_>) -> Result<bool, 
     }
 }
 
-/// The parameters of a macro, behind its `(`.
+/// The parameters of a macro, after its `(`.
 pub fn parameters(
     alloc: Global,
     word: Location,
     lexer: &mut SourceLexer<'_>,
 ) -> Result<Vec<Text>, Halt>
     requires { lexer.old.spent ≡ false }
-    ensures is { spec.Meets (λ names. record { names = names.items; behind = lexer.new.rest }) result (parameters word lexer.old.rest) }
+    ensures is { spec.Meets (λ names. record { names = names.items; after = lexer.new.rest }) result (parameters word lexer.old.rest) }
     ensures goes { GoesOn result lexer.old lexer.new }
+    ensures errors { Tells result (untold_at lexer.old) (untold_at lexer.new) }
 {
     let mut names = Vec::new(alloc);
     let Some(first) = first_parameter(word, lexer)? else {

@@ -2,11 +2,13 @@
 
 ghost use Rattle.std.specs.Prelude.{◌≡◌, ◌-◌, ◌^◌, ◌<◌, false, length, if◌then◌else◌};
 ghost use Rattle.std.specs.Iterator.{at_most};
+ghost use Rattle.pp_lexer.specs.Location.{nowhere};
 ghost use Rattle.pp_lexer.specs.PreprocessorError.{out_of_memory};
 ghost use Rattle.pp_model.specs.Run.{items_of, start};
 ghost use Rattle.pp_rs.specs.Adding.{IsAdded};
 ghost use Rattle.pp_rs.specs.Item.{is_out_of_memory};
-ghost use Rattle.pp_rs.specs.Kept.{Stands, is_spent, most_items};
+ghost use Rattle.pp_rs.specs.Kept.{Stands, is_spent, most_items, errors_left, error_place};
+ghost use Rattle.pp_rs.specs.LexerErrors.{lexer_errors};
 ghost use Rattle.pp_rs.specs.Preprocessing.{IsNextItem};
 
 use crate::pp::calls::Caller;
@@ -14,7 +16,7 @@ use crate::pp::directives::DirectiveProcessor;
 use crate::pp::halt::Halt;
 use crate::pp::source_turn::turn_source;
 use crate::pp::step::{StepExit, is_out_of_memory};
-use crate::token::{Location, PreprocessorError, Token, out_of_memory};
+use crate::token::{Location, NOWHERE, PreprocessorError, Token, out_of_memory};
 use std::alloc::Global;
 use std::marker::Model;
 
@@ -23,25 +25,26 @@ pub type PreprocessorItem = Result<Token, (PreprocessorError, Location)>;
 
 /// A source as an iterator of its preprocessed tokens.
 ///
-/// It goes on behind each error but `OutOfMemory`, after which it gives `None` for good.
+/// It goes on after each error but `OutOfMemory`, after which it gives `None` for good.
 #[derive(Drop)]
 pub struct Preprocessor<'a> {
     alloc: Global,
     caller: Caller,
     source: DirectiveProcessor<'a>,
     spent: bool,
+    place: Location,
 }
 
 impl<'a> Model for Preprocessor<'a> {
     ghost use Rattle.std.specs.Prelude.{◌≡◌, false};
-    ghost use Rattle.pp_rs.specs.Fit.{IsFit};
+    ghost use Rattle.pp_rs.specs.Fit.{IsFit, IsTold};
     ghost use Rattle.pp_rs.specs.Kept.{Preprocessing};
 
     ghost Value = { Preprocessing };
 
-    ghost view = { λ p. record { machine = p.caller; source = p.source; spent = p.spent } };
+    ghost view = { λ p. record { machine = p.caller; source = p.source; spent = p.spent; place = p.place } };
 
-    ghost invariant = { λ p. p.spent ≡ false → IsFit p.caller p.source };
+    ghost invariant = { λ p. p.spent ≡ false → IsFit p.caller p.source × IsTold p.caller p.source };
 }
 
 // The error, where want of memory has the one place that it is told with.
@@ -63,13 +66,28 @@ impl<'a> Preprocessor<'a> {
         requires { length input.now < 2 ^ 32 - 1 }
         ensures unspent { is_spent result ≡ false }
         ensures stands { Stands result (start (items_of input.now)) }
+        ensures errors { errors_left result ≡ lexer_errors input.now }
+        ensures place { error_place result ≡ nowhere }
     {
         Preprocessor {
             alloc,
             caller: Caller::new(alloc),
             source: DirectiveProcessor::new(alloc, input),
             spent: false,
+            place: NOWHERE,
         }
+    }
+
+    /// Where the error stands that `next` gave last.
+    ///
+    /// For an error of the lexer, whose item says (0, 0, line 1), these are the byte offsets and the line of what it took,
+    /// in the text, on the line of a directive, in dead text or on a line that is skipped; for any other it is the place in
+    /// its item. Tokens, the end and `add_define` leave it as it is. Before the first error it is [`NOWHERE`], and once
+    /// memory was refused nothing is said of it.
+    pub fn place(&self) -> Location
+        ensures { result ≡ error_place self.now }
+    {
+        self.place
     }
 
     /// Lets the name stand for an object-like macro from now on, whatever it stood for, as `Preprocessor::add_define` of
@@ -79,7 +97,7 @@ impl<'a> Preprocessor<'a> {
     /// the content, which has fewer than 2^32 - 1 bytes. The name isn't checked: one that is no identifier is never met.
     ///
     /// The error is the first in the content: the lexer's, or `UnexpectedHash` at a number sign. It is `OutOfMemory`, in
-    /// place of any other, where memory is refused. Behind an error nothing is changed. It may be called between any two
+    /// place of any other, where memory is refused. After an error nothing is changed. It may be called between any two
     /// calls of `next`, also once memory was refused there, though `next` stays at `None` then.
     pub fn add_define(
         &mut self,
@@ -113,7 +131,9 @@ impl<'a> Iterator for Preprocessor<'a> {
                 Ok(token) => return Some(Ok(token)),
                 Err(StepExit::Error(error)) => {
                     self.spent = is_out_of_memory(&error.0);
-                    return Some(Err(place_refusal(error)));
+                    let error = place_refusal(error);
+                    self.place = self.source.take_error_place().unwrap_or(error.1);
+                    return Some(Err(error));
                 }
                 Err(StepExit::Finished) => return None,
                 Err(StepExit::Continue) => {}

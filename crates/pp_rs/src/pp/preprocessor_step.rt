@@ -8,7 +8,7 @@ use crate::pp::calls::{Caller, Taken};
 use crate::pp::directives::DirectiveProcessor;
 use crate::pp::step::Step;
 
-/// One step of the expander, where the source stands behind the frames.
+/// One step of the expander, where the source stands after the frames.
 pub fn step_source(caller: &mut Caller, source: &mut DirectiveProcessor<'_>) -> Step<Taken>
     ensures turns { TurnsOrRefuses caller.old (of_source source.old) result caller.new (of_source source.new) }
     ensures holds { IfOk result TakenHoldsOrdinary }

@@ -1,4 +1,4 @@
-//! What stands behind the frames: the reader of a source.
+//! What stands after the frames: the reader of a source.
 
 ghost use Rattle.std.specs.Prelude.{◌≡◌, IfOk, option_map, ok_or};
 ghost use Rattle.std.specs.Str.{chars};

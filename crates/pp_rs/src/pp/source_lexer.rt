@@ -4,30 +4,35 @@ ghost use Rattle.std.specs.Prelude.{◌≡◌, ◌-◌, ◌^◌, ◌<◌, length
 ghost use Rattle.pp_lexer.specs.Lexed.{start_of, comments_before};
 ghost use Rattle.pp_lexer.specs.Spots.{spots_of};
 ghost use Rattle.pp_rs.specs.LineReading as spec;
+ghost use Rattle.pp_rs.specs.SourceLexed.{beginning, untold_at, EndStays};
+ghost use Rattle.pp_rs.specs.Untold.{Tells};
 
 use crate::lexer::{self, Lexer};
 use crate::pp::halt::Halt;
 use crate::pp::step::is_out_of_memory;
+use crate::token::Location;
 use std::alloc::Global;
 use std::marker::Model;
 
-/// The lexer of a source. Once memory was refused it is spent.
+/// The lexer of a source. Once memory was refused it is spent. It remembers where an error stands that was read, until
+/// that is told.
 #[derive(Drop)]
 pub struct SourceLexer<'a> {
     lexer: Lexer<'a>,
+    error_place: Option<Location>,
     spent: bool,
 }
 
 impl<'a> Model for SourceLexer<'a> {
     ghost use Rattle.std.specs.Prelude.{◌≡◌, false};
-    ghost use Rattle.pp_lexer.specs.Lexed.{Lexed};
     ghost use Rattle.pp_rs.specs.Lined.{AreEnded};
+    ghost use Rattle.pp_rs.specs.SourceLexed.{SourceLexed, HavePlaces};
 
-    ghost Value = { Lexed };
+    ghost Value = { SourceLexed };
 
-    ghost view = { λ s. record s.lexer { spent = s.spent } };
+    ghost view = { λ s. record { rest = s.lexer.rest; places = s.lexer.places; error_place = s.error_place; had_comments = s.lexer.had_comments; at_end = s.lexer.at_end; spent = s.spent } };
 
-    ghost invariant = { λ s. s.spent ≡ false → (s.lexer.spent ≡ false) × AreEnded s.lexer.rest };
+    ghost invariant = { λ s. s.spent ≡ false → (s.lexer.spent ≡ false) × AreEnded s.lexer.rest × HavePlaces s.lexer.rest s.lexer.places };
 }
 
 impl<'a> SourceLexer<'a> {
@@ -36,10 +41,11 @@ impl<'a> SourceLexer<'a> {
     /// Takes no memory and reads nothing yet.
     pub fn new(alloc: Global, input: &'a str) -> SourceLexer<'a>
         requires { length input.now < 2 ^ 32 - 1 }
-        ensures { result ≡ start_of (spots_of input.now) }
+        ensures { result ≡ beginning (start_of (spots_of input.now)) }
     {
         SourceLexer {
             lexer: Lexer::new(alloc, input),
+            error_place: None,
             spent: false,
         }
     }
@@ -59,6 +65,16 @@ impl<'a> SourceLexer<'a> {
         self.lexer.had_comments()
     }
 
+    /// Where the error stands that was read and not told yet, which is told now.
+    pub fn take_error_place(&mut self) -> Option<Location>
+        ensures place { result ≡ self.old.error_place }
+        ensures others { self.new ≡ record self.old { error_place = None } }
+    {
+        let place = self.error_place;
+        self.error_place = None;
+        place
+    }
+
     /// The next token, or nothing at the end. A spent lexer is at its end, and stays as it is.
     pub fn next_token(&mut self) -> Result<Option<lexer::Token>, Halt>
         ensures is { self.old.spent ≡ false → spec.Meets (λ t. t) result (spec.next_token self.old.rest) }
@@ -66,6 +82,8 @@ impl<'a> SourceLexer<'a> {
         ensures fault { self.old.spent ≡ false → spec.FaultTakesSome result self.old self.new }
         ensures comments { IfOk result (λ token. self.old.spent ≡ false → self.new.had_comments ≡ comments_before self.old.rest self.old.at_end) }
         ensures left { IfOk result (λ token. spec.LeavesSome token self.new.rest) }
+        ensures ended { EndStays result self.old self.new }
+        ensures errors { Tells result (untold_at self.old) (untold_at self.new) }
         ensures refused { spec.RefusedWithin result self.old.rest }
         ensures spent { self.old.spent ≡ true → (result ≡ Ok None) × (self.new ≡ self.old) }
     {
@@ -80,6 +98,7 @@ impl<'a> SourceLexer<'a> {
                 if self.spent {
                     return Err(Halt::OutOfMemory);
                 }
+                self.error_place = Some(self.lexer.place());
                 Err(Halt::Fault(error))
             }
         }

@@ -15,7 +15,7 @@ use crate::pp::step::{Step, StepExit};
 use crate::token::Token;
 use std::alloc::Global;
 
-/// One step of the expander over a source, behind which a call is finished at once.
+/// One step of the expander over a source, after which a call is finished at once.
 pub fn turn_source(
     alloc: Global,
     caller: &mut Caller,

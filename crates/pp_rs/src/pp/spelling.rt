@@ -45,7 +45,10 @@ fn join_spellings(alloc: Global, tokens: &[Token]) -> Result<String, AllocError>
     Ok(text)
 }
 
-fn push_value(text: &mut String, value: &TokenValue) -> Result<(), AllocError>
+/// Puts the text of an ordinary token at the end, as `spell_tokens` spells it.
+///
+/// Fails only where memory is refused, and a part of it may have been put there then.
+pub fn push_value(text: &mut String, value: &TokenValue) -> Result<(), AllocError>
     requires { IsTrue (is_ordinary value.now) }
     ensures { OnOk result (chars (string_bytes text.new) ≡ chars (string_bytes text.old) ++ spelling value.now) }
 {

@@ -5,7 +5,7 @@ use Rattle.pp_model.specs.Calls.{Fault, arguments_of, misfit}
 use Rattle.pp_rs.specs.Frames.{names_of}
 use Rattle.std.proofs.lemmas.Result.{err_from_is_err_and}
 use Rattle.pp_model.specs.Emitting.{Alone, list_before, first_failed, more, none}
-use Rattle.pp_model.proofs.CollectLemmas.{behind_lists-before, behind_items-end}
+use Rattle.pp_model.proofs.CollectLemmas.{after_lists-before, after_items-end}
 use Rattle.pp_rs.specs.Defined.{meaning_of}
 use Rattle.pp_rs.specs.Item.{is_out_of_memory}
 use Rattle.pp_rs.specs.declared.pp.step.StepExit.TheVariants.{Error}
@@ -16,22 +16,29 @@ use Rattle.pp_rs.specs.Held.{HoldsOrdinary}
 use Rattle.pp_rs.proofs.AnswerLemmas.{satisfies_exit, fault_of, finish_fault, opens_frame, short_more, short_list}
 use Rattle.pp_rs.proofs.ListLeadsLemmas.{reached_start, reached_token, token_less, reached_pause, pause_less, reached_end, reached_fault, reached_call_fault, call_less, reached_call}
 use Rattle.pp_rs.proofs.ListedLeadsLemmas.{turned}
+use Rattle.pp_rs.proofs.PlainLemmas.{plain_alone, plain_short}
 use Rattle.pp_rs.proofs.pp.arguments.+answers.Goals as goal
 
+pub expand_argument-returns-then-are_plain : goal.expand_argument-returns-then-are_plain
+expand_argument-returns-then-are_plain t c = record {
+  alone = plain_alone c.args.levels c.args.definitions.now c.args.hidden.now c.args.tokens (rw c.as_slice.ensures.is at (sym c.are_plain.ensures ∙ c.if-are_plain.true));
+  least = plain_short c.args.levels c.args.definitions.now (length c.args.tokens);
+}
+
 pub expand_argument-items-init : goal.expand_argument-items-init
-expand_argument-items-init t c = record { reached = reached_start _ _ _ _ _ _ _ c.new-caller.ensures (rw c.into_tokens.ensures.is at c.argument-lexer.ensures) c.new-items.ensures.items; holds = rw c.new-items.ensures.items (All-nil (λ (t : Token). HoldsOrdinary t.value)) }
-
-pub expand_argument-items-smaller-in-Continue-1 : goal.expand_argument-items-smaller-in-Continue-1
-expand_argument-items-smaller-in-Continue-1 t c = token_less _ _ _ _ _ _ _ c.items.invariant.reached _ _ c.in-Ok-Token.token (turned _ _ _ _ _ (rw c.in-Ok-Token.field-0-is at c.in-Ok-Token.ensures.turns) refl)
-
-pub expand_argument-items-preserved-in-Continue-1 : goal.expand_argument-items-preserved-in-Continue-1
-expand_argument-items-preserved-in-Continue-1 t c = record { reached = reached_token _ _ _ _ _ _ _ c.items.invariant.reached _ _ c.in-Ok-Token.token _ (turned _ _ _ _ _ (rw c.in-Ok-Token.field-0-is at c.in-Ok-Token.ensures.turns) refl) c.in_ok-push-in-Ok-Token.ensures.items; holds = rw c.in_ok-push-in-Ok-Token.ensures.items (All-push (λ (t : Token). HoldsOrdinary t.value) _ _ c.items.invariant.holds (rw c.in-Ok-Token.field-0-is at c.in-Ok-Token.ensures.holds)) }
+expand_argument-items-init t c = record { reached = reached_start _ _ _ _ _ _ _ c.new-caller.ensures (rw c.into_tokens.ensures.is at c.argument-lexer.ensures) c.in_ok-items.ensures.items; holds = rw c.in_ok-items.ensures.items (All-nil (λ (t : Token). HoldsOrdinary t.value)) }
 
 pub expand_argument-items-smaller-in-Continue-branch-2 : goal.expand_argument-items-smaller-in-Continue-branch-2
-expand_argument-items-smaller-in-Continue-branch-2 t c = call_less _ _ _ _ _ _ _ c.items.invariant.reached _ _ c.in-Ok-Call.call (turned _ _ _ _ _ (rw c.in-Ok-Call.field-0-is at c.in-Ok-Call.ensures.turns) refl) _ c.in_ok-finish_call-in-Ok-Call.ensures
+expand_argument-items-smaller-in-Continue-branch-2 t c = token_less _ _ _ _ _ _ _ c.items.invariant.reached _ _ c.in-Ok-Token.token (turned _ _ _ _ _ (rw c.in-Ok-Token.field-0-is at c.in-Ok-Token.ensures.turns) refl)
 
 pub expand_argument-items-preserved-in-Continue-branch-2 : goal.expand_argument-items-preserved-in-Continue-branch-2
-expand_argument-items-preserved-in-Continue-branch-2 t c = record { reached = reached_call _ _ _ _ _ _ _ c.items.invariant.reached _ _ c.in-Ok-Call.call (turned _ _ _ _ _ (rw c.in-Ok-Call.field-0-is at c.in-Ok-Call.ensures.turns) refl) _ c.in_ok-finish_call-in-Ok-Call.ensures; holds = c.items.invariant.holds }
+expand_argument-items-preserved-in-Continue-branch-2 t c = record { reached = reached_token _ _ _ _ _ _ _ c.items.invariant.reached _ _ c.in-Ok-Token.token _ (turned _ _ _ _ _ (rw c.in-Ok-Token.field-0-is at c.in-Ok-Token.ensures.turns) refl) c.in_ok-push-in-Ok-Token.ensures.items; holds = rw c.in_ok-push-in-Ok-Token.ensures.items (All-push (λ (t : Token). HoldsOrdinary t.value) _ _ c.items.invariant.holds (rw c.in-Ok-Token.field-0-is at c.in-Ok-Token.ensures.holds)) }
+
+pub expand_argument-items-smaller-in-Continue-branch-3 : goal.expand_argument-items-smaller-in-Continue-branch-3
+expand_argument-items-smaller-in-Continue-branch-3 t c = call_less _ _ _ _ _ _ _ c.items.invariant.reached _ _ c.in-Ok-Call.call (turned _ _ _ _ _ (rw c.in-Ok-Call.field-0-is at c.in-Ok-Call.ensures.turns) refl) _ c.in_ok-finish_call-in-Ok-Call.ensures
+
+pub expand_argument-items-preserved-in-Continue-branch-3 : goal.expand_argument-items-preserved-in-Continue-branch-3
+expand_argument-items-preserved-in-Continue-branch-3 t c = record { reached = reached_call _ _ _ _ _ _ _ c.items.invariant.reached _ _ c.in-Ok-Call.call (turned _ _ _ _ _ (rw c.in-Ok-Call.field-0-is at c.in-Ok-Call.ensures.turns) refl) _ c.in_ok-finish_call-in-Ok-Call.ensures; holds = c.items.invariant.holds }
 
 pub expand_argument-items-smaller : goal.expand_argument-items-smaller
 expand_argument-items-smaller t c = pause_less _ _ _ _ _ _ _ c.items.invariant.reached _ _ (turned _ _ _ _ _ (rw c.in-Err-Continue.field-0-is at c.in-Err-Continue.ensures.turns) refl)
@@ -65,14 +72,14 @@ expand_arguments-loop-argument-preserved t c =
     let is : into_iter_items c.loop-argument.argument-iterator ≡ c.in-Some.argument ∷ into_iter_items c.next.new.self = c.in-Some.ensures.steps.0 in
     record {
       goes_on = λ out h.
-          rw (c.in_ok-push.ensures.items, ← behind_lists-before c.loop-argument.expanded.items c.in_ok-list.list out)
+          rw (c.in_ok-push.ensures.items, ← after_lists-before c.loop-argument.expanded.items c.in_ok-list.list out)
           (c.loop-argument.invariant.goes_on (list_before c.in_ok-list.list out) (rw is (more c.in-Some.argument c.in_ok-list.list _ out (list_before c.in_ok-list.list out) c.in_ok-list.ensures.alone h refl)));
       left = λ n all. All-tail (λ (a : List Token). length a ≤ n) c.in-Some.argument _ (rw is at c.loop-argument.invariant.left n all);
       short = λ n all. short_more _ c.loop-argument.expanded.items _ c.in_ok-list.list (c.loop-argument.invariant.short n all) (short_list c.args.levels c.args.definitions.now n c.in-Some.argument c.in_ok-list.list (All-head (λ (a : List Token). length a ≤ n) c.in-Some.argument _ (rw is at c.loop-argument.invariant.left n all)) c.in_ok-list.ensures.least) c.in_ok-push.ensures.items;
     }
 
 pub expand_arguments-returns-clause-each : goal.expand_arguments-returns-clause-each
-expand_arguments-returns-clause-each t c = rw (c.new.ensures, ← behind_items-end c.loop-argument.expanded.items)
+expand_arguments-returns-clause-each t c = rw (c.new.ensures, ← after_items-end c.loop-argument.expanded.items)
     (c.loop-argument.invariant.goes_on (Ok []) (rw (nil_from_length (into_iter_items c.loop-argument.argument-iterator) (sym c.loop-argument.argument-iterator.rest.ok.0 ∙ c.in-None.ensures.steps.0)) (none (Ok []) refl)))
 
 pub expand_arguments-returns-clause-least : goal.expand_arguments-returns-clause-least

@@ -4,7 +4,7 @@ use Rattle.std.specs.Vec.Iter.{into_iter_items}
 use Rattle.pp_lexer.specs.declared.token.Token.{Token}
 use Rattle.pp_model.specs.Calls.{Fault}
 use Rattle.pp_model.specs.Emitting.{Each, Alone}
-use Rattle.pp_model.proofs.CollectLemmas.{behind_items}
+use Rattle.pp_model.proofs.CollectLemmas.{after_items}
 use Rattle.pp_rs.specs.Defined.{meaning_of}
 use Rattle.pp_rs.specs.Held.{AllHoldOrdinary}
 use Rattle.pp_rs.specs.Left.{work_of, most_alone}
@@ -35,7 +35,7 @@ decreases-expand_argument-items l = work_of l.levels l.caller (of_list l.lexer)
 
 abbrev pub invariant-expand_arguments-loop-argument : goal.invariant-expand_arguments-loop-argument
 invariant-expand_arguments-loop-argument l = record {
-  goes_on : (out : Result (List (List Token)) Fault) → Each (Alone l.levels) (meaning_of l.definitions) l.hidden (into_iter_items l.argument-iterator) out → Each (Alone l.levels) (meaning_of l.definitions) l.hidden l.fn.arguments (behind_items l.expanded.items out);
+  goes_on : (out : Result (List (List Token)) Fault) → Each (Alone l.levels) (meaning_of l.definitions) l.hidden (into_iter_items l.argument-iterator) out → Each (Alone l.levels) (meaning_of l.definitions) l.hidden l.fn.arguments (after_items l.expanded.items out);
   left : (n : ℕ) → All (λ (a : List Token). length a ≤ n) l.fn.arguments → All (λ (a : List Token). length a ≤ n) (into_iter_items l.argument-iterator);
   short : (n : ℕ) → All (λ (a : List Token). length a ≤ n) l.fn.arguments → All (λ (a : List Token). length a ≤ most_alone l.levels l.definitions n) l.expanded.items;
 }

@@ -21,8 +21,8 @@ loop-token-preserved c =
     let is : into_iter_items c.loop-token.token-iterator ≡ c.in-Some.token ∷ into_iter_items c.next.new.self = c.in-Some.ensures.steps.0 in
     let all : AllHoldOrdinary (c.in-Some.token ∷ into_iter_items c.next.new.self) = rw is at c.loop-token.invariant.left in
     record {
-      cut = grows_piece _ _ _ c.in-Some.token c.loop-token.depth c.nesting_behind-depth.result _ _ _ c.loop-token.invariant.cut is (sym c.ends_argument.ensures ∙ c.if-ends_argument.false) c.nesting_behind-depth.ensures c.in_ok-push-2.ensures.items;
-      few = piece_within _ _ c.in-Some.token c.loop-token.depth c.nesting_behind-depth.result _ c.loop-token.invariant.few is c.nesting_behind-depth.ensures;
+      cut = grows_piece _ _ _ c.in-Some.token c.loop-token.depth c.nesting_after-depth.result _ _ _ c.loop-token.invariant.cut is (sym c.ends_argument.ensures ∙ c.if-ends_argument.false) c.nesting_after-depth.ensures c.in_ok-push-2.ensures.items;
+      few = piece_within _ _ c.in-Some.token c.loop-token.depth c.nesting_after-depth.result _ c.loop-token.invariant.few is c.nesting_after-depth.ensures;
       holds = rw c.in_ok-push-2.ensures.items (All-push (λ (t : Token). HoldsOrdinary t.value) _ _ c.loop-token.invariant.holds (All-head (λ (t : Token). HoldsOrdinary t.value) c.in-Some.token _ all));
       left = All-tail (λ (t : Token). HoldsOrdinary t.value) c.in-Some.token _ all;
     }

@@ -14,5 +14,5 @@ returns-then-value-eq0 c = numbers_alone c.args.directive c.args.words _ c.in-Ok
 pub returns : goal.returns
 returns c =
     satisfies_more _ _ c.followed.result
-    (numbers_followed c.args.directive c.args.words _ c.in-Ok.value _ c.in-Some.number _ c.in_ok-value.ensures c.in-Ok.is c.as_line_number.ensures c.in-Some.is c.if-value-eq0.false c.words_behind-behind.ensures)
+    (numbers_followed c.args.directive c.args.words _ c.in-Ok.value _ c.in-Some.number _ c.in_ok-value.ensures c.in-Ok.is c.as_line_number.ensures c.in-Some.is c.if-value-eq0.false c.words_after-after.ensures)
     c.followed.ensures

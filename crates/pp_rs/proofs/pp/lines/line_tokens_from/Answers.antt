@@ -2,7 +2,7 @@ use Rattle.std.proofs.Common.{◌∙◌, IsTrue, arith}
 use Rattle.std.proofs.lemmas.List.Elements.{All-push}
 use Rattle.pp_lexer.specs.TokenValue.{is_ordinary}
 use Rattle.pp_lexer.specs.declared.token.Token.{Token}
-use Rattle.pp_rs.proofs.CommentsBehindLemmas.{comments_more}
+use Rattle.pp_rs.proofs.CommentsAfterLemmas.{comments_more}
 use Rattle.pp_rs.proofs.LineReadingLemmas.{whole_more, place_more, drop_fewer}
 use Rattle.pp_rs.proofs.pp.lines.line_tokens_from.Goals as goal
 
@@ -16,6 +16,7 @@ loop-next-preserved c =
       place = place_more _ _ _ n.is n.takes.rest _ (rw c.in-Some.is at before.place);
       fewer = omega (arith, drop_fewer c.loop-next.lexer.rest c.next_line_token.new.lexer.rest 1 n.takes.rest);
       unspent = n.takes.spent;
+      errors = n.errors ∙ before.errors;
       read_ordinary = rw items (All-push (λ (t : Token). IsTrue (is_ordinary t.value)) _ _ before.read_ordinary (rw c.in-Some.is at before.next_ordinary));
       next_ordinary = n.ordinary;
       comments = comments_more _ _ _ _ _ (rw c.in-Some.is at before.left) n.is n.takes.rest n.comments ∙ (rw c.in-Some.is at before.comments);

@@ -14,4 +14,5 @@ line-preserved c =
       place = skipped_place rest after on p.takes.rest ∙ before.place;
       fewer = omega (arith, drop_fewer rest after 1 p.takes.rest);
       unspent = p.takes.spent;
+      errors = p.errors ∙ before.errors;
     }

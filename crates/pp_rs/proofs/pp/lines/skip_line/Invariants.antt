@@ -1,6 +1,7 @@
 use Rattle.std.proofs.Common.{◌≡◌, false, ◌≤◌, length, drop}
 use Rattle.pp_model.specs.Lines.{line_length}
 use Rattle.pp_rs.specs.LineReading as spec
+use Rattle.pp_rs.specs.SourceLexed.{untold_at}
 use Rattle.pp_rs.proofs.pp.lines.skip_line.Given as goal
 
 -- what is left of the line is its end
@@ -10,6 +11,7 @@ invariant-line l = record {
   place : drop (line_length l.lexer.rest) l.lexer.rest ≡ drop (line_length l.initial.lexer.rest) l.initial.lexer.rest;
   fewer : length l.lexer.rest ≤ length l.initial.lexer.rest;
   unspent : l.lexer.spent ≡ false;
+  errors : untold_at l.lexer ≡ untold_at l.initial.lexer;
 }
 
 abbrev pub decreases-line : goal.decreases-line

@@ -1,7 +1,13 @@
 use Rattle.std.proofs.Common.{◌∙◌, ap, Err}
 use Rattle.std.proofs.lemmas.Result.{err_from_is_err_and}
-use Rattle.pp_rs.proofs.ParameterLemmas.{meets_refused}
+use Rattle.pp_rs.specs.ParameterReading.{alone}
+use Rattle.pp_rs.proofs.ParameterLemmas.{meets_first, meets_refused}
 use Rattle.pp_rs.proofs.pp.parameters.parameters.Goals as goal
+
+pub returns-in_err-first-clause-is : goal.returns-in_err-first-clause-is
+returns-in_err-first-clause-is c =
+    let e = err_from_is_err_and c.from_residual.result c.from_residual.ensures.1 in
+    meets_first _ alone _ c.in_err-first.field-0.0 c.args.word c.args.lexer.now.rest (e.1 ∙ ap Err e.2) c.in_err-first.ensures.is
 
 pub returns-in_err-ends_parameters-clause-is : goal.returns-in_err-ends_parameters-clause-is
 returns-in_err-ends_parameters-clause-is c =

@@ -1,7 +1,7 @@
 use Rattle.std.proofs.Common.{◌++◌, ◌∙◌, ap, arith, string_bytes, IsTrue}
 use Rattle.pp_lexer.specs.TokenValue.{is_ordinary}
 use Rattle.std.proofs.lemmas.Str.{IsUtf8-string_bytes}
-use Rattle.pp_rs.proofs.SpellingLemmas.{spelled_none, spelled_first, spelled_more, spelled_all, all_behind_first}
+use Rattle.pp_rs.proofs.SpellingLemmas.{spelled_none, spelled_first, spelled_more, spelled_all, all_after_first}
 use Rattle.pp_rs.proofs.pp.spelling.join_spellings.Goals as goal
 
 pub returns-in_default : goal.returns-in_default
@@ -15,7 +15,7 @@ loop-token-init c =
 
 pub push_value-requires-in-loop-token : goal.push_value-requires-in-loop-token
 push_value-requires-in-loop-token c =
-    all_behind_first (λ t. IsTrue (is_ordinary t.value)) _ c.in-Some.others.now _ c.token-item.result c.loop-token.token-index c.requires c.in-Some.ensures.cases.0 (omega arith) c.token-item.is
+    all_after_first (λ t. IsTrue (is_ordinary t.value)) _ c.in-Some.others.now _ c.token-item.result c.loop-token.token-index c.requires c.in-Some.ensures.cases.0 (omega arith) c.token-item.is
 
 pub loop-token-preserved : goal.loop-token-preserved
 loop-token-preserved c =

@@ -2,8 +2,8 @@ use Rattle.std.proofs.Common.{refl}
 use Rattle.pp_rs.proofs.ConditionActsLemmas.{line_numbers}
 use Rattle.pp_rs.proofs.pp.directives.DirectiveProcessor.number_lines.Goals as goal
 
-pub returns : goal.returns
-returns c =
+pub returns-clause-acts : goal.returns-clause-acts
+returns-clause-acts c =
     let p = c.self.inside in
     let e = c.in_ok-tokens.ensures in
     rw (← c.self.view_is, c.count_from.ensures)

@@ -3,8 +3,8 @@ use Rattle.pp_rs.specs.OpenBlocks.{OpenBlock, outer_blocks}
 use Rattle.pp_rs.proofs.ConditionActsLemmas.{elif_parts}
 use Rattle.pp_rs.proofs.pp.directives.DirectiveProcessor.part_if.Goals as goal
 
-pub returns : goal.returns
-returns c =
+pub returns-clause-acts : goal.returns-clause-acts
+returns-clause-acts c =
     let p = c.self.inside in
     let e = c.in_ok-tokens.ensures in
     rw (← c.self.view_is)

@@ -1,6 +1,6 @@
 use Rattle.std.proofs.Common.{Some, None, Ok, Err}
 use Rattle.pp_rs.proofs.SourceActsLemmas.{err_result}
-use Rattle.pp_rs.proofs.SourceStepLemmas.{step_directive}
+use Rattle.pp_rs.proofs.SourceStepLemmas.{step_directive, step_ends}
 use Rattle.pp_rs.proofs.pp.directives.DirectiveProcessor.step.Goals as goal
 
 pub returns-in_err-item-in-Hash-clause-reads : goal.returns-in_err-item-in-Hash-clause-reads
@@ -26,3 +26,10 @@ returns-in-Hash-clause-reads c =
     let gives = rw c.in-None.is at c.in_ok-item-in-Hash.ensures.gives in
     rw (← c.self.view_is)
     (step_directive p.definitions p.blocks p.line_offset p.has_text p.has_directive p.lexer c.next_token.new.self c.in_ok-token.field-0 c.in-Some.token c.in-Some.is e.spent e.is e.takes (Ok None) c.read_directive.new.self c.in-Hash.is c.if-token.true gives)
+
+pub returns-in_default-clause-reads : goal.returns-in_default-clause-reads
+returns-in_default-clause-reads c =
+    let p = c.self.inside in
+    let e = c.in_ok-token.ensures in
+    rw (← c.self.view_is)
+    (step_ends p.definitions p.blocks p.line_offset p.has_text p.has_directive p.lexer c.next_token.new.self c.in_ok-token.field-0 c.in_default.is e.spent e.is e.takes e.ended (Err c.end.result) c.end.new.self c.end.ensures.reads)

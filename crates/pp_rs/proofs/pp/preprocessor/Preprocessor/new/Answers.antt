@@ -1,6 +1,6 @@
 use Rattle.std.proofs.Common.{refl}
-use Rattle.pp_rs.specs.Kept.{is_spent}
-use Rattle.pp_rs.proofs.StartLemmas.{start_stands}
+use Rattle.pp_rs.specs.Kept.{is_spent, error_place}
+use Rattle.pp_rs.proofs.StartLemmas.{start_stands, start_errors}
 use Rattle.pp_rs.proofs.pp.preprocessor.Preprocessor.new.Goals as goal
 
 pub returns-clause-unspent : goal.returns-clause-unspent
@@ -9,3 +9,10 @@ returns-clause-unspent c = refl
 
 pub returns-clause-stands : goal.returns-clause-stands
 returns-clause-stands c = rw (c.new.ensures, c.new-2.ensures) (start_stands c.args.input.now)
+
+pub returns-clause-errors : goal.returns-clause-errors
+returns-clause-errors c = rw (c.new.ensures, c.new-2.ensures) (start_errors c.args.input.now)
+
+pub returns-clause-place : goal.returns-clause-place
+unfolding error_place
+returns-clause-place c = refl

@@ -1,11 +1,14 @@
-use Rattle.std.proofs.Common.{◌≡◌, ◌∙◌, refl, ap, sym, false}
-use Rattle.pp_rs.specs.Item.{is_out_of_memory}
+use Rattle.std.proofs.Common.{◌≡◌, ◌∙◌, refl, ap, sym, false, Option}
+use Rattle.std.specs.Prelude.{unwrap_or}
+use Rattle.pp_lexer.specs.declared.token.Location.{Location}
+use Rattle.pp_rs.specs.Item.{Fault, is_out_of_memory}
 use Rattle.pp_rs.proofs.NextLemmas.{reached_first, reached_more, falls_more, token_fits, end_fits, fault_fits, next_token, next_end, next_error, next_none}
 use Rattle.pp_rs.proofs.pp.preprocessor.PreprocessorIterator.next.Goals as goal
 
 pub loop-token-init : goal.loop-token-init
 loop-token-init c = record {
   unspent = c.if-self.false;
+  placed = ap (λ p. p.place) c.self.view_is;
   reached = reached_first _ _ _ _ (ap (λ p. p.machine) c.self.view_is) (ap (λ p. p.source) c.self.view_is) (c.self.invariant c.if-self.false);
 }
 
@@ -15,6 +18,7 @@ loop-token-smaller c = falls_more _ _ _ _ _ _ c.loop-token.invariant.reached (rw
 pub loop-token-preserved : goal.loop-token-preserved
 loop-token-preserved c = record {
   unspent = c.loop-token.invariant.unspent;
+  placed = c.loop-token.invariant.placed;
   reached = reached_more _ _ _ _ _ _ c.loop-token.invariant.reached (rw c.in-Err-Continue.field-0-is at c.in-Err-Continue.ensures.turns);
 }
 
@@ -25,7 +29,7 @@ pub invariant_of-self-in-Err-Finished : goal.invariant_of-self-in-Err-Finished
 invariant_of-self-in-Err-Finished c = λ e. end_fits _ _ _ _ _ _ c.loop-token.invariant.reached (rw c.in-Err-Finished.field-0-is at c.in-Err-Finished.ensures.turns)
 
 pub invariant_of-self-in-Err-Error : goal.invariant_of-self-in-Err-Error
-invariant_of-self-in-Err-Error c = λ e. fault_fits _ _ _ _ _ _ c.loop-token.invariant.reached c.in-Err-Error.error (rw c.in-Err-Error.field-0-is at c.in-Err-Error.ensures.turns) (sym c.is_out_of_memory-self-inside.ensures ∙ e)
+invariant_of-self-in-Err-Error c = λ e. fault_fits _ _ _ _ _ _ c.loop-token.invariant.reached c.in-Err-Error.error c.take_error_place.new.self c.take_error_place.ensures.others (rw c.in-Err-Error.field-0-is at c.in-Err-Error.ensures.turns) (sym c.is_out_of_memory-self-inside.ensures ∙ e)
 
 pub returns-then-self-clause-steps : goal.returns-then-self-clause-steps
 returns-then-self-clause-steps c = next_none c.args.self.now (ap (λ p. p.spent) (sym c.self.view_is) ∙ c.if-self.true)
@@ -33,26 +37,31 @@ returns-then-self-clause-steps c = next_none c.args.self.now (ap (λ p. p.spent)
 pub returns-in-Ok-clause-steps : goal.returns-in-Ok-clause-steps
 returns-in-Ok-clause-steps c =
     let fresh : c.args.self.now.spent ≡ false = ap (λ p. p.spent) (sym c.self.view_is) ∙ c.if-self.false in
-    next_token _ _ _ _ _ _ c.loop-token.invariant.reached c.args.self.now fresh refl refl c.in-Ok.token c.loop-token.self-inside.spent c.loop-token.invariant.unspent c.in-Ok.ensures.turns c.in-Ok.ensures.holds
+    next_token _ _ _ _ _ _ c.loop-token.invariant.reached c.args.self.now fresh refl refl c.in-Ok.token c.loop-token.self-inside.spent c.loop-token.self-inside.place c.loop-token.invariant.unspent c.loop-token.invariant.placed c.in-Ok.ensures.turns c.in-Ok.ensures.holds
 
 pub returns-in-Ok-clause-goes : goal.returns-in-Ok-clause-goes
 returns-in-Ok-clause-goes c =
     let fresh : c.args.self.now.spent ≡ false = ap (λ p. p.spent) (sym c.self.view_is) ∙ c.if-self.false in
-    let next = next_token _ _ _ _ _ _ c.loop-token.invariant.reached c.args.self.now fresh refl refl c.in-Ok.token c.loop-token.self-inside.spent c.loop-token.invariant.unspent c.in-Ok.ensures.turns c.in-Ok.ensures.holds in
+    let next = next_token _ _ _ _ _ _ c.loop-token.invariant.reached c.args.self.now fresh refl refl c.in-Ok.token c.loop-token.self-inside.spent c.loop-token.self-inside.place c.loop-token.invariant.unspent c.loop-token.invariant.placed c.in-Ok.ensures.turns c.in-Ok.ensures.holds in
     record { on = λ finite. (tt, tt, next.less_left); keeps = tt; rests = λ finite. tt }
 
 pub returns-in-Err-Finished-clause-steps : goal.returns-in-Err-Finished-clause-steps
 returns-in-Err-Finished-clause-steps c =
     let fresh : c.args.self.now.spent ≡ false = ap (λ p. p.spent) (sym c.self.view_is) ∙ c.if-self.false in
-    next_end _ _ _ _ _ _ c.loop-token.invariant.reached c.args.self.now fresh refl refl c.loop-token.self-inside.spent c.loop-token.invariant.unspent (rw c.in-Err-Finished.field-0-is at c.in-Err-Finished.ensures.turns)
+    next_end _ _ _ _ _ _ c.loop-token.invariant.reached c.args.self.now fresh refl refl c.loop-token.self-inside.spent c.loop-token.self-inside.place c.loop-token.invariant.unspent c.loop-token.invariant.placed (rw c.in-Err-Finished.field-0-is at c.in-Err-Finished.ensures.turns)
 
 pub returns-in-Err-Error-clause-steps : goal.returns-in-Err-Error-clause-steps
 returns-in-Err-Error-clause-steps c =
     let fresh : c.args.self.now.spent ≡ false = ap (λ p. p.spent) (sym c.self.view_is) ∙ c.if-self.false in
-    rw (c.place_refusal.ensures, c.is_out_of_memory-self-inside.ensures) (next_error _ _ _ _ _ _ c.loop-token.invariant.reached c.args.self.now fresh refl refl c.in-Err-Error.error (is_out_of_memory c.in-Err-Error.error.0) refl (rw c.in-Err-Error.field-0-is at c.in-Err-Error.ensures.turns))
+    let error = c.in-Err-Error.error in
+    let at = c.unwrap_or-self-inside.ensures ∙ ap (λ (o : Option Location). unwrap_or o c.place_refusal-error.result.1) c.take_error_place.ensures.place ∙ ap (λ (e : Fault). unwrap_or c.turn_source.new.source.error_place e.1) c.place_refusal-error.ensures in
+    rw (c.place_refusal-error.ensures, c.is_out_of_memory-self-inside.ensures)
+    (next_error _ _ _ _ _ _ c.loop-token.invariant.reached c.args.self.now fresh refl refl error c.take_error_place.new.self c.unwrap_or-self-inside.result c.take_error_place.ensures.others (is_out_of_memory error.0) refl (rw c.in-Err-Error.field-0-is at c.in-Err-Error.ensures.turns) at)
 
 pub returns-in-Err-Error-clause-goes : goal.returns-in-Err-Error-clause-goes
 returns-in-Err-Error-clause-goes c =
     let fresh : c.args.self.now.spent ≡ false = ap (λ p. p.spent) (sym c.self.view_is) ∙ c.if-self.false in
-    let next = next_error _ _ _ _ _ _ c.loop-token.invariant.reached c.args.self.now fresh refl refl c.in-Err-Error.error (is_out_of_memory c.in-Err-Error.error.0) refl (rw c.in-Err-Error.field-0-is at c.in-Err-Error.ensures.turns) in
+    let error = c.in-Err-Error.error in
+    let at = c.unwrap_or-self-inside.ensures ∙ ap (λ (o : Option Location). unwrap_or o c.place_refusal-error.result.1) c.take_error_place.ensures.place ∙ ap (λ (e : Fault). unwrap_or c.turn_source.new.source.error_place e.1) c.place_refusal-error.ensures in
+    let next = next_error _ _ _ _ _ _ c.loop-token.invariant.reached c.args.self.now fresh refl refl error c.take_error_place.new.self c.unwrap_or-self-inside.result c.take_error_place.ensures.others (is_out_of_memory error.0) refl (rw c.in-Err-Error.field-0-is at c.in-Err-Error.ensures.turns) at in
     record { on = λ finite. (tt, tt, rw c.is_out_of_memory-self-inside.ensures next.less_left); keeps = tt; rests = λ finite. tt }

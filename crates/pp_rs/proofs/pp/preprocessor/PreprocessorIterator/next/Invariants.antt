@@ -9,6 +9,7 @@ use Rattle.pp_rs.proofs.pp.preprocessor.PreprocessorIterator.next.Given as goal
 abbrev pub invariant-loop-token : goal.invariant-loop-token
 invariant-loop-token l = record {
   unspent : l.self-inside.spent ≡ false;
+  placed : l.self-inside.place ≡ l.fn.self.place;
   reached : Reached l.fn.self.machine l.fn.self.source l.self-inside.caller l.self-inside.source;
 }
 

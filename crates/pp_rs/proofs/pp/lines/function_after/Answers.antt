@@ -1,6 +1,6 @@
 use Rattle.std.proofs.Common.{◌∙◌, sym}
 use Rattle.pp_rs.proofs.ParameterLemmas.{parameters_on_line}
-use Rattle.pp_rs.proofs.pp.lines.function_behind.Goals as goal
+use Rattle.pp_rs.proofs.pp.lines.function_after.Goals as goal
 
 pub returns-clause-takes : goal.returns-clause-takes
 returns-clause-takes c =

@@ -6,7 +6,7 @@ use Rattle.pp_lexer.specs.Lexed.{Seen}
 use Rattle.pp_model.specs.Definitions.{Definitions}
 use Rattle.pp_model.specs.Blocks.{Truths, open_blocks, block_lines, blocks_at, innermost, is_live}
 use Rattle.pp_model.specs.SourceReader.{SourceReader}
-use Rattle.pp_model.specs.Acts.{behind_word}
+use Rattle.pp_model.specs.Acts.{after_word}
 use Rattle.pp_model.specs.declared.block.BlockLine.{BlockLine}
 use Rattle.pp_rs.specs.Defined.{meaning_of}
 use Rattle.pp_rs.specs.Lined.{AreLined}
@@ -15,7 +15,7 @@ use Rattle.pp_rs.specs.Source.{Source}
 use Rattle.pp_rs.specs.Stands.{StandsForReader}
 use Rattle.pp_rs.proofs.BlockStackLemmas.{Innermost, innermost_last, stands_innermost, none_stand, live_outside, live_inside}
 use Rattle.pp_rs.proofs.LastLemmas.{last_split}
-use Rattle.pp_rs.proofs.LinedLemmas.{lined_behind}
+use Rattle.pp_rs.proofs.LinedLemmas.{lined_after}
 use Rattle.pp_rs.proofs.LinesBeforeLemmas.{AreLinesBefore, AddsLines, lines_here, lines_further}
 use Rattle.pp_rs.proofs.RememberedLemmas.{IsRemembered}
 
@@ -61,10 +61,10 @@ module _ (old : Source) (r : SourceReader) (s : StandsForReader old r) where
   live_now = live_with (last_block old.blocks) refl
 
   pub lined_here : AreLined old.rest
-  lined_here = subst AreLined (sym s.rest) (lined_behind r.position r.items s.lined)
+  lined_here = subst AreLined (sym s.rest) (lined_after r.position r.items s.lined)
 
-  pub behind_here : behind_word r ≡ drop 2 old.rest
-  behind_here = sym (drop-drop 2 r.position r.items) ∙ ap (λ items. drop 2 items) (sym s.rest)
+  pub after_here : after_word r ≡ drop 2 old.rest
+  after_here = sym (drop-drop 2 r.position r.items) ∙ ap (λ items. drop 2 items) (sym s.rest)
 
   pub remembered_here : IsRemembered old r.items r.truths r.position
   remembered_here = record { text = s.remembers_text; directive = s.remembers_directive; apart = s.directives; off_line = s.off_line }
@@ -73,11 +73,11 @@ module _ (old : Source) (r : SourceReader) (s : StandsForReader old r) where
   pub stands_further : (n : ℕ) (definitions : Definitions) (truths : Truths) (more : List BlockLine) (new : Source) → n ≤ length old.rest → new.rest ≡ drop n old.rest → new.spent ≡ false → new.line_offset ≡ old.line_offset
       → definitions ≡ meaning_of new.definitions → AddsLines r.position n old.rest more → StandForBlocks r.items truths new.blocks (blocks_at r.items (r.position + n)) → AreBefore (r.position + n) truths
       → IsRemembered new r.items truths (r.position + n) → StandsForReader new (record r { position = r.position + n; definitions = definitions; truths = truths })
-  stands_further n definitions truths more new within behind unspent offset means adds blocks before remembered =
+  stands_further n definitions truths more new within after unspent offset means adds blocks before remembered =
       let further : AreLinesBefore r.items (r.position + n) (block_lines 0 (take r.position r.items) ++ more) =
       lines_further r.items r.position n (block_lines 0 (take r.position r.items)) more s.lines (subst (λ (items : List Seen). AddsLines r.position n items more) s.rest adds) in
       record {
-        rest = behind ∙ ap (λ items. drop n items) s.rest ∙ drop-drop n r.position r.items;
+        rest = after ∙ ap (λ items. drop n items) s.rest ∙ drop-drop n r.position r.items;
         within = omega (arith, s.within, within, ap length s.rest, length-drop r.position r.items);
         definitions = means;
         line_offset = s.line_offset ∙ sym offset;
