@@ -1,4 +1,4 @@
-// Places: a name, a number and an operator that go on behind the end of a \
+// Places: a name, a number and an operator that go on beyond the end of a \
    line, and this comment, which does so too.
 float lum\
 inance = 12\

@@ -2,7 +2,7 @@
 //
 // The first part is what an engine pastes before each shader: constants,
 // records and small functions. The shader's own text, with its directives,
-// stands behind it. (A compiler would want #version at the very top. The
+// comes after it. (A compiler would want #version at the very top. The
 // preprocessor only says where it stood: what to think of it is left to
 // whoever reads the item.)
 

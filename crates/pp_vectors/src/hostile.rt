@@ -80,7 +80,7 @@ fn runs_end_whatever_is_added(rt: HostRuntime) -> Result<(), Fail> {
     for source in WORKED {
         let mut pp = start(rt.alloc(), source)?;
         assert!(rt; ends_with_additions(&mut pp), "the end of {source:?}");
-        assert!(rt; pp.add_define("A", "A A").is_ok(), "behind {source:?}");
+        assert!(rt; pp.add_define("A", "A A").is_ok(), "after {source:?}");
         assert!(rt; pp.next().is_none(), "the end of {source:?}");
     }
     Ok(())

@@ -200,10 +200,10 @@ fn comments_that_were_passed(rt: HostRuntime) {
     while taken.next().is_some() {}
     assert!(rt; !taken.had_comments());
 
-    let mut behind = Lexer::new(rt.alloc(), "x\n/* c */");
-    behind.next();
-    behind.next();
-    assert!(rt; !behind.had_comments());
-    assert!(rt; behind.next().is_none());
-    assert!(rt; behind.had_comments());
+    let mut after = Lexer::new(rt.alloc(), "x\n/* c */");
+    after.next();
+    after.next();
+    assert!(rt; !after.had_comments());
+    assert!(rt; after.next().is_none());
+    assert!(rt; after.had_comments());
 }

@@ -8,6 +8,8 @@ mod deep_blocks;
 #[cfg(test)]
 mod devices;
 #[cfg(test)]
+mod error_places;
+#[cfg(test)]
 mod expressions;
 #[cfg(test)]
 mod hostile;

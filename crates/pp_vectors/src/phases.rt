@@ -1,5 +1,5 @@
 //! The three character readers on small sources: each row has a source, and the characters wanted of
-//! it, each with its line and the offset behind it.
+//! it, each with its line and the offset after it.
 
 use pp_rs::lexer::{COMMENT_SENTINEL_VALUE, CharsAndLine, ReplaceComments, SkipBackslashNewline};
 use std::process::Abort;
@@ -107,10 +107,10 @@ fn a_clone_goes_on_by_itself(rt: HostRuntime) {
 
     let mut joined = SkipBackslashNewline::new("a\\\nb");
     assert_eq!(rt; joined.next(), Some(('a', 1)));
-    let mut behind = joined.clone().expect(&rt, "no memory is taken");
-    assert_eq!(rt; behind.next(), Some(('b', 2)));
+    let mut after = joined.clone().expect(&rt, "no memory is taken");
+    assert_eq!(rt; after.next(), Some(('b', 2)));
     assert_eq!(rt;
-        (joined.get_current_offset(), behind.get_current_offset()),
+        (joined.get_current_offset(), after.get_current_offset()),
         (1, 4)
     );
 

@@ -1,0 +1,168 @@
+//! A preprocessor of a source, and what was done with it.
+
+ghost use Rattle.std.specs.Prelude.{IsTrue, All};
+ghost use Rattle.pp_model.specs.Run.{HasRoom};
+
+use crate::shown::{copy_error, copy_token, refused, replies};
+use pp_plain::run::run;
+use pp_rs::pp::{self, Call, Preprocessor, PreprocessorItem, Reply, preprocess_all, spell_tokens};
+use pp_rs::token::{PreprocessorError, Token};
+use pp_shown::{item, reply};
+use std::alloc::Global;
+use std::io;
+
+/// A source or content has fewer bytes.
+pub const BYTES: usize = 4_294_967_295;
+
+// The steps that the plain program may take.
+const STEPS: u64 = 200_000;
+
+fn has_room(call: &Call<'_>) -> bool
+    ensures { IsTrue result → HasRoom call.now }
+{
+    match call {
+        Call::AddDefine(_, content) => content.len() < BYTES,
+        Call::Next => true,
+    }
+}
+
+// Whether each content is short enough.
+fn have_room(calls: &[Call<'_>]) -> bool
+    ensures { IsTrue result → All HasRoom calls.now }
+{
+    calls.iter().all(|call| has_room(call))
+}
+
+/// A preprocessor of a source, the calls that were made, and what they gave.
+#[derive(Drop)]
+pub struct Session<'a> {
+    alloc: Global,
+    source: &'a str,
+    pp: Preprocessor<'a>,
+    calls: Vec<Call<'a>>,
+    tokens: Vec<Token>,
+    errors: Vec<PreprocessorError>,
+}
+
+impl<'a> Session<'a> {
+    /// Nothing was done yet. Of a source that is too long it has none.
+    pub fn new(alloc: Global, source: &'a str) -> Session<'a> {
+        let source = if source.len() < BYTES { source } else { "" };
+        Session {
+            alloc,
+            source,
+            pp: Preprocessor::new(alloc, source),
+            calls: Vec::new(alloc),
+            tokens: Vec::new(alloc),
+            errors: Vec::new(alloc),
+        }
+    }
+
+    /// Lets a name stand for a content.
+    pub fn add(&mut self, rt: &impl Print, name: &'a str, content: &'a str) -> io::Result<()> {
+        if content.len() >= BYTES {
+            return Ok(());
+        }
+        self.calls.push(Call::AddDefine(name, content))?;
+        let answer = match self.pp.add_define(name, content) {
+            Ok(()) => Reply::Added,
+            Err(fault) => Reply::Refused(fault),
+        };
+        let shown = reply(self.alloc, &answer)?;
+        println!(rt; "{}", shown.as_str())
+    }
+
+    // Shows an item, and keeps it.
+    fn keep(&mut self, rt: &impl Print, given: PreprocessorItem) -> io::Result<()> {
+        let shown = item(self.alloc, &given)?;
+        println!(rt; "{}", shown.as_str())?;
+        match given {
+            Ok(token) => self.tokens.push(token)?,
+            Err((error, _)) => self.errors.push(error)?,
+        }
+        Ok(())
+    }
+
+    /// Asks for one item. Answers whether there was one.
+    pub fn next(&mut self, rt: &impl Print) -> io::Result<bool> {
+        self.calls.push(Call::Next)?;
+        match self.pp.next() {
+            Some(given) => {
+                self.keep(rt, given)?;
+                Ok(true)
+            }
+            None => {
+                println!(rt; "None")?;
+                Ok(false)
+            }
+        }
+    }
+
+    /// Asks for all items that are left, and then twice more.
+    pub fn rest(&mut self, rt: &impl Print) -> io::Result<()> {
+        for _ in 0..u64::MAX {
+            if !self.next(rt)? {
+                break;
+            }
+        }
+        self.next(rt)?;
+        self.next(rt)?;
+        Ok(())
+    }
+
+    /// Gathers all items that are left.
+    pub fn all(&mut self, rt: &impl Print) -> io::Result<()> {
+        match preprocess_all(self.alloc, &mut self.pp) {
+            Ok(items) => {
+                for given in items {
+                    self.keep(rt, given)?;
+                }
+                Ok(())
+            }
+            Err(fault) => refused(rt, self.alloc, fault),
+        }
+    }
+
+    /// Spells the tokens that were given, where all of them are ordinary.
+    pub fn spell(&self, rt: &impl Print) -> io::Result<()> {
+        if !self.tokens.iter().all(|token| token.is_ordinary()) {
+            return println!(rt; "not all are ordinary");
+        }
+        match spell_tokens(self.alloc, &self.tokens) {
+            Ok(text) => println!(rt; "spelled {}", text.as_str()),
+            Err(fault) => refused(rt, self.alloc, fault),
+        }
+    }
+
+    /// Copies what was given.
+    pub fn copy(&self, rt: &impl Print) -> io::Result<()> {
+        for token in &self.tokens {
+            copy_token(rt, self.alloc, token)?;
+        }
+        for error in &self.errors {
+            copy_error(rt, self.alloc, error)?;
+        }
+        Ok(())
+    }
+
+    /// Makes the same calls once more, by `replies`.
+    pub fn replies(&self, rt: &impl Print) -> io::Result<()> {
+        if self.source.len() < BYTES && have_room(&self.calls) {
+            let given = match pp::replies(self.alloc, self.source, &self.calls) {
+                Ok(replies) => Ok(Some(replies)),
+                Err(error) => Err(error),
+            };
+            return replies(rt, self.alloc, "replies", given);
+        }
+        Ok(())
+    }
+
+    /// Makes the same calls once more, by the plain program.
+    pub fn plain(&self, rt: &impl Print) -> io::Result<()> {
+        if self.source.len() < BYTES && have_room(&self.calls) {
+            let given = run(self.alloc, self.source, &self.calls, STEPS);
+            return replies(rt, self.alloc, "plain", given);
+        }
+        Ok(())
+    }
+}

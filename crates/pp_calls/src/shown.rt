@@ -1,0 +1,125 @@
+//! Items of the lexer, copies and replies, printed.
+
+use crate::session::BYTES;
+use pp_rs::lexer::{Lexer, LexerItem};
+use pp_rs::pp::Reply;
+use pp_rs::token::{Location, PreprocessorError, Token, TokenValue};
+use pp_shown::{error, lexer_value, place, reply};
+use std::alloc::{AllocError, Global};
+use std::io;
+
+// An item of the lexer with its place and flags.
+fn lexer_item(alloc: Global, item: &LexerItem) -> Result<String, AllocError> {
+    match item {
+        Ok(token) => {
+            let value = lexer_value(alloc, &token.value)?;
+            let at = place(alloc, token.location)?;
+            let leading = token.leading_whitespace;
+            let start = token.start_of_line;
+            format!(in alloc;
+                "{} {} leading={leading} start={start}",
+                value.as_str(),
+                at.as_str()
+            )
+        }
+        Err((fault, location)) => {
+            let name = error(alloc, fault)?;
+            let at = place(alloc, *location)?;
+            format!(in alloc; "Error {} {}", name.as_str(), at.as_str())
+        }
+    }
+}
+
+/// The items of a `Lexer`, each with whether a comment was passed and where it stands.
+pub fn lexer(rt: &impl Print, alloc: Global, source: &str) -> io::Result<()> {
+    if source.len() < BYTES {
+        let mut items = Lexer::new(alloc, source);
+        for _ in 0..u64::MAX {
+            let Some(item) = items.next() else {
+                break;
+            };
+            let shown = lexer_item(alloc, &item)?;
+            println!(rt; "{} comments={}", shown.as_str(), items.had_comments())?;
+        }
+        let again = items.next().is_some();
+        println!(rt; "None again={again} comments={}", items.had_comments())?;
+    }
+    Ok(())
+}
+
+/// An error that a call answered.
+pub fn refused(
+    rt: &impl Print,
+    alloc: Global,
+    fault: (PreprocessorError, Location),
+) -> io::Result<()> {
+    let shown = reply(alloc, &Reply::Refused(fault))?;
+    println!(rt; "{}", shown.as_str())
+}
+
+/// Replies to a list of calls, a line each.
+pub fn replies(
+    rt: &impl Print,
+    alloc: Global,
+    by: &str,
+    given: Result<Option<Vec<Reply>>, AllocError>,
+) -> io::Result<()> {
+    match given {
+        Ok(Some(replies)) => {
+            for given in &replies {
+                let shown = reply(alloc, given)?;
+                println!(rt; "{by}: {}", shown.as_str())?;
+            }
+            Ok(())
+        }
+        Ok(None) => println!(rt; "{by} gives no answer"),
+        Err(_) => println!(rt; "{by} was refused memory"),
+    }
+}
+
+// Says whether a copy equals what it was made of.
+fn copied(
+    rt: &impl Print,
+    alloc: Global,
+    answer: Result<bool, (PreprocessorError, Location)>,
+) -> io::Result<()> {
+    match answer {
+        Ok(is_same) => println!(rt; "copied={is_same}"),
+        Err(fault) => refused(rt, alloc, fault),
+    }
+}
+
+// Copies what a value holds.
+fn held_copy(alloc: Global, value: &TokenValue) -> Result<bool, (PreprocessorError, Location)> {
+    match value {
+        TokenValue::Float(float) => Ok(float.clone(alloc)? == *float),
+        TokenValue::Version(version) => Ok(version.clone(alloc)? == *version),
+        TokenValue::Extension(extension) => Ok(extension.clone(alloc)? == *extension),
+        TokenValue::Pragma(pragma) => Ok(pragma.clone(alloc)? == *pragma),
+        _ => Ok(value.clone(alloc)? == *value),
+    }
+}
+
+// Copies a token.
+fn token_copy(alloc: Global, token: &Token) -> Result<bool, (PreprocessorError, Location)> {
+    Ok(token.clone(alloc)? == *token)
+}
+
+// Copies an error.
+fn error_copy(
+    alloc: Global,
+    error: &PreprocessorError,
+) -> Result<bool, (PreprocessorError, Location)> {
+    Ok(error.clone(alloc)? == *error)
+}
+
+/// Copies a token, and what its value holds.
+pub fn copy_token(rt: &impl Print, alloc: Global, token: &Token) -> io::Result<()> {
+    copied(rt, alloc, token_copy(alloc, token))?;
+    copied(rt, alloc, held_copy(alloc, &token.value))
+}
+
+/// Copies an error.
+pub fn copy_error(rt: &impl Print, alloc: Global, error: &PreprocessorError) -> io::Result<()> {
+    copied(rt, alloc, error_copy(alloc, error))
+}

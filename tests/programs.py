@@ -1,0 +1,137 @@
+"""The programs of this repository, built where they aren't, and cases that are run and counted."""
+
+import concurrent.futures
+import os
+import subprocess
+import sys
+
+sys.dont_write_bytecode = True
+
+TOP = os.path.dirname(os.path.dirname(os.path.abspath(__file__)))
+
+# A run that takes longer has failed, unless the case allows for it.
+SECONDS = 60
+
+
+def folder_of(crate):
+    return os.path.join(TOP, "crates", crate)
+
+
+def with_dependencies(crate):
+    """The crate and those of the repository that it stands on."""
+    lists = {}
+    with open(os.path.join(TOP, "crates.txt"), encoding="utf-8") as file:
+        for line in file:
+            name, _, rest = line.partition("#")[0].partition(":")
+            if name.strip():
+                lists[name.split()[0]] = rest.split()
+    found = []
+
+    def add(name):
+        if name in lists and name not in found:
+            for below in lists[name]:
+                add(below)
+            found.append(name)
+
+    add(crate)
+    return found
+
+
+def newest_source(crate):
+    """When a source of the crate, or of one that it stands on, was changed last."""
+    newest = os.path.getmtime(os.path.join(TOP, "crates.txt"))
+    for name in with_dependencies(crate):
+        for folder, inner, files in os.walk(folder_of(name)):
+            inner[:] = [it for it in inner if it != "out"]
+            for file in files:
+                if file.endswith((".rt", ".antt")):
+                    newest = max(newest, os.path.getmtime(os.path.join(folder, file)))
+    return newest
+
+
+def build(crate, path):
+    """Proves and builds the crate's program."""
+    print(f"proving and building {crate}", file=sys.stderr)
+    done = subprocess.run(
+        ["rt", "run"], cwd=folder_of(crate), stdin=subprocess.DEVNULL, stdout=subprocess.PIPE, stderr=subprocess.STDOUT
+    )
+    if done.returncode != 0 or not os.path.exists(path):
+        sys.exit(done.stdout.decode(errors="replace")[-2000:] + f"{crate} could not be built")
+    os.utime(path)
+
+
+def program(crate):
+    """The path of the crate's program, which is proved and built first where it isn't, or its sources are newer."""
+    path = os.path.join(folder_of(crate), "out", crate)
+    if not os.path.exists(path) or os.path.getmtime(path) < newest_source(crate):
+        build(crate, path)
+    return path
+
+
+class Ended:
+    """How a run ended: what it printed, as lines, and its status, which is None where it took too long."""
+
+    def __init__(self, status, printed, said):
+        self.status, self.printed, self.said = status, printed, said
+
+    @property
+    def lines(self):
+        return self.printed.decode(errors="replace").split("\n")[:-1]
+
+
+def run(path, words, source, seconds=SECONDS, environment=None):
+    """Runs the program on a source, which is text or bytes."""
+    given = source.encode() if isinstance(source, str) else source
+    try:
+        done = subprocess.run(
+            [path, *words], input=given, capture_output=True, timeout=seconds, env=environment or {}, close_fds=False
+        )
+    except subprocess.TimeoutExpired:
+        return Ended(None, b"", b"")
+    return Ended(done.returncode, done.stdout, done.stderr)
+
+
+def worked_sources():
+    """The sources of the book of cases."""
+    found, lines = [], None
+    with open(os.path.join(folder_of("pp_cases"), "stdin"), encoding="utf-8") as book:
+        for line in book.read().split("\n"):
+            if line.startswith("## "):
+                lines = []
+                found.append(lines)
+            elif line == "|":
+                lines.append("")
+            elif line.startswith("| "):
+                lines.append(line[2:])
+            elif line.startswith("& "):
+                lines[-1:] = [(lines[-1] if lines else "") + line[2:]]
+            elif line.startswith("* "):
+                times, _, text = line[2:].partition(" ")
+                lines[-1:] = [(lines[-1] if lines else "") + int(times) * text]
+    return ["\n".join(it) for it in found]
+
+
+class Count:
+    """Cases that passed and that failed. Each that failed has a line."""
+
+    def __init__(self):
+        self.passed = self.failed = 0
+
+    def add(self, name, fault):
+        """Counts a case, which failed where there is a fault."""
+        if fault:
+            self.failed += 1
+            print(f"FAILED: {name}: {fault}", flush=True)
+        else:
+            self.passed += 1
+
+    def end(self):
+        """Prints the last line, and ends with status 0 where none failed."""
+        print(f"{self.passed} passed, {self.failed} failed")
+        sys.exit(1 if self.failed or not self.passed else 0)
+
+
+def side_by_side(job, cases):
+    """What the job answers for each case, in their order, a processor each."""
+    with concurrent.futures.ThreadPoolExecutor(os.cpu_count() or 1) as pool:
+        yield from pool.map(job, cases)
