@@ -8,7 +8,8 @@ use Rattle.pp_expression.specs.declared.operator.Binary.{Binary}
 use Rattle.pp_expression.specs.declared.symbol.ExpressionFault.{ExpressionFault}
 use Rattle.pp_expression.specs.Operators.{unary_punct, binary_punct}
 use Rattle.pp_expression.specs.Arithmetic.{unary_value, binary_value}
-use Rattle.pp_expression.specs.Trees.{Infix, spelling, value, HasValue, ◌>>=◌}
+use Rattle.pp_expression.specs.Trees.{Infix, spelling, value, HasValue}
+use Rattle.pp_expression.specs.Answers.{◌>>=◌}
 use Rattle.pp_expression.specs.Lines.{Line, next, next_of, Reads}
 use Rattle.pp_expression.specs.FirstFault.{sign_of, atom_of, closing, Front, Here, InGroup, InPrefix, InInfix, front_spelling, FitsFront, wanted, unread_at, Fails, unread, wrong, unread_after, unclosed, signed, operated, Possible}
 use Rattle.pp_expression.specs.Parsing.{after_next, sign_at}

@@ -8,7 +8,8 @@ use Rattle.pp_expression.specs.declared.operator.Binary.{Binary}
 use Rattle.pp_expression.specs.declared.symbol.ExpressionFault.{ExpressionFault}
 use Rattle.pp_expression.specs.Operators.{level_of, unary_punct, binary_punct}
 use Rattle.pp_expression.specs.Arithmetic.{binary_value}
-use Rattle.pp_expression.specs.Trees.{Tree, Number, Group, Prefix, Infix, spelling, Fits, value, ◌>>=◌, HasValue}
+use Rattle.pp_expression.specs.Trees.{Tree, Number, Group, Prefix, Infix, spelling, Fits, value, HasValue}
+use Rattle.pp_expression.specs.Answers.{◌>>=◌}
 use Rattle.pp_expression.specs.Lines.{Line, next}
 use Rattle.pp_expression.specs.FirstFault.{sign_of, unread_at, Front, Here, InGroup, InPrefix, InInfix, front_spelling, FitsFront, wanted, Fails, unread, wrong, unread_after, unclosed, signed, operated, Possible}
 use Rattle.pp_expression.specs.Parsing.{sign_at}

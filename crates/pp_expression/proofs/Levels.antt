@@ -5,7 +5,7 @@ use Rattle.pp_expression.specs.declared.symbol.Symbol.{Symbol}
 use Rattle.pp_expression.specs.declared.symbol.Symbol.TheVariants as symbol
 use Rattle.pp_expression.specs.declared.symbol.ExpressionFault.{ExpressionFault}
 use Rattle.pp_expression.specs.Operators.{binary_of, level_of}
-use Rattle.pp_expression.specs.Trees.{◌>>=◌}
+use Rattle.pp_expression.specs.Answers.{◌>>=◌}
 use Rattle.pp_expression.specs.Lines.{Line, next}
 
 -- the operator, if it is of the level

@@ -11,7 +11,7 @@ use Rattle.pp_expression.specs.declared.symbol.Symbol.TheVariants as symbol
 use Rattle.pp_expression.specs.declared.symbol.ExpressionFault.{ExpressionFault}
 use Rattle.pp_expression.specs.declared.symbol.Found.{Found}
 use Rattle.pp_expression.specs.Operators.{level_of, binary_of}
-use Rattle.pp_expression.specs.Trees.{◌>>=◌}
+use Rattle.pp_expression.specs.Answers.{◌>>=◌}
 use Rattle.pp_expression.specs.Lines.{Line, next_of, goes_on, Stops, Reads}
 use Rattle.pp_expression.specs.Parsing.{after_next, binary_sign_of, binary_at, located, IsFault}
 use Rattle.pp_expression.proofs.Levels.{operator_of, operator_at}

@@ -9,7 +9,7 @@ use Rattle.pp_expression.specs.declared.operator.Binary.{Binary}
 use Rattle.pp_expression.specs.declared.symbol.ExpressionFault.{ExpressionFault}
 use Rattle.pp_expression.specs.declared.symbol.ExpressionFault.TheVariants as fault
 use Rattle.pp_expression.specs.Arithmetic.{unary_value, binary_value, literal}
-use Rattle.pp_expression.specs.Trees.{◌>>=◌}
+use Rattle.pp_expression.specs.Answers.{◌>>=◌}
 use Rattle.pp_expression.specs.Lines.{Line, next}
 use Rattle.pp_expression.specs.FirstFault.{atom_of, closing, unread_at}
 use Rattle.pp_expression.specs.Parsing.{after_next, sign_at}

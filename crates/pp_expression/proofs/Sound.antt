@@ -11,8 +11,10 @@ use Rattle.pp_expression.specs.declared.operator.Binary.{Binary}
 use Rattle.pp_expression.specs.declared.symbol.ExpressionFault.{ExpressionFault}
 use Rattle.pp_expression.specs.Operators.{binary_of}
 use Rattle.pp_expression.specs.Arithmetic.{unary_value, binary_value}
-use Rattle.pp_expression.specs.Trees.{HasValue, ◌>>=◌}
-use Rattle.pp_expression.specs.Lines.{Line, next, next_of, binds_from, goes_on, Reads}
+use Rattle.pp_expression.specs.Trees.{HasValue}
+use Rattle.pp_expression.specs.Answers.{◌>>=◌}
+use Rattle.pp_expression.specs.Lines.{Line, next, next_of, goes_on, Reads}
+use Rattle.pp_expression.specs.inner.Lines.{binds_from}
 use Rattle.pp_expression.specs.FirstFault.{atom_of, closing, unread_at, Possible, unread}
 use Rattle.pp_expression.specs.Parsing.{after_next, sign_at}
 use Rattle.pp_expression.proofs.Levels.{of_level, operator_of, operator_at}

@@ -8,7 +8,8 @@ use Rattle.pp_expression.specs.declared.symbol.Found.{Found}
 use Rattle.pp_expression.specs.declared.operator.Unary.{Unary}
 use Rattle.pp_expression.specs.declared.operator.Binary.{Binary}
 use Rattle.pp_expression.specs.Arithmetic.{unary_value, binary_value}
-use Rattle.pp_expression.specs.Trees.{HasValue, ◌>>=◌}
+use Rattle.pp_expression.specs.Trees.{HasValue}
+use Rattle.pp_expression.specs.Answers.{◌>>=◌}
 use Rattle.pp_expression.specs.Lines.{Line, next, Reads}
 use Rattle.pp_expression.specs.FirstFault.{atom_of, closing, unread_at, Possible}
 use Rattle.pp_expression.specs.Parsing.{after_next, sign_at, atom_at, closing_at, located, IsFault}

@@ -12,8 +12,10 @@ use Rattle.pp_expression.specs.declared.operator.Binary.TheVariants as binary
 use Rattle.pp_expression.specs.declared.symbol.ExpressionFault.{ExpressionFault}
 use Rattle.pp_expression.specs.Operators.{unary_of, binary_of, level_of, unary_punct, binary_punct}
 use Rattle.pp_expression.specs.Arithmetic.{unary_value, binary_value, literal}
-use Rattle.pp_expression.specs.Trees.{Tree, Number, Group, Prefix, Infix, spelling, Fits, value, ◌>>=◌}
-use Rattle.pp_expression.specs.Lines.{Line, next, next_of, binds_from, goes_on, Stops, Reads}
+use Rattle.pp_expression.specs.Trees.{Tree, Number, Group, Prefix, Infix, spelling, Fits, value}
+use Rattle.pp_expression.specs.Answers.{◌>>=◌}
+use Rattle.pp_expression.specs.Lines.{Line, next, next_of, goes_on, Stops, Reads}
+use Rattle.pp_expression.specs.inner.Lines.{binds_from}
 use Rattle.pp_expression.specs.FirstFault.{sign_of}
 use Rattle.pp_expression.specs.Parsing.{after_next, sign_at}
 use Rattle.pp_expression.proofs.Levels.{of_level, operator_of, operator_at}
@@ -22,6 +24,7 @@ same_unary : (a o : Unary) → Some a ≡ Some o → unary_punct a ≡ unary_pun
 same_unary a o e = let h : a ≡ o = cc in ap unary_punct h
 
 unary_inverse : (p : Punct) (o : Unary) → unary_of p ≡ Some o → p ≡ unary_punct o
+unfolding unary_punct
 unary_inverse mark.Plus o e = same_unary unary.Plus o e
 unary_inverse mark.Minus o e = same_unary unary.Minus o e
 unary_inverse mark.Bang o e = same_unary unary.Not o e
@@ -32,6 +35,7 @@ same_binary : (a o : Binary) → Some a ≡ Some o → binary_punct a ≡ binary
 same_binary a o e = let h : a ≡ o = cc in ap binary_punct h
 
 binary_inverse : (p : Punct) (o : Binary) → binary_of p ≡ Some o → p ≡ binary_punct o
+unfolding binary_punct
 binary_inverse mark.Star o e = same_binary binary.Multiply o e
 binary_inverse mark.Slash o e = same_binary binary.Divide o e
 binary_inverse mark.Percent o e = same_binary binary.Remainder o e
@@ -96,6 +100,7 @@ operator_is level line o e = operator_at_front level line.symbols line.ending o 
 
 -- no operator binds as tightly as an operand
 loose : (o : Binary) → level_of o ≤ 9
+unfolding level_of
 loose binary.Multiply = omega arith
 loose _ = omega arith
 

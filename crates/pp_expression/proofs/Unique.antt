@@ -12,8 +12,10 @@ use Rattle.pp_expression.specs.declared.operator.Binary.TheVariants as binary
 use Rattle.pp_expression.specs.declared.symbol.ExpressionFault.{ExpressionFault}
 use Rattle.pp_expression.specs.Operators.{unary_of, binary_of, level_of, unary_punct, binary_punct}
 use Rattle.pp_expression.specs.Arithmetic.{unary_value, binary_value, literal}
-use Rattle.pp_expression.specs.Trees.{Tree, Number, Group, Prefix, Infix, spelling, Fits, value, ◌>>=◌}
-use Rattle.pp_expression.specs.Lines.{Line, next_of, binds_from, goes_on, Stops, Reads}
+use Rattle.pp_expression.specs.Trees.{Tree, Number, Group, Prefix, Infix, spelling, Fits, value}
+use Rattle.pp_expression.specs.Answers.{◌>>=◌}
+use Rattle.pp_expression.specs.Lines.{Line, next_of, goes_on, Stops, Reads}
+use Rattle.pp_expression.specs.inner.Lines.{binds_from}
 use Rattle.pp_expression.specs.Parsing.{sign_at}
 use Rattle.pp_expression.proofs.Levels.{of_level, operator_at, operator_of}
 use Rattle.pp_expression.proofs.Run.{Halt, Outcome, Operand, Level, Loop, Settles, level_goes, level_fails, level_operand, loop_ends, loop_goes, operand_signed, operand_number, operand_group}
@@ -26,10 +28,12 @@ pub onto_more : (xs ys : List Symbol) (rest : Line) → onto (xs ++ ys) rest ≡
 onto_more xs ys rest = let Made : List Symbol → Line = λ zs. record { symbols = zs; ending = rest.ending } in ap Made (append_assoc xs ys rest.symbols)
 
 unary_again : (o : Unary) → unary_of (unary_punct o) ≡ Some o
+unfolding unary_punct
 unary_again unary.Plus = refl
 unary_again _ = refl
 
 binary_again : (o : Binary) → binary_of (binary_punct o) ≡ Some o
+unfolding binary_punct
 binary_again binary.Multiply = refl
 binary_again _ = refl
 
@@ -85,6 +89,7 @@ pub stops_before : (level : ℕ) (o : Binary) (xs : List Symbol) (rest : Line) �
 stops_before level o xs rest e = record { known = λ h. refl; over = rw (binary_again o) (loosest level o e) }
 
 pub low_operator : (o : Binary) → level_of o ≤ 9
+unfolding level_of
 low_operator binary.Multiply = omega arith
 low_operator _ = omega arith
 

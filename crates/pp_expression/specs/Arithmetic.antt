@@ -2,6 +2,7 @@
 use Rattle.std.specs.Prelude.{ℕ, ◌^◌, Bool, not, ◌&&◌, ◌||◌, if◌then◌else◌, nat_lt, Result, Ok, Err, ℤ, pos, negsuc, ◌+ℤ◌, ◌-ℤ◌, ◌*ℤ◌, neg_ℤ, int_div, int_rem, int_lt, int_le, bit_and, bit_or, bit_xor}
 use Rattle.std.specs.Int.{w64, int_shl, int_shr, cast_signed, cast_unsigned}
 use Rattle.std.specs.Ordering.{int_eq}
+use Rattle.pp_expression.specs.Answers.{◌>>=◌}
 use Rattle.pp_expression.specs.declared.operator.Unary.{Unary}
 use Rattle.pp_expression.specs.declared.operator.Unary.TheVariants as unary
 use Rattle.pp_expression.specs.declared.operator.Binary.{Binary}
@@ -46,11 +47,6 @@ abbrev pub shift_count : ℤ → Result ℕ ExpressionFault
 shift_count (pos count) = if nat_lt count 64 then Ok count else Err fault.IntegerOverflow
 shift_count (negsuc count) = Err fault.IntegerOverflow
 
--- a number shifted by the count, if there is one
-abbrev pub shifted : (ℕ → ℤ) → Result ℕ ExpressionFault → Result ℤ ExpressionFault
-shifted by (Ok count) = Ok (by count)
-shifted by (Err kind) = Err kind
-
 -- The answer, which is a quotient or a remainder of left by right, if right isn't 0 and the quotient fits.
 abbrev pub divided : ℤ → ℤ → ℤ → Result ℤ ExpressionFault
 divided left right answer = if is_zero right then Err fault.DivisionByZero else (if fits (int_div left right) then Ok answer else Err fault.DivisionByZero)
@@ -62,8 +58,8 @@ binary_value binary.Divide left right = divided left right (int_div left right)
 binary_value binary.Remainder left right = divided left right (int_rem left right)
 binary_value binary.Add left right = in_range (left +ℤ right)
 binary_value binary.Subtract left right = in_range (left -ℤ right)
-binary_value binary.ShiftLeft left right = shifted (int_shl w64 left) (shift_count right)
-binary_value binary.ShiftRight left right = shifted (int_shr left) (shift_count right)
+binary_value binary.ShiftLeft left right = shift_count right >>= λ count. Ok (int_shl w64 left count)
+binary_value binary.ShiftRight left right = shift_count right >>= λ count. Ok (int_shr left count)
 binary_value binary.Less left right = Ok (truth (int_lt left right))
 binary_value binary.Greater left right = Ok (truth (int_lt right left))
 binary_value binary.LessEqual left right = Ok (truth (int_le left right))

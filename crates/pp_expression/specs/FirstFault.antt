@@ -23,10 +23,7 @@ use Rattle.pp_expression.specs.Lines.{Line, next, goes_on, Stops, Reads}
 -- the operator that a symbol is in front of an operand
 abbrev pub sign_of : Option Symbol → Option Unary
 sign_of (Some (symbol.Punct punct)) = unary_of punct
-sign_of (Some (symbol.Number number)) = None
-sign_of (Some symbol.Fault) = None
-sign_of (Some symbol.Other) = None
-sign_of None = None
+sign_of _ = None
 
 -- the fault of a symbol, or of the end, that can't stand where it does
 abbrev pub unexpected : Option Symbol → ExpressionFault
@@ -37,10 +34,8 @@ unexpected None = fault.UnexpectedEndOfInput
 abbrev pub atom_of : Option Symbol → Result (Option ℕ) ExpressionFault
 atom_of (Some (symbol.Number number)) = Ok (Some number)
 atom_of (Some (symbol.Punct mark.LeftParen)) = Ok None
-atom_of (Some (symbol.Punct punct)) = Err fault.Unexpected
 atom_of (Some symbol.Fault) = Err fault.Operand
-atom_of (Some symbol.Other) = Err fault.Unexpected
-atom_of None = Err fault.UnexpectedEndOfInput
+atom_of ahead = Err (unexpected ahead)
 
 -- whether a symbol is the closing parenthesis that is wanted
 abbrev pub closing : Option Symbol → Result (Unit {0}) ExpressionFault

@@ -1,3 +1,4 @@
+pub mod Answers
 pub mod Operators
 pub mod Arithmetic
 pub mod Trees
@@ -7,3 +8,4 @@ pub mod Parsing
 pub mod Pending
 pub mod Evaluator
 pub mod ExpressionLaws
+pub mod inner

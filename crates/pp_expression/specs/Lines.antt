@@ -1,5 +1,6 @@
 -- The symbols of a directive's line, and an expression at their front (GLSL ES 3.20 section 3.4). The reading of the words after the symbols may end in a fault, as in a macro call without its `)`; an expression that is over before is not touched by it, where it can be known that it is over.
 use Rattle.std.specs.Prelude.{◌≡◌, ℕ, ◌≤◌, Bool, false, nat_le, List, [], ◌∷◌, ◌++◌, Option, Some, None, Result, Ok, Err, IsOk, ℤ}
+use Rattle.std.specs.Option.{option_map_or}
 use Rattle.pp_expression.specs.declared.operator.Binary.{Binary}
 use Rattle.pp_expression.specs.declared.symbol.Symbol.{Symbol}
 use Rattle.pp_expression.specs.declared.symbol.Symbol.TheVariants as symbol
@@ -22,17 +23,10 @@ next_of [] (Some kind) = Err kind
 abbrev pub next : Line → Result (Option Symbol) ExpressionFault
 next line = next_of line.symbols line.ending
 
--- there is an operator, and it binds at least as tightly as level
-abbrev pub binds_from : ℕ → Option Binary → Bool
-binds_from level (Some operator) = nat_le level (level_of operator)
-binds_from level None = false
-
 -- the symbol is an operator between operands that binds at least as tightly as level
 abbrev pub continues : ℕ → Symbol → Bool
-continues level (symbol.Punct punct) = binds_from level (binary_of punct)
-continues level (symbol.Number number) = false
-continues level symbol.Fault = false
-continues level symbol.Other = false
+continues level (symbol.Punct punct) = option_map_or (λ operator. nat_le level (level_of operator)) (binary_of punct) false
+continues level _ = false
 
 -- the symbols begin with such an operator
 abbrev pub goes_on : ℕ → List Symbol → Bool

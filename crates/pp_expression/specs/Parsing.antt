@@ -7,7 +7,8 @@ use Rattle.pp_expression.specs.declared.symbol.Symbol.TheVariants as symbol
 use Rattle.pp_expression.specs.declared.symbol.ExpressionFault.{ExpressionFault}
 use Rattle.pp_expression.specs.declared.symbol.Found.{Found}
 use Rattle.pp_expression.specs.Operators.{binary_of}
-use Rattle.pp_expression.specs.Trees.{HasValue, ◌>>=◌}
+use Rattle.pp_expression.specs.Trees.{HasValue}
+use Rattle.pp_expression.specs.Answers.{◌>>=◌}
 use Rattle.pp_expression.specs.Lines.{Line, next}
 use Rattle.pp_expression.specs.FirstFault.{sign_of, atom_of, closing, Possible}
 

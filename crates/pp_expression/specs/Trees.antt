@@ -1,6 +1,7 @@
 -- Trees of expressions, how they are written, and their values: the expressions of GLSL ES 3.20 section 3.4, which are built from numbers and parentheses by the table of operators.
 use Rattle.std.specs.Prelude.{ℕ, ◌+◌, ◌≤◌, List, [], ◌∷◌, ◌++◌, Result, Ok, Err, IsOk, ℤ}
 use Rattle.pp_lexer.specs.declared.token.Punct.TheVariants as mark
+use Rattle.pp_expression.specs.Answers.{◌>>=◌}
 use Rattle.pp_expression.specs.declared.operator.Unary.{Unary}
 use Rattle.pp_expression.specs.declared.operator.Binary.{Binary}
 use Rattle.pp_expression.specs.declared.symbol.Symbol.{Symbol}
@@ -29,12 +30,6 @@ Fits level (Number number) = Unit {0}
 Fits level (Group tree) = Fits 0 tree
 Fits level (Prefix operator operand) = Fits 10 operand
 Fits level (Infix operator left right) = (level ≤ level_of operator) × Fits (level_of operator) left × Fits ((level_of operator + 1)) right
-
-infixl 10 ◌>>=◌
--- what comes of an answer, if it isn't a fault
-abbrev pub ◌>>=◌ : {A B E : Type 0} → Result A E → (A → Result B E) → Result B E
-(Ok answer) >>= next = next answer
-(Err kind) >>= next = Err kind
 
 -- the value of a tree, or the fault of one of its operators: the left operand's first, then the right one's, then its own
 abbrev pub value : Tree → Result ℤ ExpressionFault

@@ -6,7 +6,7 @@ ghost use Rattle.pp_expression.specs.Operators as spec;
 use pp_lexer::token::Punct;
 
 /// An operator in front of its operand (GLSL ES 3.20 section 3.4).
-#[derive(Clone, Copy)]
+#[derive(Clone, Copy, PartialEq)]
 pub enum Unary {
     /// `+`
     Plus,
@@ -19,7 +19,7 @@ pub enum Unary {
 }
 
 /// An operator between its operands (GLSL ES 3.20 section 3.4).
-#[derive(Clone, Copy)]
+#[derive(Clone, Copy, PartialEq)]
 pub enum Binary {
     /// `*`
     Multiply,
@@ -100,6 +100,7 @@ pub fn binary_of(punct: Punct) -> Option<Binary>
 }
 
 /// How tightly an operator binds: 0 is the loosest level, that of `||`, and 9 that of `*`.
+#[tactic(auto, unfolding(crate::specs::Operators::level_of))]
 pub fn level_of(operator: Binary) -> u8
     ensures { result ≡ spec.level_of operator }
 {

@@ -9,7 +9,8 @@ use Rattle.pp_lexer.specs.Comments.{comment_length, stand_in, replaced}
 use Rattle.pp_lexer.specs.Continuations.{is_continuation, continued}
 use Rattle.pp_lexer.specs.Cursor.{Placed}
 use Rattle.pp_lexer.specs.Cut.{cut_after, cut}
-use Rattle.pp_lexer.specs.Lines.{is_line_break, Piece, is_newline_piece, piece, pieces, lines}
+use Rattle.pp_lexer.specs.Lines.{is_line_break, Piece, piece, pieces, lines}
+use Rattle.pp_lexer.specs.inner.Lines.{is_newline_piece}
 use Rattle.pp_lexer.specs.PhaseLaws.{replaced_of}
 use Rattle.pp_lexer.specs.Readers.{placed_from}
 use Rattle.pp_lexer.specs.Reading.{letters, spots}

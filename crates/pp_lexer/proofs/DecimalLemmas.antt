@@ -9,9 +9,11 @@ use Rattle.std.proofs.lemmas.Fmt.{decimal_is_IsNumeral, decimal_digit, first_dec
 use Rattle.pp_lexer.specs.declared.token.Integer.{Integer as IntegerLiteral}
 use Rattle.pp_lexer.specs.declared.lexer.item.TokenValue.TheVariants.{Integer}
 use Rattle.pp_lexer.specs.Numbers.{is_zero, is_x, is_decimal, decimal_tail, is_number}
-use Rattle.pp_lexer.specs.NumberValue.{is_l, is_s, is_u, begins_hex, begins_octal, is_float_mark, whole, integer_of, integer_value, integer_outcome, width_refusal, number_outcome}
+use Rattle.pp_lexer.specs.NumberValue.{is_l, is_s, is_u, begins_hex, begins_octal, whole, integer_value, integer_outcome, width_refusal, number_outcome}
+use Rattle.pp_lexer.specs.inner.NumberValue.{is_float_mark, integer_of}
 use Rattle.pp_lexer.specs.Spelling.{integer_literal}
-use Rattle.pp_lexer.specs.Spellings.{many, begins_with, after_first}
+use Rattle.pp_lexer.specs.Spellings.{many, after_first}
+use Rattle.pp_lexer.specs.Surroundings.{begins_with}
 use Rattle.pp_lexer.specs.Words.{word_at}
 use Rattle.pp_lexer.proofs.NumbersLemmas.{either_apart, e_apart, point_apart}
 use Rattle.pp_lexer.proofs.NumberSetsLemmas.{decimal_number, number_lacks}

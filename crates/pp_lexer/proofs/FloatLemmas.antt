@@ -3,8 +3,10 @@ use Rattle.std.proofs.Common.{◌≡◌, ℕ, List, [], ◌∷◌, drop, Bool, t
 use Rattle.std.proofs.lemmas.Bool.{eqb-true, or_cases}
 use Rattle.pp_lexer.specs.Longest.{front_len}
 use Rattle.pp_lexer.specs.Numbers.{is_point, is_sign, is_decimal, digits}
-use Rattle.pp_lexer.specs.Spellings.{nothing, one, many, begins_with}
-use Rattle.pp_lexer.specs.NumberValue.{is_small_e, float_power, float_exponent, float_tail, is_float_text}
+use Rattle.pp_lexer.specs.Spellings.{nothing, one, many}
+use Rattle.pp_lexer.specs.Surroundings.{begins_with}
+use Rattle.pp_lexer.specs.NumberValue.{float_power, float_exponent, float_tail, is_float_text}
+use Rattle.pp_lexer.specs.inner.NumberValue.{is_small_e}
 use Rattle.pp_lexer.proofs.LongestLemmas.{many_pass, many_is}
 use Rattle.pp_lexer.proofs.NumbersLemmas.{point_apart, small_e_apart, or_false}
 

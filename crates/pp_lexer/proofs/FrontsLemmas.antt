@@ -9,10 +9,11 @@ use Rattle.std.proofs.lemmas.Str.{chars_past_char, IsUtf8-past_char, encode_asci
 use Rattle.pp_lexer.specs.Comments.{replaced}
 use Rattle.pp_lexer.specs.Continuations.{is_backslash, continued}
 use Rattle.pp_lexer.specs.Cursor.{Placed, Cursor}
-use Rattle.pp_lexer.specs.Lines.{is_line_break, is_pair, Piece, is_newline_piece, newline_piece, piece, pieces}
+use Rattle.pp_lexer.specs.Lines.{is_line_break, is_pair, Piece, piece, pieces}
+use Rattle.pp_lexer.specs.inner.Lines.{is_newline_piece, newline_piece}
 use Rattle.pp_lexer.specs.Readers.{placed_from, joined, uncommented}
 use Rattle.pp_lexer.specs.Reading.{letters, spots}
-use Rattle.pp_lexer.specs.Spellings.{begins_with}
+use Rattle.pp_lexer.specs.Surroundings.{begins_with}
 use Rattle.pp_lexer.specs.Surroundings.{begins_with as placed_begins}
 use Rattle.pp_lexer.specs.Fronts.{spots_from, left, is_plain, run}
 use Rattle.pp_lexer.proofs.CommentsLemmas.{replaced-nil, replaced-plain, no_slash, lone_slash}

@@ -5,7 +5,8 @@ use Rattle.std.specs.Str.{chars, IsUtf8}
 use Rattle.std.proofs.lemmas.List.Sums.{sum_by-cons}
 use Rattle.std.proofs.lemmas.Bool.Decides.{nat_tests}
 use Rattle.std.proofs.lemmas.Str.{chars_past_char, length-encode, chars-nil}
-use Rattle.pp_lexer.specs.Lines.{is_line_break, is_pair, Piece, newline_piece, is_newline_piece, pieces, placed, lines}
+use Rattle.pp_lexer.specs.Lines.{is_line_break, is_pair, Piece, pieces, placed, lines}
+use Rattle.pp_lexer.specs.inner.Lines.{newline_piece, is_newline_piece}
 use Rattle.pp_lexer.specs.Readers.{placed_from, IsFirstPiece, IsAtEnd, IsSkipped}
 use Rattle.pp_lexer.specs.Surroundings.{surrounded_from}
 use lib.Utf8.{encode}

@@ -10,7 +10,8 @@ use Rattle.pp_lexer.specs.Comments.{replaced}
 use Rattle.pp_lexer.specs.Continuations.{continued}
 use Rattle.pp_lexer.specs.Cursor.{Placed}
 use Rattle.pp_lexer.specs.Fronts.{spots_from}
-use Rattle.pp_lexer.specs.Lines.{newline_piece, pieces}
+use Rattle.pp_lexer.specs.Lines.{pieces}
+use Rattle.pp_lexer.specs.inner.Lines.{newline_piece}
 use Rattle.pp_lexer.specs.Passing.{IsPlaced, IsLexed}
 use Rattle.pp_lexer.specs.PlainWords.{IsPlainNewline}
 use Rattle.pp_lexer.specs.Readers.{placed_from}

@@ -4,7 +4,8 @@ use Rattle.std.specs.Str.{chars, IsUtf8}
 use Rattle.std.proofs.lemmas.Option.{slice_get_within}
 use Rattle.std.proofs.lemmas.List.Sums.{sum_by-cons, sum_by-append}
 use Rattle.pp_lexer.specs.Cursor.{Placed, last_end}
-use Rattle.pp_lexer.specs.Lines.{is_line_break, is_pair, Piece, newline_piece, is_newline_piece, piece, pieces, is_newline, lines}
+use Rattle.pp_lexer.specs.Lines.{is_line_break, is_pair, Piece, piece, pieces, is_newline, lines}
+use Rattle.pp_lexer.specs.inner.Lines.{newline_piece, is_newline_piece}
 use Rattle.pp_lexer.specs.Continuations.{is_backslash, is_continuation, continued}
 use Rattle.pp_lexer.specs.Readers.{placed_from}
 use Rattle.pp_lexer.specs.PhaseLaws.{lines_of, continued_of, replaced_of, ends_in_break, ends_in_continuation}

@@ -6,7 +6,8 @@ use Rattle.std.proofs.Math.Utf8.{encodes}
 use Rattle.std.proofs.lemmas.Bool.{eqb-true}
 use Rattle.std.proofs.lemmas.List.Sums.{sum_by-cons}
 use Rattle.std.proofs.lemmas.Str.{encodes-chars, length-encode, length-le-encodes}
-use Rattle.pp_lexer.specs.Lines.{is_line_break, is_pair, Piece, newline_piece, piece, pieces}
+use Rattle.pp_lexer.specs.Lines.{is_line_break, is_pair, Piece, piece, pieces}
+use Rattle.pp_lexer.specs.inner.Lines.{newline_piece}
 use lib.Utf8.{encode}
 
 -- what holds along the pieces, piece by piece

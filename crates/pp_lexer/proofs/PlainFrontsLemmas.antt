@@ -13,7 +13,7 @@ use Rattle.pp_lexer.specs.Cursor.{Cursor}
 use Rattle.pp_lexer.specs.Readers.{joined, uncommented}
 use Rattle.pp_lexer.specs.Longest.{front_len}
 use Rattle.pp_lexer.specs.Reading.{IsAhead, letters, spots, spots_after_first, first_of, advanced_of}
-use Rattle.pp_lexer.specs.Spellings.{begins_with}
+use Rattle.pp_lexer.specs.Surroundings.{begins_with}
 use Rattle.pp_lexer.proofs.FrontsLemmas.{left_of, plain_first, plain_front, plain_parts, nothing_left, first_is_not}
 use Rattle.pp_lexer.proofs.AdvancedLemmas.{advanced_zero}
 

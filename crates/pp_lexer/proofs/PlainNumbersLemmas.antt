@@ -15,9 +15,11 @@ use Rattle.pp_lexer.specs.declared.lexer.item.TokenValue.TheVariants.{Integer, F
 use Rattle.pp_lexer.specs.Fronts.{is_plain}
 use Rattle.pp_lexer.specs.Longest.{longest, front_len}
 use Rattle.pp_lexer.specs.Numbers.{is_zero, is_x, is_point, is_e, is_decimal, decimal_tail, exponent, fraction, is_number, begins_number}
-use Rattle.pp_lexer.specs.NumberValue.{is_l, is_h, is_s, is_f, is_u, begins_octal, is_float_mark, is_float_text, float_tail, float_exponent, width_refusal, number_outcome, float_outcome, number_at, begins_hex}
+use Rattle.pp_lexer.specs.NumberValue.{is_l, is_h, is_s, is_f, is_u, begins_octal, is_float_text, float_tail, float_exponent, width_refusal, number_outcome, float_outcome, number_at, begins_hex}
+use Rattle.pp_lexer.specs.inner.NumberValue.{is_float_mark}
 use Rattle.pp_lexer.specs.PlainWords.{continues_number, without_suffix, Stops, IsSuffixed, IsPlainWord}
-use Rattle.pp_lexer.specs.Spellings.{many, begins_with}
+use Rattle.pp_lexer.specs.Spellings.{many}
+use Rattle.pp_lexer.specs.Surroundings.{begins_with}
 use Rattle.pp_lexer.specs.Words.{is_blank, word_at}
 use Rattle.pp_lexer.proofs.DecimalLemmas.{IsDecimalText, digits_value, digits_outcome}
 use Rattle.pp_lexer.proofs.FloatSpellingLemmas.{value_same}

@@ -4,12 +4,13 @@ use Rattle.std.specs.Char.{len_utf8}
 use Rattle.std.specs.Str.{chars, all_scalars, encode_utf8_all}
 use Rattle.std.proofs.lemmas.Str.{chars-encodes}
 use Rattle.pp_lexer.specs.Cursor.{Placed}
-use Rattle.pp_lexer.specs.Lines.{is_line_break, Piece, is_newline_piece, pieces, lines}
+use Rattle.pp_lexer.specs.Lines.{is_line_break, Piece, pieces, lines}
+use Rattle.pp_lexer.specs.inner.Lines.{is_newline_piece}
 use Rattle.pp_lexer.specs.Continuations.{continued}
 use Rattle.pp_lexer.specs.Comments.{comment_length, replaced}
 use Rattle.pp_lexer.specs.Readers.{placed_from}
 use Rattle.pp_lexer.specs.Reading.{letters, spots}
-use Rattle.pp_lexer.specs.Spellings.{begins_with}
+use Rattle.pp_lexer.specs.Surroundings.{begins_with}
 use Rattle.pp_lexer.specs.Spots.{spots_of}
 use Rattle.pp_lexer.proofs.CommentsLemmas.{replaced-nil, replaced-plain}
 use Rattle.pp_lexer.proofs.ContinuationsLemmas.{continued-nil, continued-plain}

@@ -18,14 +18,14 @@ use Rattle.pp_lexer.specs.PlainWords.{begins, begins_comment, continues_punct, c
 use Rattle.pp_lexer.specs.Punctuators.{punctuator, punct_of, is_punctuator}
 use Rattle.pp_lexer.specs.Readers.{placed_from}
 use Rattle.pp_lexer.specs.Reading.{letters}
-use Rattle.pp_lexer.specs.Spellings.{begins_with}
+use Rattle.pp_lexer.specs.Surroundings.{begins_with}
 use Rattle.pp_lexer.specs.Surroundings.{begins_with as placed_begins}
 use Rattle.pp_lexer.specs.Words.{is_blank, word_at}
 use Rattle.pp_lexer.proofs.FrontsLemmas.{below, negated, utf8_after, plain_parts, joined_is_not, slash_first, nothing_begins}
 use Rattle.pp_lexer.proofs.PlainFrontsLemmas.{plain_ascii, front_plain}
 use Rattle.pp_lexer.proofs.PlainWordsLemmas.{word_always, word_before}
 use Rattle.pp_lexer.proofs.PunctuationLemmas.{at_hash, at_punct}
-use Rattle.pp_lexer.proofs.PunctuatorsLemmas.{IsLongest, found, is_punctuator-closed, one_at_end, one_alone, two_at_end, two_alone, three_of}
+use Rattle.pp_lexer.proofs.PunctuatorsLemmas.{map_choice, IsLongest, found, is_punctuator-closed, one_at_end, one_alone, two_at_end, two_alone, three_of}
 use Rattle.pp_lexer.proofs.SetsLemmas.{both}
 use Rattle.pp_lexer.proofs.WordAtLemmas.{other_first}
 
@@ -319,17 +319,17 @@ apart c d k h = by (k == c) refl
 
 pub single_is : (c : ℕ) → punct_of (c ∷ []) ≡ single c
 unfolding punct_of
-single_is c = simp (and_false, and_true, swapped 123 c, swapped 125 c, swapped 40 c, swapped 41 c, swapped 91 c, swapped 93 c, swapped 60 c, swapped 62 c, swapped 59 c, swapped 44 c, swapped 58 c, swapped 46 c, swapped 61 c, swapped 33 c, swapped 45 c, swapped 126 c, swapped 43 c, swapped 42 c, swapped 47 c, swapped 37 c, swapped 124 c, swapped 94 c, swapped 38 c, swapped 63 c)
+single_is c = simp (and_false, and_true, map_choice, swapped 123 c, swapped 125 c, swapped 40 c, swapped 41 c, swapped 91 c, swapped 93 c, swapped 60 c, swapped 62 c, swapped 59 c, swapped 44 c, swapped 58 c, swapped 46 c, swapped 61 c, swapped 33 c, swapped 45 c, swapped 126 c, swapped 43 c, swapped 42 c, swapped 47 c, swapped 37 c, swapped 124 c, swapped 94 c, swapped 38 c, swapped 63 c)
 
 pub before_equals_is : (c : ℕ) → punct_of (c ∷ 61 ∷ []) ≡ before_equals c
 unfolding punct_of
-before_equals_is c = simp (and_false, and_true, swapped 43 c, swapped 45 c, swapped 42 c, swapped 47 c, swapped 37 c, swapped 38 c, swapped 94 c, swapped 124 c, swapped 60 c, swapped 62 c, swapped 61 c, swapped 33 c)
+before_equals_is c = simp (and_false, and_true, map_choice, swapped 43 c, swapped 45 c, swapped 42 c, swapped 47 c, swapped 37 c, swapped 38 c, swapped 94 c, swapped 124 c, swapped 60 c, swapped 62 c, swapped 61 c, swapped 33 c)
 
 pub doubled_is : (c : ℕ) → (c == 61) ≡ false → punct_of (c ∷ c ∷ []) ≡ doubled c
 unfolding punct_of
 doubled_is c h =
     let e : (61 == c) ≡ false = swapped 61 c ∙ h in
-    simp (e, and_false, and_true, and_same, swapped 43 c, swapped 45 c, swapped 38 c, swapped 124 c, swapped 94 c, swapped 60 c, swapped 62 c)
+    simp (e, and_false, and_true, map_choice, and_same, swapped 43 c, swapped 45 c, swapped 38 c, swapped 124 c, swapped 94 c, swapped 60 c, swapped 62 c)
 
 pub pair_none : (c d : ℕ) → (d == 61) ≡ false → (d == c) ≡ false → punct_of (c ∷ d ∷ []) ≡ None
 unfolding punct_of

@@ -1,7 +1,7 @@
 -- The tables of the code hold the punctuators, and each front of a punctuator is one.
 use Rattle.std.proofs.Common.{◌≡◌, ℕ, zero, suc, ◌<◌, ◌≤◌, List, [], ◌∷◌, length, take, Bool, true, false, ◌&&◌, ◌==◌, refl, sym, ◌∙◌, ap, arith, Option, Some, None, option_map, is_some, if◌then◌else◌, nat_eq}
-use Rattle.std.specs.List.{find}
-use Rattle.std.proofs.lemmas.Bool.{false≢true}
+use Rattle.std.specs.List.{find, list_all}
+use Rattle.std.proofs.lemmas.Bool.{false≢true, and_parts}
 use Rattle.std.proofs.lemmas.List.{take-take, length-take-le}
 use lib.Pointwise.{pointwise, bytes_decides}
 use Rattle.pp_lexer.specs.declared.token.Punct.{Punct as Punctuator}
@@ -19,7 +19,7 @@ and_true : (b : Bool) → (b && true) ≡ b
 and_true true = refl
 and_true false = refl
 
-map_choice : {X Y : Type 0} (f : X → Y) (b : Bool) (x : X) (o : Option X) → option_map f (if b then Some x else o) ≡ (if b then Some (f x) else option_map f o)
+pub map_choice : {X Y : Type 0} (f : X → Y) (b : Bool) (x : X) (o : Option X) → option_map f (if b then Some x else o) ≡ (if b then Some (f x) else option_map f o)
 map_choice f true x o = refl
 map_choice f false x o = refl
 
@@ -52,18 +52,27 @@ short : (p : Punctuator) → length (punctuator p) ≤ 3
 short AddAssign = omega arith
 short _ = omega arith
 
-find_passes : {X : Type 0} (test : X → Bool) (xs : List X) (x : X) → find test xs ≡ Some x → test x ≡ true
-find_passes test [] x h = cc
-find_passes test (y ∷ ys) x h = by (test y) refl (find_passes test ys x)
+-- each row has the characters of its punctuator
+rows_spell : list_all (λ e. pointwise nat_eq (punctuator e.1) e.0) punctuators ≡ true
+rows_spell = refl
+
+found_in : (w : List ℕ) (rows : List (List ℕ × Punctuator)) (p : Punctuator) → list_all (λ e. pointwise nat_eq (punctuator e.1) e.0) rows ≡ true
+    → option_map (λ e. e.1) (find (λ e. pointwise nat_eq e.0 w) rows) ≡ Some p → punctuator p ≡ w
+found_in w [] p a h = cc
+found_in w (e ∷ rows) p a h =
+    let spelled = and_parts (pointwise nat_eq (punctuator e.1) e.0) (list_all (λ e. pointwise nat_eq (punctuator e.1) e.0) rows) a in
+    by (pointwise nat_eq e.0 w) refl h spelled.0 (found_in w rows p spelled.1)
   where
-    by : (b : Bool) → test y ≡ b → (find test ys ≡ Some x → test x ≡ true) → test x ≡ true
-    by true e go = let f : Some y ≡ Some x = rw e at h in let k : y ≡ x = cc in ap test (sym k) ∙ e
-    by false e go = go (rw e at h)
+    by : (b : Bool) → pointwise nat_eq e.0 w ≡ b → option_map (λ e. e.1) (if b then Some e else find (λ e. pointwise nat_eq e.0 w) rows) ≡ Some p
+        → pointwise nat_eq (punctuator e.1) e.0 ≡ true
+        → (option_map (λ e. e.1) (find (λ e. pointwise nat_eq e.0 w) rows) ≡ Some p → punctuator p ≡ w) → punctuator p ≡ w
+    by true t h s go = let k : e.1 ≡ p = cc in ap punctuator (sym k) ∙ (bytes_decides (punctuator e.1) e.0).0 s ∙ (bytes_decides e.0 w).0 t
+    by false t h s go = go h
 
 -- what is found is spelled so
 pub found : (w : List ℕ) (p : Punctuator) → punct_of w ≡ Some p → punctuator p ≡ w
 unfolding punct_of
-found w p h = (bytes_decides (punctuator p) w).0 (find_passes (λ q. pointwise nat_eq (punctuator q) w) punctuators p h)
+found w p h = found_in w punctuators p rows_spell h
 
 -- a punctuator's own spelling is found: none is missing, and no two are spelled alike
 pub punct_of-punctuator : (p : Punctuator) → punct_of (punctuator p) ≡ Some p

@@ -12,7 +12,8 @@ use Rattle.pp_lexer.specs.declared.token.TokenValue.TheVariants.{Ident, Integer,
 use Rattle.pp_lexer.specs.declared.lexer.item.TokenValue.{TokenValue as LexerTokenValue}
 use Rattle.pp_lexer.specs.declared.lexer.item.TokenValue.TheVariants.{NewLine}
 use Rattle.pp_lexer.specs.declared.lexer.char_iterator.Spot.{Spot}
-use Rattle.pp_lexer.specs.Items.{Item, is_newline_value, is_newline, is_blank_or_comment, start_of_line, item_at, items_of}
+use Rattle.pp_lexer.specs.PlainWords.{is_newline_value}
+use Rattle.pp_lexer.specs.Items.{Item, is_newline, is_blank_or_comment, start_of_line, item_at, items_of}
 use Rattle.pp_lexer.specs.Lexed.{Seen, seen}
 use Rattle.pp_lexer.specs.Outcome.{Outcome}
 use Rattle.pp_lexer.specs.Reading.{letters}

@@ -6,7 +6,8 @@ use Rattle.std.proofs.lemmas.List.Sums.{sum_by-cons}
 use Rattle.std.proofs.lemmas.List.Elements.{All-nil, All-cons}
 use Rattle.std.proofs.lemmas.List.Kept.{AllPairs-cons}
 use Rattle.pp_lexer.specs.Cursor.{Placed, last_end}
-use Rattle.pp_lexer.specs.Lines.{Piece, is_newline_piece, pieces}
+use Rattle.pp_lexer.specs.Lines.{Piece, pieces}
+use Rattle.pp_lexer.specs.inner.Lines.{is_newline_piece}
 use Rattle.pp_lexer.specs.Continuations.{is_continuation, continued}
 use Rattle.pp_lexer.specs.Readers.{placed_from}
 use Rattle.pp_lexer.specs.PhaseLaws.{lines_of, NeverFalls, StretchesFollow}

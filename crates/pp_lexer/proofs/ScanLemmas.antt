@@ -5,7 +5,8 @@ use Rattle.pp_lexer.specs.Numbers.{is_sign, digits, signed_digits}
 use Rattle.pp_lexer.specs.Reading.{letters, first_of, first_char, advanced}
 use Rattle.pp_lexer.specs.declared.lexer.char_iterator.Spot.{Spot}
 use Rattle.pp_lexer.specs.Scan.{Scan, upcoming, further, Takes}
-use Rattle.pp_lexer.specs.Spellings.{nothing, many, begins_with}
+use Rattle.pp_lexer.specs.Spellings.{nothing, many}
+use Rattle.pp_lexer.specs.Surroundings.{begins_with}
 use Rattle.pp_lexer.proofs.AdvancedLemmas.{letters-advanced, advanced-advanced, advanced-zero, front_advanced, front_stopped, front_ended}
 use Rattle.pp_lexer.proofs.LongestLemmas.{longest_all}
 use Rattle.pp_lexer.proofs.NumbersLemmas.{signed_len}

@@ -17,11 +17,13 @@ use Rattle.pp_lexer.specs.declared.token.TokenValue.TheVariants.{Ident, Integer,
 use Rattle.pp_lexer.specs.Identifiers.{is_start, is_identifier}
 use Rattle.pp_lexer.specs.Lines.{is_line_break}
 use Rattle.pp_lexer.specs.Numbers.{is_point, is_sign, is_decimal}
-use Rattle.pp_lexer.specs.NumberValue.{is_small_e, is_float_text}
+use Rattle.pp_lexer.specs.NumberValue.{is_float_text}
+use Rattle.pp_lexer.specs.inner.NumberValue.{is_small_e}
 use Rattle.pp_lexer.specs.Punctuators.{punctuator}
 use Rattle.pp_lexer.specs.Respelling.{IsSpellable}
 use Rattle.pp_lexer.specs.Spelling.{integer_literal, spelling, spelled_text}
-use Rattle.pp_lexer.specs.Spellings.{nothing, many, begins_with}
+use Rattle.pp_lexer.specs.Spellings.{nothing, many}
+use Rattle.pp_lexer.specs.Surroundings.{begins_with}
 use Rattle.pp_lexer.proofs.DecimalLemmas.{decimal_text}
 use Rattle.pp_lexer.proofs.NumberSetsLemmas.{made_float_text}
 use Rattle.pp_lexer.proofs.PlainPhasesLemmas.{is_second, IsPlain, plain-space}

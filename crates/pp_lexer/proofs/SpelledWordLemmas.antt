@@ -14,8 +14,10 @@ use Rattle.pp_lexer.specs.Longest.{longest}
 use Rattle.pp_lexer.specs.Numbers.{is_decimal, is_number, begins_number}
 use Rattle.pp_lexer.specs.NumberValue.{number_outcome, number_at}
 use Rattle.pp_lexer.specs.Punctuators.{punctuator, punct_of, is_hash, is_punctuator, is_punctuation, punctuation_value, punctuation_outcome, punctuation_at}
-use Rattle.pp_lexer.specs.Spellings.{nothing, many, begins_with}
-use Rattle.pp_lexer.specs.Words.{is_line_end, word_at}
+use Rattle.pp_lexer.specs.Spellings.{nothing, many}
+use Rattle.pp_lexer.specs.Surroundings.{begins_with}
+use Rattle.pp_lexer.specs.Words.{word_at}
+use Rattle.pp_lexer.specs.inner.Words.{is_line_end}
 use Rattle.pp_lexer.proofs.SetsLemmas.{Lacks, is_other, missing, union_part, made_nothing, made_one, made_many}
 use Rattle.pp_lexer.proofs.BoundedLemmas.{EndsBefore, longest_before, taken_before, after_before}
 use Rattle.pp_lexer.proofs.NumberSetsLemmas.{number_lacks}

@@ -3,7 +3,8 @@ use Rattle.std.proofs.Common.{◌≡◌, ℕ, zero, suc, ◌+◌, ◌≤◌, Lis
 use Rattle.std.specs.Str.{chars, IsUtf8}
 use Rattle.pp_lexer.specs.declared.lexer.char_iterator.Spot.{Spot}
 use Rattle.pp_lexer.specs.Cursor.{Placed}
-use Rattle.pp_lexer.specs.Lines.{Piece, is_newline_piece, pieces}
+use Rattle.pp_lexer.specs.Lines.{Piece, pieces}
+use Rattle.pp_lexer.specs.inner.Lines.{is_newline_piece}
 use Rattle.pp_lexer.specs.Continuations.{is_continuation, continued}
 use Rattle.pp_lexer.specs.Comments.{replaced}
 use Rattle.pp_lexer.specs.Readers.{placed_from}

@@ -9,8 +9,9 @@ use Rattle.pp_lexer.specs.Longest.{longest}
 use Rattle.pp_lexer.specs.Numbers.{is_number, begins_number}
 use Rattle.pp_lexer.specs.NumberValue.{is_float, number_outcome, number_at}
 use Rattle.pp_lexer.specs.Punctuators.{punct_of, is_punctuation, punctuation_value, punctuation_outcome, punctuation_at}
-use Rattle.pp_lexer.specs.Spellings.{begins_with}
-use Rattle.pp_lexer.specs.Words.{is_line_end, is_newline_word, is_word, word_outcome, word_at}
+use Rattle.pp_lexer.specs.Surroundings.{begins_with}
+use Rattle.pp_lexer.specs.Words.{is_newline_word, is_word, word_outcome, word_at}
+use Rattle.pp_lexer.specs.inner.Words.{is_line_end}
 use Rattle.pp_lexer.proofs.LongestLemmas.{longest_in, longest_le}
 use Rattle.pp_lexer.proofs.WordsLemmas.{longest_newline, longest_identifier_word, longest_number_word, longest_other_word, no_newline_front, no_identifier_front, no_number_here, identifier_len, identifier_begins, number_begins, newline_alone}
 

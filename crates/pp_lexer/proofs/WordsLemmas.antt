@@ -11,8 +11,10 @@ use Rattle.pp_lexer.specs.Identifiers.{is_start, is_identifier, begins_identifie
 use Rattle.pp_lexer.specs.Longest.{longest}
 use Rattle.pp_lexer.specs.Numbers.{is_decimal, is_point, is_hex_number, is_number, begins_number}
 use Rattle.pp_lexer.specs.Punctuators.{punctuator, punct_of, is_punctuation}
-use Rattle.pp_lexer.specs.Spellings.{nothing, begins_with, after_first, next_of}
-use Rattle.pp_lexer.specs.Words.{is_blank, is_line_end, is_newline_word, is_word}
+use Rattle.pp_lexer.specs.Spellings.{nothing, after_first, next_of}
+use Rattle.pp_lexer.specs.Surroundings.{begins_with}
+use Rattle.pp_lexer.specs.Words.{is_blank, is_newline_word, is_word}
+use Rattle.pp_lexer.specs.inner.Words.{is_line_end}
 use Rattle.pp_lexer.proofs.IdentifiersLemmas.{longest_identifier}
 use Rattle.pp_lexer.proofs.LongestLemmas.{longest_none, longest_empty, longest_step, longest_nothing, longest_above}
 use Rattle.pp_lexer.proofs.NumbersLemmas.{no_number_len, no_number_front}

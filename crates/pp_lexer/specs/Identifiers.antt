@@ -1,7 +1,8 @@
 -- Identifiers: GLSL ES 3.20, section 3.8, with the letters of Unicode Standard Annex 31.
 use Rattle.std.specs.Prelude.{ℕ, Bool, ◌||◌, ◌==◌, List}
 use Rattle.unicode_ident.specs.Ident.{is_xid_start, is_xid_continue}
-use Rattle.pp_lexer.specs.Spellings.{nothing, one, many, begins_with}
+use Rattle.pp_lexer.specs.Spellings.{nothing, one, many}
+use Rattle.pp_lexer.specs.Surroundings.{begins_with}
 
 -- a letter, or an underscore
 abbrev pub is_start : ℕ → Bool

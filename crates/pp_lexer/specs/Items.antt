@@ -22,31 +22,16 @@ pub record Item : Type 0 where
   pub comments : ℕ
 
 abbrev pub is_comment : Kind → Bool
-is_comment blank = false
 is_comment comment = true
-is_comment (item r) = false
+is_comment _ = false
 
 abbrev pub is_blank_or_comment : Kind → Bool
-is_blank_or_comment blank = true
-is_blank_or_comment comment = true
 is_blank_or_comment (item r) = false
-
-abbrev pub is_newline_value : TokenValue → Bool
-is_newline_value NewLine = true
-is_newline_value Hash = false
-is_newline_value (Ident t) = false
-is_newline_value (Integer n) = false
-is_newline_value (Float x) = false
-is_newline_value (Punct p) = false
-
-abbrev pub is_newline_result : Result TokenValue PreprocessorError → Bool
-is_newline_result (Ok v) = is_newline_value v
-is_newline_result (Err e) = false
+is_blank_or_comment _ = true
 
 abbrev pub is_newline : Kind → Bool
-is_newline blank = false
-is_newline comment = false
-is_newline (item r) = is_newline_result r
+is_newline (item (Ok NewLine)) = true
+is_newline _ = false
 
 -- the nearest segment before is a blank or a newline, or there is none
 abbrev pub leading_whitespace : List Segment → Bool
@@ -81,9 +66,8 @@ lexeme before g (Err e) = Err (e, nowhere)
 
 -- a blank is no item
 abbrev pub item_at : List Segment → Segment → Kind → List Item
-item_at before g blank = []
-item_at before g comment = []
 item_at before g (item r) = record { item = lexeme before g r; comments = comments_in before } ∷ []
+item_at before g _ = []
 
 -- the newline that ends a last line which has none
 abbrev pub final_newline : List Segment → List Item
@@ -93,7 +77,7 @@ final_newline (g ∷ gs) =
     else record {
       item = Ok (record {
         value = NewLine;
-        location = record { start = g.last.end; end = g.last.end; line = g.last.line };
+        location = place_after g.last;
         leading_whitespace = leading_whitespace (g ∷ gs);
         start_of_line = false;
       });

@@ -34,3 +34,4 @@ pub mod Passing
 pub mod PlainWords
 pub mod ItemLaws
 pub mod Respelling
+pub mod inner

@@ -18,26 +18,20 @@ pub record Piece : Type 0 where
   pub bytes : ℕ
 
 -- a newline is a line feed, whatever it was in the source
-abbrev pub newline_piece : ℕ → Piece
-newline_piece n = record { char = 10; bytes = n }
-
-abbrev pub is_newline_piece : Piece → Bool
-is_newline_piece p = p.char == 10
-
 abbrev pub piece : ℕ → Piece
-piece c = if is_line_break c then newline_piece 1 else record { char = c; bytes = len_utf8 c }
+piece c = if is_line_break c then record { char = 10; bytes = 1 } else record { char = c; bytes = len_utf8 c }
 
 -- from the left each pair is one newline, and each other line feed or carriage return is one
 abbrev pub pieces : List ℕ → List Piece
 pieces [] = []
 pieces (c ∷ []) = piece c ∷ []
-pieces (c ∷ d ∷ cs) = if is_pair c d then newline_piece 2 ∷ pieces cs else piece c ∷ pieces (d ∷ cs)
+pieces (c ∷ d ∷ cs) = if is_pair c d then record { char = 10; bytes = 2 } ∷ pieces cs else piece c ∷ pieces (d ∷ cs)
 
 -- a line is one more than the newlines before it, and a stretch ends after all the bytes up to here
 abbrev pub placed : Surrounded Piece → Placed
 placed s = record {
   char = s.here.char;
-  line = count_by is_newline_piece s.before + 1;
+  line = count_by (λ p. p.char == 10) s.before + 1;
   end = sum_by (λ p. p.bytes) s.before + s.here.bytes;
 }
 

@@ -1,16 +1,18 @@
 -- What a number is worth, by its spelling and the characters after it: GLSL ES 3.20, sections 4.1.3 and 4.1.4. What the
 -- language's types can't hold, as 64-bit literals, is an error.
-use Rattle.std.specs.Prelude.{ℕ, ◌+◌, ◌^◌, pos, Bool, not, ◌&&◌, ◌||◌, ◌==◌, nat_lt, if◌then◌else◌, List, [], ◌∷◌, Option, Some, None, Ok, Err, length, take, drop, map, filter}
+use Rattle.std.specs.Prelude.{ℕ, ◌+◌, ◌^◌, pos, Bool, not, ◌&&◌, ◌||◌, ◌==◌, nat_lt, if◌then◌else◌, List, [], ◌∷◌, Option, Some, None, Ok, Err, length, take, drop, map, filter, ok_or, option_map}
 use Rattle.std.specs.List.{list_all, list_any}
 use Rattle.std.specs.Char.{is_digit}
 use Rattle.std.specs.Str.Parse.{digits_value_after}
+use Rattle.std.specs.Option.{option_map_or}
 use Rattle.pp_lexer.specs.declared.token.PreprocessorError.{PreprocessorError}
 use Rattle.pp_lexer.specs.declared.token.PreprocessorError.TheVariants.{NotSupported64BitLiteral, NotSupported16BitLiteral, IntegerOverflow, FloatParsingError}
 use Rattle.pp_lexer.specs.declared.lexer.item.TokenValue.TheVariants.{Integer, Float}
 use Rattle.pp_lexer.specs.Longest.{longest}
 use Rattle.pp_lexer.specs.Numbers.{is_zero, is_x, is_point, is_e, is_sign, is_decimal, digits, is_number}
 use Rattle.pp_lexer.specs.Outcome.{Answer, Outcome}
-use Rattle.pp_lexer.specs.Spellings.{one, many, maybe, optional, begins_with, after_first}
+use Rattle.pp_lexer.specs.Spellings.{one, many, maybe, optional, after_first}
+use Rattle.pp_lexer.specs.Surroundings.{begins_with}
 
 -- the suffix letters, each also as a capital
 abbrev pub is_l : ℕ → Bool
@@ -33,10 +35,9 @@ abbrev pub width_refusal : (ℕ → Bool) → List ℕ → Option PreprocessorEr
 width_refusal is_short after =
     if begins_with is_l after then Some NotSupported64BitLiteral else if begins_with is_short after then Some NotSupported16BitLiteral else None
 
--- such a letter is reported before any fault of the value
-abbrev pub unless_refused : Option PreprocessorError → Answer → Answer
-unless_refused None answer = answer
-unless_refused (Some fault) answer = Err fault
+-- how many characters a suffix takes that stands here or not
+abbrev pub suffix_len : (ℕ → Bool) → List ℕ → ℕ
+suffix_len is_suffix after = if begins_with is_suffix after then 1 else 0
 
 -- the spelling begins with `0x`
 abbrev pub begins_hex : List ℕ → Bool
@@ -46,12 +47,9 @@ begins_hex w = begins_with is_zero w && begins_with is_x (after_first w)
 abbrev pub begins_octal : List ℕ → Bool
 begins_octal w = begins_with is_zero w && begins_with is_decimal (after_first w)
 
--- a point, or outside of the `0x` form the `e` of an exponent
-abbrev pub is_float_mark : Bool → ℕ → Bool
-is_float_mark hex c = is_point c || (not hex && is_e c)
-
+-- there is a point, or outside of the `0x` form the `e` of an exponent
 abbrev pub is_float : List ℕ → Bool
-is_float w = list_any (is_float_mark (begins_hex w)) w
+is_float w = list_any (λ c. is_point c || (not (begins_hex w) && is_e c)) w
 
 -- Floats
 
@@ -62,16 +60,13 @@ small_e c = if is_e c then 101 else c
 abbrev pub float_text : List ℕ → List ℕ
 float_text w = map small_e (filter (λ c. not (is_x c)) w)
 
-abbrev pub is_small_e : ℕ → Bool
-is_small_e c = c == 101
-
 -- [+-]?D+
 abbrev pub float_power : List ℕ → Bool
 float_power = maybe is_sign (one is_decimal digits)
 
 -- (e[+-]?D+)?
 abbrev pub float_exponent : List ℕ → Bool
-float_exponent = optional (one is_small_e float_power)
+float_exponent = optional (one (λ c. c == 101) float_power)
 
 -- (.D*)?(e[+-]?D+)?
 abbrev pub float_tail : List ℕ → Bool
@@ -84,14 +79,11 @@ is_float_text cs = one is_decimal (many is_decimal float_tail) cs || one is_poin
 abbrev pub float_value : List ℕ → Answer
 float_value w = if is_float_text (float_text w) then Ok (Float (record { text = float_text w; width = pos 32 })) else Err FloatParsingError
 
--- an `f` after a float is taken
-abbrev pub float_suffix_len : List ℕ → ℕ
-float_suffix_len after = if begins_with is_f after then 1 else 0
-
+-- an `f` after a float is taken; the letter of a width is reported before any fault of the value
 abbrev pub float_outcome : List ℕ → List ℕ → Outcome
 float_outcome w after = record {
-  value = unless_refused (width_refusal is_h after) (float_value w);
-  taken = length w + float_suffix_len after;
+  value = option_map_or Err (width_refusal is_h after) (float_value w);
+  taken = length w + suffix_len is_f after;
 }
 
 -- Integers
@@ -113,21 +105,14 @@ abbrev pub whole : ℕ → List ℕ → Option ℕ
 whole base [] = None
 whole base (c ∷ cs) = whole_after base 0 (c ∷ cs)
 
-abbrev pub integer_of : Bool → Option ℕ → Answer
-integer_of signed None = Err IntegerOverflow
-integer_of signed (Some n) = Ok (Integer (record { value = n; signed = signed; width = pos 32 }))
-
 abbrev pub integer_value : Bool → List ℕ → Answer
-integer_value signed w = integer_of signed (whole (base_of w) (digits_of w))
+integer_value signed w = ok_or (option_map (λ n. Integer (record { value = n; signed = signed; width = pos 32 })) (whole (base_of w) (digits_of w))) IntegerOverflow
 
 -- a `u` after an integer is taken and makes it unsigned
-abbrev pub unsigned_suffix_len : List ℕ → ℕ
-unsigned_suffix_len after = if begins_with is_u after then 1 else 0
-
 abbrev pub integer_outcome : List ℕ → List ℕ → Outcome
 integer_outcome w after = record {
-  value = unless_refused (width_refusal is_s (drop (unsigned_suffix_len after) after)) (integer_value (not (begins_with is_u after)) w);
-  taken = length w + unsigned_suffix_len after;
+  value = option_map_or Err (width_refusal is_s (drop (suffix_len is_u after) after)) (integer_value (not (begins_with is_u after)) w);
+  taken = length w + suffix_len is_u after;
 }
 
 abbrev pub number_outcome : List ℕ → List ℕ → Outcome

@@ -1,7 +1,8 @@
 -- The spellings of numbers: GLSL ES 3.20, sections 4.1.3 and 4.1.4, and what the preprocessor also takes for a number.
 use Rattle.std.specs.Prelude.{ℕ, Bool, ◌&&◌, ◌||◌, ◌==◌, List}
 use Rattle.std.specs.Char.{is_digit}
-use Rattle.pp_lexer.specs.Spellings.{nothing, one, many, maybe, optional, begins_with, after_first}
+use Rattle.pp_lexer.specs.Spellings.{nothing, one, many, maybe, optional, after_first}
+use Rattle.pp_lexer.specs.Surroundings.{begins_with}
 
 abbrev pub is_zero : ℕ → Bool
 is_zero c = c == 48

@@ -11,8 +11,11 @@ use Rattle.pp_lexer.specs.declared.token.Location.{Location}
 use Rattle.pp_lexer.specs.Location.{nowhere}
 use Rattle.pp_lexer.specs.Reading.{Reading}
 use Rattle.pp_lexer.specs.Segments.{Kind, blank, comment, item, Segment, segments}
-use Rattle.pp_lexer.specs.Items.{Lexeme, is_comment, is_newline_result, place_after, places_at}
+use Rattle.pp_lexer.specs.Items.{Lexeme, is_comment, is_newline, place_after, places_at}
 use Rattle.pp_lexer.specs.Lexed.{Seen, Lexed, first_item, after_first_item, comments_before, first_takes_memory, first_place, places_after_first}
+
+abbrev pub is_newline_result : Result TokenValue PreprocessorError → Bool
+is_newline_result r = is_newline (item r)
 
 -- the flags after a segment
 abbrev pub passed : Flags → Kind → Flags

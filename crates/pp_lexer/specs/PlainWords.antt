@@ -12,7 +12,8 @@ use Rattle.pp_lexer.specs.declared.lexer.plain.Form.TheVariants.{Identifier, Int
 use Rattle.pp_lexer.specs.declared.lexer.plain.Word.{Word}
 use Rattle.pp_lexer.specs.declared.lexer.Flags.{Flags}
 use Rattle.pp_lexer.specs.Fronts.{spots_from, run}
-use Rattle.pp_lexer.specs.Items.{Lexeme, is_newline_value}
+use Rattle.pp_lexer.specs.Items.{Lexeme, is_newline}
+use Rattle.pp_lexer.specs.Segments.{item}
 use Rattle.pp_lexer.specs.Numbers.{is_decimal, is_point}
 use Rattle.pp_lexer.specs.Passing.{IsLexed}
 use Rattle.pp_lexer.specs.Punctuators.{punct_of}
@@ -110,6 +111,9 @@ value_of HashForm w = Hash
 -- so many bytes at the front are characters of one line, wherever the text stands in a source
 abbrev pub IsFront : List ℕ → ℕ → Type 0
 IsFront text n = (line at : ℕ) → spots_from line at text ≡ run line at (take n text) ++ spots_from line (at + n) (drop n text)
+
+abbrev pub is_newline_value : TokenValue → Bool
+is_newline_value value = is_newline (item (Ok value))
 
 -- such a word stands at the front of the text, and takes that many bytes, wherever the text stands in a source
 pub record IsPlainWord (text : List ℕ) (value : TokenValue) (taken : ℕ) : Type 0 where

@@ -1,7 +1,8 @@
 -- The punctuators: GLSL ES 3.20, sections 3.6 and 5.1. With them the `#` of a directive, section 3.4.
-use Rattle.std.specs.Prelude.{ℕ, Bool, ◌||◌, nat_eq, List, [], ◌∷◌, Option, Some, None, Ok, Err, take, is_some, option_map, if◌then◌else◌, codes}
+use Rattle.std.specs.Prelude.{ℕ, Bool, ◌||◌, nat_eq, List, [], ◌∷◌, Option, Some, None, Ok, Err, take, is_some, option_map, unwrap_or, if◌then◌else◌, codes}
 use Rattle.std.specs.List.{find}
 use lib.Pointwise.{pointwise}
+use Rattle.pp_lexer.specs.contracts.token.PunctPartialEq.TheImpl.{eq-value as punct_eq}
 use Rattle.pp_lexer.specs.declared.token.Punct.{Punct as Punctuator}
 use Rattle.pp_lexer.specs.declared.token.Punct.TheVariants.{AddAssign, SubAssign, MulAssign, DivAssign, ModAssign, LeftShiftAssign, RightShiftAssign, AndAssign, XorAssign, OrAssign, Increment, Decrement, LogicalAnd, LogicalOr, LogicalXor, LessEqual, GreaterEqual, EqualEqual, NotEqual, LeftShift, RightShift, LeftBrace, RightBrace, LeftParen, RightParen, LeftBracket, RightBracket, LeftAngle, RightAngle, Semicolon, Comma, Colon, Dot, Equal, Bang, Minus, Tilde, Plus, Star, Slash, Percent, Pipe, Caret, Ampersand, Question}
 use Rattle.pp_lexer.specs.declared.token.PreprocessorError.TheVariants.{UnexpectedCharacter}
@@ -10,68 +11,26 @@ use Rattle.pp_lexer.specs.declared.lexer.item.TokenValue.TheVariants.{Hash, Punc
 use Rattle.pp_lexer.specs.Longest.{longest}
 use Rattle.pp_lexer.specs.Outcome.{Outcome}
 
+-- the punctuators, each after its characters
+abbrev pub punctuators : List (List ℕ × Punctuator)
+punctuators =
+    (codes "+=", AddAssign) ∷ (codes "-=", SubAssign) ∷ (codes "*=", MulAssign) ∷ (codes "/=", DivAssign) ∷ (codes "%=", ModAssign) ∷
+    (codes "<<=", LeftShiftAssign) ∷ (codes ">>=", RightShiftAssign) ∷ (codes "&=", AndAssign) ∷ (codes "^=", XorAssign) ∷ (codes "|=", OrAssign) ∷
+    (codes "++", Increment) ∷ (codes "--", Decrement) ∷ (codes "&&", LogicalAnd) ∷ (codes "||", LogicalOr) ∷ (codes "^^", LogicalXor) ∷
+    (codes "<=", LessEqual) ∷ (codes ">=", GreaterEqual) ∷ (codes "==", EqualEqual) ∷ (codes "!=", NotEqual) ∷ (codes "<<", LeftShift) ∷
+    (codes ">>", RightShift) ∷ (codes "{", LeftBrace) ∷ (codes "}", RightBrace) ∷ (codes "(", LeftParen) ∷ (codes ")", RightParen) ∷
+    (codes "[", LeftBracket) ∷ (codes "]", RightBracket) ∷ (codes "<", LeftAngle) ∷ (codes ">", RightAngle) ∷ (codes ";", Semicolon) ∷
+    (codes ",", Comma) ∷ (codes ":", Colon) ∷ (codes ".", Dot) ∷ (codes "=", Equal) ∷ (codes "!", Bang) ∷
+    (codes "-", Minus) ∷ (codes "~", Tilde) ∷ (codes "+", Plus) ∷ (codes "*", Star) ∷ (codes "/", Slash) ∷
+    (codes "%", Percent) ∷ (codes "|", Pipe) ∷ (codes "^", Caret) ∷ (codes "&", Ampersand) ∷ (codes "?", Question) ∷ []
+
 -- the characters of a punctuator
 abbrev pub punctuator : Punctuator → List ℕ
-punctuator AddAssign = codes "+="
-punctuator SubAssign = codes "-="
-punctuator MulAssign = codes "*="
-punctuator DivAssign = codes "/="
-punctuator ModAssign = codes "%="
-punctuator LeftShiftAssign = codes "<<="
-punctuator RightShiftAssign = codes ">>="
-punctuator AndAssign = codes "&="
-punctuator XorAssign = codes "^="
-punctuator OrAssign = codes "|="
-punctuator Increment = codes "++"
-punctuator Decrement = codes "--"
-punctuator LogicalAnd = codes "&&"
-punctuator LogicalOr = codes "||"
-punctuator LogicalXor = codes "^^"
-punctuator LessEqual = codes "<="
-punctuator GreaterEqual = codes ">="
-punctuator EqualEqual = codes "=="
-punctuator NotEqual = codes "!="
-punctuator LeftShift = codes "<<"
-punctuator RightShift = codes ">>"
-punctuator LeftBrace = codes "{"
-punctuator RightBrace = codes "}"
-punctuator LeftParen = codes "("
-punctuator RightParen = codes ")"
-punctuator LeftBracket = codes "["
-punctuator RightBracket = codes "]"
-punctuator LeftAngle = codes "<"
-punctuator RightAngle = codes ">"
-punctuator Semicolon = codes ";"
-punctuator Comma = codes ","
-punctuator Colon = codes ":"
-punctuator Dot = codes "."
-punctuator Equal = codes "="
-punctuator Bang = codes "!"
-punctuator Minus = codes "-"
-punctuator Tilde = codes "~"
-punctuator Plus = codes "+"
-punctuator Star = codes "*"
-punctuator Slash = codes "/"
-punctuator Percent = codes "%"
-punctuator Pipe = codes "|"
-punctuator Caret = codes "^"
-punctuator Ampersand = codes "&"
-punctuator Question = codes "?"
-
--- all of them
-abbrev pub punctuators : List Punctuator
-punctuators =
-    AddAssign ∷ SubAssign ∷ MulAssign ∷ DivAssign ∷ ModAssign ∷ LeftShiftAssign ∷ RightShiftAssign ∷
-    AndAssign ∷ XorAssign ∷ OrAssign ∷ Increment ∷ Decrement ∷ LogicalAnd ∷ LogicalOr ∷
-    LogicalXor ∷ LessEqual ∷ GreaterEqual ∷ EqualEqual ∷ NotEqual ∷ LeftShift ∷ RightShift ∷
-    LeftBrace ∷ RightBrace ∷ LeftParen ∷ RightParen ∷ LeftBracket ∷ RightBracket ∷ LeftAngle ∷
-    RightAngle ∷ Semicolon ∷ Comma ∷ Colon ∷ Dot ∷ Equal ∷ Bang ∷
-    Minus ∷ Tilde ∷ Plus ∷ Star ∷ Slash ∷ Percent ∷ Pipe ∷
-    Caret ∷ Ampersand ∷ Question ∷ []
+punctuator p = unwrap_or (option_map (λ e. e.0) (find (λ e. punct_eq.it e.1 p) punctuators)) []
 
 -- the punctuator with this spelling
 unfoldable pub punct_of : List ℕ → Option Punctuator
-punct_of w = find (λ p. pointwise nat_eq (punctuator p) w) punctuators
+punct_of w = option_map (λ e. e.1) (find (λ e. pointwise nat_eq e.0 w) punctuators)
 
 unfoldable pub is_punctuator : List ℕ → Bool
 is_punctuator w = is_some (punct_of w)

@@ -3,7 +3,8 @@ use Rattle.std.specs.Prelude.{◌≡◌, ◌≢◌, ℕ, ◌+◌, ◌-◌, ◌�
 use Rattle.std.specs.Str.{chars}
 use Rattle.std.specs.Char.{len_utf8}
 use Rattle.pp_lexer.specs.Cursor.{Placed, Cursor, passed, finished}
-use Rattle.pp_lexer.specs.Lines.{Piece, is_newline_piece, pieces}
+use Rattle.pp_lexer.specs.Lines.{Piece, pieces}
+use Rattle.pp_lexer.specs.inner.Lines.{is_newline_piece}
 use Rattle.pp_lexer.specs.Continuations.{continued}
 use Rattle.pp_lexer.specs.Comments.{line_length, block_length, has_close, replaced}
 

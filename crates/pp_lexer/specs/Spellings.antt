@@ -24,11 +24,6 @@ maybe p tail cs = tail cs || one p tail cs
 abbrev pub optional : (List ℕ → Bool) → List ℕ → Bool
 optional P cs = nothing cs || P cs
 
--- whether a text begins with a character that passes
-abbrev pub begins_with : (ℕ → Bool) → List ℕ → Bool
-begins_with p [] = false
-begins_with p (c ∷ cs) = p c
-
 -- what stands after the first character
 abbrev pub after_first : List ℕ → List ℕ
 after_first [] = []

@@ -13,12 +13,9 @@ use Rattle.pp_lexer.specs.Spellings.{nothing, one}
 abbrev pub is_blank : ℕ → Bool
 is_blank c = (c == 32) || ((c == 9) || ((c == 11) || ((c == 12) || (c == 13))))
 
-abbrev pub is_line_end : ℕ → Bool
-is_line_end c = c == 10
-
 -- a newline alone
 unfoldable pub is_newline_word : List ℕ → Bool
-is_newline_word = one is_line_end nothing
+is_newline_word = one (λ c. c == 10) nothing
 
 -- a newline, an identifier, a number, or a punctuator or `#`
 unfoldable pub is_word : List ℕ → Bool

@@ -10,8 +10,7 @@ ghost use Rattle.pp_lexer.specs.Spots.{spots_of};
 ghost use Rattle.pp_lexer.specs.Segments.{is_mark};
 ghost use Rattle.pp_lexer.specs.Words.{is_blank};
 ghost use Rattle.pp_lexer.specs.Lexed.{start_of, first_item, after_first_item, first_place, places_after_first, IsNext};
-ghost use Rattle.pp_lexer.specs.Items.{is_newline_result};
-ghost use Rattle.pp_lexer.specs.Passing.{seen_of, newline_seen, lexeme_seen, comments_at_end, newline_places, places_left, IsPlaced, IsLexed};
+ghost use Rattle.pp_lexer.specs.Passing.{is_newline_result, seen_of, newline_seen, lexeme_seen, comments_at_end, newline_places, places_left, IsPlaced, IsLexed};
 ghost use Rattle.pp_lexer.specs.PlainWords.{IsPlainLexed, IsNewlineLexed};
 
 use crate::token::{Location, NOWHERE, PreprocessorError, out_of_memory};

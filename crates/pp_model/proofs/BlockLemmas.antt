@@ -1,7 +1,8 @@
 -- Of a block's marks at most one is chosen.
 use Rattle.std.proofs.Common.{◌≡◌, ℕ, zero, suc, ◌≤◌, Bool, true, false, ◌&&◌, ◌||◌, List, [], ◌∷◌, ◌++◌, length, take, refl, ap, arith, Option, Some, None}
 use Rattle.std.specs.List.{list_any}
-use Rattle.pp_model.specs.Blocks.{Truths, is_else, truth_at, is_known_true, is_known_false, holds_at, fails_at, is_last_chosen}
+use Rattle.pp_model.specs.Blocks.{Truths, is_else, truth_at, holds_at, fails_at, is_last_chosen}
+use Rattle.pp_model.specs.inner.Blocks.{is_known_true, is_known_false}
 use Rattle.pp_model.specs.BlockLaws.{ElseIsLast, OneBranch, NoneAfterTaken}
 use Rattle.pp_model.specs.declared.block.BlockLine.{BlockLine}
 

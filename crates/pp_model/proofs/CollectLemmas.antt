@@ -9,7 +9,8 @@ use Rattle.pp_model.specs.Names.{Name}
 use Rattle.pp_model.specs.Definitions.{Definitions}
 use Rattle.pp_model.specs.Reading.{argument_reading, reading_of}
 use Rattle.pp_model.specs.Calls.{Fault}
-use Rattle.pp_model.specs.Emitting.{Collects, token_before, list_before, Alones, Each, none, first_failed, more, Alone, answers_at}
+use Rattle.pp_model.specs.Emitting.{Collects, Alones, Each, none, first_failed, more, Alone, answers_at}
+use Rattle.pp_model.specs.inner.Emitting.{token_before, list_before}
 
 -- the items so far, and then what comes of the rest
 abbrev pub after_items : {X : Type 0} → List X → Result (List X) Fault → Result (List X) Fault

@@ -7,7 +7,8 @@ use Rattle.pp_lexer.specs.declared.token.Token.{Token}
 use Rattle.pp_lexer.specs.declared.token.TokenValue.TheVariants.{Integer}
 use Rattle.pp_model.specs.Names.{Name, is_identifier, line_name}
 use Rattle.pp_model.specs.Definitions.{Definition, Definitions}
-use Rattle.pp_model.specs.SpliceList.{after_marks, outermost_line, followed_by, parameter_of, replacement, replaced, spliced}
+use Rattle.pp_model.specs.SpliceList.{after_marks, outermost_line, parameter_of, replacement, replaced, spliced}
+use Rattle.pp_model.specs.inner.SpliceList.{followed_by}
 use Rattle.pp_model.specs.Taking.{line_number, taken_token, read_outcome}
 use Rattle.pp_model.specs.Calls.{Pieces, is_comma, nesting_after, cut_before, pieces, arguments_of}
 use Rattle.pp_model.specs.declared.outcome.Outcome.{Outcome}

@@ -32,3 +32,4 @@ pub mod RespellLemmas
 pub mod RunChainLemmas
 pub mod WordLemmas
 pub mod LineNumberLemmas
+pub mod PartsLemmas

@@ -10,9 +10,13 @@ use Rattle.pp_model.specs.Names.{Name}
 use Rattle.pp_model.specs.Conversions.{is_newline, closes_parameters, parts_parameters, identifier_of, conversion, refused_token}
 use Rattle.pp_model.specs.Definitions.{Definition, object_like}
 use Rattle.pp_model.specs.Calls.{Fault}
-use Rattle.pp_model.specs.Emitting.{token_before}
-use Rattle.pp_model.specs.Lines.{◌>>=◌, tokens_from, line_tokens, after_first_token, first_name}
-use Rattle.pp_model.specs.DefineLines.{Parameters, parameter_here, after_parameter, after_comma, parameters, has_parameters, definition_at, defined_on}
+use Rattle.pp_model.specs.inner.Emitting.{token_before}
+use Rattle.pp_model.specs.Lines.{line_tokens, first_name, name_of}
+use Rattle.pp_model.specs.inner.Lines.{tokens_from, after_first_token}
+use Rattle.pp_expression.specs.Answers.{◌>>=◌}
+use Rattle.pp_model.specs.DefineLines.{Parameters, new_parameter, after_parameter, after_comma, parameters, has_parameters, definition_at, defined_on}
+
+use Rattle.pp_model.proofs.PartsLemmas.{line_tokens_is}
 
 if_ok_then : {A B : Type 0} (P : A → Type 0) (Q : B → Type 0) (result : Result A Fault) (next : A → Result B Fault) → IfOk result P → ((a : A) → P a → IfOk (next a) Q) → IfOk (result >>= next) Q
 if_ok_then P Q (Ok a) next h more = more a h
@@ -47,7 +51,7 @@ module _ (Q : Token → Type 0) where
   -- the tokens of a line have it
   pub line_tokens_hold : (rest : List Seen) → HoldInItems rest → IfOk (line_tokens rest) (Each Q)
   line_tokens_hold [] all = tt
-  line_tokens_hold (s ∷ rest) all = tokens_from_hold s.item (line_tokens rest) all.0 (line_tokens_hold rest all.1)
+  line_tokens_hold (s ∷ rest) all = rw (line_tokens_is s rest) (tokens_from_hold s.item (line_tokens rest) all.0 (line_tokens_hold rest all.1))
 
   pub after_holds : (rest : List Seen) → HoldInItems rest → HoldInItems (after_first_token rest)
   after_holds [] all = tt
@@ -68,7 +72,7 @@ module _ (Q : Token → Type 0) where
     comma_holds word names [] all = tt
     comma_holds word names (s ∷ rest) all =
         if_ok_then (λ token. ⊤) HoldsAfter s.item _ (any_ok s.item) (λ token h.
-        if_ok_then (λ more. ⊤) HoldsAfter (parameter_here names token (identifier_of token.value)) (λ more. after_parameter word more rest) (any_ok (parameter_here names token (identifier_of token.value)))
+        if_ok_then (λ more. ⊤) HoldsAfter (name_of token >>= new_parameter names token.location) (λ more. after_parameter word more rest) (any_ok (name_of token >>= new_parameter names token.location))
         (λ more g. parameter_holds word more rest all.1))
 
   parameters_hold : (word : Location) (rest : List Seen) → HoldInItems rest → IfOk (parameters word rest) HoldsAfter
@@ -76,7 +80,7 @@ module _ (Q : Token → Type 0) where
   parameters_hold word (s ∷ rest) all =
       if_ok_then (λ token. ⊤) HoldsAfter s.item _ (any_ok s.item) (λ token h.
       either_ok HoldsAfter (closes_parameters token.value) (Ok (record { names = []; after = rest })) _ all.1
-      (if_ok_then (λ names. ⊤) HoldsAfter (parameter_here [] token (identifier_of token.value)) (λ names. after_parameter word names rest) (any_ok (parameter_here [] token (identifier_of token.value)))
+      (if_ok_then (λ names. ⊤) HoldsAfter (name_of token >>= new_parameter [] token.location) (λ names. after_parameter word names rest) (any_ok (name_of token >>= new_parameter [] token.location))
       (λ names g. parameter_holds word names rest all.1)))
 
   abbrev HoldsInBody : Definition → Type 0

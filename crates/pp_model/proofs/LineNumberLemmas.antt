@@ -7,7 +7,9 @@ use Rattle.pp_lexer.specs.declared.token.Location.{Location}
 use Rattle.pp_lexer.specs.declared.token.PreprocessorError.TheVariants.{LineOverflow}
 use Rattle.pp_model.specs.Calls.{Fault}
 use Rattle.pp_model.specs.LineWords.{Words}
-use Rattle.pp_model.specs.LineValues.{line_of, told_fault, as_line_number, words_after, IsFollowed, Numbers, faulty, out_of_range, alone, with_source}
+use Rattle.pp_model.specs.LineValues.{line_of, as_line_number, words_after, Numbers, faulty, out_of_range, alone, with_source}
+use Rattle.pp_model.specs.inner.LineValues.{IsFollowed}
+use Rattle.pp_model.specs.inner.LineValues.{told_fault}
 
 pub numbers_faulty : (directive : Location) (words : Words) (e : Result Value Found) (found : Found) (fault : Fault) → Evaluates (line_of words) e → e ≡ Err found → fault ≡ told_fault directive words found → Numbers directive words (Err fault)
 numbers_faulty directive words e found fault evaluated is told = faulty found (Err fault) (rw is at evaluated) (ap Err told)
@@ -19,4 +21,4 @@ pub numbers_alone : (directive : Location) (words : Words) (e : Result Value Fou
 numbers_alone directive words e v m n evaluated is number some none = alone v n (Ok n) (rw is at evaluated) (sym number ∙ some) none refl
 
 pub numbers_followed : (directive : Location) (words : Words) (e : Result Value Found) (v : Value) (m : Option ℕ) (n : ℕ) (after : Words) → Evaluates (line_of words) e → e ≡ Ok v → m ≡ as_line_number v.value → m ≡ Some n → v.left ≢ 0 → after ≡ words_after v.left words → (result : Result ℕ Fault) → IsFollowed directive after n result → Numbers directive words result
-numbers_followed directive words e v m n after evaluated is number some left rest result by = with_source v n result (rw is at evaluated) (sym number ∙ some) left (rw rest at by)
+numbers_followed directive words e v m n after evaluated is number some left rest result by = let second = rw rest at by in with_source v n result (rw is at evaluated) (sym number ∙ some) left second.second second.evaluated second.is

@@ -8,7 +8,8 @@ use Rattle.pp_model.specs.Reading.{reading_of}
 use Rattle.pp_lexer.specs.declared.token.Location.{Location}
 use Rattle.pp_model.specs.LineWords.{Words}
 use Rattle.pp_model.specs.Calls.{Fault, Answers}
-use Rattle.pp_model.specs.LineValues.{line_of, as_line_number, words_after, IsFollowed, Numbers, faulty, out_of_range, alone, with_source}
+use Rattle.pp_model.specs.LineValues.{line_of, as_line_number, words_after, Numbers, faulty, out_of_range, alone, with_source}
+use Rattle.pp_model.specs.inner.LineValues.{IsFollowed}
 use Rattle.pp_model.specs.ExpansionLaws.{OneAnswer}
 use Rattle.pp_model.specs.RunLaws.{OneEvaluation, OneCondition, OneNumber, OneLineNumber}
 use Rattle.pp_model.specs.declared.word.LineKind.TheVariants.{Condition, LineNumber}
@@ -48,27 +49,29 @@ one_number directive words x y (faulty c x1 i p) (faulty d y1 j q) =
     p ∙ rw fault (sym q)
 one_number directive words x y (faulty c x1 i p) (out_of_range w y1 j k q) = let bad = one_evaluation (line_of words) (Err c) (Ok w) i j in cc
 one_number directive words x y (faulty c x1 i p) (alone w m y1 j k l q) = let bad = one_evaluation (line_of words) (Err c) (Ok w) i j in cc
-one_number directive words x y (faulty c x1 i p) (with_source w m y1 j k l q) = let bad = one_evaluation (line_of words) (Err c) (Ok w) i j in cc
+one_number directive words x y (faulty c x1 i p) (with_source w m y1 j k l s2 e2 q1) = let bad = one_evaluation (line_of words) (Err c) (Ok w) i j in cc
 one_number directive words x y (out_of_range v x1 i h p) (faulty d y1 j q) = let bad = one_evaluation (line_of words) (Ok v) (Err d) i j in cc
 one_number directive words x y (out_of_range v x1 i h p) (out_of_range w y1 j k q) = p ∙ sym q
 one_number directive words x y (out_of_range v x1 i h p) (alone w m y1 j k l q) = let bad = (one_number_of (line_of words) None (Some m) v w i j h k).1 in cc
-one_number directive words x y (out_of_range v x1 i h p) (with_source w m y1 j k l q) = let bad = (one_number_of (line_of words) None (Some m) v w i j h k).1 in cc
+one_number directive words x y (out_of_range v x1 i h p) (with_source w m y1 j k l s2 e2 q1) = let bad = (one_number_of (line_of words) None (Some m) v w i j h k).1 in cc
 one_number directive words x y (alone v n x1 i h o p) (faulty d y1 j q) = let bad = one_evaluation (line_of words) (Ok v) (Err d) i j in cc
 one_number directive words x y (alone v n x1 i h o p) (out_of_range w y1 j k q) = let bad = (one_number_of (line_of words) (Some n) None v w i j h k).1 in cc
 one_number directive words x y (alone v n x1 i h o p) (alone w m y1 j k l q) =
     let same = (one_number_of (line_of words) (Some n) (Some m) v w i j h k).1 in
     let number : n ≡ m = cc in
     p ∙ rw number (sym q)
-one_number directive words x y (alone v n x1 i h o p) (with_source w m y1 j k l q) = absurd (not_followed v w (one_number_of (line_of words) (Some n) (Some m) v w i j h k).0 o l)
-one_number directive words x y (with_source v n x1 i h o p) (faulty d y1 j q) = let bad = one_evaluation (line_of words) (Ok v) (Err d) i j in cc
-one_number directive words x y (with_source v n x1 i h o p) (out_of_range w y1 j k q) = let bad = (one_number_of (line_of words) (Some n) None v w i j h k).1 in cc
-one_number directive words x y (with_source v n x1 i h o p) (alone w m y1 j k l q) = absurd (not_followed w v (sym (one_number_of (line_of words) (Some n) (Some m) v w i j h k).0) l o)
-one_number directive words x y (with_source v n x1 i h o p) (with_source w m y1 j k l q) =
+one_number directive words x y (alone v n x1 i h o p) (with_source w m y1 j k l s2 e2 q1) = absurd (not_followed v w (one_number_of (line_of words) (Some n) (Some m) v w i j h k).0 o l)
+one_number directive words x y (with_source v n x1 i h o s1 e1 p1) (faulty d y1 j q) = let bad = one_evaluation (line_of words) (Ok v) (Err d) i j in cc
+one_number directive words x y (with_source v n x1 i h o s1 e1 p1) (out_of_range w y1 j k q) = let bad = (one_number_of (line_of words) (Some n) None v w i j h k).1 in cc
+one_number directive words x y (with_source v n x1 i h o s1 e1 p1) (alone w m y1 j k l q) = absurd (not_followed w v (sym (one_number_of (line_of words) (Some n) (Some m) v w i j h k).0) l o)
+one_number directive words x y (with_source v n x1 i h o s1 e1 p1) (with_source w m y1 j k l s2 e2 q1) =
     let same = one_number_of (line_of words) (Some n) (Some m) v w i j h k in
     let value : v ≡ w = same.0 in
     let number : n ≡ m = (let z = same.1 in cc) in
-    let there : IsFollowed directive (words_after v.left words) n y = rw (value, number) q in
-    one_followed directive (words_after v.left words) n x y p there
+    let here : IsFollowed directive (words_after v.left words) n x = record { second = s1; evaluated = e1; is = p1 } in
+    let other : IsFollowed directive (words_after w.left words) m y = record { second = s2; evaluated = e2; is = q1 } in
+    let there : IsFollowed directive (words_after v.left words) n y = rw (value, number) other in
+    one_followed directive (words_after v.left words) n x y here there
 
 pub one_line_number : (A : Answers) → OneAnswer A → OneLineNumber A
 one_line_number A single directive tokens definitions x y a b =

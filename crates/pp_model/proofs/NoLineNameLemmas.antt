@@ -9,7 +9,8 @@ use Rattle.pp_model.specs.Definitions.{Definition}
 use Rattle.pp_model.specs.Reading.{Reading, Expander, argument_reading, reading_of}
 use Rattle.pp_model.specs.Taking.{line_number, taken_token, read_outcome, Takes, held, listed, read}
 use Rattle.pp_model.specs.Calls.{Gathered, before, Fault, Gathers, closed, inside, overfull, ended, failed, Answers, Called, no_call, refused, fits, called_by, Calls, alone, broken, whole}
-use Rattle.pp_model.specs.Emitting.{opened, Emits, itself, object, name_alone, call_refused, call, token_before, Collects, done, failed as failing, item, answers_at_limit, answers_below, Alone}
+use Rattle.pp_model.specs.Emitting.{opened, Emits, itself, object, name_alone, call_refused, call, Collects, done, failed as failing, item, answers_at_limit, answers_below, Alone}
+use Rattle.pp_model.specs.inner.Emitting.{token_before}
 use Rattle.pp_model.specs.NoLineName.{is_line_name, HoldsNoLineName, AreNoLineNames, ShowsNoLineName, AloneShowsNoLineName}
 use Rattle.pp_model.specs.declared.outcome.Outcome.{Outcome}
 use Rattle.pp_model.specs.declared.outcome.Outcome.TheVariants as outcome

@@ -7,8 +7,10 @@ use Rattle.pp_lexer.specs.declared.token.TokenValue.{TokenValue}
 use Rattle.pp_lexer.specs.declared.token.TokenValue.TheVariants.{Ident}
 use Rattle.pp_model.specs.Names.{Name, is_same_name, is_in}
 use Rattle.pp_model.specs.Definitions.{Definition}
-use Rattle.pp_model.specs.SpliceList.{after_marks, open_names, followed_by, parameter_of, replacement, replaced, spliced}
-use Rattle.pp_model.specs.Reading.{Reading, Expander, masked, Opening, opening_by, opening_of, opening}
+use Rattle.pp_model.specs.SpliceList.{after_marks, open_names, parameter_of, replacement, replaced, spliced}
+use Rattle.pp_model.specs.inner.SpliceList.{followed_by}
+use Rattle.pp_model.specs.Reading.{Reading, Expander, masked, Opening, opening_of, opening}
+use Rattle.pp_model.specs.inner.Reading.{opening_by}
 use Rattle.pp_model.specs.ApartMarks.{HasApartMarks, IsRest}
 use Rattle.pp_model.specs.declared.outcome.Outcome.{Outcome}
 use Rattle.pp_model.specs.declared.outcome.Outcome.TheVariants as outcome

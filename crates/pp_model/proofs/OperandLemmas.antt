@@ -7,7 +7,8 @@ use Rattle.pp_model.specs.Reading.{Expander, Listed, line_reading}
 use Rattle.pp_model.specs.Taking.{Takes}
 use Rattle.pp_model.specs.Calls.{Answers, is_left_paren}
 use Rattle.pp_model.specs.Emitting.{Emits}
-use Rattle.pp_model.specs.LineWords.{name_in_value, name_in, is_open_paren, is_close_paren, name, neither, no_name, unclosed, in_parentheses}
+use Rattle.pp_model.specs.LineWords.{name_in_value, name_in, name, neither, no_name, unclosed, in_parentheses}
+use Rattle.pp_model.specs.inner.LineWords.{is_open_paren, is_close_paren}
 use Rattle.pp_model.specs.ExpansionLaws.{OneAnswer, OneOperand}
 use Rattle.pp_model.specs.declared.outcome.Outcome.{Outcome}
 use Rattle.pp_model.specs.declared.outcome.Outcome.TheVariants as outcome

@@ -25,13 +25,15 @@ use Rattle.pp_model.specs.Names.{is_identifier, line_name}
 use Rattle.pp_model.specs.Conversions.{is_newline, is_hash, conversion}
 use Rattle.pp_model.specs.Calls.{Fault}
 use Rattle.pp_model.specs.Definitions.{object_like}
-use Rattle.pp_model.specs.Emitting.{token_before, answers_at}
+use Rattle.pp_model.specs.Emitting.{answers_at}
+use Rattle.pp_model.specs.inner.Emitting.{token_before}
 use Rattle.pp_model.specs.LineValues.{as_line_number}
-use Rattle.pp_model.specs.Lines.{◌>>=◌}
+use Rattle.pp_expression.specs.Answers.{◌>>=◌}
 use Rattle.pp_model.specs.Reading.{Expander}
 use Rattle.pp_model.specs.Reads.{source_reading}
 use Rattle.pp_model.specs.RespellLaws.{IsText, HasText, token_of, given_token, given_tokens, IsReadAfresh, RunsAreReadAfresh, calls_for, replies_with}
-use Rattle.pp_model.specs.Run.{by_rules, Call, add_define, next, items_of, content_from, content_tokens, start, with_added, Runs, done, added, refused, given, failed}
+use Rattle.pp_model.specs.Run.{by_rules, Call, add_define, next, items_of, content_tokens, start, with_added, Runs, done, added, refused, given, failed}
+use Rattle.pp_model.specs.inner.Run.{content_from}
 use Rattle.pp_model.specs.RunStates.{gives_line_name}
 use Rattle.pp_model.specs.SourceReader.{SourceReader}
 use Rattle.pp_model.specs.declared.call.Reply.{Reply}
@@ -44,6 +46,7 @@ use Rattle.pp_model.proofs.LineHoldsLemmas.{HoldsOfLexeme, HoldInItems}
 use Rattle.pp_model.proofs.RunStatesLemmas.{run_shows_no_line_name}
 use Rattle.pp_model.proofs.SourceHoldsLemmas.{DirectiveItemsHold, HoldsOfReader, source_keeps, defined_now_holds}
 use Rattle.pp_model.proofs.SpelledRunLemmas.{IsNoHash, IsPlain, starts_there, gives_from}
+use Rattle.pp_model.proofs.PartsLemmas.{content_tokens_is}
 
 -- a line whose number can be spelled
 abbrev IsLine : ℕ → Type 0
@@ -117,7 +120,7 @@ content_from_good (Ok token) later h all = either_ok (Each IsGood) (is_newline t
 -- the tokens of an added content are good
 content_good : (items : List Seen) → HoldInItems IsGood items → IfOk (content_tokens items) (Each IsGood)
 content_good [] all = tt
-content_good (s ∷ rest) all = content_from_good s.item (content_tokens rest) all.0 (content_good rest all.1)
+content_good (s ∷ rest) all = rw (content_tokens_is s rest) (content_from_good s.item (content_tokens rest) all.0 (content_good rest all.1))
 
 given_good : (o : Outcome) (later : List Token) → HoldsOfOutcome IsGood o → Each IsGood later → Each IsGood (cons_option (token_of o) later)
 given_good (outcome.Token token) later q all = (q, all)

@@ -17,10 +17,12 @@ use Rattle.pp_model.specs.Calls.{Fault, Answers}
 use Rattle.pp_model.specs.Lines.{line_tokens, first_token, only_name}
 use Rattle.pp_model.specs.DefineLines.{defined_on}
 use Rattle.pp_model.specs.LineValues.{as_line_number}
-use Rattle.pp_model.specs.Sights.{sight_of, item_sight, token_sight, directive_sight, named_directive}
+use Rattle.pp_model.specs.Sights.{sight_of, token_sight, named_directive}
+use Rattle.pp_model.specs.inner.Sights.{item_sight, directive_sight}
 use Rattle.pp_model.specs.Blocks.{Block, is_live}
 use Rattle.pp_model.specs.SourceReader.{SourceReader}
-use Rattle.pp_model.specs.Acts.{Acted, passed, given, moved, after_word, after_line, acted, decided, is_defined_now, line_item, block_here, live_directive, ended_by, live_act, dead_act, act}
+use Rattle.pp_model.specs.Acts.{Acted, passed, given, moved, after_word, after_line, acted, decided, line_item, block_here, live_directive, ended_by, live_act, dead_act, act}
+use Rattle.pp_model.specs.inner.Acts.{is_defined_now}
 use Rattle.pp_model.specs.Reads.{Steps, passes, gives, defines, repeats, redefines, decides, undecided, renumbers, unnumbered, Reads, here, later, source_reading}
 use Rattle.pp_model.specs.declared.definition.Named.{Named}
 use Rattle.pp_model.specs.declared.directive.Directive.{Directive}

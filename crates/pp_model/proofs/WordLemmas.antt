@@ -6,7 +6,8 @@ use Rattle.pp_lexer.specs.declared.token.Location.{Location}
 use Rattle.pp_model.specs.Reading.{Expander, Listed, line_reading}
 use Rattle.pp_model.specs.Taking.{Takes}
 use Rattle.pp_model.specs.Calls.{Fault, Answers}
-use Rattle.pp_model.specs.LineWords.{Words, word_before, Operand, is_open_paren}
+use Rattle.pp_model.specs.LineWords.{Words, word_before, Operand}
+use Rattle.pp_model.specs.inner.LineWords.{is_open_paren}
 use Rattle.pp_model.specs.LineWords as line
 use Rattle.pp_model.specs.WordsRead.{unclosed, closed, Parenthesized, no_name, named}
 use Rattle.pp_model.specs.declared.outcome.Outcome.{Outcome}

@@ -1,6 +1,7 @@
 -- What a token or a directive line of a source comes to, one equation a rule (GLSL ES 3.20, section 3.4, and docs/RULES.md,
 -- Directives 1 to 14). The lines of `#define`, `#if`, `#elif` and `#line` are gathered here and decided in Reads.
 use Rattle.std.specs.Prelude.{ℕ, ◌+◌, ◌-◌, Bool, not, ◌||◌, if◌then◌else◌, List, ◌∷◌, take, drop, length, Option, Some, None, Result, Ok, Err, is_some}
+use Rattle.std.specs.Option.{option_map_or}
 use Rattle.pp_lexer.specs.Lexed.{Seen}
 use Rattle.pp_lexer.specs.Preorder.{preorder}
 use Rattle.pp_lexer.specs.declared.token.Location.{Location}
@@ -60,12 +61,8 @@ acted (Ok value) reader next = next value
 acted (Err fault) reader next = failed fault reader
 
 -- a line that is skipped, but for the lexer's errors
-abbrev pub skipped_by : Option Fault → SourceReader → Acted
-skipped_by (Some fault) reader = failed fault reader
-skipped_by None reader = passed (after_line reader)
-
 abbrev pub skipped : SourceReader → Acted
-skipped reader = skipped_by (line_fault (after_word reader)) reader
+skipped reader = option_map_or (λ fault. failed fault reader) (line_fault (after_word reader)) (passed (after_line reader))
 
 -- nothing but the end of the line is wanted after the word
 abbrev pub only_word : Location → SourceReader → (SourceReader → Acted) → Acted
@@ -94,17 +91,10 @@ abbrev pub undef : Location → SourceReader → Acted
 undef word reader =
     acted (only_name word (after_word reader)) reader (λ name. passed (record (after_line reader) { definitions = changed reader.definitions name None }))
 
--- `#ifdef` and `#ifndef`
-abbrev pub is_defined_now : SourceReader → Name → Bool
-is_defined_now reader name = is_some (reader.definitions name)
-
-abbrev pub ifdef : Location → SourceReader → Acted
-ifdef word reader =
-    acted (only_name word (after_word reader)) reader (λ name. passed (decided reader (is_defined_now reader name)))
-
-abbrev pub ifndef : Location → SourceReader → Acted
-ifndef word reader =
-    acted (only_name word (after_word reader)) reader (λ name. passed (decided reader (not (is_defined_now reader name))))
+-- `#ifdef` and `#ifndef`, which say of a name that it is defined, or isn't
+abbrev pub if_defined : (Bool → Bool) → Location → SourceReader → Acted
+if_defined holds word reader =
+    acted (only_name word (after_word reader)) reader (λ name. passed (decided reader (holds (is_some (reader.definitions name)))))
 
 -- `#elif` in the block: it is skipped where it can't be the first branch to be taken
 abbrev pub elif_in : Option Block → Location → SourceReader → Acted
@@ -128,15 +118,6 @@ endif_in (Some block) word reader =
 
 abbrev pub block_here : SourceReader → Option Block
 block_here reader = innermost (blocks_at reader.items reader.position)
-
-abbrev pub elif_line : Location → SourceReader → Acted
-elif_line word reader = elif_in (block_here reader) word reader
-
-abbrev pub else_line : Location → SourceReader → Acted
-else_line word reader = only_word word reader (else_in (block_here reader) word reader)
-
-abbrev pub endif_line : Location → SourceReader → Acted
-endif_line word reader = endif_in (block_here reader) word reader
 
 -- an item that holds the tokens of its line
 abbrev pub line_item : (List Token → TokenValue) → Location → SourceReader → Acted
@@ -164,11 +145,11 @@ abbrev pub live_directive : Directive → Location → SourceReader → Acted
 live_directive d.Define word reader = define word reader
 live_directive d.Undef word reader = undef word reader
 live_directive d.If word reader = condition word reader
-live_directive d.Ifdef word reader = ifdef word reader
-live_directive d.Ifndef word reader = ifndef word reader
-live_directive d.Elif word reader = elif_line word reader
-live_directive d.Else word reader = else_line word reader
-live_directive d.Endif word reader = endif_line word reader
+live_directive d.Ifdef word reader = if_defined (λ defined. defined) word reader
+live_directive d.Ifndef word reader = if_defined not word reader
+live_directive d.Elif word reader = elif_in (block_here reader) word reader
+live_directive d.Else word reader = only_word word reader (else_in (block_here reader) word reader)
+live_directive d.Endif word reader = endif_in (block_here reader) word reader
 live_directive d.Error word reader = failed_at ErrorDirective word reader
 live_directive d.Line word reader = line_number word reader
 live_directive d.Version word reader = version word reader
@@ -179,9 +160,9 @@ live_directive d.Unknown word reader = failed_at UnknownDirective word reader
 -- a directive in dead text: those that part and close blocks act, a block is opened unread, and after an unknown word the
 -- line is dead text
 abbrev pub dead_directive : Directive → Location → SourceReader → Acted
-dead_directive d.Elif word reader = elif_line word reader
-dead_directive d.Else word reader = else_line word reader
-dead_directive d.Endif word reader = endif_line word reader
+dead_directive d.Elif word reader = elif_in (block_here reader) word reader
+dead_directive d.Else word reader = only_word word reader (else_in (block_here reader) word reader)
+dead_directive d.Endif word reader = endif_in (block_here reader) word reader
 dead_directive d.Unknown word reader = passed (moved 2 reader)
 dead_directive _ word reader = skipped reader
 
@@ -206,12 +187,10 @@ live_act (sight.Directive directive word) reader = live_directive directive word
 -- in dead text
 abbrev pub dead_act : Sight → SourceReader → Acted
 dead_act sight.End reader = ended reader
-dead_act sight.NewLine reader = passed (moved 1 reader)
 dead_act (sight.Fault fault) reader = failed fault reader
-dead_act (sight.Token token) reader = passed (moved 1 reader)
-dead_act (sight.Hash location) reader = passed (moved 1 reader)
 dead_act (sight.NoWord fault) reader = passed (moved 2 reader)
 dead_act (sight.Directive directive word) reader = dead_directive directive word reader
+dead_act _ reader = passed (moved 1 reader)
 
 -- what stands at the reader's position comes to this
 abbrev pub act : SourceReader → Acted

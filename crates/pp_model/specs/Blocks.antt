@@ -1,5 +1,5 @@
 -- Blocks of conditional text, and which text is live (GLSL ES 3.20, section 3.4, and docs/RULES.md, Directives 7 to 11).
-use Rattle.std.specs.Prelude.{ℕ, ◌+◌, ◌-◌, ◌==◌, Bool, true, false, not, ◌&&◌, ◌||◌, if◌then◌else◌, List, [], ◌∷◌, length, take, slice_get, Option, Some, None, find, option_map}
+use Rattle.std.specs.Prelude.{ℕ, ◌+◌, ◌-◌, ◌==◌, Bool, true, false, not, ◌&&◌, ◌||◌, if◌then◌else◌, List, [], ◌∷◌, length, take, slice_get, Option, Some, None, find, option_map, unwrap_or}
 use Rattle.std.specs.List.{list_any, list_all, cons_option}
 use Rattle.pp_lexer.specs.Lexed.{Seen}
 use Rattle.pp_lexer.specs.declared.token.Location.{Location}
@@ -23,13 +23,9 @@ part_of d.Else = Some part.Else
 part_of d.Endif = Some part.Closes
 part_of _ = None
 
-abbrev pub line_with : ℕ → Location → Option Part → Option BlockLine
-line_with position word (Some p) = Some (record { position = position; word = word; part = p })
-line_with position word None = None
-
 -- the block line that stands at the position, if one does
 abbrev pub line_at : ℕ → Sight → Option BlockLine
-line_at position (sight.Directive directive word) = line_with position word (part_of directive)
+line_at position (sight.Directive directive word) = option_map (λ part. record { position = position; word = word; part = part }) (part_of directive)
 line_at position _ = None
 
 -- the lines that open, part or close blocks among these items, of which the first has this position
@@ -101,21 +97,13 @@ Truths = List Truth
 abbrev pub truth_at : Truths → ℕ → Option Bool
 truth_at truths position = option_map (λ t. t.holds) (find (λ t. t.position == position) truths)
 
-abbrev pub is_known_true : Option Bool → Bool
-is_known_true (Some holds) = holds
-is_known_true None = false
-
-abbrev pub is_known_false : Option Bool → Bool
-is_known_false (Some holds) = not holds
-is_known_false None = false
-
 -- a mark's own condition holds; an `#else` has none
 abbrev pub holds_at : Truths → BlockLine → Bool
-holds_at truths mark = is_else mark.part || is_known_true (truth_at truths mark.position)
+holds_at truths mark = is_else mark.part || unwrap_or (truth_at truths mark.position) false
 
 -- a mark's own condition was read and is false; an `#else` has none
 abbrev pub fails_at : Truths → BlockLine → Bool
-fails_at truths mark = is_else mark.part || is_known_false (truth_at truths mark.position)
+fails_at truths mark = is_else mark.part || not (unwrap_or (truth_at truths mark.position) true)
 
 -- The last of these marks is chosen: its condition holds, and each earlier one is false.
 abbrev pub is_last_chosen : Truths → BlockLine → List BlockLine → Bool
@@ -136,7 +124,7 @@ are_surroundings_live source truths block = is_live source truths block.first.po
 
 -- a branch of the block was taken: a condition of it holds
 abbrev pub has_taken_branch : Truths → Block → Bool
-has_taken_branch truths block = list_any (λ mark. is_known_true (truth_at truths mark.position)) (block.first ∷ block.partings)
+has_taken_branch truths block = list_any (λ mark. unwrap_or (truth_at truths mark.position) false) (block.first ∷ block.partings)
 
 abbrev pub has_else : Block → Bool
 has_else block = list_any (λ mark. is_else mark.part) block.partings

@@ -7,6 +7,7 @@ use Rattle.pp_lexer.specs.declared.token.Punct.TheVariants.{LeftParen, RightPare
 use Rattle.pp_lexer.specs.declared.token.Token.{Token}
 use Rattle.pp_lexer.specs.declared.token.TokenValue.{TokenValue}
 use Rattle.pp_lexer.specs.declared.token.TokenValue.TheVariants.{Punct}
+use Rattle.pp_expression.specs.Answers.{◌>>=◌}
 use Rattle.pp_model.specs.Names.{Name}
 use Rattle.pp_model.specs.Definitions.{Definition, Definitions}
 use Rattle.pp_model.specs.Reading.{Reading, Expander, masked}
@@ -51,8 +52,7 @@ pub record Gathered : Type 0 where
   pub closing : Location
 
 abbrev pub before : Token → Result Gathered Fault → Result Gathered Fault
-before token (Ok rest) = Ok (record rest { tokens = token ∷ rest.tokens })
-before token (Err fault) = Err fault
+before token rest = rest >>= λ gathered. Ok (record gathered { tokens = token ∷ gathered.tokens })
 
 -- The tokens that are taken up to the matching `)`, or the fault that is met before it; `last` is where the last token
 -- stands that was taken.
@@ -119,8 +119,7 @@ pub data Called : Type 0 where
 -- where the outcome is a `(`, its place
 abbrev pub paren_at : Outcome → Option Location
 paren_at (outcome.Token token) = if is_left_paren token.value then Some token.location else None
-paren_at (outcome.Fault fault) = None
-paren_at outcome.End = None
+paren_at _ = None
 
 abbrev pub called_by : ℕ → Result (List (List Token)) Fault → Called
 called_by line (Ok arguments) = fits arguments line

@@ -48,14 +48,10 @@ conversion_at place NewLine = Err (UnexpectedNewLine, place)
 abbrev pub conversion : LexerToken → Result Token Fault
 conversion token = conversion_at token.location token.value
 
-abbrev pub unexpected_kind : LexerTokenValue → PreprocessorError
-unexpected_kind Hash = UnexpectedHash
-unexpected_kind NewLine = UnexpectedNewLine
-unexpected_kind (LexerIdent name) = UnexpectedToken (Ident name)
-unexpected_kind (LexerInteger i) = UnexpectedToken (Integer i)
-unexpected_kind (LexerFloat f) = UnexpectedToken (Float f)
-unexpected_kind (LexerPunct p) = UnexpectedToken (Punct p)
+abbrev pub refused : Result Token Fault → Fault
+refused (Ok token) = (UnexpectedToken token.value, token.location)
+refused (Err fault) = fault
 
 -- the fault of a token that stands where it is not wanted
 abbrev pub refused_token : LexerToken → Fault
-refused_token token = (unexpected_kind token.value, token.location)
+refused_token token = refused (conversion token)

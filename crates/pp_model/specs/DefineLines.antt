@@ -1,5 +1,5 @@
 -- What a `#define` line says (GLSL ES 3.20, section 3.4, and docs/RULES.md, Directives 5). Faults come in the order of reading.
-use Rattle.std.specs.Prelude.{Bool, true, false, not, ◌&&◌, if◌then◌else◌, List, [], ◌∷◌, ◌++◌, Option, Some, None, Result, Ok, Err}
+use Rattle.std.specs.Prelude.{Bool, true, false, not, ◌&&◌, if◌then◌else◌, List, [], ◌∷◌, ◌++◌, drop, Result, Ok, Err}
 use Rattle.pp_lexer.specs.Lexed.{Seen}
 use Rattle.pp_lexer.specs.Items.{Lexeme}
 use Rattle.pp_lexer.specs.declared.lexer.item.Token.{Token as LexerToken}
@@ -9,7 +9,8 @@ use Rattle.pp_model.specs.Names.{Name, is_in}
 use Rattle.pp_model.specs.Definitions.{Definition, object_like}
 use Rattle.pp_model.specs.Calls.{Fault}
 use Rattle.pp_model.specs.Conversions.{opens_parameters, closes_parameters, parts_parameters, identifier_of, refused_token}
-use Rattle.pp_model.specs.Lines.{◌>>=◌, line_tokens, first_name, after_first_token}
+use Rattle.pp_model.specs.Lines.{line_tokens, first_name, name_of}
+use Rattle.pp_expression.specs.Answers.{◌>>=◌}
 use Rattle.pp_model.specs.declared.definition.Named.{Named}
 
 -- the parameters of a macro, and the items after their `)`
@@ -19,11 +20,6 @@ pub record Parameters : Type 0 where
 
 abbrev pub new_parameter : List Name → Location → Name → Result (List Name) Fault
 new_parameter names location name = if is_in name names then Err (DuplicateParameter, location) else Ok (names ++ name ∷ [])
-
--- one more parameter, whose name comes here
-abbrev pub parameter_here : List Name → LexerToken → Option Name → Result (List Name) Fault
-parameter_here names token (Some name) = new_parameter names token.location name
-parameter_here names token None = Err (refused_token token)
 
 abbrev mutual
   -- after a parameter stands `)`, or a comma and one more
@@ -38,14 +34,14 @@ abbrev mutual
   pub after_comma : Location → List Name → List Seen → Result Parameters Fault
   after_comma word names [] = Err (UnexpectedEndOfInput, word)
   after_comma word names (s ∷ rest) = s.item >>= λ token.
-      parameter_here names token (identifier_of token.value) >>= λ more. after_parameter word more rest
+      name_of token >>= new_parameter names token.location >>= λ more. after_parameter word more rest
 
 -- after the `(` stands `)`, or a first parameter
 abbrev pub parameters : Location → List Seen → Result Parameters Fault
 parameters word [] = Err (UnexpectedEndOfInput, word)
 parameters word (s ∷ rest) = s.item >>= λ token.
     if closes_parameters token.value then Ok (record { names = []; after = rest })
-    else (parameter_here [] token (identifier_of token.value) >>= λ names. after_parameter word names rest)
+    else (name_of token >>= new_parameter [] token.location >>= λ names. after_parameter word names rest)
 
 abbrev pub is_attached_paren : Lexeme → Bool
 is_attached_paren (Ok token) = opens_parameters token.value && not token.leading_whitespace
@@ -60,10 +56,10 @@ has_parameters (s ∷ rest) = is_attached_paren s.item
 abbrev pub definition_at : Location → List Seen → Result Definition Fault
 definition_at word rest =
     if has_parameters rest
-    then (parameters word (after_first_token rest) >>= λ list. line_tokens list.after >>= λ body. Ok (record { function_like = true; parameters = list.names; body = body }))
+    then (parameters word (drop 1 rest) >>= λ list. line_tokens list.after >>= λ body. Ok (record { function_like = true; parameters = list.names; body = body }))
     else (line_tokens rest >>= λ body. Ok (object_like body))
 
 -- what the line defines, or its first fault
 abbrev pub defined_on : Location → List Seen → Result Named Fault
 defined_on word rest =
-    first_name word rest >>= λ first. definition_at word (after_first_token rest) >>= λ definition. Ok (record { name = first.name; location = first.location; definition = definition })
+    first_name word rest >>= λ first. definition_at word (drop 1 rest) >>= λ definition. Ok (record { name = first.name; location = first.location; definition = definition })

@@ -1,8 +1,9 @@
 -- The next item of an expander, and an argument's expansion alone (docs/RULES.md, Expansion 3 to 10).
-use Rattle.std.specs.Prelude.{◌≡◌, ℕ, zero, suc, true, false, List, [], ◌∷◌, Option, Some, None, Result, Ok, Err}
+use Rattle.std.specs.Prelude.{◌≡◌, ℕ, zero, suc, true, false, List, [], ◌∷◌, Option, Some, None, unwrap_or, Result, Ok, Err}
 use Rattle.pp_lexer.specs.declared.token.PreprocessorError.{PreprocessorError}
 use Rattle.pp_lexer.specs.declared.token.PreprocessorError.TheVariants.{RecursionLimitReached}
 use Rattle.pp_lexer.specs.declared.token.Token.{Token}
+use Rattle.pp_expression.specs.Answers.{◌>>=◌}
 use Rattle.pp_model.specs.Names.{Name}
 use Rattle.pp_model.specs.Definitions.{Definitions}
 use Rattle.pp_model.specs.SpliceList.{spliced}
@@ -32,42 +33,33 @@ pub data Emits {R : Type 0} (I : Reading R) (A : Answers) : Expander R → Outco
   -- a call is replaced
   call : (x o : Outcome) (arguments : List (List Token)) (line : ℕ) (m : Opening) (e f g h : Expander R) → Takes I e x f → opening I f x ≡ Some m → m.definition.function_like ≡ true → Calls I A m.definition f (fits arguments line) g → Emits I A (opened m line arguments g) o h → Emits I A e o h
 
-abbrev pub token_before : Token → Result (List Token) Fault → Result (List Token) Fault
-token_before token (Ok tokens) = Ok (token ∷ tokens)
-token_before token (Err fault) = Err fault
+-- a list with this before it, where there is one
+abbrev pub first_before : {A : Type 0} → A → Result (List A) Fault → Result (List A) Fault
+first_before first rest = rest >>= λ others. Ok (first ∷ others)
 
 -- the items up to the end, or the first error
 pub data Collects {R : Type 0} (I : Reading R) (A : Answers) : Expander R → Result (List Token) Fault → Type 0 where
   done : (e f : Expander R) (out : Result (List Token) Fault) → Emits I A e outcome.End f → out ≡ Ok [] → Collects I A e out
   failed : (fault : Fault) (e f : Expander R) (out : Result (List Token) Fault) → Emits I A e (outcome.Fault fault) f → out ≡ Err fault → Collects I A e out
-  item : (token : Token) (rest out : Result (List Token) Fault) (e f : Expander R) → Emits I A e (outcome.Token token) f → Collects I A f rest → out ≡ token_before token rest → Collects I A e out
+  item : (token : Token) (rest out : Result (List Token) Fault) (e f : Expander R) → Emits I A e (outcome.Token token) f → Collects I A f rest → out ≡ first_before token rest → Collects I A e out
 
 -- what a list of tokens comes to alone, where these definitions are visible and these names are open around
 abbrev pub Alones : Type 1
 Alones = List Token → Definitions → List Name → Result (List Token) Fault → Type 0
 
-abbrev pub list_before : List Token → Result (List (List Token)) Fault → Result (List (List Token)) Fault
-list_before tokens (Ok lists) = Ok (tokens ∷ lists)
-list_before tokens (Err fault) = Err fault
-
 -- the arguments from left to right, each alone, or the first fault
 pub data Each (deeper : Alones) (visible : Definitions) (hidden : List Name) : List (List Token) → Result (List (List Token)) Fault → Type 0 where
   none : (out : Result (List (List Token)) Fault) → out ≡ Ok [] → Each deeper visible hidden [] out
   first_failed : (argument : List Token) (arguments : List (List Token)) (fault : Fault) (out : Result (List (List Token)) Fault) → deeper argument visible hidden (Err fault) → out ≡ Err fault → Each deeper visible hidden (argument ∷ arguments) out
-  more : (argument expanded : List Token) (arguments : List (List Token)) (rest out : Result (List (List Token)) Fault) → deeper argument visible hidden (Ok expanded) → Each deeper visible hidden arguments rest → out ≡ list_before expanded rest → Each deeper visible hidden (argument ∷ arguments) out
+  more : (argument expanded : List Token) (arguments : List (List Token)) (rest out : Result (List (List Token)) Fault) → deeper argument visible hidden (Ok expanded) → Each deeper visible hidden arguments rest → out ≡ first_before expanded rest → Each deeper visible hidden (argument ∷ arguments) out
 
 abbrev pub EachOrRefused : Alones → Option PreprocessorError → Site → Result (List (List Token)) Fault → Type 0
 EachOrRefused deeper (Some error) site out = out ≡ Err (error, site.paren)
 EachOrRefused deeper None site out = Each deeper site.visible site.open_around site.arguments out
 
--- what a fitting call comes to at the limit
-abbrev pub refusal : Option PreprocessorError → PreprocessorError
-refusal (Some error) = error
-refusal None = RecursionLimitReached
-
--- calls in an argument that is read at the limit
+-- calls in an argument that is read at the limit: one that fits is refused too
 abbrev pub answers_at_limit : Answers
-answers_at_limit definition site out = out ≡ Err (refusal (misfit definition.parameters site.arguments), site.paren)
+answers_at_limit definition site out = out ≡ Err (unwrap_or (misfit definition.parameters site.arguments) RecursionLimitReached, site.paren)
 
 -- calls whose arguments are expanded so
 abbrev pub answers_below : Alones → Answers

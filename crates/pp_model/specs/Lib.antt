@@ -26,3 +26,4 @@ pub use Rattle.pp_lexer.specs.Spelling
 pub mod RespellLaws
 pub mod RunChains
 pub mod WordsRead
+pub mod inner

@@ -1,6 +1,6 @@
 -- What an `#if`, `#elif` or `#line` line comes to (GLSL ES 3.20, section 3.4, and docs/RULES.md, Expressions 3 to 7 and
 -- Directives 13). Trees, their values and the first fault of an expression are those of pp_expression.
-use Rattle.std.specs.Prelude.{◌≡◌, ◌≢◌, ℕ, ℤ, pos, negsuc, ◌-◌, ◌^◌, nat_lt, Bool, not, if◌then◌else◌, List, [], length, drop, slice_get, map, Option, Some, None, option_map, unwrap_or, Result, Ok, Err}
+use Rattle.std.specs.Prelude.{◌≡◌, ◌≢◌, ℕ, ℤ, pos, negsuc, ◌-◌, ◌^◌, nat_lt, Bool, not, if◌then◌else◌, List, [], length, drop, slice_get, map, Option, Some, None, option_map, option_and_then, unwrap_or, Result, Ok, Err}
 use Rattle.pp_expression.specs.declared.symbol.Symbol.{Symbol}
 use Rattle.pp_expression.specs.declared.symbol.Symbol.TheVariants as symbol
 use Rattle.pp_expression.specs.declared.symbol.ExpressionFault.{ExpressionFault}
@@ -10,6 +10,7 @@ use Rattle.pp_expression.specs.declared.symbol.Found.{Found}
 use Rattle.pp_expression.specs.Arithmetic.{is_zero}
 use Rattle.pp_expression.specs.Lines.{Line}
 use Rattle.pp_expression.specs.FirstFault.{Evaluates}
+use Rattle.std.specs.Option.{option_map_or}
 use Rattle.pp_lexer.specs.declared.token.Location.{Location}
 use Rattle.pp_lexer.specs.declared.token.PreprocessorError.TheVariants.{IntegerOverflow, DivisionByZero, UnexpectedEndOfInput, UnexpectedToken, LineOverflow}
 use Rattle.pp_lexer.specs.declared.token.Token.{Token}
@@ -30,13 +31,10 @@ symbol_of_value (Integer number) = symbol.Number number.value
 symbol_of_value (Punct punct) = symbol.Punct punct
 symbol_of_value _ = symbol.Other
 
-abbrev pub symbol_of_answer : Result Bool Fault → Symbol
-symbol_of_answer (Ok answer) = symbol.Number (if answer then 1 else 0)
-symbol_of_answer (Err fault) = symbol.Fault
-
 abbrev pub symbol_of : Word → Symbol
 symbol_of (Plain token) = symbol_of_value token.value
-symbol_of (Defined location answer) = symbol_of_answer answer
+symbol_of (Defined location (Ok answer)) = symbol.Number (if answer then 1 else 0)
+symbol_of (Defined location (Err fault)) = symbol.Fault
 
 abbrev pub line_of : Words → Line
 line_of words = record { symbols = map symbol_of words.words; ending = option_map (λ fault. kind.Unread) words.ending }
@@ -50,14 +48,10 @@ abbrev pub unwanted_word : Word → Fault
 unwanted_word (Plain token) = unexpected token
 unwanted_word (Defined location answer) = (UnexpectedToken (Ident defined_name), location)
 
-abbrev pub fault_of_answer : Fault → Result Bool Fault → Fault
-fault_of_answer fallback (Ok answer) = fallback
-fault_of_answer fallback (Err fault) = fault
-
 -- the fault of a `defined` with its operand
-abbrev pub fault_of_operand : Fault → Word → Fault
-fault_of_operand fallback (Plain token) = fallback
-fault_of_operand fallback (Defined location answer) = fault_of_answer fallback answer
+abbrev pub operand_fault : Word → Option Fault
+operand_fault (Defined location (Err fault)) = Some fault
+operand_fault _ = None
 
 -- the line ends too early, which is told at the directive's word
 abbrev pub ended_early : Location → Fault
@@ -70,20 +64,12 @@ told directive words kind.DivisionByZero left = (DivisionByZero, directive)
 told directive words kind.UnexpectedEndOfInput left = ended_early directive
 told directive words kind.Unexpected left = unwrap_or (option_map unwanted_word (word_from_end left words)) (ended_early directive)
 told directive words kind.Unread left = unwrap_or words.ending (ended_early directive)
-told directive words kind.Operand left = unwrap_or (option_map (fault_of_operand (ended_early directive)) (word_from_end left words)) (ended_early directive)
+told directive words kind.Operand left = unwrap_or (option_and_then operand_fault (word_from_end left words)) (ended_early directive)
 
-abbrev pub told_fault : Location → Words → Found → Fault
-told_fault directive words found = told directive words found.kind found.left
-
--- nothing may stand after the last expression of a line
-abbrev pub unless_followed : {A : Type 0} → A → Option Word → Result A Fault
-unless_followed result None = Ok result
-unless_followed result (Some word) = Err (unwanted_word word)
-
--- an expression alone on its line, of whose value something is told
+-- an expression alone on its line, of whose value something is told: nothing may stand after it
 abbrev pub alone_on_line : {A : Type 0} → Location → Words → (ℤ → A) → Result Value Found → Result A Fault
-alone_on_line directive words result (Ok v) = unless_followed (result v.value) (word_from_end v.left words)
-alone_on_line directive words result (Err found) = Err (told_fault directive words found)
+alone_on_line directive words result (Ok v) = option_map_or (λ word. Err (unwanted_word word)) (word_from_end v.left words) (Ok (result v.value))
+alone_on_line directive words result (Err found) = Err (told directive words found.kind found.left)
 
 -- The condition of an `#if` or `#elif`: it holds where its value isn't 0.
 pub record IsCondition (A : Answers) (directive : Location) (tokens : List Token) (definitions : Definitions) (result : Result Bool Fault) : Type 0 where
@@ -102,18 +88,12 @@ as_line_number (negsuc n) = None
 abbrev pub words_after : ℕ → Words → Words
 words_after left words = record words { words = drop (length words.words - left) words.words }
 
--- a second expression after the line number, which is only read
-pub record IsFollowed (directive : Location) (words : Words) (n : ℕ) (result : Result ℕ Fault) : Type 0 where
-  pub second : Result Value Found
-  pub evaluated : Evaluates (line_of words) second
-  pub is : result ≡ alone_on_line directive words (λ value. n) second
-
--- what the words of a `#line` come to
+-- What the words of a `#line` come to. A second expression after the line number is only read.
 pub data Numbers (directive : Location) (words : Words) : Result ℕ Fault → Type 0 where
-  faulty : (found : Found) (result : Result ℕ Fault) → Evaluates (line_of words) (Err found) → result ≡ Err (told_fault directive words found) → Numbers directive words result
+  faulty : (found : Found) (result : Result ℕ Fault) → Evaluates (line_of words) (Err found) → result ≡ Err (told directive words found.kind found.left) → Numbers directive words result
   out_of_range : (v : Value) (result : Result ℕ Fault) → Evaluates (line_of words) (Ok v) → as_line_number v.value ≡ None → result ≡ Err (LineOverflow, directive) → Numbers directive words result
   alone : (v : Value) (n : ℕ) (result : Result ℕ Fault) → Evaluates (line_of words) (Ok v) → as_line_number v.value ≡ Some n → v.left ≡ 0 → result ≡ Ok n → Numbers directive words result
-  with_source : (v : Value) (n : ℕ) (result : Result ℕ Fault) → Evaluates (line_of words) (Ok v) → as_line_number v.value ≡ Some n → v.left ≢ 0 → IsFollowed directive (words_after v.left words) n result → Numbers directive words result
+  with_source : (v : Value) (n : ℕ) (result : Result ℕ Fault) → Evaluates (line_of words) (Ok v) → as_line_number v.value ≡ Some n → v.left ≢ 0 → (second : Result Value Found) → Evaluates (line_of (words_after v.left words)) second → result ≡ alone_on_line directive (words_after v.left words) (λ value. n) second → Numbers directive words result
 
 -- the line number that a `#line` gives
 pub record IsLineNumber (A : Answers) (directive : Location) (tokens : List Token) (definitions : Definitions) (result : Result ℕ Fault) : Type 0 where

@@ -52,8 +52,7 @@ unwanted_reading token (fault f) = f
 
 abbrev pub unwanted_word : LineKind → Location → Outcome → Fault
 unwanted_word kind directive (outcome.Token token) = unwanted_reading token (reading kind token)
-unwanted_word kind directive (outcome.Fault f) = f
-unwanted_word kind directive outcome.End = (UnexpectedEndOfInput, directive)
+unwanted_word kind directive o = unwanted directive o
 
 abbrev pub name_in_value : TokenValue → Option Name
 name_in_value (Ident name) = Some name
@@ -62,18 +61,12 @@ name_in_value _ = None
 -- the name that was taken
 abbrev pub name_in : Outcome → Option Name
 name_in (outcome.Token token) = name_in_value token.value
-name_in (outcome.Fault f) = None
-name_in outcome.End = None
+name_in _ = None
 
-abbrev pub is_open_paren : Outcome → Bool
-is_open_paren (outcome.Token token) = is_left_paren token.value
-is_open_paren (outcome.Fault f) = false
-is_open_paren outcome.End = false
-
-abbrev pub is_close_paren : Outcome → Bool
-is_close_paren (outcome.Token token) = is_right_paren token.value
-is_close_paren (outcome.Fault f) = false
-is_close_paren outcome.End = false
+-- a token was taken whose value is so
+abbrev pub has_value : (TokenValue → Bool) → Outcome → Bool
+has_value test (outcome.Token token) = test token.value
+has_value test _ = false
 
 abbrev pub is_defined : Expander Listed → Name → Bool
 is_defined e name = is_some (e.reader.visible name)
@@ -82,10 +75,10 @@ is_defined e name = is_some (e.reader.visible name)
 -- up, the `)` is read expanded.
 pub data Operand (kind : LineKind) (directive : Location) (A : Answers) : Expander Listed → Result Bool Fault → Expander Listed → Type 0 where
   name : (o : Outcome) (n : Name) (e f : Expander Listed) (r : Result Bool Fault) → Takes line_reading e o f → name_in o ≡ Some n → r ≡ Ok (is_defined f n) → Operand kind directive A e r f
-  neither : (o : Outcome) (e f : Expander Listed) (r : Result Bool Fault) → Takes line_reading e o f → name_in o ≡ None → is_open_paren o ≡ false → r ≡ Err (unwanted directive o) → Operand kind directive A e r f
-  no_name : (o x : Outcome) (e f g : Expander Listed) (r : Result Bool Fault) → Takes line_reading e o f → is_open_paren o ≡ true → Takes line_reading f x g → name_in x ≡ None → r ≡ Err (unwanted directive x) → Operand kind directive A e r g
-  unclosed : (o x y : Outcome) (n : Name) (e f g h : Expander Listed) (r : Result Bool Fault) → Takes line_reading e o f → is_open_paren o ≡ true → Takes line_reading f x g → name_in x ≡ Some n → Emits line_reading A g y h → is_close_paren y ≡ false → r ≡ Err (unwanted_word kind directive y) → Operand kind directive A e r h
-  in_parentheses : (o x y : Outcome) (n : Name) (e f g h : Expander Listed) (r : Result Bool Fault) → Takes line_reading e o f → is_open_paren o ≡ true → Takes line_reading f x g → name_in x ≡ Some n → Emits line_reading A g y h → is_close_paren y ≡ true → r ≡ Ok (is_defined h n) → Operand kind directive A e r h
+  neither : (o : Outcome) (e f : Expander Listed) (r : Result Bool Fault) → Takes line_reading e o f → name_in o ≡ None → has_value is_left_paren o ≡ false → r ≡ Err (unwanted directive o) → Operand kind directive A e r f
+  no_name : (o x : Outcome) (e f g : Expander Listed) (r : Result Bool Fault) → Takes line_reading e o f → has_value is_left_paren o ≡ true → Takes line_reading f x g → name_in x ≡ None → r ≡ Err (unwanted directive x) → Operand kind directive A e r g
+  unclosed : (o x y : Outcome) (n : Name) (e f g h : Expander Listed) (r : Result Bool Fault) → Takes line_reading e o f → has_value is_left_paren o ≡ true → Takes line_reading f x g → name_in x ≡ Some n → Emits line_reading A g y h → has_value is_right_paren y ≡ false → r ≡ Err (unwanted_word kind directive y) → Operand kind directive A e r h
+  in_parentheses : (o x y : Outcome) (n : Name) (e f g h : Expander Listed) (r : Result Bool Fault) → Takes line_reading e o f → has_value is_left_paren o ≡ true → Takes line_reading f x g → name_in x ≡ Some n → Emits line_reading A g y h → has_value is_right_paren y ≡ true → r ≡ Ok (is_defined h n) → Operand kind directive A e r h
 
 -- the words of a line, and the fault of reading that ends them, if one does
 pub record Words : Type 0 where

@@ -1,23 +1,20 @@
 -- The rest of a directive's line: the items after its word, up to the line's NewLine (docs/RULES.md, Directives 3 to 7, 9, 10, 13 and 14).
 -- The items of a text always have that NewLine. Where a list ends without it, the line ends there too; a token that is wanted there is refused at the word.
-use Rattle.std.specs.Prelude.{ℕ, ◌+◌, Bool, false, if◌then◌else◌, List, [], ◌∷◌, Option, Some, None, Result, Ok, Err}
+use Rattle.std.specs.Prelude.{ℕ, ◌+◌, Bool, false, if◌then◌else◌, List, [], ◌∷◌, drop, Option, Some, None, ok_or, Result, Ok, Err}
+use Rattle.std.specs.Option.{option_or}
+use Rattle.std.specs.Result.{result_err}
 use Rattle.pp_lexer.specs.Lexed.{Seen}
 use Rattle.pp_lexer.specs.Items.{Lexeme}
 use Rattle.pp_lexer.specs.declared.lexer.item.Token.{Token as LexerToken}
 use Rattle.pp_lexer.specs.declared.token.Location.{Location}
 use Rattle.pp_lexer.specs.declared.token.PreprocessorError.TheVariants.{UnexpectedEndOfInput}
 use Rattle.pp_lexer.specs.declared.token.Token.{Token}
+use Rattle.pp_expression.specs.Answers.{◌>>=◌}
 use Rattle.pp_model.specs.Names.{Name}
 use Rattle.pp_model.specs.Calls.{Fault}
-use Rattle.pp_model.specs.Emitting.{token_before}
+use Rattle.pp_model.specs.Emitting.{first_before}
 use Rattle.pp_model.specs.declared.definition.Placed.{Placed}
 use Rattle.pp_model.specs.Conversions.{is_newline, conversion, refused_token, identifier_of}
-
-infixl 10 ◌>>=◌
--- what follows of a value, where there is no fault before
-abbrev pub ◌>>=◌ : {A B : Type 0} → Result A Fault → (A → Result B Fault) → Result B Fault
-(Ok value) >>= next = next value
-(Err fault) >>= next = Err fault
 
 abbrev pub ends_line : Lexeme → Bool
 ends_line (Ok token) = is_newline token.value
@@ -28,23 +25,16 @@ abbrev pub line_length : List Seen → ℕ
 line_length [] = 0
 line_length (s ∷ rest) = if ends_line s.item then 1 else 1 + line_length rest
 
-abbrev pub fault_before : Lexeme → Option Fault → Option Fault
-fault_before (Err fault) later = Some fault
-fault_before (Ok token) later = if is_newline token.value then None else later
-
 -- the first error of the lexer on the line
 abbrev pub line_fault : List Seen → Option Fault
 line_fault [] = None
-line_fault (s ∷ rest) = fault_before s.item (line_fault rest)
-
-abbrev pub tokens_from : Lexeme → Result (List Token) Fault → Result (List Token) Fault
-tokens_from (Err fault) later = Err fault
-tokens_from (Ok token) later = if is_newline token.value then Ok [] else (conversion token >>= λ first. token_before first later)
+line_fault (s ∷ rest) = if ends_line s.item then None else option_or (result_err s.item) (line_fault rest)
 
 -- the line's tokens, or the first error or number sign among them
 abbrev pub line_tokens : List Seen → Result (List Token) Fault
 line_tokens [] = Ok []
-line_tokens (s ∷ rest) = tokens_from s.item (line_tokens rest)
+line_tokens (s ∷ rest) =
+    if ends_line s.item then Ok [] else (s.item >>= λ token. conversion token >>= λ first. first_before first (line_tokens rest))
 
 -- whether a comment stands anywhere before the line's end
 abbrev pub comments_before_end : List Seen → Bool
@@ -56,25 +46,18 @@ abbrev pub first_token : Location → List Seen → Result LexerToken Fault
 first_token word [] = Err (UnexpectedEndOfInput, word)
 first_token word (s ∷ rest) = s.item
 
-abbrev pub after_first_token : List Seen → List Seen
-after_first_token [] = []
-after_first_token (s ∷ rest) = rest
-
-abbrev pub name_or_refused : LexerToken → Option Name → Result Placed Fault
-name_or_refused token (Some name) = Ok (record { name = name; location = token.location })
-name_or_refused token None = Err (refused_token token)
+-- the token's name, or what is wrong where one is wanted
+abbrev pub name_of : LexerToken → Result Name Fault
+name_of token = ok_or (identifier_of token.value) (refused_token token)
 
 -- the name that comes first
 abbrev pub first_name : Location → List Seen → Result Placed Fault
-first_name word rest = first_token word rest >>= λ token. name_or_refused token (identifier_of token.value)
-
-abbrev pub newline_or_refused : LexerToken → Result (Unit {0}) Fault
-newline_or_refused token = if is_newline token.value then Ok tt else Err (refused_token token)
+first_name word rest = first_token word rest >>= λ token. name_of token >>= λ name. Ok (record { name = name; location = token.location })
 
 -- nothing stands before the end of the line
 abbrev pub ended_line : Location → List Seen → Result (Unit {0}) Fault
-ended_line word rest = first_token word rest >>= newline_or_refused
+ended_line word rest = first_token word rest >>= λ token. if is_newline token.value then Ok tt else Err (refused_token token)
 
 -- a name alone on the line
 abbrev pub only_name : Location → List Seen → Result Name Fault
-only_name word rest = first_name word rest >>= λ first. ended_line word (after_first_token rest) >>= λ end. Ok first.name
+only_name word rest = first_name word rest >>= λ first. ended_line word (drop 1 rest) >>= λ end. Ok first.name

@@ -1,5 +1,6 @@
 -- Expanders, and what they ask of the reader after their list (docs/RULES.md, Expansion 1, 3 and 8).
-use Rattle.std.specs.Prelude.{◌≡◌, ℕ, Bool, false, List, [], ◌∷◌, ◌++◌, ◌||◌, if◌then◌else◌, Option, Some, None}
+use Rattle.std.specs.Prelude.{◌≡◌, ℕ, Bool, false, List, [], ◌∷◌, ◌++◌, ◌||◌, if◌then◌else◌, drop, slice_get, Option, Some, None, option_map}
+use Rattle.std.specs.Option.{option_map_or}
 use Rattle.pp_lexer.specs.declared.token.Token.{Token}
 use Rattle.pp_lexer.specs.declared.token.TokenValue.{TokenValue}
 use Rattle.pp_lexer.specs.declared.token.TokenValue.TheVariants.{Ident}
@@ -36,56 +37,42 @@ pub record Opening : Type 0 where
   pub name : Name
   pub definition : Definition
 
-abbrev pub opening_by : Token → Name → Option Definition → Option Opening
-opening_by token name None = None
-opening_by token name (Some definition) = Some (record { token = token; name = name; definition = definition })
-
 abbrev pub opening_of : {R : Type 0} → Reading R → Expander R → Token → TokenValue → Option Opening
 opening_of I expander token (Ident name) =
     if I.is_reserved name || is_in name (masked expander) then None
-    else opening_by token name (I.visible expander.reader name)
+    else option_map (λ definition. record { token = token; name = name; definition = definition }) (I.visible expander.reader name)
 opening_of I expander token _ = None
 
 -- When a taken identifier opens a macro: it is defined now, and open neither here nor around.
 abbrev pub opening : {R : Type 0} → Reading R → Expander R → Outcome → Option Opening
 opening I expander (outcome.Token token) = opening_of I expander token token.value
-opening I expander (outcome.Fault fault) = None
-opening I expander outcome.End = None
+opening I expander _ = None
 
 -- a list of tokens as a reader
 pub record Listed : Type 0 where
   pub tokens : List Token
   pub visible : Definitions
 
-abbrev pub first_listed : List Token → Outcome
-first_listed [] = outcome.End
-first_listed (token ∷ tokens) = outcome.Token token
-
-abbrev pub after_listed : List Token → List Token
-after_listed [] = []
-after_listed (token ∷ tokens) = tokens
-
 -- its tokens in order, and then the end
 abbrev pub ReadsListed : Listed → Outcome → Listed → Type 0
-ReadsListed old given new = (given ≡ first_listed old.tokens) × (new ≡ record old { tokens = after_listed old.tokens })
+ReadsListed old given new = (given ≡ option_map_or outcome.Token (slice_get old.tokens 0) outcome.End) × (new ≡ record old { tokens = drop 1 old.tokens })
+
+-- a list of tokens, where these names never open
+abbrev pub listed_reading : (Name → Bool) → Reading Listed
+listed_reading is_reserved = record {
+  Reads = ReadsListed;
+  visible = λ reader. reader.visible;
+  shown_line = λ reader line. Some line;
+  is_reserved = is_reserved;
+}
 
 -- an argument of a call, read alone
 abbrev pub argument_reading : Reading Listed
-argument_reading = record {
-  Reads = ReadsListed;
-  visible = λ reader. reader.visible;
-  shown_line = λ reader line. Some line;
-  is_reserved = λ name. false;
-}
+argument_reading = listed_reading (λ name. false)
 
 -- the line of an `#if`, `#elif` or `#line`, where `defined` is an operator
 abbrev pub line_reading : Reading Listed
-line_reading = record {
-  Reads = ReadsListed;
-  visible = λ reader. reader.visible;
-  shown_line = λ reader line. Some line;
-  is_reserved = λ name. is_same_name name defined_name;
-}
+line_reading = listed_reading (λ name. is_same_name name defined_name)
 
 -- the start of reading these tokens, where these names are open around
 abbrev pub reading_of : List Token → Definitions → List Name → Expander Listed

@@ -1,18 +1,19 @@
 -- Runs: lists of calls of `add_define` and `next`, with what they answer (docs/RULES.md, "Runs").
-use Rattle.std.specs.Prelude.{◌≡◌, ℕ, Bool, true, false, if◌then◌else◌, List, [], ◌∷◌, Some, None, Result, Ok, Err, ◌<◌, ◌^◌, ◌-◌, length, ⊤}
+use Rattle.std.specs.Prelude.{◌≡◌, ℕ, Bool, true, false, if◌then◌else◌, List, [], map, ◌∷◌, Some, None, Result, Ok, Err, ◌<◌, ◌^◌, ◌-◌, length, ⊤}
 use Rattle.std.specs.Str.{chars}
 use Rattle.pp_lexer.specs.Items.{Lexeme}
-use Rattle.pp_lexer.specs.Lexed.{Seen}
-use Rattle.pp_lexer.specs.Lexed as lexed
+use Rattle.pp_lexer.specs.Items as lexer
+use Rattle.pp_lexer.specs.Lexed.{Seen, seen}
 use Rattle.pp_lexer.specs.Spots.{spots_of}
 use Rattle.pp_lexer.specs.declared.token.Token.{Token}
 use Rattle.pp_model.specs.Names.{Name}
 use Rattle.pp_model.specs.Definitions.{object_like, changed}
 use Rattle.pp_model.specs.Reading.{Expander}
 use Rattle.pp_model.specs.Calls.{Fault, Answers}
-use Rattle.pp_model.specs.Emitting.{Emits, token_before, answers_at, expansion_limit}
-use Rattle.pp_model.specs.Conversions.{is_newline, conversion}
-use Rattle.pp_model.specs.Lines.{◌>>=◌}
+use Rattle.pp_model.specs.Emitting.{first_before, Emits, answers_at, expansion_limit}
+use Rattle.pp_model.specs.Lines.{ends_line}
+use Rattle.pp_model.specs.Conversions.{conversion}
+use Rattle.pp_expression.specs.Answers.{◌>>=◌}
 use Rattle.pp_model.specs.SourceReader.{SourceReader, start_of}
 use Rattle.pp_model.specs.Reads.{source_reading}
 use Rattle.pp_model.specs.declared.call.Call.{Call as Called}
@@ -39,32 +40,25 @@ HasRoom called.Next = ⊤
 
 -- the items of a text
 abbrev pub items_of : List ℕ → List Seen
-items_of text = (lexed.start_of (spots_of text)).rest
-
-abbrev pub content_from : Lexeme → Result (List Token) Fault → Result (List Token) Fault
-content_from (Err fault) later = Err fault
-content_from (Ok token) later = if is_newline token.value then later else (conversion token >>= λ first. token_before first later)
+items_of text = map seen (lexer.items_of (spots_of text))
 
 -- the tokens of an added content, without its newlines, or the first error or number sign in it
 abbrev pub content_tokens : List Seen → Result (List Token) Fault
 content_tokens [] = Ok []
-content_tokens (s ∷ rest) = content_from s.item (content_tokens rest)
+content_tokens (s ∷ rest) =
+    if ends_line s.item then content_tokens rest else (s.item >>= λ token. conversion token >>= λ first. first_before first (content_tokens rest))
 
 -- an expander over the start of a source
 abbrev pub start : List Seen → Expander SourceReader
 start source = record { held = None; list = []; reader = start_of source; hidden = [] }
 
 -- the name stands for these tokens from now on
-abbrev pub adding : Name → List Token → SourceReader → SourceReader
-adding name tokens reader = record reader { definitions = changed reader.definitions name (Some (object_like tokens)) }
-
 abbrev pub with_added : Name → List Token → Expander SourceReader → Expander SourceReader
-with_added name tokens e = record e { reader = adding name tokens e.reader }
+with_added name tokens e = record e { reader = record e.reader { definitions = changed e.reader.definitions name (Some (object_like tokens)) } }
 
 abbrev pub is_fault : Outcome → Bool
 is_fault (outcome.Fault fault) = true
-is_fault (outcome.Token token) = false
-is_fault outcome.End = false
+is_fault _ = false
 
 -- the reply is an error item, with which the run is over
 abbrev pub ends_run : Reply → Bool

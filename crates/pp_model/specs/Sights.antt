@@ -1,6 +1,6 @@
 -- What stands at a position of a source: text or a directive (GLSL ES 3.20, section 3.4, and docs/RULES.md, Directives 1 and 2).
-use Rattle.std.specs.Prelude.{ℕ, Bool, true, false, ◌&&◌, if◌then◌else◌, List, [], ◌∷◌, Option, Some, None, Result, Ok, Err, codes}
-use Rattle.std.specs.Str.{chars}
+use Rattle.std.specs.Prelude.{ℕ, Bool, true, false, ◌&&◌, if◌then◌else◌, List, [], ◌∷◌, Option, Some, None, option_map, unwrap_or, Result, Ok, Err, codes}
+use Rattle.std.specs.List.{find}
 use Rattle.pp_lexer.specs.Lexed.{Seen}
 use Rattle.pp_lexer.specs.Items.{Lexeme}
 use Rattle.pp_lexer.specs.declared.lexer.item.Token.{Token as LexerToken}
@@ -14,56 +14,39 @@ use Rattle.pp_model.specs.declared.directive.Directive.TheVariants as d
 use Rattle.pp_model.specs.declared.sight.Sight.{Sight}
 use Rattle.pp_model.specs.declared.sight.Sight.TheVariants as sight
 
--- the name has the characters of this text
-unfoldable pub is_word : Name → List ℕ → Bool
-is_word name text = is_same_name name (chars text)
+-- the words of directives
+abbrev pub directives : List (List ℕ × Directive)
+directives =
+    (codes "define", d.Define) ∷ (codes "undef", d.Undef) ∷ (codes "if", d.If) ∷ (codes "ifdef", d.Ifdef) ∷ (codes "ifndef", d.Ifndef) ∷
+    (codes "elif", d.Elif) ∷ (codes "else", d.Else) ∷ (codes "endif", d.Endif) ∷ (codes "error", d.Error) ∷ (codes "line", d.Line) ∷
+    (codes "version", d.Version) ∷ (codes "extension", d.Extension) ∷ (codes "pragma", d.Pragma) ∷ []
 
 -- what a directive's word says
-abbrev pub directive_of : Name → Directive
-directive_of name =
-    if is_word name (codes "define") then d.Define
-    else if is_word name (codes "undef") then d.Undef
-    else if is_word name (codes "if") then d.If
-    else if is_word name (codes "ifdef") then d.Ifdef
-    else if is_word name (codes "ifndef") then d.Ifndef
-    else if is_word name (codes "elif") then d.Elif
-    else if is_word name (codes "else") then d.Else
-    else if is_word name (codes "endif") then d.Endif
-    else if is_word name (codes "error") then d.Error
-    else if is_word name (codes "line") then d.Line
-    else if is_word name (codes "version") then d.Version
-    else if is_word name (codes "extension") then d.Extension
-    else if is_word name (codes "pragma") then d.Pragma
-    else d.Unknown
+unfoldable pub directive_of : Name → Directive
+directive_of name = unwrap_or (option_map (λ row. row.1) (find (λ row. is_same_name name row.0) directives)) d.Unknown
 
+-- what is seen of a value, or its fault
+abbrev pub sight_from : {A : Type 0} → (A → Sight) → Result A Fault → Sight
+sight_from see (Ok value) = see value
+sight_from see (Err fault) = sight.Fault fault
+
+-- what stands after the number sign of a directive
 abbrev pub named_directive : LexerToken → Option Name → Sight
 named_directive token (Some name) = sight.Directive (directive_of name) token.location
 named_directive token None = sight.NoWord (refused_token token)
-
--- what stands after the number sign of a directive
-abbrev pub directive_sight : Result LexerToken Fault → Sight
-directive_sight (Ok token) = named_directive token (identifier_of token.value)
-directive_sight (Err fault) = sight.Fault fault
-
-abbrev pub text_sight : Result Token Fault → Sight
-text_sight (Ok token) = sight.Token token
-text_sight (Err fault) = sight.Fault fault
 
 -- a number sign begins a directive where only blanks stand before it on its line
 abbrev pub token_sight : LexerToken → List Seen → Sight
 token_sight token rest =
     if is_newline token.value then sight.NewLine
-    else if is_hash token.value then (if token.start_of_line then directive_sight (first_token token.location rest) else sight.Hash token.location)
-    else text_sight (conversion token)
-
-abbrev pub item_sight : Lexeme → List Seen → Sight
-item_sight (Err fault) rest = sight.Fault fault
-item_sight (Ok token) rest = token_sight token rest
+    else if is_hash token.value
+    then (if token.start_of_line then sight_from (λ word. named_directive word (identifier_of word.value)) (first_token token.location rest) else sight.Hash token.location)
+    else sight_from sight.Token (conversion token)
 
 -- what stands first among these items
 abbrev pub sight_of : List Seen → Sight
 sight_of [] = sight.End
-sight_of (s ∷ rest) = item_sight s.item rest
+sight_of (s ∷ rest) = sight_from (λ token. token_sight token rest) s.item
 
 abbrev pub is_directive : Sight → Bool
 is_directive (sight.Directive word location) = true

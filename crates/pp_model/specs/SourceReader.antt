@@ -1,5 +1,6 @@
 -- A reader of a source, and what was read before a position (docs/RULES.md, Directives 1, 11, 13 and 14).
 use Rattle.std.specs.Prelude.{ℕ, zero, suc, ℤ, pos, Bool, false, not, ◌&&◌, ◌||◌, List, [], ◌∷◌, take, drop, length, slice_get, Option, Some, None}
+use Rattle.std.specs.Option.{option_map_or}
 use Rattle.pp_lexer.specs.Lexed.{Seen}
 use Rattle.pp_model.specs.Definitions.{Definitions, nothing_defined}
 use Rattle.pp_model.specs.Lines.{ends_line}
@@ -31,20 +32,13 @@ abbrev pub has_directive : List Seen → Bool
 has_directive [] = false
 has_directive (s ∷ rest) = is_directive (sight_of (s ∷ rest)) || has_directive rest
 
-abbrev pub is_directive_hash_at : Option Seen → Bool
-is_directive_hash_at (Some s) = is_directive_hash s.item
-is_directive_hash_at None = false
-
-abbrev pub ends_line_at : Option Seen → Bool
-ends_line_at (Some s) = ends_line s.item
-ends_line_at None = false
-
 -- The position is on the line of a directive: the item before it is the directive's number sign, or it ends no line and is on
 -- the directive's line too.
 abbrev pub is_on_directive_line : List Seen → ℕ → Bool
 is_on_directive_line source zero = false
 is_on_directive_line source (suc position) =
-    is_directive_hash_at (slice_get source position) || (not (ends_line_at (slice_get source position)) && is_on_directive_line source position)
+    option_map_or (λ s. is_directive_hash s.item) (slice_get source position) false
+    || (not (option_map_or (λ s. ends_line s.item) (slice_get source position) false) && is_on_directive_line source position)
 
 -- a live token of the text stands at the position
 abbrev pub is_live_text : List Seen → Truths → ℕ → Bool

@@ -1,5 +1,6 @@
 -- The list of tokens to read, into which macros are spliced (docs/RULES.md, Expansion 1, 4 and 9).
-use Rattle.std.specs.Prelude.{ℕ, List, [], ◌∷◌, Option, Some, None, unwrap_or, slice_get, position}
+use Rattle.std.specs.Prelude.{ℕ, List, [], ◌∷◌, ◌++◌, map, Option, Some, None, unwrap_or, slice_get, position}
+use Rattle.std.specs.Option.{option_map_or}
 use Rattle.pp_lexer.specs.declared.token.Token.{Token}
 use Rattle.pp_lexer.specs.declared.token.TokenValue.{TokenValue}
 use Rattle.pp_lexer.specs.declared.token.TokenValue.TheVariants.{Ident}
@@ -26,11 +27,6 @@ outermost_line [] = None
 outermost_line (End mark ∷ entries) = Some (unwrap_or (outermost_line entries) mark.line)
 outermost_line (Plain token ∷ entries) = outermost_line entries
 
--- the tokens, and then the entries
-abbrev pub followed_by : List Token → List Entry → List Entry
-followed_by [] entries = entries
-followed_by (token ∷ tokens) entries = Plain token ∷ followed_by tokens entries
-
 -- the position of the parameter that the value names
 abbrev pub parameter_of : List Name → TokenValue → Option ℕ
 parameter_of parameters (Ident name) = position (is_same_name name) parameters
@@ -38,8 +34,7 @@ parameter_of parameters _ = None
 
 -- a token of a body, or the argument of the parameter that it names
 abbrev pub replacement : List (List Token) → Token → Option ℕ → List Entry → List Entry
-replacement arguments token None entries = Plain token ∷ entries
-replacement arguments token (Some k) entries = followed_by (unwrap_or (slice_get arguments k) []) entries
+replacement arguments token parameter entries = option_map_or (λ k. map Plain (unwrap_or (slice_get arguments k) []) ++ entries) parameter (Plain token ∷ entries)
 
 -- the body with each parameter replaced by its argument, and then the entries
 abbrev pub replaced : List Name → List (List Token) → List Token → List Entry → List Entry

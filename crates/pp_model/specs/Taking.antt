@@ -27,8 +27,7 @@ taken_token shown_line after token =
 -- what the reader gives, with `__LINE__` as a number
 abbrev pub read_outcome : (ℕ → Option ℕ) → Outcome → Outcome
 read_outcome shown_line (outcome.Token token) = taken_token shown_line [] token
-read_outcome shown_line (outcome.Fault fault) = outcome.Fault fault
-read_outcome shown_line outcome.End = outcome.End
+read_outcome shown_line o = o
 
 pub data Takes {R : Type 0} (I : Reading R) : Expander R → Outcome → Expander R → Type 0 where
   -- what was held

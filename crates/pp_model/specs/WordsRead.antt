@@ -7,7 +7,8 @@ use Rattle.pp_model.specs.Reading.{Expander, Listed, line_reading}
 use Rattle.pp_model.specs.Taking.{Takes}
 use Rattle.pp_model.specs.Calls.{Fault, Answers}
 use Rattle.pp_model.specs.Emitting.{Emits}
-use Rattle.pp_model.specs.LineWords.{unexpected, unwanted, unwanted_word, name_in, is_close_paren, is_defined}
+use Rattle.pp_model.specs.LineWords.{unexpected, unwanted, unwanted_word, name_in, is_defined}
+use Rattle.pp_model.specs.inner.LineWords.{is_close_paren}
 use Rattle.pp_model.specs.LineWords as line
 use Rattle.pp_model.specs.declared.outcome.Outcome.{Outcome}
 use Rattle.pp_model.specs.declared.word.LineKind.{LineKind}

@@ -1,7 +1,8 @@
 //! The words of directives (GLSL ES 3.20 section 3.4).
 
 ghost use Rattle.std.specs.Prelude.{◌≡◌};
-ghost use Rattle.pp_model.specs.Sights.{is_word, directive_of};
+ghost use Rattle.pp_model.specs.Sights.{directive_of};
+ghost use Rattle.pp_model.specs.inner.Sights.{is_word};
 
 use crate::names::is_spelled;
 use pp_lexer::token::Text;
@@ -40,7 +41,7 @@ pub enum Directive {
 }
 
 // Whether a directive's word is spelled so.
-#[tactic(auto, unfolding(crate::specs::Sights::is_word))]
+#[tactic(auto, unfolding(crate::specs::inner::Sights::is_word))]
 fn is_word(name: &Text, word: &str) -> bool
     ensures { result ≡ is_word name.now word.now }
 {
@@ -48,6 +49,7 @@ fn is_word(name: &Text, word: &str) -> bool
 }
 
 /// What a directive's word says.
+#[tactic(auto, using(crate::proofs::PartsLemmas::directive_of_is))]
 pub fn directive_of(name: &Text) -> Directive
     ensures { result ≡ directive_of name.now }
 {

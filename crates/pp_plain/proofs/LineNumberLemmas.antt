@@ -6,7 +6,8 @@ use Rattle.pp_expression.specs.FirstFault.{Evaluates}
 use Rattle.pp_lexer.specs.declared.token.Location.{Location}
 use Rattle.pp_model.specs.Calls.{Fault}
 use Rattle.pp_model.specs.LineWords.{Words}
-use Rattle.pp_model.specs.LineValues.{line_of, alone_on_line, IsFollowed}
+use Rattle.pp_model.specs.LineValues.{line_of, alone_on_line}
+use Rattle.pp_model.specs.inner.LineValues.{IsFollowed}
 use Rattle.pp_plain.specs.Halting.{Meets, Satisfies}
 use Rattle.pp_plain.specs.declared.stop.Halt.{Halt}
 use Rattle.pp_plain.specs.declared.stop.Halt.TheVariants as halt

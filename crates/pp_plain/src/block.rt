@@ -3,6 +3,7 @@
 ghost use Rattle.std.specs.Prelude.{◌≡◌, ◌+◌, ◌^◌, ◌<◌, ◌≤◌, length, drop, take, slice_get, IfOk};
 ghost use Rattle.std.specs.List.{list_all, list_any};
 ghost use Rattle.pp_model.specs.Blocks as spec;
+ghost use Rattle.pp_model.specs.inner.Blocks as parts;
 
 use crate::item::SourceItem;
 use crate::sight::sight_of;
@@ -25,6 +26,7 @@ pub struct Block {
 
 impl Model for Block {
     ghost use Rattle.pp_model.specs.Blocks as spec;
+ghost use Rattle.pp_model.specs.inner.Blocks as parts;
 
     ghost Value = { spec.Block };
 
@@ -230,7 +232,7 @@ pub fn is_live(
 
 // Whether the condition of one of these marks holds.
 fn has_true_mark(truths: &[Truth], marks: &[BlockLine]) -> bool
-    ensures { result ≡ list_any (λ mark. spec.is_known_true (spec.truth_at truths.now mark.position)) marks.now }
+    ensures { result ≡ list_any (λ mark. parts.is_known_true (spec.truth_at truths.now mark.position)) marks.now }
 {
     match marks.split_first() {
         None => false,

@@ -8,6 +8,7 @@ ghost use Rattle.pp_plain.specs.Changes.{meaning_of};
 ghost use Rattle.pp_model.specs.Emitting.{answers_at};
 ghost use Rattle.pp_plain.specs.Halting.{Meets, Satisfies};
 ghost use Rattle.pp_model.specs.LineValues as spec;
+ghost use Rattle.pp_model.specs.inner.LineValues as parts;
 
 use crate::copies::copy_token;
 use crate::definitions::Definitions;
@@ -87,7 +88,7 @@ fn unwanted_word(alloc: Global, word: &Word) -> Result<Fault, Stop>
 
 // The fault of a `defined` with its operand, or else that of a line that ends too early.
 fn fault_of_operand(alloc: Global, directive: Location, word: &Word) -> Result<Fault, Stop>
-    ensures { IfOk result (λ fault. fault ≡ spec.fault_of_operand (spec.ended_early directive) word.now) }
+    ensures { IfOk result (λ fault. fault ≡ parts.fault_of_operand (spec.ended_early directive) word.now) }
 {
     match word {
         Word::Defined(_, Err(fault)) => copy_of(alloc, fault),
@@ -97,7 +98,7 @@ fn fault_of_operand(alloc: Global, directive: Location, word: &Word) -> Result<F
 
 // The first fault of an expression, with its place.
 fn told(alloc: Global, directive: Location, words: &Words, found: Found) -> Result<Fault, Stop>
-    ensures { IfOk result (λ fault. fault ≡ spec.told_fault directive words.now found) }
+    ensures { IfOk result (λ fault. fault ≡ parts.told_fault directive words.now found) }
 {
     let early = (PreprocessorError::UnexpectedEndOfInput, directive);
     match found.kind {
@@ -121,7 +122,7 @@ fn told(alloc: Global, directive: Location, words: &Words, found: Found) -> Resu
 
 // Whether nothing stands after an expression; else what stands there is refused.
 fn ends_line(alloc: Global, words: &Words, left: usize) -> Result<(), Halt>
-    ensures { Meets result (spec.unless_followed tt (spec.word_from_end left words.now)) }
+    ensures { Meets result (parts.unless_followed tt (spec.word_from_end left words.now)) }
 {
     match word_from_end(words, left) {
         Some(word) => Err(Halt::Fault(unwanted_word(alloc, word)?)),
@@ -168,7 +169,7 @@ fn number_alone(
 
 // The number, where these words after it are one expression.
 fn followed(alloc: Global, directive: Location, words: &Words, number: u32) -> Result<u32, Halt>
-    ensures { Satisfies result (spec.IsFollowed directive words.now number) }
+    ensures { Satisfies result (parts.IsFollowed directive words.now number) }
 {
     let second = evaluation(alloc, words)?;
     number_alone(alloc, directive, words, second, number)

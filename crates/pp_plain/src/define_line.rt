@@ -3,6 +3,7 @@
 ghost use Rattle.std.specs.Prelude.{◌≡◌, [], IfOk};
 ghost use Rattle.pp_model.specs.Conversions as conversions;
 ghost use Rattle.pp_model.specs.DefineLines as spec;
+ghost use Rattle.pp_model.specs.inner.DefineLines as parts;
 ghost use Rattle.pp_plain.specs.Halting.{Meets};
 
 use crate::conversion::{
@@ -28,6 +29,7 @@ pub struct ParameterList<'a> {
 
 impl<'a> Model for ParameterList<'a> {
     ghost use Rattle.pp_model.specs.DefineLines as spec;
+ghost use Rattle.pp_model.specs.inner.DefineLines as parts;
 
     ghost Value = { spec.Parameters };
 
@@ -36,7 +38,7 @@ impl<'a> Model for ParameterList<'a> {
 
 // The parameters with one more, whose name this token is to be.
 fn parameter_here(alloc: Global, names: NameList, token: &lexer::Token) -> Result<NameList, Halt>
-    ensures { Meets result (spec.parameter_here names token.now (conversions.identifier_of token.now.value)) }
+    ensures { Meets result (parts.parameter_here names token.now (conversions.identifier_of token.now.value)) }
 {
     let Some(name) = identifier_of(alloc, &token.value)? else {
         return Err(Halt::Fault(refused_token(alloc, token)?));

@@ -2,6 +2,7 @@
 
 ghost use Rattle.std.specs.Prelude.{◌≡◌, ◌≤◌, [], length, IfOk, OnOk};
 ghost use Rattle.pp_model.specs.Lines as spec;
+ghost use Rattle.pp_model.specs.inner.Lines as parts;
 ghost use Rattle.pp_plain.specs.Halting.{Meets};
 
 use crate::conversion::{conversion, identifier_of, is_newline, refused_token};
@@ -117,7 +118,7 @@ pub fn first_token(
 
 /// The items after the first.
 pub fn after_first_token(items: &[SourceItem]) -> &[SourceItem]
-    ensures { result.now ≡ spec.after_first_token items.now }
+    ensures { result.now ≡ parts.after_first_token items.now }
 {
     match items.split_first() {
         Some((_, rest)) => rest,

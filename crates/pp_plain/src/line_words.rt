@@ -3,7 +3,8 @@
 ghost use Rattle.std.specs.Prelude.{◌≡◌, ◌≤◌, [], IfOk, MatchResult, Some, None, is_some};
 ghost use Rattle.pp_plain.specs.Changes.{meaning_of};
 ghost use Rattle.pp_model.specs.Emitting.{answers_at};
-ghost use Rattle.pp_model.specs.LineWords.{LineWords, Operand, reading, unknown_name, unexpected, name_in, name_in_value, is_open_paren, is_close_paren, is_defined, unwanted, unwanted_word};
+ghost use Rattle.pp_model.specs.LineWords.{LineWords, Operand, reading, unknown_name, unexpected, name_in, name_in_value, is_defined, unwanted, unwanted_word};
+ghost use Rattle.pp_model.specs.inner.LineWords.{is_open_paren, is_close_paren};
 ghost use Rattle.pp_model.specs.Names.{is_identifier, defined_name};
 ghost use Rattle.pp_model.specs.Reading.{reading_of};
 ghost use Rattle.pp_model.specs.WordsRead.{reading_named, unwanted_read, IsOf, Closes, Parenthesized};

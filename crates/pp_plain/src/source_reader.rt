@@ -4,10 +4,11 @@ ghost use Rattle.std.specs.Prelude.{◌≡◌, ◌≤◌, ◌+◌, Some, None, l
 ghost use Rattle.std.specs.Option.{option_copied};
 ghost use Rattle.pp_plain.specs.Acting.{ActsAs, HasLine, HasLineIfOk};
 ghost use Rattle.pp_model.specs.Acts as spec;
+ghost use Rattle.pp_model.specs.inner.Acts as parts;
 ghost use Rattle.pp_model.specs.Blocks.{are_surroundings_live};
 ghost use Rattle.pp_plain.specs.ReaderState.{reader_of};
 ghost use Rattle.pp_model.specs.Reads.{renumbered, shown_line};
-ghost use Rattle.pp_model.specs.Run.{adding};
+ghost use Rattle.pp_model.specs.inner.Run.{adding};
 ghost use Rattle.pp_model.specs.Sights.{least_items};
 ghost use Rattle.pp_plain.specs.declared.stop.Halt.TheVariants as halt;
 
@@ -186,7 +187,7 @@ impl<'a> SourceReader<'a> {
     // Does what an `#ifdef` says, or an `#ifndef`, whose block is live where the name is not defined.
     fn ifdef(&mut self, alloc: Global, word: Location) -> Result<Step, Halt>
         requires { self.old.position + 2 ≤ length self.old.items }
-        ensures acts { ActsAs result (spec.ifdef word (reader_of self.old)) (reader_of self.new) }
+        ensures acts { ActsAs result (parts.ifdef word (reader_of self.old)) (reader_of self.new) }
         ensures line { HasLineIfOk result self.new }
     {
         let name = only_name(alloc, word, self.after_word())?;
@@ -197,7 +198,7 @@ impl<'a> SourceReader<'a> {
 
     fn ifndef(&mut self, alloc: Global, word: Location) -> Result<Step, Halt>
         requires { self.old.position + 2 ≤ length self.old.items }
-        ensures acts { ActsAs result (spec.ifndef word (reader_of self.old)) (reader_of self.new) }
+        ensures acts { ActsAs result (parts.ifndef word (reader_of self.old)) (reader_of self.new) }
         ensures line { HasLineIfOk result self.new }
     {
         let name = only_name(alloc, word, self.after_word())?;
@@ -283,7 +284,7 @@ impl<'a> SourceReader<'a> {
     // Reads a line that parts or closes the innermost block.
     fn elif_line(&mut self, alloc: Global, word: Location) -> Result<Step, Halt>
         requires { self.old.position + 2 ≤ length self.old.items }
-        ensures acts { ActsAs result (spec.elif_line word (reader_of self.old)) (reader_of self.new) }
+        ensures acts { ActsAs result (parts.elif_line word (reader_of self.old)) (reader_of self.new) }
         ensures line { HasLineIfOk result self.new }
     {
         let blocks = blocks_at(alloc, self.items, self.position)?;
@@ -292,7 +293,7 @@ impl<'a> SourceReader<'a> {
 
     fn else_line(&mut self, alloc: Global, word: Location) -> Result<Step, Halt>
         requires { self.old.position + 2 ≤ length self.old.items }
-        ensures acts { ActsAs result (spec.else_line word (reader_of self.old)) (reader_of self.new) }
+        ensures acts { ActsAs result (parts.else_line word (reader_of self.old)) (reader_of self.new) }
         ensures line { HasLineIfOk result self.new }
     {
         let blocks = blocks_at(alloc, self.items, self.position)?;
@@ -301,7 +302,7 @@ impl<'a> SourceReader<'a> {
 
     fn endif_line(&mut self, alloc: Global, word: Location) -> Result<Step, Halt>
         requires { self.old.position + 2 ≤ length self.old.items }
-        ensures acts { ActsAs result (spec.endif_line word (reader_of self.old)) (reader_of self.new) }
+        ensures acts { ActsAs result (parts.endif_line word (reader_of self.old)) (reader_of self.new) }
         ensures line { HasLineIfOk result self.new }
     {
         let blocks = blocks_at(alloc, self.items, self.position)?;

@@ -4,7 +4,8 @@ use Rattle.std.specs.List.{AllByRecursion as Each, cons_option}
 use Rattle.pp_lexer.specs.Lexed.{Seen}
 use Rattle.pp_lexer.specs.declared.token.Location.{Location}
 use Rattle.pp_model.specs.Sights.{sight_of}
-use Rattle.pp_model.specs.Blocks.{part_of, line_with, line_at, block_lines, stays_open, inner_after, opens, parts_block, parting, Block, open_blocks, blocks_at}
+use Rattle.pp_model.specs.Blocks.{part_of, line_at, block_lines, stays_open, inner_after, opens, parts_block, parting, Block, open_blocks, blocks_at}
+use Rattle.pp_model.specs.inner.Blocks.{line_with}
 use Rattle.pp_model.specs.declared.block.BlockLine.{BlockLine}
 use Rattle.pp_model.specs.declared.block.Part.{Part}
 use Rattle.pp_model.specs.declared.sight.Sight.{Sight}

@@ -8,7 +8,8 @@ use Rattle.pp_model.specs.Lines.{line_length, ended_line, only_name}
 use Rattle.pp_model.specs.Sights.{sight_of}
 use Rattle.pp_model.specs.Blocks.{part_of, Block, blocks_at, innermost, are_surroundings_live, has_else}
 use Rattle.pp_model.specs.SourceReader.{SourceReader}
-use Rattle.pp_model.specs.Acts.{passed, after_word, after_line, decided, acted, else_in, endif_in, else_line, endif_line, live_act}
+use Rattle.pp_model.specs.Acts.{passed, after_word, after_line, decided, acted, else_in, endif_in, live_act}
+use Rattle.pp_model.specs.inner.Acts.{else_line, endif_line}
 use Rattle.pp_model.specs.declared.block.Part.TheVariants as part
 use Rattle.pp_model.specs.declared.directive.Directive.{Directive}
 use Rattle.pp_model.specs.declared.directive.Directive.TheVariants as d

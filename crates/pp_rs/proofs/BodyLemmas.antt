@@ -5,8 +5,10 @@ use Rattle.pp_lexer.specs.Items.{Lexeme}
 use Rattle.pp_lexer.specs.declared.token.Token.{Token}
 use Rattle.pp_model.specs.Calls.{Fault}
 use Rattle.pp_model.specs.Conversions.{is_newline, conversion}
-use Rattle.pp_model.specs.Emitting.{token_before}
-use Rattle.pp_model.specs.Lines.{◌>>=◌, line_length, line_tokens, tokens_from, ends_line}
+use Rattle.pp_model.specs.inner.Emitting.{token_before}
+use Rattle.pp_model.specs.Lines.{line_length, line_tokens, ends_line}
+use Rattle.pp_model.specs.inner.Lines.{tokens_from}
+use Rattle.pp_expression.specs.Answers.{◌>>=◌}
 
 -- the tokens of a line are at most as many as its items
 tokens_least : (item : Lexeme) (later : Result (List Token) Fault) (n : ℕ) → IfOk later (λ tokens. length tokens ≤ n)

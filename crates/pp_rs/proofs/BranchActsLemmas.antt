@@ -11,7 +11,8 @@ use Rattle.pp_model.specs.Lines.{line_fault, line_tokens, ended_line, only_name}
 use Rattle.pp_model.specs.Sights.{sight_of}
 use Rattle.pp_model.specs.Blocks.{part_of, Block, is_live, are_surroundings_live, has_taken_branch, has_else}
 use Rattle.pp_model.specs.SourceReader.{SourceReader}
-use Rattle.pp_model.specs.Acts.{Acted, passed, failed_at, given, after_word, after_line, acted, skipped_by, skipped, only_word, decided, condition, elif_in, else_in, endif_in, block_here, line_item, live_directive, dead_directive, ended_by, live_act, dead_act, act}
+use Rattle.pp_model.specs.Acts.{Acted, passed, failed_at, given, after_word, after_line, acted, skipped, only_word, decided, condition, elif_in, else_in, endif_in, block_here, line_item, live_directive, dead_directive, ended_by, live_act, dead_act, act}
+use Rattle.pp_model.specs.inner.Acts.{skipped_by}
 use Rattle.pp_model.specs.Reads.{Steps, passes, gives, defines, repeats, redefines, decides, undecided, renumbers, unnumbered}
 use Rattle.pp_model.specs.declared.block.Part.TheVariants as part
 use Rattle.pp_model.specs.declared.directive.Directive.{Directive}

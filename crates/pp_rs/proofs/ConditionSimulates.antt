@@ -11,7 +11,8 @@ use Rattle.pp_model.specs.Lines.{line_length, line_tokens}
 use Rattle.pp_model.specs.Sights.{sight_of}
 use Rattle.pp_model.specs.Blocks.{Block, innermost, are_surroundings_live, has_taken_branch, has_else}
 use Rattle.pp_model.specs.SourceReader.{SourceReader}
-use Rattle.pp_model.specs.Acts.{decided, elif_in, elif_line}
+use Rattle.pp_model.specs.Acts.{decided, elif_in}
+use Rattle.pp_model.specs.inner.Acts.{elif_line}
 use Rattle.pp_model.specs.Reads.{renumbered, decides, undecided, renumbers, unnumbered}
 use Rattle.pp_model.specs.declared.directive.Directive.TheVariants as d
 use Rattle.pp_model.specs.declared.outcome.Outcome.TheVariants as outcome

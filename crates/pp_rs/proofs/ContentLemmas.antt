@@ -6,9 +6,10 @@ use Rattle.pp_lexer.specs.declared.lexer.item.Token.{Token as LexerToken}
 use Rattle.pp_lexer.specs.declared.token.Token.{Token}
 use Rattle.pp_model.specs.Calls.{Fault}
 use Rattle.pp_model.specs.Conversions.{is_newline, conversion}
-use Rattle.pp_model.specs.Emitting.{token_before}
-use Rattle.pp_model.specs.Lines.{◌>>=◌}
-use Rattle.pp_model.specs.Run.{content_from, content_tokens}
+use Rattle.pp_model.specs.inner.Emitting.{token_before}
+use Rattle.pp_expression.specs.Answers.{◌>>=◌}
+use Rattle.pp_model.specs.Run.{content_tokens}
+use Rattle.pp_model.specs.inner.Run.{content_from}
 use Rattle.pp_rs.specs.LineReading.{as_next, next_token}
 use Rattle.pp_rs.proofs.LineReadingLemmas.{tokens_before, tokens_before-push}
 

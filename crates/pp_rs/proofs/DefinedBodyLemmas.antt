@@ -12,7 +12,9 @@ use Rattle.pp_model.specs.Calls.{Fault}
 use Rattle.pp_model.specs.Conversions.{is_newline, identifier_of}
 use Rattle.pp_model.specs.Definitions.{Definition, object_like}
 use Rattle.pp_model.specs.DefineLines.{is_attached_paren, definition_at, defined_on}
-use Rattle.pp_model.specs.Lines.{◌>>=◌, line_length, line_tokens, ends_line, name_or_refused}
+use Rattle.pp_model.specs.Lines.{line_length, line_tokens, ends_line}
+use Rattle.pp_model.specs.inner.Lines.{name_or_refused}
+use Rattle.pp_expression.specs.Answers.{◌>>=◌}
 use Rattle.pp_model.specs.declared.definition.Named.{Named}
 use Rattle.pp_rs.specs.ParameterReading.{function_at}
 use Rattle.pp_rs.proofs.BodyLemmas.{line_tokens_least}

@@ -10,7 +10,8 @@ use Rattle.pp_lexer.specs.declared.token.Location.{Location}
 use Rattle.pp_lexer.specs.declared.token.Token.{Token}
 use Rattle.pp_model.specs.Calls.{Fault}
 use Rattle.pp_model.specs.Conversions.{is_hash}
-use Rattle.pp_model.specs.Sights.{sight_of, item_sight, token_sight, text_sight, is_directive, is_directive_hash}
+use Rattle.pp_model.specs.Sights.{sight_of, token_sight, is_directive, is_directive_hash}
+use Rattle.pp_model.specs.inner.Sights.{item_sight, text_sight}
 use Rattle.pp_model.specs.SourceReader.{has_directive}
 use Rattle.pp_model.specs.declared.directive.Directive.{Directive}
 use Rattle.pp_model.specs.declared.sight.Sight.{Sight}

@@ -9,8 +9,10 @@ use Rattle.pp_lexer.specs.declared.lexer.item.TokenValue.TheVariants.{Hash, NewL
 use Rattle.pp_lexer.specs.declared.token.Location.{Location}
 use Rattle.pp_model.specs.Conversions.{identifier_of}
 use Rattle.pp_model.specs.Lines.{ends_line, first_token}
-use Rattle.pp_model.specs.Sights.{sight_of, named_directive, directive_sight, token_sight, is_directive_hash}
-use Rattle.pp_model.specs.Blocks.{part_of, line_at, line_with, block_lines}
+use Rattle.pp_model.specs.Sights.{sight_of, named_directive, token_sight, is_directive_hash}
+use Rattle.pp_model.specs.inner.Sights.{directive_sight}
+use Rattle.pp_model.specs.Blocks.{part_of, line_at, block_lines}
+use Rattle.pp_model.specs.inner.Blocks.{line_with}
 use Rattle.pp_model.specs.declared.directive.Directive.{Directive}
 use Rattle.pp_model.specs.declared.sight.Sight.{Sight}
 use Rattle.pp_model.specs.declared.sight.Sight.TheVariants as sight

@@ -9,7 +9,8 @@ use Rattle.pp_lexer.specs.declared.lexer.item.TokenValue.TheVariants.{Hash, NewL
 use Rattle.pp_model.specs.Conversions.{is_newline, is_hash}
 use Rattle.pp_model.specs.Lines.{ends_line, line_length}
 use Rattle.pp_model.specs.Sights.{is_directive_hash}
-use Rattle.pp_model.specs.SourceReader.{is_directive_hash_at, ends_line_at, is_on_directive_line}
+use Rattle.pp_model.specs.SourceReader.{is_on_directive_line}
+use Rattle.pp_model.specs.inner.SourceReader.{is_directive_hash_at, ends_line_at}
 
 -- the item at a position is the first one after it
 pub item_here : (source : List Seen) (position : ℕ) (s : Seen) (rest : List Seen) → drop position source ≡ s ∷ rest → slice_get source position ≡ Some s

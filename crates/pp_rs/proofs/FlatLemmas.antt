@@ -3,7 +3,8 @@ use Rattle.std.proofs.Common.{◌≡◌, ◌∙◌, ℕ, List, [], ◌∷◌, re
 use Rattle.std.specs.Prelude.{Ok, Err, unwrap_or}
 use Rattle.pp_lexer.specs.declared.token.Token.{Token}
 use Rattle.pp_model.specs.Names.{Name}
-use Rattle.pp_model.specs.SpliceList.{after_marks, open_names, outermost_line, followed_by, parameter_of, replacement, replaced}
+use Rattle.pp_model.specs.SpliceList.{after_marks, open_names, outermost_line, parameter_of, replacement, replaced}
+use Rattle.pp_model.specs.inner.SpliceList.{followed_by}
 use Rattle.pp_model.specs.declared.splice.Entry.{Entry}
 use Rattle.pp_model.specs.declared.splice.Entry.TheVariants.{Plain, End}
 use Rattle.pp_rs.specs.Item.{Step}

@@ -8,7 +8,8 @@ use Rattle.pp_lexer.specs.declared.token.Token.{Token}
 use Rattle.pp_lexer.specs.declared.token.TokenValue.{TokenValue}
 use Rattle.pp_lexer.specs.declared.token.TokenValue.TheVariants.{Version, Extension, Pragma}
 use Rattle.pp_model.specs.Calls.{Fault}
-use Rattle.pp_model.specs.Lines.{◌>>=◌, line_length, line_tokens, comments_before_end}
+use Rattle.pp_model.specs.Lines.{line_length, line_tokens, comments_before_end}
+use Rattle.pp_expression.specs.Answers.{◌>>=◌}
 use Rattle.pp_model.specs.Sights.{sight_of}
 use Rattle.pp_model.specs.Blocks.{part_of}
 use Rattle.pp_model.specs.SourceReader.{SourceReader, has_live_text_before, is_first_directive}

@@ -11,7 +11,8 @@ use Rattle.pp_model.specs.Names.{Name}
 use Rattle.pp_model.specs.Conversions.{identifier_of}
 use Rattle.pp_model.specs.Calls.{Fault}
 use Rattle.pp_model.specs.Lines.{first_token}
-use Rattle.pp_model.specs.Sights.{sight_of, item_sight, token_sight, directive_sight, named_directive}
+use Rattle.pp_model.specs.Sights.{sight_of, token_sight, named_directive}
+use Rattle.pp_model.specs.inner.Sights.{item_sight, directive_sight}
 use Rattle.pp_model.specs.declared.sight.Sight.TheVariants as sight
 
 word_there : (token : LexerToken) (name : Option Name) → named_directive token name ≡ sight.End → ⊥

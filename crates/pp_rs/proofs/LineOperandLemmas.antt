@@ -7,7 +7,8 @@ use Rattle.pp_model.specs.Names.{Name}
 use Rattle.pp_model.specs.Reading.{Expander, Listed, line_reading}
 use Rattle.pp_model.specs.Calls.{Fault}
 use Rattle.pp_model.specs.Emitting.{Emits, answers_at}
-use Rattle.pp_model.specs.LineWords.{Operand, is_open_paren, is_close_paren, is_defined, name_in, unwanted, unwanted_word}
+use Rattle.pp_model.specs.LineWords.{Operand, is_defined, name_in, unwanted, unwanted_word}
+use Rattle.pp_model.specs.inner.LineWords.{is_open_paren, is_close_paren}
 use Rattle.pp_model.specs.LineWords as line
 use Rattle.pp_model.specs.WordsRead.{Closes, Parenthesized, unclosed, closed, no_name, named}
 use Rattle.pp_model.specs.declared.outcome.Outcome.TheVariants as outcome

@@ -5,8 +5,9 @@ use Rattle.pp_lexer.specs.Lexed.{Seen}
 use Rattle.pp_lexer.specs.declared.token.Token.{Token}
 use Rattle.pp_model.specs.Calls.{Fault}
 use Rattle.pp_model.specs.Conversions.{is_newline, conversion}
-use Rattle.pp_model.specs.Emitting.{token_before}
-use Rattle.pp_model.specs.Lines.{◌>>=◌, line_tokens, line_length, line_fault}
+use Rattle.pp_model.specs.inner.Emitting.{token_before}
+use Rattle.pp_model.specs.Lines.{line_tokens, line_length, line_fault}
+use Rattle.pp_expression.specs.Answers.{◌>>=◌}
 use Rattle.pp_rs.specs.LineReading.{HasTaken, TakesItems, some_token, next_line_token, tokens_after, length_after, unless_fault, skipped_line, goes_on_after, line_goes_on}
 use Rattle.pp_rs.specs.SourceLexed.{SourceLexed}
 use Rattle.pp_rs.specs.declared.pp.halt.Halt.{Halt}

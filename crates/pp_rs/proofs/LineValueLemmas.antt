@@ -7,7 +7,8 @@ use Rattle.pp_expression.specs.declared.symbol.Found.{Found}
 use Rattle.pp_expression.specs.FirstFault.{Evaluates}
 use Rattle.pp_lexer.specs.declared.token.Location.{Location}
 use Rattle.pp_model.specs.Calls.{Fault}
-use Rattle.pp_model.specs.LineValues.{line_of, alone_on_line, IsFollowed}
+use Rattle.pp_model.specs.LineValues.{line_of, alone_on_line}
+use Rattle.pp_model.specs.inner.LineValues.{IsFollowed}
 use Rattle.pp_model.specs.LineWords.{Words}
 use Rattle.pp_rs.specs.Machine.{Satisfies}
 use Rattle.pp_rs.specs.declared.pp.halt.Halt.{Halt}

@@ -5,7 +5,8 @@ use Rattle.pp_lexer.specs.declared.token.Token.{Token}
 use Rattle.pp_model.specs.Names.{Name}
 use Rattle.pp_model.specs.Reading.{Expander, Listed, argument_reading, reading_of}
 use Rattle.pp_model.specs.Calls.{Fault, Site}
-use Rattle.pp_model.specs.Emitting.{Emits, Alone, Collects, done, failed, item, token_before, answers_at}
+use Rattle.pp_model.specs.Emitting.{Emits, Alone, Collects, done, failed, item, answers_at}
+use Rattle.pp_model.specs.inner.Emitting.{token_before}
 use Rattle.pp_model.specs.SpliceList.{spliced}
 use Rattle.pp_model.specs.declared.outcome.Outcome.{Outcome}
 use Rattle.pp_model.specs.declared.outcome.Outcome.TheVariants as outcome

@@ -1,7 +1,7 @@
 -- One step of a list of tokens.
 use Rattle.std.proofs.Common.{◌≡◌, ◌∙◌, inl, List, [], ◌∷◌, ap, sym, Ok, Err}
 use Rattle.pp_lexer.specs.declared.token.Token.{Token}
-use Rattle.pp_model.specs.Reading.{after_listed}
+use Rattle.pp_model.specs.inner.Reading.{after_listed}
 use Rattle.pp_rs.specs.Reader.{Listing, listed_step, StepsListed}
 use Rattle.pp_rs.specs.declared.pp.step.StepExit.TheVariants.{Finished}
 

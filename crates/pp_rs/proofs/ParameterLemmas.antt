@@ -11,8 +11,11 @@ use Rattle.pp_lexer.specs.declared.token.Token.{Token}
 use Rattle.pp_lexer.specs.declared.token.PreprocessorError.TheVariants.{UnexpectedEndOfInput, DuplicateParameter}
 use Rattle.pp_model.specs.Calls.{Fault}
 use Rattle.pp_model.specs.Conversions.{is_newline, opens_parameters, identifier_of, closes_parameters, parts_parameters, refused_token}
-use Rattle.pp_model.specs.DefineLines.{is_attached_paren, Parameters, parameters, parameter_here, after_parameter, after_comma}
-use Rattle.pp_model.specs.Lines.{◌>>=◌, first_name, name_or_refused, line_length, line_tokens, ends_line}
+use Rattle.pp_model.specs.DefineLines.{is_attached_paren, Parameters, parameters, after_parameter, after_comma}
+use Rattle.pp_model.specs.inner.DefineLines.{parameter_here}
+use Rattle.pp_model.specs.Lines.{first_name, line_length, line_tokens, ends_line}
+use Rattle.pp_model.specs.inner.Lines.{name_or_refused}
+use Rattle.pp_expression.specs.Answers.{◌>>=◌}
 use Rattle.pp_model.specs.Definitions.{Definition}
 use Rattle.pp_model.specs.Names.{Name, is_in}
 use Rattle.pp_model.specs.declared.definition.Placed.{Placed}

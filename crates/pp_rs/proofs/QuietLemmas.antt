@@ -12,7 +12,8 @@ use Rattle.pp_model.specs.Calls.{Fault}
 use Rattle.pp_model.specs.Conversions.{is_hash, identifier_of}
 use Rattle.pp_model.specs.Lines.{first_token, ends_line}
 use Rattle.pp_model.specs.Names.{Name}
-use Rattle.pp_model.specs.Sights.{sight_of, item_sight, token_sight, directive_sight, named_directive, is_directive_hash}
+use Rattle.pp_model.specs.Sights.{sight_of, token_sight, named_directive, is_directive_hash}
+use Rattle.pp_model.specs.inner.Sights.{item_sight, directive_sight}
 use Rattle.pp_model.specs.declared.sight.Sight.{Sight}
 use Rattle.pp_model.specs.declared.sight.Sight.TheVariants as sight
 use Rattle.pp_model.specs.Blocks.{line_at, block_lines}

@@ -12,7 +12,8 @@ use Rattle.pp_model.specs.Calls.{Fault, Gathered, Gathers, closed, inside, overf
 use Rattle.pp_model.specs.Emitting.{opened, Emits, itself, object, name_alone, call_refused, call}
 use Rattle.pp_model.specs.SourceReader.{SourceReader, start_of}
 use Rattle.pp_model.specs.Reads.{Steps, Reads, here, later, source_reading}
-use Rattle.pp_model.specs.Run.{adding as with_definition, start, with_added}
+use Rattle.pp_model.specs.Run.{start, with_added}
+use Rattle.pp_model.specs.inner.Run.{adding as with_definition}
 use Rattle.pp_model.specs.RunStates.{LeadsTo, nowhere, adding, giving, IsReached}
 use Rattle.pp_model.specs.declared.outcome.Outcome.{Outcome}
 

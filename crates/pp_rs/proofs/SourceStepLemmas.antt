@@ -11,9 +11,12 @@ use Rattle.pp_lexer.specs.declared.token.Location.{Location}
 use Rattle.pp_lexer.specs.declared.token.Token.{Token}
 use Rattle.pp_model.specs.Calls.{Fault}
 use Rattle.pp_model.specs.Conversions.{identifier_of, refused_token}
-use Rattle.pp_model.specs.Lines.{◌>>=◌, first_token, name_or_refused}
+use Rattle.pp_model.specs.Lines.{first_token}
+use Rattle.pp_model.specs.inner.Lines.{name_or_refused}
+use Rattle.pp_expression.specs.Answers.{◌>>=◌}
 use Rattle.pp_model.specs.Names.{Name}
-use Rattle.pp_model.specs.Sights.{directive_of, directive_sight, named_directive, token_sight, sight_of}
+use Rattle.pp_model.specs.Sights.{directive_of, named_directive, token_sight, sight_of}
+use Rattle.pp_model.specs.inner.Sights.{directive_sight}
 use Rattle.pp_rs.specs.Defined.{Defined}
 use Rattle.pp_rs.specs.Halting.{step_of}
 use Rattle.pp_rs.specs.Item.{Step}

@@ -9,7 +9,7 @@ use Rattle.pp_model.specs.Taking.{line_number}
 use Rattle.pp_model.specs.declared.outcome.Outcome.TheVariants as outcome
 use Rattle.pp_rs.specs.Frames.{Layer, Advance, advance, outermost_frame_line}
 use Rattle.pp_rs.specs.Item.{Step, wants_memory}
-use Rattle.pp_model.specs.Reading.{after_listed}
+use Rattle.pp_model.specs.inner.Reading.{after_listed}
 use Rattle.pp_rs.specs.Defined.{body_tokens}
 use Rattle.pp_rs.specs.Left.{reads_left, most_open, most_bodies, one_more, holding_step, regions_of, regions}
 use Rattle.pp_rs.specs.Machine.{Machine, is_pause, step_of_outcome, taken_as, StepsTaking, held, moved, TakesNext, now, later, GathersNext, closed, inside, overfull, ended, failed}

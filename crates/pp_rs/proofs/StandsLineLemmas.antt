@@ -7,7 +7,8 @@ use Rattle.pp_lexer.specs.declared.token.Token.{Token}
 use Rattle.pp_model.specs.Definitions.{Definitions}
 use Rattle.pp_model.specs.Lines.{line_length}
 use Rattle.pp_model.specs.Sights.{sight_of}
-use Rattle.pp_model.specs.Blocks.{part_of, line_with, Truths, blocks_at}
+use Rattle.pp_model.specs.Blocks.{part_of, Truths, blocks_at}
+use Rattle.pp_model.specs.inner.Blocks.{line_with}
 use Rattle.pp_model.specs.SourceReader.{SourceReader, has_live_text_before}
 use Rattle.pp_model.specs.Acts.{after_line}
 use Rattle.pp_model.specs.declared.block.BlockLine.{BlockLine}

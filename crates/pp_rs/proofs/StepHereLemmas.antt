@@ -8,7 +8,8 @@ use Rattle.pp_model.specs.Lines.{line_length, line_fault}
 use Rattle.pp_model.specs.Sights.{sight_of}
 use Rattle.pp_model.specs.Blocks.{is_live}
 use Rattle.pp_model.specs.SourceReader.{SourceReader}
-use Rattle.pp_model.specs.Acts.{Acted, passed, after_word, after_line, skipped_by, skipped, acted, live_act, dead_act, act}
+use Rattle.pp_model.specs.Acts.{Acted, passed, after_word, after_line, skipped, acted, live_act, dead_act, act}
+use Rattle.pp_model.specs.inner.Acts.{skipped_by}
 use Rattle.pp_model.specs.Emitting.{answers_at, expansion_limit}
 use Rattle.pp_model.specs.Reads.{Steps, passes, gives}
 use Rattle.pp_model.specs.declared.outcome.Outcome.{Outcome}

@@ -8,7 +8,8 @@ use Rattle.pp_lexer.specs.declared.token.TokenValue.{TokenValue}
 use Rattle.pp_lexer.specs.declared.token.TokenValue.TheVariants.{Ident}
 use Rattle.pp_model.specs.Names.{Name, is_in, is_same_name}
 use Rattle.pp_model.specs.Definitions.{Definition}
-use Rattle.pp_model.specs.Reading.{Reading, Expander, Opening, opening, opening_of, opening_by, masked}
+use Rattle.pp_model.specs.Reading.{Reading, Expander, Opening, opening, opening_of, masked}
+use Rattle.pp_model.specs.inner.Reading.{opening_by}
 use Rattle.pp_model.specs.Taking.{Takes}
 use Rattle.pp_model.specs.Calls as calls
 use Rattle.pp_model.specs.Calls.{Fault, Gathered, Answers, paren_at, is_left_paren, site_of}

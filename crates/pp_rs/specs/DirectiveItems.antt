@@ -6,7 +6,8 @@ use Rattle.pp_lexer.specs.Preorder.{preorder}
 use Rattle.pp_lexer.specs.declared.token.TokenValue.{TokenValue}
 use Rattle.pp_lexer.specs.declared.token.TokenValue.TheVariants.{Version, Extension, Pragma}
 use Rattle.pp_model.specs.Calls.{Fault}
-use Rattle.pp_model.specs.Lines.{◌>>=◌, line_tokens}
+use Rattle.pp_model.specs.Lines.{line_tokens}
+use Rattle.pp_expression.specs.Answers.{◌>>=◌}
 use Rattle.pp_model.specs.declared.directive.Directive.{Directive}
 use Rattle.pp_model.specs.declared.directive.Directive.TheVariants as d
 

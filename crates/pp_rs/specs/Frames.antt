@@ -3,7 +3,8 @@ use Rattle.std.specs.Prelude.{ℕ, List, [], ◌∷◌, map, Option, Some, None,
 use Rattle.pp_lexer.specs.declared.token.Token.{Token}
 use Rattle.pp_model.specs.Names.{Name}
 use Rattle.pp_model.specs.Definitions.{Definition}
-use Rattle.pp_model.specs.SpliceList.{followed_by, replaced, parameter_of}
+use Rattle.pp_model.specs.SpliceList.{replaced, parameter_of}
+use Rattle.pp_model.specs.inner.SpliceList.{followed_by}
 use Rattle.pp_model.specs.declared.splice.Entry.{Entry}
 use Rattle.pp_model.specs.declared.splice.Entry.TheVariants.{End}
 

@@ -8,8 +8,9 @@ use Rattle.pp_lexer.specs.declared.token.Location.{Location}
 use Rattle.pp_lexer.specs.declared.token.Token.{Token}
 use Rattle.pp_model.specs.Calls.{Fault}
 use Rattle.pp_model.specs.Conversions.{is_newline, conversion}
-use Rattle.pp_model.specs.Emitting.{token_before}
-use Rattle.pp_model.specs.Lines.{◌>>=◌, line_tokens, line_length, line_fault, comments_before_end, ended_line}
+use Rattle.pp_model.specs.inner.Emitting.{token_before}
+use Rattle.pp_model.specs.Lines.{line_tokens, line_length, line_fault, comments_before_end, ended_line}
+use Rattle.pp_expression.specs.Answers.{◌>>=◌}
 use Rattle.pp_model.specs.declared.definition.Named.{Named}
 use Rattle.pp_model.specs.declared.definition.Placed.{Placed}
 use Rattle.pp_rs.specs.SourceLexed.{SourceLexed}

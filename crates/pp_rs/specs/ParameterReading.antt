@@ -5,8 +5,10 @@ use Rattle.pp_lexer.specs.declared.lexer.item.Token.{Token as LexerToken}
 use Rattle.pp_lexer.specs.declared.token.Location.{Location}
 use Rattle.pp_model.specs.Calls.{Fault}
 use Rattle.pp_model.specs.Conversions.{closes_parameters, parts_parameters, identifier_of, refused_token}
-use Rattle.pp_model.specs.DefineLines.{parameter_here, parameters}
-use Rattle.pp_model.specs.Lines.{◌>>=◌, first_token, line_tokens}
+use Rattle.pp_model.specs.DefineLines.{parameters}
+use Rattle.pp_model.specs.inner.DefineLines.{parameter_here}
+use Rattle.pp_model.specs.Lines.{first_token, line_tokens}
+use Rattle.pp_expression.specs.Answers.{◌>>=◌}
 use Rattle.pp_model.specs.Definitions.{Definition}
 use Rattle.pp_model.specs.Names.{Name}
 use Rattle.pp_rs.specs.LineReading.{HasGoneOn}

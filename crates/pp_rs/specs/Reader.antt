@@ -5,7 +5,7 @@ use Rattle.pp_lexer.specs.declared.token.Token.{Token}
 use Rattle.pp_model.specs.Definitions.{Definitions}
 use Rattle.pp_model.specs.LineValues.{as_line_number}
 use Rattle.pp_model.specs.Names.{Name, is_in, is_same_name, defined_name}
-use Rattle.pp_model.specs.Reading.{after_listed}
+use Rattle.pp_model.specs.inner.Reading.{after_listed}
 use Rattle.pp_rs.specs.Item.{Step}
 use Rattle.pp_rs.specs.Defined.{Defined, meaning_of}
 use Rattle.pp_rs.specs.Source.{Source, untold_of, StepsSource}

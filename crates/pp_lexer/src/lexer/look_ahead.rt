@@ -4,7 +4,7 @@ ghost use Rattle.std.specs.Prelude.{◌≡◌, ◌==◌, ◌||◌};
 ghost use Rattle.pp_lexer.specs.Identifiers.{begins_identifier};
 ghost use Rattle.pp_lexer.specs.Numbers.{is_decimal, begins_number};
 ghost use Rattle.pp_lexer.specs.Reading.{letters};
-ghost use Rattle.pp_lexer.specs.Spellings.{begins_with};
+ghost use Rattle.pp_lexer.specs.Surroundings.{begins_with};
 
 use crate::lexer::char_iterator::LexerCharIterator;
 use unicode_ident::is_xid_start;

@@ -1,11 +1,12 @@
 //! Numbers: the longest one at the front of the characters, and its value.
 
 ghost use Rattle.std.specs.Prelude.{◌≡◌, ◌==◌, ◌||◌, if◌then◌else◌, IsTrue};
-ghost use Rattle.pp_lexer.specs.NumberValue.{width_refusal, float_suffix_len, unsigned_suffix_len, float_outcome, integer_outcome, number_at};
+ghost use Rattle.pp_lexer.specs.NumberValue.{width_refusal, float_outcome, integer_outcome, number_at};
+ghost use Rattle.pp_lexer.specs.inner.NumberValue.{float_suffix_len, unsigned_suffix_len};
 ghost use Rattle.pp_lexer.specs.Outcome.{IsGiven};
 ghost use Rattle.pp_lexer.specs.Numbers.{begins_number};
 ghost use Rattle.pp_lexer.specs.Reading.{letters, advanced};
-ghost use Rattle.pp_lexer.specs.Spellings.{begins_with};
+ghost use Rattle.pp_lexer.specs.Surroundings.{begins_with};
 
 use crate::lexer::char_iterator::LexerCharIterator;
 use crate::lexer::item::TokenValue;

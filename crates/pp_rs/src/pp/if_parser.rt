@@ -1,7 +1,8 @@
 //! The words of an `#if`, `#elif` or `#line` line.
 
 ghost use Rattle.std.specs.Prelude.{◌≡◌, [], IfOk, is_some};
-ghost use Rattle.pp_model.specs.LineWords.{reading, unknown_name, unexpected, name_in_value, unwanted_word, is_open_paren, is_close_paren};
+ghost use Rattle.pp_model.specs.LineWords.{reading, unknown_name, unexpected, name_in_value, unwanted_word};
+ghost use Rattle.pp_model.specs.inner.LineWords.{is_open_paren, is_close_paren};
 ghost use Rattle.pp_model.specs.Names.{is_identifier, defined_name};
 ghost use Rattle.pp_model.specs.WordsRead.{reading_named, unwanted_read, IsOf};
 ghost use Rattle.pp_rs.specs.Defined.{meaning_of};

@@ -6,7 +6,8 @@ ghost use Rattle.pp_lexer.specs.Longest.{longest, front_len};
 ghost use Rattle.pp_lexer.specs.Numbers.{is_decimal, is_hex, hex_tail, decimal_tail, exponent, fraction, is_number, begins_number};
 ghost use Rattle.pp_lexer.specs.Reading.{first_char, letters, advanced};
 ghost use Rattle.pp_lexer.specs.Scan.{Takes, upcoming, further};
-ghost use Rattle.pp_lexer.specs.Spellings.{many, begins_with};
+ghost use Rattle.pp_lexer.specs.Spellings.{many};
+ghost use Rattle.pp_lexer.specs.Surroundings.{begins_with};
 
 use crate::lexer::char_iterator::LexerCharIterator;
 use std::marker::Model;

@@ -4,7 +4,8 @@ ghost use Rattle.std.specs.Prelude.{◌≡◌, ◌==◌, ◌||◌, take};
 ghost use Rattle.pp_lexer.specs.NumberValue.{float_text};
 ghost use Rattle.pp_lexer.specs.Numbers.{is_decimal};
 ghost use Rattle.pp_lexer.specs.Reading.{letters};
-ghost use Rattle.pp_lexer.specs.Spellings.{nothing, begins_with, next_of, after_first};
+ghost use Rattle.pp_lexer.specs.Spellings.{nothing, next_of, after_first};
+ghost use Rattle.pp_lexer.specs.Surroundings.{begins_with};
 
 use crate::lexer::char_iterator::LexerCharIterator;
 use std::marker::Model;

@@ -3,10 +3,11 @@
 ghost use Rattle.std.specs.Prelude.{◌≡◌, ◌≤◌, ◌==◌, ◌||◌, not, drop, if◌then◌else◌, IfOk};
 ghost use Rattle.std.specs.List.{list_any};
 ghost use Rattle.pp_lexer.specs.Longest.{front_len};
-ghost use Rattle.pp_lexer.specs.NumberValue.{begins_hex, begins_octal, is_float_mark, is_float, whole, integer_of, integer_value, float_text, float_exponent, is_float_text, float_value};
+ghost use Rattle.pp_lexer.specs.NumberValue.{begins_hex, begins_octal, is_float, whole, integer_value, float_text, float_exponent, is_float_text, float_value};
+ghost use Rattle.pp_lexer.specs.inner.NumberValue.{is_float_mark, integer_of};
 ghost use Rattle.pp_lexer.specs.Outcome.{IsGiven};
 ghost use Rattle.pp_lexer.specs.Numbers.{is_decimal};
-ghost use Rattle.pp_lexer.specs.Spellings.{begins_with};
+ghost use Rattle.pp_lexer.specs.Surroundings.{begins_with};
 
 use crate::lexer::item::TokenValue;
 use crate::lexer::number::spelling::{FloatText, Spelling};

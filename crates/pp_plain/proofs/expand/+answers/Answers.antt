@@ -2,7 +2,8 @@ use Rattle.std.proofs.Common.{[], refl, ◌∙◌, subst, arith}
 use Rattle.std.specs.Prelude.{Ok, Err}
 use Rattle.std.proofs.lemmas.Result.{IfOk-weaker}
 use Rattle.pp_plain.specs.Changes.{meaning_of}
-use Rattle.pp_model.specs.Emitting.{Collects, done, failed, item, token_before, list_before, Alone, answers_at}
+use Rattle.pp_model.specs.Emitting.{Collects, done, failed, item, Alone, answers_at}
+use Rattle.pp_model.specs.inner.Emitting.{token_before, list_before}
 use Rattle.pp_model.specs.Reading.{Expander, Listed, argument_reading}
 use Rattle.pp_plain.specs.Seen.{seen}
 use Rattle.pp_plain.specs.SeenList.{list_state}

@@ -1,5 +1,5 @@
 use Rattle.std.proofs.Common.{◌≡◌, ◌++◌, List, drop}
-use Rattle.pp_model.specs.SpliceList.{followed_by}
+use Rattle.pp_model.specs.inner.SpliceList.{followed_by}
 use Rattle.pp_model.specs.declared.splice.Entry.{Entry}
 use Rattle.pp_plain.proofs.list.push_tokens.Given as goal
 

@@ -1,7 +1,7 @@
 use Rattle.std.proofs.Common.{Ok, ◌≡◌, sym, ◌∙◌, ap, subst, take, inl}
 use Rattle.pp_lexer.specs.Longest.{longest}
 use Rattle.pp_lexer.specs.Numbers.{is_number}
-use Rattle.pp_lexer.specs.NumberValue.{float_suffix_len, unsigned_suffix_len}
+use Rattle.pp_lexer.specs.inner.NumberValue.{float_suffix_len, unsigned_suffix_len}
 use Rattle.pp_lexer.specs.Outcome.{IsGiven}
 use Rattle.pp_lexer.specs.Reading.{letters, advanced}
 use Rattle.pp_lexer.proofs.NumberAtLemmas.{at_float, at_integer, letters_after, after_suffix}

@@ -4,7 +4,8 @@ use Rattle.std.specs.Vec.Iter.{into_iter_items}
 use Rattle.pp_model.specs.Calls.{Fault, arguments_of, misfit}
 use Rattle.pp_rs.specs.Frames.{names_of}
 use Rattle.std.proofs.lemmas.Result.{err_from_is_err_and}
-use Rattle.pp_model.specs.Emitting.{Alone, list_before, first_failed, more, none}
+use Rattle.pp_model.specs.Emitting.{Alone, first_failed, more, none}
+use Rattle.pp_model.specs.inner.Emitting.{list_before}
 use Rattle.pp_model.proofs.CollectLemmas.{after_lists-before, after_items-end}
 use Rattle.pp_rs.specs.Defined.{meaning_of}
 use Rattle.pp_rs.specs.Item.{is_out_of_memory}

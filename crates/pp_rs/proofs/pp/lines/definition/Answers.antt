@@ -1,5 +1,5 @@
 use Rattle.std.proofs.Common.{◌≡◌, ap, drop, ◌∙◌, sym, Ok}
-use Rattle.pp_model.specs.Lines.{◌>>=◌}
+use Rattle.pp_expression.specs.Answers.{◌>>=◌}
 use Rattle.pp_rs.specs.LineReading.{line_token, length_after}
 use Rattle.pp_rs.proofs.LineReadingLemmas.{line_place-next, takes_after}
 use Rattle.pp_rs.proofs.ParameterLemmas.{paren_place}

@@ -1,6 +1,6 @@
 use Rattle.std.proofs.Common.{◌≡◌, length}
 use Rattle.std.specs.List.{list_any}
-use Rattle.pp_lexer.specs.NumberValue.{is_float_mark}
+use Rattle.pp_lexer.specs.inner.NumberValue.{is_float_mark}
 use Rattle.pp_lexer.proofs.lexer.number.value.has_float_mark.Given as goal
 
 -- what is passed holds no mark

@@ -1,0 +1,3 @@
+pub mod NumberValue
+pub mod Lines
+pub mod Words

@@ -1,0 +1,12 @@
+pub mod Sights
+pub mod Blocks
+pub mod Reading
+pub mod Emitting
+pub mod Lines
+pub mod DefineLines
+pub mod Run
+pub mod Acts
+pub mod SpliceList
+pub mod LineValues
+pub mod SourceReader
+pub mod LineWords

@@ -1,0 +1,16 @@
+-- Parts of emitting, under names of their own.
+use Rattle.std.specs.Prelude.{List, Option, unwrap_or, Result}
+use Rattle.pp_lexer.specs.declared.token.PreprocessorError.{PreprocessorError}
+use Rattle.pp_lexer.specs.declared.token.PreprocessorError.TheVariants.{RecursionLimitReached}
+use Rattle.pp_lexer.specs.declared.token.Token.{Token}
+use Rattle.pp_model.specs.Calls.{Fault}
+use Rattle.pp_model.specs.Emitting.{first_before}
+
+abbrev pub token_before : Token → Result (List Token) Fault → Result (List Token) Fault
+token_before token rest = first_before token rest
+
+abbrev pub list_before : List Token → Result (List (List Token)) Fault → Result (List (List Token)) Fault
+list_before tokens rest = first_before tokens rest
+
+abbrev pub refusal : Option PreprocessorError → PreprocessorError
+refusal error = unwrap_or error RecursionLimitReached

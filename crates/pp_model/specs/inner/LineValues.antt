@@ -1,0 +1,28 @@
+-- Parts of the value of a line, under names of their own.
+use Rattle.std.specs.Prelude.{Option, unwrap_or, Bool, Result, Ok, Err}
+use Rattle.std.specs.Option.{option_map_or}
+use Rattle.pp_lexer.specs.declared.token.Location.{Location}
+use Rattle.pp_expression.specs.declared.symbol.Found.{Found}
+use Rattle.pp_model.specs.Calls.{Fault}
+use Rattle.pp_model.specs.LineWords.{Words}
+use Rattle.pp_model.specs.LineValues.{told, operand_fault, unwanted_word}
+use Rattle.pp_model.specs.declared.word.Word.{Word}
+use Rattle.std.specs.Prelude.{◌≡◌, ℕ}
+use Rattle.pp_expression.specs.declared.symbol.Value.{Value}
+use Rattle.pp_expression.specs.FirstFault.{Evaluates}
+use Rattle.pp_model.specs.LineValues.{line_of, alone_on_line}
+
+abbrev pub told_fault : Location → Words → Found → Fault
+told_fault directive words found = told directive words found.kind found.left
+
+abbrev pub fault_of_operand : Fault → Word → Fault
+fault_of_operand fallback word = unwrap_or (operand_fault word) fallback
+
+abbrev pub unless_followed : {A : Type 0} → A → Option Word → Result A Fault
+unless_followed result word = option_map_or (λ word. Err (unwanted_word word)) word (Ok result)
+
+-- a second expression after the line number, which is only read
+pub record IsFollowed (directive : Location) (words : Words) (n : ℕ) (result : Result ℕ Fault) : Type 0 where
+  pub second : Result Value Found
+  pub evaluated : Evaluates (line_of words) second
+  pub is : result ≡ alone_on_line directive words (λ value. n) second

@@ -1,0 +1,19 @@
+-- Parts of reading, under names of their own.
+use Rattle.std.specs.Prelude.{List, drop, Option, option_map}
+use Rattle.pp_lexer.specs.declared.token.Token.{Token}
+use Rattle.pp_model.specs.Names.{Name}
+use Rattle.pp_model.specs.Definitions.{Definition}
+use Rattle.pp_model.specs.Reading.{Opening}
+use Rattle.std.specs.Prelude.{slice_get}
+use Rattle.std.specs.Option.{option_map_or}
+use Rattle.pp_model.specs.declared.outcome.Outcome.{Outcome}
+use Rattle.pp_model.specs.declared.outcome.Outcome.TheVariants as outcome
+
+abbrev pub opening_by : Token → Name → Option Definition → Option Opening
+opening_by token name definition = option_map (λ definition. record { token = token; name = name; definition = definition }) definition
+
+abbrev pub after_listed : List Token → List Token
+after_listed tokens = drop 1 tokens
+
+abbrev pub first_listed : List Token → Outcome
+first_listed tokens = option_map_or outcome.Token (slice_get tokens 0) outcome.End
