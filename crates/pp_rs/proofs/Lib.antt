@@ -16,6 +16,7 @@ pub mod LeftLemmas
 pub mod SoundLemmas
 pub mod AdvanceLemmas
 pub mod StepLemmas
+pub mod LinePartsLemmas
 pub mod BodyLemmas
 pub mod DefinedBodyLemmas
 pub mod MoveSizeLemmas
