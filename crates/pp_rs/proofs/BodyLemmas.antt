@@ -9,6 +9,7 @@ use Rattle.pp_model.specs.inner.Emitting.{token_before}
 use Rattle.pp_model.specs.Lines.{line_length, line_tokens, ends_line}
 use Rattle.pp_model.specs.inner.Lines.{tokens_from}
 use Rattle.pp_expression.specs.Answers.{◌>>=◌}
+use Rattle.pp_model.proofs.PartsLemmas.{line_tokens_is}
 
 -- the tokens of a line are at most as many as its items
 tokens_least : (item : Lexeme) (later : Result (List Token) Fault) (n : ℕ) → IfOk later (λ tokens. length tokens ≤ n)
@@ -25,7 +26,7 @@ tokens_least (Ok token) later n h = go (is_newline token.value) (conversion toke
 
 pub line_tokens_least : (rest : List Seen) → IfOk (line_tokens rest) (λ tokens. length tokens ≤ line_length rest)
 line_tokens_least [] = omega arith
-line_tokens_least (s ∷ rest) = tokens_least s.item (line_tokens rest) (line_length rest) (line_tokens_least rest)
+line_tokens_least (s ∷ rest) = rw (line_tokens_is s rest) (tokens_least s.item (line_tokens rest) (line_length rest) (line_tokens_least rest))
 
 -- a line is at most as long as what is left
 pub line_length_least : (rest : List Seen) → line_length rest ≤ length rest
