@@ -6,9 +6,8 @@ use Rattle.pp_lexer.specs.declared.lexer.Flags.{Flags}
 use Rattle.pp_lexer.specs.declared.lexer.item.TokenValue.{TokenValue}
 use Rattle.pp_lexer.specs.declared.lexer.item.TokenValue.TheVariants.{Hash, NewLine, Ident, Integer, Float, Punct}
 use Rattle.pp_lexer.specs.declared.token.PreprocessorError.{PreprocessorError}
-use Rattle.pp_lexer.specs.Items.{is_newline_value, is_newline_result}
 use Rattle.pp_lexer.specs.Lexed.{Seen, start_of}
-use Rattle.pp_lexer.specs.Passing.{passed, lexeme_seen, item_seen, newline_seen, seen_from}
+use Rattle.pp_lexer.specs.Passing.{is_newline_result, passed, lexeme_seen, item_seen, newline_seen, seen_from}
 use Rattle.pp_lexer.specs.Reading.{Reading}
 use Rattle.pp_lexer.specs.Segments.{Kind, blank, comment, item, Segment, segments}
 use Rattle.pp_lexer.specs.Spots.{spots_of}
@@ -19,7 +18,7 @@ use Rattle.pp_model.specs.Run.{items_of}
 use Rattle.pp_model.specs.Sights.{is_directive_hash}
 use Rattle.pp_rs.specs.Lined.{BeginsNoDirective, AreLined}
 
-same_newline : (value : TokenValue) → is_newline value ≡ is_newline_value value
+same_newline : (value : TokenValue) → is_newline value ≡ is_newline_result (Ok value)
 same_newline Hash = refl
 same_newline NewLine = refl
 same_newline (Ident name) = refl
