@@ -24,6 +24,7 @@ use Rattle.pp_rs.specs.ParameterReading.{ends_parameters, some_names, first_para
 use Rattle.pp_rs.specs.declared.pp.halt.Halt.{Halt}
 use Rattle.pp_rs.specs.declared.pp.halt.Halt.TheVariants as halt
 use Rattle.pp_rs.proofs.BodyLemmas.{line_tokens_least}
+use Rattle.pp_rs.proofs.LinePartsLemmas.{parameter_here_is, name_or_refused_is}
 
 -- where neither `)` nor a comma stands, the parameters have that fault
 refused_at : (word : Location) (names : List Name) (token : LexerToken) (rest : List Seen) (fault : Fault) (closes parts : Bool)
@@ -48,10 +49,24 @@ first_at true here none later fault e = cc
 first_at false (Ok names) none later fault e = cc
 first_at false (Err other) none later fault e = let same : other ≡ fault = cc in ap (λ (f : Fault). Err f) same
 
+-- the parameters, by the first of them
+parameters_are : (word : Location) (token : LexerToken) (had : Bool) (rest : List Seen)
+    → parameters word (record { item = Ok token; had_comments = had } ∷ rest)
+    ≡ (if closes_parameters token.value then Ok (record { names = []; after = rest }) else (parameter_here [] token (identifier_of token.value) >>= λ names. after_parameter word names rest))
+parameters_are word token had rest =
+    ap (λ (here : Result (List Name) Fault). if closes_parameters token.value then Ok (record { names = []; after = rest }) else (here >>= λ names. after_parameter word names rest))
+    (parameter_here_is [] token)
+
+-- the parameters after a comma, by the next of them
+after_comma_are : (word : Location) (names : List Name) (token : LexerToken) (had : Bool) (rest : List Seen)
+    → after_comma word names (record { item = Ok token; had_comments = had } ∷ rest) ≡ (parameter_here names token (identifier_of token.value) >>= λ more. after_parameter word more rest)
+after_comma_are word names token had rest = ap (λ (here : Result (List Name) Fault). here >>= λ more. after_parameter word more rest) (parameter_here_is names token)
+
 first_item : (word : Location) (item : Lexeme) (had : Bool) (rest : List Seen) (fault : Fault) → first_parameter word (record { item = item; had_comments = had } ∷ rest) ≡ Err fault → parameters word (record { item = item; had_comments = had } ∷ rest) ≡ Err fault
 first_item word (Err f) had rest fault e = let same : f ≡ fault = cc in ap (λ (x : Fault). Err x) same
 first_item word (Ok token) had rest fault e =
-    first_at (closes_parameters token.value) (parameter_here [] token (identifier_of token.value)) (record { names = []; after = rest }) (λ names. after_parameter word names rest) fault e
+    parameters_are word token had rest
+    ∙ first_at (closes_parameters token.value) (parameter_here [] token (identifier_of token.value)) (record { names = []; after = rest }) (λ names. after_parameter word names rest) fault e
 
 first_refused : (word : Location) (rest : List Seen) (fault : Fault) → first_parameter word rest ≡ Err fault → parameters word rest ≡ Err fault
 first_refused word [] fault e = let same : (UnexpectedEndOfInput, word) ≡ fault = cc in ap (λ (f : Fault). Err f) same
@@ -122,7 +137,7 @@ after_item word names (Ok token) had rest p comma e = after_token word names tok
 
 comma_item : (word : Location) (names : List Name) (item : Lexeme) (had : Bool) (rest : List Seen) (p : Parameters) → ((more : List Name) (q : Parameters) → after_parameter word more rest ≡ Ok q → IsOnLine rest q.after) → after_comma word names (record { item = item; had_comments = had } ∷ rest) ≡ Ok p → IsOnLine (record { item = item; had_comments = had } ∷ rest) p.after
 comma_item word names (Err fault) had rest p after e = cc
-comma_item word names (Ok token) had rest p after e = here_token word names token had rest p after (identifier_of token.value) refl e
+comma_item word names (Ok token) had rest p after e = here_token word names token had rest p after (identifier_of token.value) refl (sym (after_comma_are word names token had rest) ∙ e)
 
 mutual
   after_on_line : (word : Location) (names : List Name) (rest : List Seen) (p : Parameters) → after_parameter word names rest ≡ Ok p → IsOnLine rest p.after
@@ -142,7 +157,7 @@ opening_token word token had rest p false c e = here_token word [] token had res
 
 opening_item : (word : Location) (item : Lexeme) (had : Bool) (rest : List Seen) (p : Parameters) → parameters word (record { item = item; had_comments = had } ∷ rest) ≡ Ok p → IsOnLine (record { item = item; had_comments = had } ∷ rest) p.after
 opening_item word (Err fault) had rest p e = cc
-opening_item word (Ok token) had rest p e = opening_token word token had rest p (closes_parameters token.value) refl e
+opening_item word (Ok token) had rest p e = opening_token word token had rest p (closes_parameters token.value) refl (sym (parameters_are word token had rest) ∙ e)
 
 -- the parameters stand on one line
 pub parameters_on_line : (word : Location) (rest : List Seen) (p : Parameters) → parameters word rest ≡ Ok p → IsOnLine rest p.after
@@ -188,7 +203,7 @@ named_here token had rest p (Some name) f e = past_item (Ok token) had rest (nam
 
 named_item : (word : Location) (item : Lexeme) (had : Bool) (rest : List Seen) (p : Placed) → first_name word (record { item = item; had_comments = had } ∷ rest) ≡ Ok p → IsOnLine (record { item = item; had_comments = had } ∷ rest) rest
 named_item word (Err fault) had rest p e = cc
-named_item word (Ok token) had rest p e = named_here token had rest p (identifier_of token.value) refl e
+named_item word (Ok token) had rest p e = named_here token had rest p (identifier_of token.value) refl (sym (name_or_refused_is token) ∙ e)
 
 -- the line goes on after a name
 pub name_place : (word : Location) (rest after : List Seen) (p : Placed) → first_name word rest ≡ Ok p → after ≡ drop 1 rest → drop (line_length rest) rest ≡ drop (line_length after) after
