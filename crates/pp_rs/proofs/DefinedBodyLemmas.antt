@@ -12,12 +12,13 @@ use Rattle.pp_model.specs.Calls.{Fault}
 use Rattle.pp_model.specs.Conversions.{is_newline, identifier_of}
 use Rattle.pp_model.specs.Definitions.{Definition, object_like}
 use Rattle.pp_model.specs.DefineLines.{is_attached_paren, definition_at, defined_on}
-use Rattle.pp_model.specs.Lines.{line_length, line_tokens, ends_line}
+use Rattle.pp_model.specs.Lines.{line_length, line_tokens}
 use Rattle.pp_model.specs.inner.Lines.{name_or_refused}
 use Rattle.pp_expression.specs.Answers.{◌>>=◌}
 use Rattle.pp_model.specs.declared.definition.Named.{Named}
 use Rattle.pp_rs.specs.ParameterReading.{function_at}
 use Rattle.pp_rs.proofs.BodyLemmas.{line_tokens_least}
+use Rattle.pp_rs.proofs.LinePartsLemmas.{name_or_refused_is}
 use Rattle.pp_rs.proofs.ParameterLemmas.{function_least, paren_goes_on}
 
 body_least : (r : Result (List Token) Fault) (n : ℕ) → IfOk r (λ tokens. length tokens ≤ n) → IfOk (r >>= λ body. Ok (object_like body)) (λ definition. length definition.body ≤ n)
@@ -52,12 +53,12 @@ defined_after : (word : Location) (token : LexerToken) (value : LexerTokenValue)
 defined_after word token (LexerIdent name) rest = named_least (definition_at word rest) name token.location (line_length rest) (definition_least word rest)
 defined_after word token _ rest = tt
 
-defined_at : (word : Location) (item : Lexeme) (rest : List Seen)
-    → IfOk ((item >>= λ token. name_or_refused token (identifier_of token.value)) >>= λ first. definition_at word rest >>= λ definition. Ok (record { name = first.name; location = first.location; definition = definition })) (λ (named : Named). length named.definition.body ≤ (if ends_line item then 1 else 1 + line_length rest))
-defined_at word (Err fault) rest = tt
-defined_at word (Ok token) rest = defined_after word token token.value rest
+defined_at : (word : Location) (item : Lexeme) (had : Bool) (rest : List Seen)
+    → IfOk (defined_on word (record { item = item; had_comments = had } ∷ rest)) (λ named. length named.definition.body ≤ line_length (record { item = item; had_comments = had } ∷ rest))
+defined_at word (Err fault) had rest = tt
+defined_at word (Ok token) had rest = rw (name_or_refused_is token) (defined_after word token token.value rest)
 
 -- a macro's body has no more tokens than its line has items
 pub defined_least : (word : Location) (after : List Seen) → IfOk (defined_on word after) (λ named. length named.definition.body ≤ line_length after)
 defined_least word [] = tt
-defined_least word (s ∷ rest) = defined_at word s.item rest
+defined_least word (s ∷ rest) = defined_at word s.item s.had_comments rest
