@@ -10,6 +10,7 @@ use Rattle.pp_model.specs.inner.Emitting.{token_before}
 use Rattle.pp_expression.specs.Answers.{◌>>=◌}
 use Rattle.pp_model.specs.Run.{content_tokens}
 use Rattle.pp_model.specs.inner.Run.{content_from}
+use Rattle.pp_model.proofs.PartsLemmas.{content_tokens_is}
 use Rattle.pp_rs.specs.LineReading.{as_next, next_token}
 use Rattle.pp_rs.proofs.LineReadingLemmas.{tokens_before, tokens_before-push}
 
@@ -19,7 +20,7 @@ token_item (Err fault) token e = cc
 
 content-token : (rest : List Seen) (token : LexerToken) → next_token rest ≡ Ok (Some token) → content_tokens rest ≡ content_from (Ok token) (content_tokens (drop 1 rest))
 content-token [] token e = cc
-content-token (s ∷ rest) token e = ap (λ item. content_from item (content_tokens rest)) (token_item s.item token e)
+content-token (s ∷ rest) token e = content_tokens_is s rest ∙ ap (λ item. content_from item (content_tokens rest)) (token_item s.item token e)
 
 token_first : (ends : Bool) (first : Result Token Fault) (later : Result (List Token) Fault) → ends ≡ false → (if ends then later else (first >>= λ token. token_before token later)) ≡ (first >>= λ token. token_before token later)
 token_first true first later e = cc
