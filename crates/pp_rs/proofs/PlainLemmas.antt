@@ -7,7 +7,8 @@ use Rattle.pp_lexer.specs.declared.token.TokenValue.{TokenValue}
 use Rattle.pp_lexer.specs.declared.token.TokenValue.TheVariants.{Ident, Integer, Float, Punct, Version, Extension, Pragma}
 use Rattle.pp_model.specs.Names.{Name, is_in, is_same_name, is_identifier, line_name}
 use Rattle.pp_model.specs.Definitions.{Definition}
-use Rattle.pp_model.specs.Reading.{Expander, Listed, Opening, opening_by, opening_of, argument_reading, reading_of, masked}
+use Rattle.pp_model.specs.Reading.{Expander, Listed, Opening, opening_of, argument_reading, reading_of, masked}
+use Rattle.pp_model.specs.inner.Reading.{opening_by}
 use Rattle.pp_model.specs.Taking.{Takes, read, line_number}
 use Rattle.pp_model.specs.Calls.{Answers}
 use Rattle.pp_model.specs.Emitting.{Emits, itself, Collects, done, item, Alone, answers_at}
