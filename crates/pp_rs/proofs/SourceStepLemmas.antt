@@ -11,10 +11,11 @@ use Rattle.pp_lexer.specs.declared.token.Location.{Location}
 use Rattle.pp_lexer.specs.declared.token.Token.{Token}
 use Rattle.pp_model.specs.Calls.{Fault}
 use Rattle.pp_model.specs.Conversions.{identifier_of, refused_token}
-use Rattle.pp_model.specs.Lines.{first_token}
+use Rattle.pp_model.specs.Lines.{first_token, name_of}
 use Rattle.pp_model.specs.inner.Lines.{name_or_refused}
 use Rattle.pp_expression.specs.Answers.{◌>>=◌}
 use Rattle.pp_model.specs.Names.{Name}
+use Rattle.pp_model.specs.declared.definition.Placed.{Placed}
 use Rattle.pp_model.specs.Sights.{directive_of, named_directive, token_sight, sight_of}
 use Rattle.pp_model.specs.inner.Sights.{directive_sight}
 use Rattle.pp_rs.specs.Defined.{Defined}
@@ -28,6 +29,7 @@ use Rattle.pp_rs.specs.SourceLexed.{SourceLexed, EndStays}
 use Rattle.pp_rs.specs.SourceMoves.{Effect, fails, passes, Note, unnoted, directive_line, Move, directive_move, taking_more, move_at, move_of}
 use Rattle.pp_rs.specs.declared.pp.halt.Halt.{Halt}
 use Rattle.pp_rs.specs.declared.pp.halt.Halt.TheVariants as halt
+use Rattle.pp_rs.proofs.LinePartsLemmas.{name_or_refused_is}
 use Rattle.pp_rs.proofs.SourceActsLemmas.{source_of, gives_after, fault_makes}
 
 match_false : (P Q : Type 0) (b : Bool) → b ≡ false → Q → MatchBool b P Q
@@ -51,7 +53,7 @@ hash_sight token rest v s = rw (v, s) refl
 
 -- what a directive comes to after its number sign, by the token after it
 abbrev word_move_by : Bool → Option OpenBlock → Result LexerToken Fault → List Seen → Move
-word_move_by live block first after = if live then live_word_move block (first >>= λ token. name_or_refused token (identifier_of token.value)) after else dead_word_move block first after
+word_move_by live block first after = if live then live_word_move block (first >>= λ token. name_of token >>= λ name. Ok (record { name = name; location = token.location })) after else dead_word_move block first after
 
 module _ (definitions : List Defined) (blocks : List OpenBlock) (line_offset : ℤ) (has_text has_directive : Bool) (old mid : SourceLexed) (new : Source) (taken : mid.rest ≡ drop 1 old.rest) (fewer : length mid.rest < length old.rest) where
   -- what a move means after the number sign is a step of the source, or memory was refused
@@ -77,6 +79,12 @@ module _ (definitions : List Defined) (blocks : List OpenBlock) (line_offset : �
   live_makes block token None result h = acts_make (fails (refused_token token)) 0 1 unnoted refl result h
   live_makes block token (Some name) result h = directive_makes true block name token.location result h
 
+  -- so it does where the word is the token's name
+  named_gives : (block : Option OpenBlock) (token : LexerToken) (result : Result (Option Token) Halt) → Gives (word_move_by true block (Ok token) (drop 1 mid.rest)) (source_of mid definitions blocks line_offset has_text has_directive) result new
+      → Gives (live_word_move block (name_or_refused token (identifier_of token.value)) (drop 1 mid.rest)) (source_of mid definitions blocks line_offset has_text has_directive) result new
+  named_gives block token result h =
+      subst (λ (word : Result Placed Fault). Gives (live_word_move block word (drop 1 mid.rest)) (source_of mid definitions blocks line_offset has_text has_directive) result new) (name_or_refused_is token) h
+
   dead_makes : (block : Option OpenBlock) (token : LexerToken) (name : Option Name) (result : Result (Option Token) Halt) → Gives (dead_name_move block token.location name (drop 1 mid.rest)) (source_of mid definitions blocks line_offset has_text has_directive) result new
       → StepsBy result (move_at false block (named_directive token name) old.rest)
   dead_makes block token None result h = acts_make passes 1 2 unnoted refl result h
@@ -84,7 +92,8 @@ module _ (definitions : List Defined) (blocks : List OpenBlock) (line_offset : �
 
   word_makes : (live : Bool) (block : Option OpenBlock) (first : Result LexerToken Fault) (result : Result (Option Token) Halt) → Gives (word_move_by live block first (drop 1 mid.rest)) (source_of mid definitions blocks line_offset has_text has_directive) result new
       → StepsBy result (move_at live block (directive_sight first) old.rest)
-  word_makes true block (Ok token) result h = live_makes block token (identifier_of token.value) result h
+  word_makes true block (Ok token) result h =
+      live_makes block token (identifier_of token.value) result (named_gives block token result h)
   word_makes true block (Err fault) result h = acts_make (fails fault) 0 1 unnoted refl result h
   word_makes false block (Ok token) result h = dead_makes block token (identifier_of token.value) result h
   word_makes false block (Err fault) result h = acts_make (fails fault) 0 1 unnoted refl result h
