@@ -14,7 +14,6 @@ use Rattle.pp_lexer.specs.inner.Lines.{is_newline_piece, newline_piece}
 use Rattle.pp_lexer.specs.Readers.{placed_from, joined, uncommented}
 use Rattle.pp_lexer.specs.Reading.{letters, spots}
 use Rattle.pp_lexer.specs.Surroundings.{begins_with}
-use Rattle.pp_lexer.specs.Surroundings.{begins_with as placed_begins}
 use Rattle.pp_lexer.specs.Fronts.{spots_from, left, is_plain, run}
 use Rattle.pp_lexer.proofs.CommentsLemmas.{replaced-nil, replaced-plain, no_slash, lone_slash}
 use Rattle.pp_lexer.proofs.ContinuationsLemmas.{continued-nil, continued-plain}
@@ -133,31 +132,31 @@ module _ (P : ℕ → Bool) (feed : P 10 ≡ false) (mark : P 13 ≡ false) wher
 
 -- the same before comments are replaced
 module _ (P : ℕ → Bool) (feed : P 10 ≡ false) where
-  first_joined : (line at : ℕ) (p : Piece) (ps : List Piece) → (p.char == 92) ≡ false → P p.char ≡ false → placed_begins (λ q. P q.char) (continued (placed_from line at (p ∷ ps))) ≡ false
+  first_joined : (line at : ℕ) (p : Piece) (ps : List Piece) → (p.char == 92) ≡ false → P p.char ≡ false → begins_with (λ q. P q.char) (continued (placed_from line at (p ∷ ps))) ≡ false
   first_joined line at p ps e f = rw (continued-plain (record { char = p.char; line = line; end = at + p.bytes }) (placed_from (if is_newline_piece p then line + 1 else line) (at + p.bytes) ps) e) f
 
   pub joined_is_not : (line at b : ℕ) (text : List ℕ) → b < 128 → (b == 92) ≡ false → P b ≡ false → IsUtf8 (b ∷ text)
-      → placed_begins (λ q. P q.char) (continued (placed_from line at (pieces (chars (b ∷ text))))) ≡ false
+      → begins_with (λ q. P q.char) (continued (placed_from line at (pieces (chars (b ∷ text))))) ≡ false
   joined_is_not line at b text small no_backslash h u = rw (ascii_chars b text small u) (by_pieces (chars text))
     where
-      piece_case : (ps : List Piece) → placed_begins (λ q. P q.char) (continued (placed_from line at (piece b ∷ ps))) ≡ false
+      piece_case : (ps : List Piece) → begins_with (λ q. P q.char) (continued (placed_from line at (piece b ∷ ps))) ≡ false
       piece_case ps = by_break (is_line_break b) refl
         where
-          by_break : (t : Bool) → is_line_break b ≡ t → placed_begins (λ q. P q.char) (continued (placed_from line at (piece b ∷ ps))) ≡ false
+          by_break : (t : Bool) → is_line_break b ≡ t → begins_with (λ q. P q.char) (continued (placed_from line at (piece b ∷ ps))) ≡ false
           by_break true e = rw e (first_joined line at (newline_piece 1) ps refl feed)
           by_break false e = rw e (first_joined line at (record { char = b; bytes = len_utf8 b }) ps no_backslash h)
 
-      by_pieces : (cs : List ℕ) → placed_begins (λ q. P q.char) (continued (placed_from line at (pieces (b ∷ cs)))) ≡ false
+      by_pieces : (cs : List ℕ) → begins_with (λ q. P q.char) (continued (placed_from line at (pieces (b ∷ cs)))) ≡ false
       by_pieces [] = piece_case []
       by_pieces (d ∷ cs) = by_pair (is_pair b d) refl
         where
-          by_pair : (t : Bool) → is_pair b d ≡ t → placed_begins (λ q. P q.char) (continued (placed_from line at (pieces (b ∷ d ∷ cs)))) ≡ false
+          by_pair : (t : Bool) → is_pair b d ≡ t → begins_with (λ q. P q.char) (continued (placed_from line at (pieces (b ∷ d ∷ cs)))) ≡ false
           by_pair true e = rw e (first_joined line at (newline_piece 2) (pieces cs) refl feed)
           by_pair false e = rw e (piece_case (pieces (d ∷ cs)))
 
 -- a slash with which no comment begins
 pub slash_first : (line at : ℕ) (text : List ℕ) → IsUtf8 (47 ∷ text)
-    → placed_begins (λ q. q.char == 47) (continued (placed_from line (at + 1) (pieces (chars text)))) ≡ false → placed_begins (λ q. q.char == 42) (continued (placed_from line (at + 1) (pieces (chars text)))) ≡ false
+    → begins_with (λ q. q.char == 47) (continued (placed_from line (at + 1) (pieces (chars text)))) ≡ false → begins_with (λ q. q.char == 42) (continued (placed_from line (at + 1) (pieces (chars text)))) ≡ false
     → spots_from line at (47 ∷ text) ≡ record { c = 47; line = line; begin = at; end = at + 1 } ∷ spots_from line (at + 1) text
 unfolding spots_from
 slash_first line at text u no_slash no_star =
@@ -171,7 +170,7 @@ slash_first line at text u no_slash no_star =
     ∙ ap (spots at) (replaced-plain (at + length (47 ∷ text)) here (continued more) (lone_slash here (continued more) no_slash no_star))
     ∙ ap (λ n. spots at (here ∷ replaced n (continued more))) total
 
-pub nothing_begins : (P : Placed → Bool) (line at : ℕ) → placed_begins P (continued (placed_from line at (pieces (chars [])))) ≡ false
+pub nothing_begins : (P : Placed → Bool) (line at : ℕ) → begins_with P (continued (placed_from line at (pieces (chars [])))) ≡ false
 nothing_begins P line at = rw (chars-nil, continued-nil) refl
 
 -- what a reader has left

@@ -14,10 +14,9 @@ use Rattle.pp_lexer.specs.Words.{word_at}
 use Rattle.pp_lexer.specs.Outcome.{Answer, takes_memory, IsGiven}
 use Rattle.pp_lexer.specs.Segments.{item}
 use Rattle.pp_lexer.specs.Words.{is_blank}
-use Rattle.pp_lexer.specs.Passing.{is_newline_result}
+use Rattle.pp_lexer.specs.Passing.{is_newline_result, passed, lexeme_seen, newline_seen, seen_from, seen_of, comments_at_end, newline_places, places_from, places_left, IsPlaced, IsLexRefused, IsLexed}
 use Rattle.pp_lexer.specs.Items.{Lexeme, is_comment}
 use Rattle.pp_lexer.specs.Lexed.{first_item, after_first_item, comments_before, lexeme_takes_memory, first_takes_memory, first_place, places_after_first}
-use Rattle.pp_lexer.specs.Passing.{passed, lexeme_seen, newline_seen, seen_from, seen_of, comments_at_end, newline_places, places_from, places_left, IsPlaced, IsLexRefused, IsLexed}
 use Rattle.pp_lexer.proofs.WordAtLemmas.{word_at-some}
 use Rattle.pp_lexer.proofs.SegmentsLemmas.{segments_none, advanced-rest}
 use Rattle.pp_lexer.proofs.PassingLemmas.{front_first, last_same}

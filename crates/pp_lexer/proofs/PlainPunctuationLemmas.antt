@@ -19,7 +19,6 @@ use Rattle.pp_lexer.specs.Punctuators.{punctuator, punct_of, is_punctuator}
 use Rattle.pp_lexer.specs.Readers.{placed_from}
 use Rattle.pp_lexer.specs.Reading.{letters}
 use Rattle.pp_lexer.specs.Surroundings.{begins_with}
-use Rattle.pp_lexer.specs.Surroundings.{begins_with as placed_begins}
 use Rattle.pp_lexer.specs.Words.{is_blank, word_at}
 use Rattle.pp_lexer.proofs.FrontsLemmas.{below, negated, utf8_after, plain_parts, joined_is_not, slash_first, nothing_begins}
 use Rattle.pp_lexer.proofs.PlainFrontsLemmas.{plain_ascii, front_plain}
@@ -160,7 +159,7 @@ front_none (c ∷ text) line at = ap (λ k. spots_from line k (c ∷ text)) (ome
 
 -- no comment begins at a slash before this text
 before_none : (P : ℕ → Bool) → P 10 ≡ false → (line at : ℕ) (text : List ℕ) → IsUtf8 text → (0 < length text → (get_or text 0 0 < 128) × ((get_or text 0 0 == 92) ≡ false) × (P (get_or text 0 0) ≡ false))
-    → placed_begins (λ q. P q.char) (continued (placed_from line at (pieces (chars text)))) ≡ false
+    → begins_with (λ q. P q.char) (continued (placed_from line at (pieces (chars text)))) ≡ false
 before_none P feed line at [] u h = nothing_begins (λ q. P q.char) line at
 before_none P feed line at (b ∷ text) u h = let k = h (omega arith) in joined_is_not P feed line at b text k.0 k.1 k.2 u
 

@@ -12,9 +12,8 @@ use Rattle.pp_lexer.specs.declared.lexer.item.TokenValue.{TokenValue}
 use Rattle.pp_lexer.specs.declared.lexer.item.TokenValue.TheVariants.{Ident}
 use Rattle.pp_lexer.specs.Fronts.{spots_from, is_plain}
 use Rattle.pp_lexer.specs.Identifiers.{is_start, is_identifier}
-use Rattle.pp_lexer.specs.PlainWords.{is_newline_value}
+use Rattle.pp_lexer.specs.PlainWords.{is_newline_value, begins, continues, Stops, IsFront, IsPlainWord}
 use Rattle.pp_lexer.specs.Longest.{longest}
-use Rattle.pp_lexer.specs.PlainWords.{begins, continues, Stops, IsFront, IsPlainWord}
 use Rattle.pp_lexer.specs.Reading.{letters}
 use Rattle.pp_lexer.specs.Surroundings.{begins_with}
 use Rattle.pp_lexer.specs.Words.{is_blank, word_at}

@@ -1,11 +1,9 @@
 -- Parts of the value of a number, under names of their own.
-use Rattle.std.specs.Prelude.{ℕ, List, Option}
+use Rattle.std.specs.Prelude.{ℕ, List, Option, Err, pos, Bool, not, ◌||◌, ◌&&◌, ◌==◌, option_map, ok_or}
 use Rattle.std.specs.Option.{option_map_or}
-use Rattle.std.specs.Prelude.{Err}
 use Rattle.pp_lexer.specs.declared.token.PreprocessorError.{PreprocessorError}
 use Rattle.pp_lexer.specs.Outcome.{Answer}
 use Rattle.pp_lexer.specs.NumberValue.{suffix_len, is_f, is_u}
-use Rattle.std.specs.Prelude.{pos, Bool, not, ◌||◌, ◌&&◌, ◌==◌, option_map, ok_or}
 use Rattle.pp_lexer.specs.Numbers.{is_point, is_e}
 use Rattle.pp_lexer.specs.declared.lexer.item.TokenValue.TheVariants.{Integer}
 use Rattle.pp_lexer.specs.declared.token.PreprocessorError.TheVariants.{IntegerOverflow}
