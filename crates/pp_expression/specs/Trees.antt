@@ -1,5 +1,5 @@
 -- Trees of expressions, how they are written, and their values: the expressions of GLSL ES 3.20 section 3.4, which are built from numbers and parentheses by the table of operators.
-use Rattle.std.specs.Prelude.{ℕ, ◌+◌, ◌≤◌, List, [], ◌∷◌, ◌++◌, Result, Ok, Err, IsOk, ℤ}
+use Rattle.std.specs.Prelude.{ℕ, ◌+◌, ◌≤◌, List, [], ◌∷◌, ◌++◌, Result, Ok, IsOk, ℤ}
 use Rattle.pp_lexer.specs.declared.token.Punct.TheVariants as mark
 use Rattle.pp_expression.specs.Answers.{◌>>=◌}
 use Rattle.pp_expression.specs.declared.operator.Unary.{Unary}
