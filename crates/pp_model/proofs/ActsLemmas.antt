@@ -14,9 +14,7 @@ use Rattle.pp_model.specs.Sights.{sight_of}
 use Rattle.pp_model.specs.Blocks.{Block, is_live, are_surroundings_live, has_taken_branch, has_else}
 use Rattle.pp_model.specs.SourceReader.{SourceReader}
 use Rattle.pp_model.specs.Acts.{Acted, passed, failed, failed_at, given, moved, after_word, after_line, acted, skipped, only_word, decided, condition, elif_in, else_in, endif_in, block_here, line_item, live_directive, dead_directive, ended_by, live_act, dead_act, act}
-use Rattle.pp_model.specs.inner.Acts.{else_line}
-use Rattle.pp_model.specs.inner.Acts.{skipped_by}
-use Rattle.pp_model.specs.inner.Acts.{is_defined_now}
+use Rattle.pp_model.specs.inner.Acts.{else_line, skipped_by, is_defined_now}
 use Rattle.pp_model.specs.declared.definition.Named.{Named}
 use Rattle.pp_model.specs.declared.directive.Directive.{Directive}
 use Rattle.pp_model.specs.declared.directive.Directive.TheVariants as d

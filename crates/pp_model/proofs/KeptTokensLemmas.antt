@@ -10,8 +10,7 @@ use Rattle.pp_lexer.specs.declared.token.TokenValue.TheVariants.{Ident, Integer,
 use Rattle.pp_model.specs.Names.{Name, is_in}
 use Rattle.pp_model.specs.Definitions.{Definition, Definitions}
 use Rattle.pp_model.specs.Reading.{Reading, Expander, Opening, opening_of, opening, masked, Listed, argument_reading, reading_of}
-use Rattle.pp_model.specs.inner.Reading.{first_listed}
-use Rattle.pp_model.specs.inner.Reading.{opening_by, after_listed}
+use Rattle.pp_model.specs.inner.Reading.{first_listed, opening_by, after_listed}
 use Rattle.pp_model.specs.Taking.{Takes, held, listed, read}
 use Rattle.pp_model.specs.Calls.{Gathered, before, Fault, Gathers, closed, inside, overfull, ended, failed, Answers, Site, misfit, Called, no_call, refused, fits, called_by, Calls, alone, broken, whole}
 use Rattle.pp_model.specs.Emitting.{opened, Emits, itself, object, name_alone, call_refused, call, Collects, done, failed as failing, item, Alones, Each as Expanded, none, first_failed, more, EachOrRefused, answers_at_limit, answers_below, Alone, answers_at}

@@ -7,7 +7,7 @@ use Rattle.pp_lexer.specs.Lexed.{Seen}
 use Rattle.pp_lexer.specs.declared.token.Location.{Location}
 use Rattle.pp_lexer.specs.declared.token.Token.{Token}
 use Rattle.pp_model.specs.Names.{Name}
-use Rattle.pp_model.specs.Conversions.{is_newline, closes_parameters, parts_parameters, identifier_of, conversion, refused_token}
+use Rattle.pp_model.specs.Conversions.{is_newline, closes_parameters, parts_parameters, conversion, refused_token}
 use Rattle.pp_model.specs.Definitions.{Definition, object_like}
 use Rattle.pp_model.specs.Calls.{Fault}
 use Rattle.pp_model.specs.inner.Emitting.{token_before}
@@ -15,7 +15,6 @@ use Rattle.pp_model.specs.Lines.{line_tokens, first_name, name_of}
 use Rattle.pp_model.specs.inner.Lines.{tokens_from, after_first_token}
 use Rattle.pp_expression.specs.Answers.{◌>>=◌}
 use Rattle.pp_model.specs.DefineLines.{Parameters, new_parameter, after_parameter, after_comma, parameters, has_parameters, definition_at, defined_on}
-
 use Rattle.pp_model.proofs.PartsLemmas.{line_tokens_is}
 
 if_ok_then : {A B : Type 0} (P : A → Type 0) (Q : B → Type 0) (result : Result A Fault) (next : A → Result B Fault) → IfOk result P → ((a : A) → P a → IfOk (next a) Q) → IfOk (result >>= next) Q

@@ -1,5 +1,5 @@
 -- The definitions, by the parts of them that have names of their own.
-use Rattle.std.proofs.Common.{◌≡◌, ℕ, Bool, true, false, List, [], ◌∷◌, Result, Ok, Err, Option, Some, None, option_map, unwrap_or, if◌then◌else◌, refl, ap, ◌∙◌}
+use Rattle.std.proofs.Common.{◌≡◌, ℕ, Bool, true, false, List, [], ◌∷◌, Result, Ok, Err, Option, Some, option_map, unwrap_or, if◌then◌else◌, refl, ap, ◌∙◌}
 use Rattle.std.specs.List.{find}
 use Rattle.std.specs.Str.{chars}
 use Rattle.pp_lexer.specs.Items.{Lexeme}

@@ -10,7 +10,6 @@ use Rattle.pp_lexer.specs.declared.token.PreprocessorError.TheVariants.{Unexpect
 use Rattle.pp_lexer.specs.declared.token.Token.{Token}
 use Rattle.pp_lexer.specs.declared.token.TokenValue.{TokenValue}
 use Rattle.pp_lexer.specs.declared.token.TokenValue.TheVariants.{Version, Extension, Pragma}
-use Rattle.pp_model.specs.Names.{Name}
 use Rattle.pp_model.specs.Definitions.{changed}
 use Rattle.pp_model.specs.Calls.{Fault}
 use Rattle.pp_model.specs.Lines.{line_length, line_fault, line_tokens, comments_before_end, ended_line, only_name}

@@ -1,5 +1,5 @@
 -- A reader of a source, and what was read before a position (docs/RULES.md, Directives 1, 11, 13 and 14).
-use Rattle.std.specs.Prelude.{ℕ, zero, suc, ℤ, pos, Bool, false, not, ◌&&◌, ◌||◌, List, [], ◌∷◌, take, drop, length, slice_get, Option, Some, None}
+use Rattle.std.specs.Prelude.{ℕ, zero, suc, ℤ, pos, Bool, false, not, ◌&&◌, ◌||◌, List, [], ◌∷◌, take, drop, length, slice_get}
 use Rattle.std.specs.Option.{option_map_or}
 use Rattle.pp_lexer.specs.Lexed.{Seen}
 use Rattle.pp_model.specs.Definitions.{Definitions, nothing_defined}

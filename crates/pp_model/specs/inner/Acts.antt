@@ -1,14 +1,11 @@
 -- Parts of what a directive does, under names of their own.
-use Rattle.std.specs.Prelude.{Bool, not, is_some}
+use Rattle.std.specs.Prelude.{Bool, not, is_some, Option}
 use Rattle.pp_lexer.specs.declared.token.Location.{Location}
 use Rattle.pp_model.specs.Names.{Name}
-use Rattle.pp_model.specs.Acts.{Acted, if_defined}
+use Rattle.pp_model.specs.Acts.{Acted, if_defined, failed, passed, after_line, elif_in, else_in, endif_in, block_here, only_word}
 use Rattle.pp_model.specs.SourceReader.{SourceReader}
-use Rattle.std.specs.Prelude.{Option}
 use Rattle.std.specs.Option.{option_map_or}
 use Rattle.pp_model.specs.Calls.{Fault}
-use Rattle.pp_model.specs.Acts.{failed, passed, after_line}
-use Rattle.pp_model.specs.Acts.{elif_in, else_in, endif_in, block_here, only_word}
 
 abbrev pub is_defined_now : SourceReader → Name → Bool
 is_defined_now reader name = is_some (reader.definitions name)

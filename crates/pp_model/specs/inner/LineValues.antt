@@ -1,16 +1,14 @@
 -- Parts of the value of a line, under names of their own.
-use Rattle.std.specs.Prelude.{Option, unwrap_or, Bool, Result, Ok, Err}
+use Rattle.std.specs.Prelude.{Option, unwrap_or, Result, Ok, Err, ◌≡◌, ℕ}
 use Rattle.std.specs.Option.{option_map_or}
 use Rattle.pp_lexer.specs.declared.token.Location.{Location}
 use Rattle.pp_expression.specs.declared.symbol.Found.{Found}
 use Rattle.pp_model.specs.Calls.{Fault}
 use Rattle.pp_model.specs.LineWords.{Words}
-use Rattle.pp_model.specs.LineValues.{told, operand_fault, unwanted_word}
+use Rattle.pp_model.specs.LineValues.{told, operand_fault, unwanted_word, line_of, alone_on_line}
 use Rattle.pp_model.specs.declared.word.Word.{Word}
-use Rattle.std.specs.Prelude.{◌≡◌, ℕ}
 use Rattle.pp_expression.specs.declared.symbol.Value.{Value}
 use Rattle.pp_expression.specs.FirstFault.{Evaluates}
-use Rattle.pp_model.specs.LineValues.{line_of, alone_on_line}
 
 abbrev pub told_fault : Location → Words → Found → Fault
 told_fault directive words found = told directive words found.kind found.left

@@ -1,10 +1,9 @@
 -- Parts of reading, under names of their own.
-use Rattle.std.specs.Prelude.{List, drop, Option, option_map}
+use Rattle.std.specs.Prelude.{List, drop, Option, option_map, slice_get}
 use Rattle.pp_lexer.specs.declared.token.Token.{Token}
 use Rattle.pp_model.specs.Names.{Name}
 use Rattle.pp_model.specs.Definitions.{Definition}
 use Rattle.pp_model.specs.Reading.{Opening}
-use Rattle.std.specs.Prelude.{slice_get}
 use Rattle.std.specs.Option.{option_map_or}
 use Rattle.pp_model.specs.declared.outcome.Outcome.{Outcome}
 use Rattle.pp_model.specs.declared.outcome.Outcome.TheVariants as outcome

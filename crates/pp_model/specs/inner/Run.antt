@@ -1,12 +1,11 @@
 -- Parts of runs, under names of their own.
-use Rattle.std.specs.Prelude.{if◌then◌else◌, List, Result, Ok, Err}
+use Rattle.std.specs.Prelude.{if◌then◌else◌, List, Result, Ok, Err, Some}
 use Rattle.pp_lexer.specs.Items.{Lexeme}
 use Rattle.pp_lexer.specs.declared.token.Token.{Token}
 use Rattle.pp_expression.specs.Answers.{◌>>=◌}
 use Rattle.pp_model.specs.Calls.{Fault}
 use Rattle.pp_model.specs.Conversions.{is_newline, conversion}
 use Rattle.pp_model.specs.Emitting.{first_before}
-use Rattle.std.specs.Prelude.{Some}
 use Rattle.pp_model.specs.Names.{Name}
 use Rattle.pp_model.specs.Definitions.{object_like, changed}
 use Rattle.pp_model.specs.SourceReader.{SourceReader}
