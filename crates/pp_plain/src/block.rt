@@ -26,7 +26,6 @@ pub struct Block {
 
 impl Model for Block {
     ghost use Rattle.pp_model.specs.Blocks as spec;
-ghost use Rattle.pp_model.specs.inner.Blocks as parts;
 
     ghost Value = { spec.Block };
 

@@ -29,7 +29,6 @@ pub struct ParameterList<'a> {
 
 impl<'a> Model for ParameterList<'a> {
     ghost use Rattle.pp_model.specs.DefineLines as spec;
-ghost use Rattle.pp_model.specs.inner.DefineLines as parts;
 
     ghost Value = { spec.Parameters };
 

@@ -2,8 +2,7 @@
 
 ghost use Rattle.std.specs.Prelude.{◌≡◌, ◌≤◌, ℕ, IfOk};
 ghost use Rattle.pp_plain.specs.Changes.{meaning_of};
-ghost use Rattle.pp_model.specs.inner.Reading.{first_listed};
-ghost use Rattle.pp_model.specs.inner.Reading.{after_listed};
+ghost use Rattle.pp_model.specs.inner.Reading.{first_listed, after_listed};
 
 use crate::definitions::Definitions;
 use crate::list::take_first;
