@@ -1,5 +1,5 @@
 -- A list of tokens that give themselves comes to itself.
-use Rattle.std.proofs.Common.{◌≡◌, ◌∙◌, ◌+◌, ◌≤◌, ℕ, Bool, true, false, not, ◌&&◌, List, [], ◌∷◌, length, refl, sym, ap, Option, Some, None, Ok}
+use Rattle.std.proofs.Common.{◌≡◌, ◌+◌, ◌≤◌, ℕ, Bool, true, false, not, ◌&&◌, List, [], ◌∷◌, length, refl, Option, Some, None, Ok}
 use Rattle.std.specs.Prelude.{if◌then◌else◌, is_none}
 use Rattle.std.specs.List.{list_all}
 use Rattle.pp_lexer.specs.declared.token.Token.{Token}
@@ -7,11 +7,11 @@ use Rattle.pp_lexer.specs.declared.token.TokenValue.{TokenValue}
 use Rattle.pp_lexer.specs.declared.token.TokenValue.TheVariants.{Ident, Integer, Float, Punct, Version, Extension, Pragma}
 use Rattle.pp_model.specs.Names.{Name, is_in, is_same_name, is_identifier, line_name}
 use Rattle.pp_model.specs.Definitions.{Definition}
-use Rattle.pp_model.specs.Reading.{Expander, Listed, Opening, opening_of, argument_reading, reading_of, masked}
+use Rattle.pp_model.specs.Reading.{Expander, Listed, opening_of, argument_reading, reading_of}
 use Rattle.pp_model.specs.inner.Reading.{opening_by}
-use Rattle.pp_model.specs.Taking.{Takes, read, line_number}
+use Rattle.pp_model.specs.Taking.{Takes, read}
 use Rattle.pp_model.specs.Calls.{Answers}
-use Rattle.pp_model.specs.Emitting.{Emits, itself, Collects, done, item, Alone, answers_at}
+use Rattle.pp_model.specs.Emitting.{itself, Collects, done, item, Alone, answers_at}
 use Rattle.pp_model.specs.declared.outcome.Outcome.TheVariants as outcome
 use Rattle.pp_model.proofs.CollectLemmas.{Alone-collects}
 use Rattle.pp_rs.specs.Defined.{Defined, meaning_of, body_tokens}
