@@ -1,5 +1,5 @@
 -- What a frame gives, as its step tells it.
-use Rattle.std.proofs.Common.{◌≡◌, ◌∙◌, ℕ, ◌+◌, ◌<◌, ◌⊎◌, List, [], ◌∷◌, length, get_or, ◌≤◌, ◌-◌, arith, true, false, drop, refl, sym, ap, Option, Some, None, slice_get, MatchOption, Ok, Err, inl, inr}
+use Rattle.std.proofs.Common.{◌≡◌, ◌∙◌, ℕ, ◌+◌, ◌<◌, ◌⊎◌, List, [], ◌∷◌, length, get_or, ◌≤◌, arith, true, false, drop, refl, sym, ap, Option, Some, None, slice_get, MatchOption, Ok, Err, inl, inr}
 use Rattle.std.specs.Prelude.{is_none, leb}
 use Rattle.std.proofs.lemmas.Bool.Decides.{leb_tells}
 use Rattle.std.proofs.lemmas.Option.{slice_get_within, get_or_from_slice_get, slice_get_cases}

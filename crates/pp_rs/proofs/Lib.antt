@@ -105,4 +105,5 @@ pub mod SeekLemmas
 pub mod ListedLemmas
 pub mod ReadyLemmas
 pub mod SourceTurnLemmas
+pub mod IdleLemmas
 pub mod ParameterLemmas

@@ -41,6 +41,7 @@ pub mod Collecting
 pub mod Answering
 pub mod Reach
 pub mod Machine
+pub mod Idle
 pub mod Left
 pub mod Calling
 pub mod CallTurns

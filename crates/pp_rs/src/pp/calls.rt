@@ -7,6 +7,7 @@ ghost use Rattle.pp_rs.specs.CallNesting.{nesting_named};
 ghost use Rattle.pp_rs.specs.Seeking.{FindsBy, Enters, FollowsToken};
 ghost use Rattle.pp_rs.specs.Frames.{layer, names_of};
 ghost use Rattle.pp_rs.specs.Held.{HoldsOrdinary, AllHoldOrdinary};
+ghost use Rattle.pp_rs.specs.Idle.{is_idle};
 ghost use Rattle.pp_rs.specs.CallTurns.{TurnsOrRefuses, is_refusal, paren_of, TakenHoldsOrdinary};
 ghost use Rattle.pp_rs.specs.Machine.{StepsTaking, TakesNext, GathersNext, Satisfies, taken_as, is_pause};
 ghost use Rattle.pp_rs.specs.Turns.{taken_in, opens, opens_value};
@@ -270,6 +271,22 @@ impl Caller {
             processor: MacroProcessor::new(alloc),
             held: None,
         }
+    }
+
+    /// Whether nothing is open or held: the next token then comes from the reader.
+    #[inline(always)]
+    pub fn is_idle(&self) -> bool
+        ensures { result ≡ is_idle self.now }
+    {
+        self.held.is_none() && self.processor.is_idle()
+    }
+
+    /// Holds a token that was taken, which is then the next step.
+    pub fn hold(&mut self, token: Token)
+        requires { HoldsOrdinary token.value }
+        ensures { self.new ≡ record self.old { held = Some (Ok token) } }
+    {
+        self.held = Some(Ok(token));
     }
 
     // One step of taking.

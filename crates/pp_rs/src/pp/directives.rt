@@ -501,6 +501,7 @@ impl<'a> DirectiveProcessor<'a> {
     /// number sign that begins no line is `UnexpectedHash` at its place. The lexer's errors are
     /// given as they are. At the end `UnfinishedBlock` is told of each block that is open, the
     /// innermost first.
+    #[inline(always)]
     pub fn step(&mut self) -> Step<Token>
         ensures reads { StepsSource self.old result self.new }
         ensures holds { IfOk result (λ token. HoldsOrdinary token.value) }

@@ -1,6 +1,6 @@
 //! The expander: open macros over a reader.
 
-ghost use Rattle.std.specs.Prelude.{◌≡◌, ◌⊎◌, ◌∷◌, [], drop, IfOk, OnOk, MatchResult, Ok, Err, option_map, pos, false};
+ghost use Rattle.std.specs.Prelude.{◌≡◌, ◌⊎◌, ◌∷◌, [], drop, IfOk, OnOk, MatchResult, Ok, Err, option_map, is_some, not, pos, false};
 ghost use Rattle.std.specs.Str.{chars};
 ghost use Rattle.pp_lexer.specs.PreprocessorError.{out_of_memory};
 ghost use Rattle.pp_lexer.specs.declared.token.PreprocessorError.TheVariants.{LineOverflow};
@@ -44,6 +44,7 @@ impl Model for MacroProcessor {
 }
 
 /// Whether the token is `__LINE__`.
+#[inline(always)]
 pub fn is_line_name(value: &TokenValue) -> bool
     ensures { result ≡ is_identifier line_name value.now }
 {
@@ -63,8 +64,8 @@ pub fn gives_line_name(step: &Step<Token>) -> bool
     }
 }
 
-// A line number as an unsigned integer at this place.
-fn make_line_number(line: u32, location: Location) -> Token
+/// A line number as an unsigned integer at this place.
+pub fn make_line_number(line: u32, location: Location) -> Token
     ensures { result ≡ record { value = value.Integer (record { value = line; signed = false; width = pos 32 }); location = location } }
 {
     Token {
@@ -89,6 +90,14 @@ impl MacroProcessor {
         }
     }
 
+    /// Whether no macro is open.
+    #[inline(always)]
+    pub fn is_idle(&self) -> bool
+        ensures { is_some (outermost_frame_line self.now) ≡ not result }
+    {
+        self.outermost_line().is_none()
+    }
+
     /// Whether the macro of this name is open.
     pub fn is_open(&self, name: &str) -> bool
         ensures { result ≡ is_in (chars name.now) (names_of self.now) }
@@ -97,6 +106,7 @@ impl MacroProcessor {
     }
 
     // The line of the outermost macro that is open.
+    #[inline(always)]
     fn outermost_line(&self) -> Option<u32>
         ensures { result ≡ outermost_frame_line self.now }
     {
