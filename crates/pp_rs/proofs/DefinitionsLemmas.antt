@@ -1,20 +1,24 @@
 -- The names that are defined, kept as the entries of a map.
-use Rattle.std.proofs.Common.{◌≡◌, ℕ, ◌+◌, ◌≤◌, Bool, true, false, if◌then◌else◌, cond, Bor, List, [], ◌∷◌, map, length, Option, Some, None, refl, sym, ◌∙◌, ap, arith}
+use Rattle.std.proofs.Common.{Ordering, ◌≡◌, ℕ, ◌+◌, ◌≤◌, Bool, true, false, if◌then◌else◌, cond, Bor, List, [], ◌∷◌, map, length, Option, Some, None, refl, sym, ◌∙◌, ap, arith}
 use Rattle.std.specs.Prelude.{option_map, sum_by, is_some}
 use Rattle.std.specs.Cmp.Lexicographic.{bytes_decides}
-use Rattle.std.specs.HashMap as hash
-use Rattle.std.specs.HashMap.{HashMap}
-use Rattle.std.specs.List.Sorted.{IsPermutation}
-use Rattle.std.specs.Map.{lookup, values_of, remove_entry, KeepsOthers, IsKeyTest, AreApart}
+use Rattle.std.specs.BTreeMap as tree
+use Rattle.std.specs.BTreeMap.{BTreeMap, insert_entry, is_at}
+use Rattle.std.specs.Cmp.{IsTotalOrder}
+use Rattle.std.specs.Cmp.Lexicographic.{slice_cmp}
+use Rattle.std.specs.List.Sorted.{IsStrictlySortedBy}
+use Rattle.std.specs.Map.{keys_of, lookup, values_of, remove_entry, KeepsOthers, IsKeyTest, AreApart}
+use Rattle.std.specs.Ordering.{eq_by_cmp, is_eq, nat_cmp}
 use Rattle.std.specs.Option.{option_copied}
 use Rattle.std.specs.Str.{chars, IsUtf8, bytes_eq}
 use Rattle.std.specs.declared.string.String.{String}
-use Rattle.std.specs.String.{string_bytes, string_eq}
+use Rattle.std.specs.String.{string_bytes, string_cmp}
+use Rattle.std.proofs.lemmas.Map.Text.{is_eq-slice_cmp}
 use Rattle.std.proofs.lemmas.Str.{IsUtf8-string_bytes}
 use Rattle.pp_lexer.proofs.TextLemmas.{chars_tested}
 use Rattle.std.proofs.lemmas.List.{length-map}
 use Rattle.std.proofs.lemmas.List.Sums.{sum_by-cons}
-use Rattle.std.proofs.lemmas.Map.Entries.{sum_by_puts_entry, sum_by_values_permutation, sum_by-remove_entry}
+use Rattle.std.proofs.lemmas.Map.Entries.{sum_by-insert_entry, sum_by-remove_entry}
 use Rattle.pp_model.specs.Definitions.{Definition, changed}
 use Rattle.pp_model.specs.Names.{Name, is_same_name}
 use Rattle.pp_rs.specs.Defined.{Defined, meaning_of, body_tokens, IsChanged}
@@ -77,32 +81,33 @@ module _ {K X : Type 0} (name_of : K → Name) (value_of : X → Definition) whe
       pub meaning_of-changed : meaning_of (defined new) ≡ changed (meaning_of (defined old)) name (option_map value_of change)
       meaning_of-changed = λ i other. changed_if other (is_same_name other name) refl i
 
-  module _ {S : Type 0} (eq : K → K → Bool) (same : (x y : K) → eq x y ≡ is_same_name (name_of x) (name_of y)) (m n : HashMap K X S) where
+  module _ (cmp : K → K → Ordering) (same : (x y : K) → eq_by_cmp cmp x y ≡ is_same_name (name_of x) (name_of y)) (m n : BTreeMap K X) where
     -- a key is set
-    pub is_set : (k : K) (x : X) (old : Option X) → old ≡ hash.get eq m k → hash.Updates eq m n k (Some x) → hash.PutsEntry eq m n k x old → hash.hash_map_len n ≡ hash.hash_map_len m + (if is_some old then 0 else 1)
+    pub is_set : IsTotalOrder cmp → IsStrictlySortedBy cmp (keys_of m.entries) → (k : K) (x : X) (old : Option X) → old ≡ tree.get cmp m k → tree.Updates cmp m n k (Some x) → n.entries ≡ insert_entry cmp m.entries k x → length n.entries ≡ length m.entries + (if is_some old then 0 else 1)
         → IsChanged (name_of k) (Some (value_of x)) (defined m.entries) (defined n.entries)
-    is_set k x old was updates puts len =
-        let sums = sum_by_puts_entry body_length eq m n k x old was puts in
+    is_set total sorted k x old was updates puts len =
+        let sums = sum_by-insert_entry body_length total m.entries k x sorted in
+        let put = ap (λ (es : List (K × X)). sum_by body_length (values_of es)) puts in
         let before = body_tokens-defined m.entries in
         let after = body_tokens-defined n.entries in
         let more : length n.entries ≤ length m.entries + 1 = one_more old (length m.entries) (length n.entries) len in
         record {
-          meaning = meaning_of-changed eq same (name_of k) (eq k) (same k) m.entries n.entries (Some x) updates.1 updates.3;
+          meaning = meaning_of-changed (eq_by_cmp cmp) same (name_of k) (is_at (cmp k)) (same k) m.entries n.entries (Some x) updates.1 updates.3;
           names = simp length-map more;
           tokens = omega arith;
         }
 
     -- the keys of a name are removed
-    pub is_removed : (name : Name) (test : K → Bool) → ((k : K) → test k ≡ has_name name_of name k) → hash.UpdatesBy eq test m n None → IsPermutation (remove_entry test m.entries) n.entries → hash.hash_map_len n ≤ hash.hash_map_len m
+    pub is_removed : (name : Name) (compare : K → Ordering) → ((k : K) → is_at compare k ≡ has_name name_of name k) → tree.UpdatesBy cmp compare m n None → n.entries ≡ remove_entry (is_at compare) m.entries → length n.entries ≤ length m.entries
         → IsChanged name None (defined m.entries) (defined n.entries)
-    is_removed name test tests updates moved len =
-        let sums = sum_by_values_permutation body_length (remove_entry test m.entries) n.entries moved in
-        let fewer = sum_by-remove_entry body_length test m.entries in
+    is_removed name compare tests updates taken len =
+        let left = ap (λ (es : List (K × X)). sum_by body_length (values_of es)) taken in
+        let fewer = sum_by-remove_entry body_length (is_at compare) m.entries in
         let before = body_tokens-defined m.entries in
         let after = body_tokens-defined n.entries in
-        let kept : length n.entries ≤ length m.entries + 0 = omega arith in
+        let kept : length n.entries ≤ length m.entries + 0 = omega (arith, len) in
         record {
-          meaning = meaning_of-changed eq same name test tests m.entries n.entries None updates.1 updates.3;
+          meaning = meaning_of-changed (eq_by_cmp cmp) same name (is_at compare) tests m.entries n.entries None updates.1 updates.3;
           names = simp length-map kept;
           tokens = omega arith;
         }
@@ -111,11 +116,11 @@ module _ {K X : Type 0} (name_of : K → Name) (value_of : X → Definition) whe
 abbrev pub text_name : {Z : Type 0} → String Z → Name
 text_name key = chars (string_bytes key)
 
-pub texts_same : {Z : Type 0} (x y : String Z) → string_eq x y ≡ is_same_name (text_name x) (text_name y)
-texts_same x y = chars_tested (string_bytes x) (string_bytes y) (IsUtf8-string_bytes x) (IsUtf8-string_bytes y)
+pub texts_same : {Z : Type 0} (x y : String Z) → eq_by_cmp string_cmp x y ≡ is_same_name (text_name x) (text_name y)
+texts_same x y = is_eq-slice_cmp (string_bytes x) (string_bytes y) ∙ chars_tested (string_bytes x) (string_bytes y) (IsUtf8-string_bytes x) (IsUtf8-string_bytes y)
 
-pub text_tests : {Z : Type 0} (bs : List ℕ) → IsUtf8 bs → (k : String Z) → bytes_eq bs (string_bytes k) ≡ has_name text_name (chars bs) k
-text_tests bs u k = chars_tested bs (string_bytes k) u (IsUtf8-string_bytes k)
+pub text_tests : {Z : Type 0} (bs : List ℕ) → IsUtf8 bs → (k : String Z) → is_eq (slice_cmp nat_cmp bs (string_bytes k)) ≡ has_name text_name (chars bs) k
+text_tests bs u k = is_eq-slice_cmp bs (string_bytes k) ∙ chars_tested bs (string_bytes k) u (IsUtf8-string_bytes k)
 
 -- what is found of a map, shown as its definition
 pub shown : {X : Type 0} (value_of : X → Definition) (r : Option (Bor X)) (o : Option X) → option_copied r ≡ o → option_map (λ d. value_of d.now) r ≡ option_map value_of o

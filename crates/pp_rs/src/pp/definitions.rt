@@ -7,14 +7,14 @@ ghost use Rattle.pp_rs.specs.Defined.{meaning_of, IsChanged};
 use crate::pp::define::Define;
 use crate::token::Text;
 use std::alloc::{AllocError, Global};
-use std::collections::HashMap;
+use std::collections::BTreeMap;
 use std::marker::Model;
 use std::rc::Rc;
 
 /// The names that are defined, and what each stands for.
 #[derive(Drop)]
 pub struct Definitions {
-    defines: HashMap<String, Rc<Define>>,
+    defines: BTreeMap<String, Rc<Define>>,
 }
 
 impl Model for Definitions {
@@ -33,7 +33,7 @@ impl Definitions {
         ensures { result ≡ [] }
     {
         Definitions {
-            defines: HashMap::new(alloc),
+            defines: BTreeMap::new(alloc),
         }
     }
 

@@ -1,11 +1,11 @@
-//! Names that are open, found by their hash.
+//! Names that are open, found by their order.
 
 ghost use Rattle.std.specs.Prelude.{◌≡◌, [], OnOk, OnErr, is_some};
 ghost use Rattle.std.specs.Str.{chars};
 ghost use Rattle.pp_rs.specs.OpenNames.{position_at, IsOpenedAt, IsClosedAt};
 
 use std::alloc::{AllocError, Global};
-use std::collections::HashMap;
+use std::collections::BTreeMap;
 use std::marker::Model;
 
 /// Names that are open, each with the position of the outermost frame that has it. The outermost
@@ -13,7 +13,7 @@ use std::marker::Model;
 #[derive(Drop)]
 pub struct OpenNames {
     alloc: Global,
-    positions: HashMap<String, usize>,
+    positions: BTreeMap<String, usize>,
 }
 
 impl Model for OpenNames {
@@ -33,7 +33,7 @@ impl OpenNames {
     {
         OpenNames {
             alloc,
-            positions: HashMap::new(alloc),
+            positions: BTreeMap::new(alloc),
         }
     }
 

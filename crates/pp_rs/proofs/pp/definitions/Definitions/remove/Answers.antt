@@ -1,5 +1,5 @@
 use Rattle.std.proofs.Common.{arith}
-use Rattle.std.specs.String.{string_eq}
+use Rattle.std.specs.String.{string_cmp}
 use Rattle.pp_rs.proofs.DefinitionsLemmas.{text_name, texts_same, text_tests, is_removed}
 use Rattle.pp_rs.proofs.pp.definitions.Definitions.remove.Goals as goal
 
@@ -7,4 +7,4 @@ pub returns : goal.returns
 returns c =
     let e = c.remove.ensures in
     rw (← c.self.view_is)
-    (is_removed text_name (λ d. d.value) string_eq texts_same c.self.inside.defines c.remove.new.self _ _ (text_tests c.args.name.now c.utf8.name) e.updates e.entries (omega (arith, e.len)))
+    (is_removed text_name (λ d. d.value) string_cmp texts_same c.self.inside.defines c.remove.new.self _ _ (text_tests c.args.name.now c.utf8.name) e.updates e.entries (omega (arith, e.len)))

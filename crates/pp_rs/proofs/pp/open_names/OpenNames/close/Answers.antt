@@ -2,7 +2,8 @@ use Rattle.std.proofs.Common.{sym, ap, refl, ◌∙◌, Some}
 use Rattle.std.proofs.lemmas.Bool.{ne_eqb}
 use Rattle.std.specs.Option.{option_copied}
 use Rattle.std.specs.Str.{chars}
-use Rattle.std.specs.String.{string_eq}
+use Rattle.std.specs.Ordering.{eq_by_cmp}
+use Rattle.std.specs.String.{string_cmp}
 use Rattle.pp_rs.specs.OpenNames.{position_at}
 use Rattle.pp_rs.proofs.DefinitionsLemmas.{text_name, texts_same, text_tests}
 use Rattle.pp_rs.proofs.OpenNamesLemmas.{position_found, position_at-changed, closes_inner, closes_outermost, none_inner, other_inner}
@@ -18,7 +19,7 @@ returns-then-first-position c =
     let e = c.remove.ensures in
     closes_outermost (chars c.args.name.now) c.args.position c.args.self.now _
     (rw (← c.self.view_is) (position_found text_name _ _ (text_tests c.args.name.now c.utf8.name) c.self.inside.positions.entries ∙ sym c.get.ensures.value ∙ ap option_copied c.in-Some.is ∙ ap Some c.if-first-position.true))
-    (rw (← c.self.view_is) (position_at-changed text_name string_eq texts_same (chars c.args.name.now) _ (text_tests c.args.name.now c.utf8.name) c.self.inside.positions.entries c.remove.new.self.entries _ e.updates.1 e.updates.3))
+    (rw (← c.self.view_is) (position_at-changed text_name (eq_by_cmp string_cmp) texts_same (chars c.args.name.now) _ (text_tests c.args.name.now c.utf8.name) c.self.inside.positions.entries c.remove.new.self.entries _ e.updates.1 e.updates.3))
 
 pub returns-else-first-position : goal.returns-else-first-position
 returns-else-first-position c =
