@@ -24,10 +24,7 @@ use Rattle.pp_rs.specs.Source.{Source, DefinesOver, HasEffect, IsRefusedStep, Ma
 use Rattle.pp_rs.specs.declared.pp.step.StepExit.TheVariants.{Finished}
 use Rattle.pp_rs.proofs.ItemThereLemmas.{item_there}
 use Rattle.pp_rs.proofs.StandsAfterLemmas.{no_blocks_kept}
-
-abbrev is_end_effect : Effect → Bool
-is_end_effect ends = true
-is_end_effect _ = false
+use Rattle.pp_rs.proofs.FinishedLemmas.{is_end_effect, finished_ends}
 
 line_goes_on : {A : Type 0} (r : Result A Fault) (effect : A → Effect) (taken : ℕ) → ((value : A) → is_end_effect (effect value) ≡ false) → is_end_effect (line_move r effect taken).effect ≡ false
 line_goes_on (Ok value) effect taken h = h value
@@ -107,36 +104,6 @@ sight_goes_on false block (sight.Token token) rest h = refl
 sight_goes_on false block (sight.Hash location) rest h = refl
 sight_goes_on false block (sight.NoWord fault) rest h = refl
 sight_goes_on false block (sight.Directive directive word) rest h = directive_goes_on false block directive word (drop 2 rest)
-
-defines_on : (named : Named) (before : Option Definition) (taken : ℕ) (note : Note) (old new : Source) → DefinesOver named before taken note old (Err Finished) new → ⊥
-defines_on named None taken note old new h = let e = h.0 in cc
-defines_on named (Some before) taken note old new (inl h) = let e = h.1 in cc
-defines_on named (Some before) taken note old new (inr h) = let e = h.1 in cc
-
-decides_on : (word : Location) (tokens : List Token) (blocks : Bool → List OpenBlock) (taken : ℕ) (note : Note) (old new : Source) → Decides word tokens blocks taken note old (Err Finished) new → ⊥
-decides_on word tokens blocks taken note old new (holds value condition h) = let e = h.0 in cc
-decides_on word tokens blocks taken note old new (faulty fault condition failed left) = cc
-
-renumbers_on : (word : Location) (tokens : List Token) (taken : ℕ) (note : Note) (old new : Source) → Renumbers word tokens taken note old (Err Finished) new → ⊥
-renumbers_on word tokens taken note old new (numbers n number h) = let e = h.0 in cc
-renumbers_on word tokens taken note old new (unnumbered fault number failed left) = cc
-
-pub finished_ends : (effect : Effect) (taken : ℕ) (note : Note) (old new : Source) → HasEffect effect taken note old (Err Finished) new → is_end_effect effect ≡ true
-finished_ends (gives token) taken note old new h = let e = h.0 in cc
-finished_ends (gives_item item word) taken note old new h = let e = h.0 in cc
-finished_ends (fails fault) taken note old new h = let e = h.0 in cc
-finished_ends ends taken note old new h = refl
-finished_ends passes taken note old new h = let e = h.0 in cc
-finished_ends (defines named) taken note old new h = absurd (defines_on named (meaning_of old.definitions named.name) taken note old new h)
-finished_ends (undefines name) taken note old new h = let e = h.0 in cc
-finished_ends (opens_where wanted word name) taken note old new h = let e = h.0 in cc
-finished_ends (opens_if word tokens) taken note old new h = absurd (decides_on word tokens _ taken note old new h)
-finished_ends (opens_unread word) taken note old new h = let e = h.0 in cc
-finished_ends (parts block) taken note old new h = let e = h.0 in cc
-finished_ends (parts_if block word tokens) taken note old new h = absurd (decides_on word tokens _ taken note old new h)
-finished_ends closes taken note old new h = let e = h.0 in cc
-finished_ends (unfinished word) taken note old new h = let e = h.0 in cc
-finished_ends (renumbers word tokens) taken note old new h = absurd (renumbers_on word tokens taken note old new h)
 
 -- after the end of a source no item is left, and no open block
 abbrev HasNothing : Source → Type 0

@@ -31,6 +31,7 @@ mod PlainLemmas
 pub mod Walk
 pub mod UnspentLemmas
 pub mod ItemThereLemmas
+pub mod FinishedLemmas
 pub mod EndLemmas
 pub mod NextLemmas
 pub mod InnerBlocksLemmas

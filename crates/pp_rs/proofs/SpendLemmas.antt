@@ -21,7 +21,7 @@ use Rattle.pp_rs.specs.Turns.{as_pause, frame_move, Moves}
 use Rattle.pp_rs.specs.Work.{steps_left, is_end}
 use Rattle.pp_rs.specs.declared.pp.step.StepExit.TheVariants.{Error, Continue, Finished}
 use Rattle.pp_rs.proofs.AdvanceLemmas.{Advances, advance_lowers, some_steps_left}
-use Rattle.pp_rs.proofs.EndLemmas.{finished_ends}
+use Rattle.pp_rs.proofs.FinishedLemmas.{finished_ends}
 use Rattle.pp_rs.proofs.IterateLemmas.{IsLevel, iterate_more, iterate_steep}
 use Rattle.pp_rs.proofs.ReachLemmas.{grown_up, grown_some, grown_steep, through_steep}
 use Rattle.pp_rs.proofs.IterateLemmas.{steep_is_level}

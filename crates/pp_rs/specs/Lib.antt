@@ -33,6 +33,7 @@ pub mod Work
 pub mod Lined
 pub mod Halting
 pub mod LineReading
+pub mod ReadNames
 pub mod SourceActs
 pub mod Adding
 pub mod SettingContent

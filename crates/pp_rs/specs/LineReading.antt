@@ -11,11 +11,7 @@ use Rattle.pp_model.specs.Conversions.{is_newline, conversion}
 use Rattle.pp_model.specs.inner.Emitting.{token_before}
 use Rattle.pp_model.specs.Lines.{line_tokens, line_length, line_fault, comments_before_end, ended_line}
 use Rattle.pp_expression.specs.Answers.{◌>>=◌}
-use Rattle.pp_model.specs.declared.definition.Named.{Named}
-use Rattle.pp_model.specs.declared.definition.Placed.{Placed}
 use Rattle.pp_rs.specs.SourceLexed.{SourceLexed}
-use Rattle.pp_rs.specs.declared.pp.lines.DefineLine.{DefineLine}
-use Rattle.pp_rs.specs.declared.pp.lines.PlacedName.{PlacedName}
 use Rattle.pp_rs.specs.declared.pp.halt.Halt.{Halt}
 use Rattle.pp_rs.specs.declared.pp.halt.Halt.TheVariants as halt
 
@@ -116,11 +112,5 @@ skipped_line rest = unless_fault (line_fault rest) (Ok tt)
 abbrev pub endif_end : Bool → Location → List Seen → Result (Unit {0}) Fault
 endif_end live_around word rest = if live_around then ended_line word rest else skipped_line rest
 
-abbrev pub placed : PlacedName → Placed
-placed first = record { name = first.name; location = first.location }
-
 abbrev pub IsOrdinaryIfOk : Result (Option Token) Halt → Type 0
 IsOrdinaryIfOk result = IfOk result (λ token. IfSome token (λ t. IsTrue (is_ordinary t.value)))
-
-abbrev pub named : DefineLine → Named
-named line = record { name = line.name; location = line.location; definition = line.define }

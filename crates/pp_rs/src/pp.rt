@@ -26,19 +26,17 @@ mod preprocessor;
 mod preprocessor_step;
 mod reader;
 mod source_lexer;
+mod source_reader;
 mod source_turn;
 mod spelling;
 mod step;
-mod words;
 
 pub use all_items::preprocess_all;
 pub use call_list::replies;
 pub use convert::{convert_lexer_token, convert_lexer_token_to_step};
+pub use limit::EXPANSION_LIMIT;
 pub use pp_model::call::{Call, Reply};
 pub use pp_model::outcome::Outcome;
 pub use preprocessor::{Preprocessor, PreprocessorItem};
 pub use spelling::{push_value, spell_tokens};
 pub use step::{Step, StepExit};
-
-/// How many expansions of arguments may stand inside each other.
-pub const EXPANSION_LIMIT: u32 = 128;

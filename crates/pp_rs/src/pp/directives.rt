@@ -15,7 +15,7 @@ ghost use Rattle.pp_rs.specs.Defined.{meaning_of};
 ghost use Rattle.pp_rs.specs.DirectiveItems.{is_item};
 ghost use Rattle.pp_rs.specs.Held.{HoldsOrdinary};
 ghost use Rattle.pp_rs.specs.Item.{as_step};
-ghost use Rattle.pp_rs.specs.LineReading.{named};
+ghost use Rattle.pp_rs.specs.ReadNames.{named};
 ghost use Rattle.pp_rs.specs.OpenBlocks.{last_block, is_live_in, block_skipped};
 ghost use Rattle.pp_rs.specs.SettingContent.{SetsContent};
 ghost use Rattle.pp_rs.specs.Source.{StepsSource, untold_of};

@@ -3,7 +3,8 @@
 ghost use Rattle.std.specs.Prelude.{◌≡◌};
 ghost use Rattle.pp_model.specs.Emitting.{expansion_limit};
 
-use crate::pp::EXPANSION_LIMIT;
+/// How many expansions of arguments may stand inside each other.
+pub const EXPANSION_LIMIT: u32 = 128;
 
 /// The limit, as a number that proofs do not look into.
 #[tactic(auto, unfolding(pp_model::specs::Emitting::expansion_limit))]

@@ -9,6 +9,7 @@ ghost use Rattle.pp_model.specs.Lines.{first_token, first_name, ended_line, only
 ghost use Rattle.pp_rs.specs.DirectiveItems.{line_entries};
 ghost use Rattle.pp_rs.specs.Held.{is_ordinary_leaf};
 ghost use Rattle.pp_rs.specs.LineReading as spec;
+ghost use Rattle.pp_rs.specs.ReadNames.{named, placed};
 ghost use Rattle.pp_rs.specs.ParameterReading.{function_at};
 ghost use Rattle.pp_rs.specs.SourceLexed.{untold_at};
 ghost use Rattle.pp_rs.specs.Untold.{Tells};
@@ -70,7 +71,7 @@ pub struct PlacedName {
 /// The name that comes next.
 pub fn first_name(word: Location, lexer: &mut SourceLexer<'_>) -> Result<PlacedName, Halt>
     requires { lexer.old.spent ≡ false }
-    ensures is { spec.Meets spec.placed result (first_name word lexer.old.rest) }
+    ensures is { spec.Meets placed result (first_name word lexer.old.rest) }
     ensures takes { spec.TakesItems 1 lexer.old result lexer.new }
     ensures errors { Tells result (untold_at lexer.old) (untold_at lexer.new) }
     ensures left { IfOk result (λ name. lexer.new.rest ≢ []) }
@@ -283,7 +284,7 @@ pub fn define_line(
     lexer: &mut SourceLexer<'_>,
 ) -> Result<DefineLine, Halt>
     requires { lexer.old.spent ≡ false }
-    ensures is { spec.Meets spec.named result (defined_on word lexer.old.rest) }
+    ensures is { spec.Meets named result (defined_on word lexer.old.rest) }
     ensures takes { spec.TakesItems (line_length lexer.old.rest) lexer.old result lexer.new }
     ensures errors { Tells result (untold_at lexer.old) (untold_at lexer.new) }
 {

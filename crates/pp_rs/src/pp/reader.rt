@@ -1,16 +1,15 @@
-//! What stands after the frames: the reader of a source.
+//! What stands after the frames: a reader of tokens.
 
 ghost use Rattle.std.specs.Prelude.{◌≡◌, IfOk, option_map, ok_or};
 ghost use Rattle.std.specs.Str.{chars};
 ghost use Rattle.pp_lexer.specs.declared.token.PreprocessorError.TheVariants.{LineOverflow};
 ghost use Rattle.pp_rs.specs.Held.{HoldsOrdinary};
 ghost use Rattle.pp_rs.specs.Item.{as_step};
-ghost use Rattle.pp_rs.specs.Reader.{Reader, of_source, Reads, visible, shown_line};
+ghost use Rattle.pp_rs.specs.Reader.{Reader, Reads, visible, shown_line};
 
 use crate::pp::define::Define;
-use crate::pp::directives::DirectiveProcessor;
-use crate::pp::step::{Step, StepExit};
-use crate::token::{Location, PreprocessorError, Token};
+use crate::pp::step::Step;
+use crate::token::{Location, Token};
 use std::rc::Rc;
 
 /// A reader of tokens, with what names stand for where it stands.
@@ -29,23 +28,4 @@ pub trait MeLexer {
     /// The number that `__LINE__` shows for a line, or `LineOverflow` at the place.
     fn apply_line_offset(&self, line: u32, location: Location) -> Step<u32>
         ensures { result ≡ as_step (ok_or (shown_line (reader self.now) line) (LineOverflow, location)) };
-}
-
-impl<'a> MeLexer for DirectiveProcessor<'a> {
-    ghost reader = { λ source. of_source source };
-
-    fn step(&mut self) -> Step<Token> {
-        DirectiveProcessor::step(self)
-    }
-
-    fn get_define(&self, name: &str) -> Option<&Rc<Define>> {
-        self.find(name)
-    }
-
-    fn apply_line_offset(&self, line: u32, location: Location) -> Step<u32> {
-        match self.shown_line(line) {
-            Some(shown) => Ok(shown),
-            None => Err(StepExit::Error((PreprocessorError::LineOverflow, location))),
-        }
-    }
 }

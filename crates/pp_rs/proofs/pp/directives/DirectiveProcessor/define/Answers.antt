@@ -1,4 +1,4 @@
-use Rattle.pp_rs.specs.LineReading.{named}
+use Rattle.pp_rs.specs.ReadNames.{named}
 use Rattle.pp_rs.proofs.SourceActsLemmas.{err_result, define_failed, define_acts}
 use Rattle.pp_rs.proofs.pp.directives.DirectiveProcessor.define.Goals as goal
 

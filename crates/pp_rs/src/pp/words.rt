@@ -1,3 +1,0 @@
-//! Tests of words.
-
-pub use pp_model::names::is_spelled;
