@@ -11,19 +11,19 @@ use Rattle.pp_model.specs.inner.Run.{adding}
 use Rattle.pp_model.specs.SourceReader.{SourceReader}
 use Rattle.pp_model.specs.Emitting.{expansion_limit}
 use Rattle.pp_rs.specs.Adding.{IsAdded, refused, faulty, added}
-use Rattle.pp_rs.specs.Defined.{Defined, IsChanged, meaning_of}
+use Rattle.pp_expansion.specs.Defined.{Defined, IsChanged, meaning_of}
 use Rattle.pp_rs.specs.Fit.{EndIsLast, IsFit, IsTold}
-use Rattle.pp_rs.specs.Frames.{Layer, names_of}
-use Rattle.pp_rs.specs.Item.{Fault, Step}
+use Rattle.pp_expansion.specs.Frames.{Layer, names_of}
+use Rattle.pp_expansion.specs.Item.{Fault, Step}
 use Rattle.pp_rs.specs.Kept.{Preprocessing, Stands, is_spent, most_items, errors_left, error_place}
-use Rattle.pp_rs.specs.Left.{AreDefinedAbove, work_of}
-use Rattle.pp_rs.specs.Machine.{Machine}
-use Rattle.pp_rs.specs.Reader.{of_source}
-use Rattle.pp_rs.specs.SettingContent.{IsSetIn}
-use Rattle.pp_rs.specs.Source.{Source, untold_of}
-use Rattle.pp_rs.specs.Untold.{untold_with}
+use Rattle.pp_expansion.specs.Left.{AreDefinedAbove, work_of}
+use Rattle.pp_expansion.specs.Machine.{Machine}
+use Rattle.pp_expansion.specs.Reader.{of_source}
+use Rattle.pp_source.specs.SettingContent.{IsSetIn}
+use Rattle.pp_expansion.specs.Source.{Source, untold_of}
+use Rattle.pp_expansion.specs.Untold.{untold_with}
 use Rattle.pp_rs.specs.Stands.{StandsForReader, StandsForHeld, StandsFor}
-use Rattle.pp_rs.specs.declared.pp.step.StepExit.TheVariants.{Error, Continue, Finished}
+use Rattle.pp_expansion.specs.declared.step.StepExit.TheVariants.{Error, Continue, Finished}
 use Rattle.pp_rs.proofs.LeftLemmas.{no_more_work}
 
 module _ (name : Name) (tokens : List Token) (old new : Source) (h : IsSetIn name tokens old new) where

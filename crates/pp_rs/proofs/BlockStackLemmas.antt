@@ -6,7 +6,8 @@ use Rattle.std.proofs.lemmas.List.Folds.{list_all-append}
 use Rattle.std.proofs.Math.Bool.{and-true}
 use Rattle.pp_lexer.specs.Lexed.{Seen}
 use Rattle.pp_model.specs.Blocks.{Block, blocks_at, innermost, Truths, is_branch_live, is_live, are_surroundings_live}
-use Rattle.pp_rs.specs.OpenBlocks.{OpenBlock, StandsForBlock, StandForBlocks}
+use Rattle.pp_expansion.specs.OpenBlocks.{StandsForBlock, StandForBlocks}
+use Rattle.pp_expansion.specs.declared.blocks.OpenBlock.{OpenBlock}
 use Rattle.pp_rs.proofs.BlockPositionLemmas.{LiesBefore}
 use Rattle.pp_rs.proofs.TruthLemmas.{with_truth, branch_live_before, taken_branch_before, surroundings_before}
 use Rattle.pp_rs.proofs.BranchLemmas as branch

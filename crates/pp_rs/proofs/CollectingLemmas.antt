@@ -6,8 +6,8 @@ use Rattle.pp_lexer.specs.declared.token.Token.{Token}
 use Rattle.pp_model.specs.declared.outcome.Outcome.TheVariants as outcome
 use Rattle.pp_rs.specs.Collecting.{tokens_before_error, first_error, error_or_end, AreItemsFrom, AreItemsOf, StandsAfterItems, IsGivenUp}
 use Rattle.pp_rs.specs.Comes.{State, IsRunFrom}
-use Rattle.pp_rs.specs.Held.{ItemHoldsOrdinary}
-use Rattle.pp_rs.specs.Item.{Fault, Item}
+use Rattle.pp_expansion.specs.Held.{ItemHoldsOrdinary}
+use Rattle.pp_expansion.specs.Item.{Fault, Item}
 use Rattle.pp_rs.specs.Kept.{Preprocessing, Stands, is_spent}
 use Rattle.pp_rs.specs.Preprocessing.{is_refusal, IsRefusedItem, IsGivenItem, IsNextItem}
 use Rattle.pp_rs.proofs.ComesLemmas.{gives_nothing, gives_more}

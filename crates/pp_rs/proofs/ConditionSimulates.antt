@@ -19,10 +19,11 @@ use Rattle.pp_model.specs.declared.outcome.Outcome.TheVariants as outcome
 use Rattle.pp_model.specs.declared.sight.Sight.{Sight}
 use Rattle.pp_model.specs.declared.sight.Sight.TheVariants as sight
 use Rattle.pp_model.specs.declared.step.Step.TheVariants as step
-use Rattle.pp_rs.specs.Item.{Step}
-use Rattle.pp_rs.specs.OpenBlocks.{OpenBlock, last_block, is_live_in, block_skipped, skips_branches}
-use Rattle.pp_rs.specs.Source.{Source, Pauses, Decides, holds, faulty, Renumbers, numbers, unnumbered as faulty_number, Makes}
-use Rattle.pp_rs.specs.SourceMoves as moves
+use Rattle.pp_expansion.specs.Item.{Step}
+use Rattle.pp_expansion.specs.OpenBlocks.{last_block, is_live_in, block_skipped, skips_branches}
+use Rattle.pp_expansion.specs.declared.blocks.OpenBlock.{OpenBlock}
+use Rattle.pp_expansion.specs.Source.{Source, Pauses, Decides, holds, faulty, Renumbers, numbers, unnumbered as faulty_number, Makes}
+use Rattle.pp_expansion.specs.SourceMoves as moves
 use Rattle.pp_rs.specs.Stands.{StandsForReader}
 use Rattle.pp_rs.proofs.Simulates.{Simulates}
 use Rattle.pp_rs.proofs.StandsAfterLemmas.{block_here, none_here, innermost_here}

@@ -13,8 +13,8 @@ use Rattle.pp_model.specs.Blocks.{line_at, block_lines, Block, open_blocks, bloc
 use Rattle.pp_model.specs.declared.block.BlockLine.{BlockLine}
 use Rattle.pp_model.specs.declared.sight.Sight.{Sight}
 use Rattle.pp_model.specs.declared.sight.Sight.TheVariants as sight
-use Rattle.pp_rs.proofs.QuietLemmas.{quiet_item}
-use Rattle.pp_rs.proofs.DirectiveLineLemmas.{begins_directive}
+use Rattle.pp_expansion.proofs.QuietLemmas.{quiet_item}
+use Rattle.pp_expansion.proofs.DirectiveLineLemmas.{begins_directive}
 use Rattle.pp_rs.proofs.BlockPositionLemmas.{StandsWithin, line_stands, each_after, block_lines_within, last_lies_before}
 use Rattle.pp_rs.proofs.SurroundingsLemmas.{none_within, open_at}
 

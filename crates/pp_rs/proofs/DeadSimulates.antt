@@ -14,15 +14,15 @@ use Rattle.pp_model.specs.declared.directive.Directive.{Directive}
 use Rattle.pp_model.specs.declared.directive.Directive.TheVariants as d
 use Rattle.pp_model.specs.declared.sight.Sight.{Sight}
 use Rattle.pp_model.specs.declared.sight.Sight.TheVariants as sight
-use Rattle.pp_rs.specs.Item.{Step}
-use Rattle.pp_rs.specs.Lined.{AreLined}
-use Rattle.pp_rs.specs.OpenBlocks.{last_block, is_live_in}
-use Rattle.pp_rs.specs.SourceMoves as moves
-use Rattle.pp_rs.specs.Source.{Source, Pauses, Makes}
+use Rattle.pp_expansion.specs.Item.{Step}
+use Rattle.pp_source.specs.Lined.{AreLined}
+use Rattle.pp_expansion.specs.OpenBlocks.{last_block, is_live_in}
+use Rattle.pp_expansion.specs.SourceMoves as moves
+use Rattle.pp_expansion.specs.Source.{Source, Pauses, Makes}
 use Rattle.pp_rs.specs.Stands.{StandsForReader}
 use Rattle.pp_rs.proofs.DirectiveBeforeLemmas.{word_adds, no_word_adds}
-use Rattle.pp_rs.proofs.DirectiveLineLemmas.{begins_directive, quiet_word}
-use Rattle.pp_rs.proofs.QuietLemmas.{is_one_item, quiet_item, BeginsNoWord, begins_no_word}
+use Rattle.pp_expansion.proofs.DirectiveLineLemmas.{begins_directive, quiet_word}
+use Rattle.pp_expansion.proofs.QuietLemmas.{is_one_item, quiet_item, BeginsNoWord, begins_no_word}
 use Rattle.pp_rs.proofs.Simulates.{Simulates}
 use Rattle.pp_rs.proofs.StandsAfterLemmas.{lined_here}
 use Rattle.pp_rs.proofs.StepHereLemmas.{fails_here, pauses_here, skip_simulates}

@@ -14,11 +14,11 @@ use Rattle.pp_model.specs.declared.definition.Named.{Named}
 use Rattle.pp_model.specs.declared.directive.Directive.TheVariants as d
 use Rattle.pp_model.specs.declared.sight.Sight.TheVariants as sight
 use Rattle.pp_model.specs.declared.step.Step.TheVariants as step
-use Rattle.pp_rs.specs.Item.{Step}
-use Rattle.pp_rs.specs.Defined.{meaning_of}
-use Rattle.pp_rs.specs.OpenBlocks.{last_block, is_live_in}
-use Rattle.pp_rs.specs.SourceMoves as moves
-use Rattle.pp_rs.specs.Source.{Source, DefinesOver, Makes}
+use Rattle.pp_expansion.specs.Item.{Step}
+use Rattle.pp_expansion.specs.Defined.{meaning_of}
+use Rattle.pp_expansion.specs.OpenBlocks.{last_block, is_live_in}
+use Rattle.pp_expansion.specs.SourceMoves as moves
+use Rattle.pp_expansion.specs.Source.{Source, DefinesOver, Makes}
 use Rattle.pp_rs.specs.Stands.{StandsForReader}
 use Rattle.pp_rs.proofs.Simulates.{Simulates}
 use Rattle.pp_rs.proofs.StepHereLemmas.{whole_line, act_here, pauses_here, line_simulates}

@@ -16,9 +16,9 @@ use Rattle.pp_model.specs.SourceReader.{has_directive}
 use Rattle.pp_model.specs.declared.directive.Directive.{Directive}
 use Rattle.pp_model.specs.declared.sight.Sight.{Sight}
 use Rattle.pp_model.specs.declared.sight.Sight.TheVariants as sight
-use Rattle.pp_rs.specs.Lined.{AreLined}
-use Rattle.pp_rs.proofs.DirectiveLineLemmas.{begins_directive}
-use Rattle.pp_rs.proofs.QuietLemmas.{begins_no_word}
+use Rattle.pp_source.specs.Lined.{AreLined}
+use Rattle.pp_expansion.proofs.DirectiveLineLemmas.{begins_directive}
+use Rattle.pp_expansion.proofs.QuietLemmas.{begins_no_word}
 
 -- the number sign of a directive stands there, and an item after it that isn't an error
 abbrev pub begins_with_hash : Sight → Bool

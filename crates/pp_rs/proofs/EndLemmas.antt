@@ -15,16 +15,17 @@ use Rattle.pp_model.specs.declared.directive.Directive.{Directive}
 use Rattle.pp_model.specs.declared.directive.Directive.TheVariants as d
 use Rattle.pp_model.specs.declared.sight.Sight.{Sight}
 use Rattle.pp_model.specs.declared.sight.Sight.TheVariants as sight
-use Rattle.pp_rs.specs.Item.{Step}
-use Rattle.pp_rs.specs.Defined.{meaning_of}
-use Rattle.pp_rs.specs.OpenBlocks.{OpenBlock, last_block, is_live_in, block_parted, block_skipped, skips_branches}
-use Rattle.pp_rs.specs.DirectiveItems.{version, extension, pragma, line_entries}
-use Rattle.pp_rs.specs.SourceMoves.{Effect, gives, gives_item, fails, ends, passes, defines, undefines, opens_where, opens_if, opens_unread, parts, parts_if, closes, unfinished, renumbers, Note, Move, failing, line_move, skip_by, skip_move, else_effect, endif_move, elif_move, live_move, dead_move, directive_move, move_at, move_of}
-use Rattle.pp_rs.specs.Source.{Source, DefinesOver, HasEffect, IsRefusedStep, Makes, Decides, holds, faulty, Renumbers, numbers, unnumbered}
-use Rattle.pp_rs.specs.declared.pp.step.StepExit.TheVariants.{Finished}
+use Rattle.pp_expansion.specs.Item.{Step}
+use Rattle.pp_expansion.specs.Defined.{meaning_of}
+use Rattle.pp_expansion.specs.OpenBlocks.{last_block, is_live_in, block_parted, block_skipped, skips_branches}
+use Rattle.pp_expansion.specs.declared.blocks.OpenBlock.{OpenBlock}
+use Rattle.pp_expansion.specs.DirectiveItems.{version, extension, pragma, line_entries}
+use Rattle.pp_expansion.specs.SourceMoves.{Effect, gives, gives_item, fails, ends, passes, defines, undefines, opens_where, opens_if, opens_unread, parts, parts_if, closes, unfinished, renumbers, Note, Move, failing, line_move, skip_by, skip_move, else_effect, endif_move, elif_move, live_move, dead_move, directive_move, move_at, move_of}
+use Rattle.pp_expansion.specs.Source.{Source, DefinesOver, HasEffect, IsRefusedStep, Makes, Decides, holds, faulty, Renumbers, numbers, unnumbered}
+use Rattle.pp_expansion.specs.declared.step.StepExit.TheVariants.{Finished}
 use Rattle.pp_rs.proofs.ItemThereLemmas.{item_there}
 use Rattle.pp_rs.proofs.StandsAfterLemmas.{no_blocks_kept}
-use Rattle.pp_rs.proofs.FinishedLemmas.{is_end_effect, finished_ends}
+use Rattle.pp_expansion.proofs.FinishedLemmas.{is_end_effect, finished_ends}
 
 line_goes_on : {A : Type 0} (r : Result A Fault) (effect : A → Effect) (taken : ℕ) → ((value : A) → is_end_effect (effect value) ≡ false) → is_end_effect (line_move r effect taken).effect ≡ false
 line_goes_on (Ok value) effect taken h = h value

@@ -9,12 +9,13 @@ use Rattle.pp_model.specs.Blocks.{Block, blocks_at, innermost}
 use Rattle.pp_model.specs.SourceReader.{SourceReader}
 use Rattle.pp_model.specs.Acts.{ended_by, ended}
 use Rattle.pp_model.specs.declared.sight.Sight.TheVariants as sight
-use Rattle.pp_rs.specs.Item.{Step}
-use Rattle.pp_rs.specs.OpenBlocks.{OpenBlock, last_block, is_live_in}
-use Rattle.pp_rs.specs.SourceMoves as moves
-use Rattle.pp_rs.specs.Source.{Source, HasEffect}
+use Rattle.pp_expansion.specs.Item.{Step}
+use Rattle.pp_expansion.specs.OpenBlocks.{last_block, is_live_in}
+use Rattle.pp_expansion.specs.declared.blocks.OpenBlock.{OpenBlock}
+use Rattle.pp_expansion.specs.SourceMoves as moves
+use Rattle.pp_expansion.specs.Source.{Source, HasEffect}
 use Rattle.pp_rs.specs.Stands.{StandsForReader}
-use Rattle.pp_rs.specs.declared.pp.step.StepExit.TheVariants.{Error}
+use Rattle.pp_expansion.specs.declared.step.StepExit.TheVariants.{Error}
 use Rattle.pp_rs.proofs.Simulates.{Simulates}
 use Rattle.pp_rs.proofs.StandsAfterLemmas.{block_here, none_here, innermost_here}
 use Rattle.pp_rs.proofs.ItemThereLemmas.{none_left}

@@ -4,20 +4,20 @@ use Rattle.pp_lexer.specs.declared.token.Token.{Token}
 use Rattle.pp_lexer.specs.declared.token.PreprocessorError.TheVariants.{LineOverflow}
 use Rattle.pp_model.specs.Names.{is_identifier, line_name}
 use Rattle.pp_model.specs.declared.outcome.Outcome.TheVariants as outcome
-use Rattle.pp_rs.specs.CallTurns.{TurnsTo, passes, gives, object, seeks}
-use Rattle.pp_rs.specs.Frames.{Layer}
-use Rattle.pp_rs.specs.Idle.{is_idle, gives_itself}
-use Rattle.pp_rs.specs.Item.{Step}
-use Rattle.pp_rs.specs.Machine.{Machine, StepsTaking, held, moved}
-use Rattle.pp_rs.specs.Reader.{Reader, of_source, Reads}
-use Rattle.pp_rs.specs.Source.{Source}
+use Rattle.pp_expansion.specs.CallTurns.{TurnsTo, passes, gives, object, seeks}
+use Rattle.pp_expansion.specs.Frames.{Layer}
+use Rattle.pp_expansion.specs.Idle.{is_idle, gives_itself}
+use Rattle.pp_expansion.specs.Item.{Step}
+use Rattle.pp_expansion.specs.Machine.{Machine, StepsTaking, held, moved}
+use Rattle.pp_expansion.specs.Reader.{Reader, of_source, Reads}
+use Rattle.pp_expansion.specs.Source.{Source}
 use Rattle.pp_rs.specs.SourceTurns.{StepsOver}
-use Rattle.pp_rs.specs.Turns.{taken_in, opens_value}
-use Rattle.pp_rs.specs.declared.pp.calls.Taken.{Taken}
-use Rattle.pp_rs.specs.declared.pp.calls.Taken.TheVariants as taken
-use Rattle.pp_rs.specs.declared.pp.step.StepExit.{StepExit}
-use Rattle.pp_rs.specs.declared.pp.step.StepExit.TheVariants.{Error}
-use Rattle.pp_rs.proofs.MachineLemmas.{takes_exit, takes_shown, takes_step, shows_token}
+use Rattle.pp_expansion.specs.Turns.{taken_in, opens_value}
+use Rattle.pp_expansion.specs.declared.calls.Taken.{Taken}
+use Rattle.pp_expansion.specs.declared.calls.Taken.TheVariants as taken
+use Rattle.pp_expansion.specs.declared.step.StepExit.{StepExit}
+use Rattle.pp_expansion.specs.declared.step.StepExit.TheVariants.{Error}
+use Rattle.pp_expansion.proofs.MachineLemmas.{takes_exit, takes_shown, takes_step, shows_token}
 
 abbrev pub idle : Machine
 idle = record { held = None; frames = [] }

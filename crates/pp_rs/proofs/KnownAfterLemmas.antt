@@ -16,13 +16,13 @@ use Rattle.pp_model.specs.declared.block.Part.TheVariants as part
 use Rattle.pp_model.specs.declared.directive.Directive.{Directive}
 use Rattle.pp_model.specs.declared.sight.Sight.{Sight}
 use Rattle.pp_model.specs.declared.sight.Sight.TheVariants as sight
-use Rattle.pp_rs.specs.Lined.{AreLined}
+use Rattle.pp_source.specs.Lined.{AreLined}
 use Rattle.pp_rs.proofs.BranchesReadLemmas.{BranchesRead, read_quiet, read_unread, read_opened, read_closed, read_else, read_skipped, read_elif}
-use Rattle.pp_rs.proofs.DirectiveLineLemmas.{begins_directive, quiet_word}
+use Rattle.pp_expansion.proofs.DirectiveLineLemmas.{begins_directive, quiet_word}
 use Rattle.pp_rs.proofs.LastLemmas.{last_split}
-use Rattle.pp_rs.proofs.LinedLemmas.{lined_after}
+use Rattle.pp_source.proofs.LinedLemmas.{lined_after}
 use Rattle.pp_rs.proofs.LinesBeforeLemmas.{AddsLines, directive_adds}
-use Rattle.pp_rs.proofs.QuietLemmas.{is_one_item, quiet_item, quiet_one, begins_no_word}
+use Rattle.pp_expansion.proofs.QuietLemmas.{is_one_item, quiet_item, quiet_one, begins_no_word}
 use Rattle.pp_rs.proofs.SkippedLemmas.{quiet_after_word}
 
 -- it is known at this reader

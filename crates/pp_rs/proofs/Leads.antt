@@ -8,12 +8,12 @@ use Rattle.pp_model.specs.Emitting.{Emits}
 use Rattle.pp_model.specs.SourceReader.{SourceReader}
 use Rattle.pp_model.specs.declared.outcome.Outcome.{Outcome}
 use Rattle.pp_model.specs.declared.outcome.Outcome.TheVariants as outcome
-use Rattle.pp_rs.specs.Item.{Step}
+use Rattle.pp_expansion.specs.Item.{Step}
 use Rattle.pp_rs.specs.Comes.{source_rules}
-use Rattle.pp_rs.specs.Source.{Source}
-use Rattle.pp_rs.specs.Machine.{Machine}
+use Rattle.pp_expansion.specs.Source.{Source}
+use Rattle.pp_expansion.specs.Machine.{Machine}
 use Rattle.pp_rs.specs.Stands.{StandsFor}
-use Rattle.pp_rs.specs.declared.pp.step.StepExit.TheVariants.{Error, Continue, Finished}
+use Rattle.pp_expansion.specs.declared.step.StepExit.TheVariants.{Error, Continue, Finished}
 
 -- What a step of an expander is to the state that it stands for: it gives the next item, or pauses and keeps that.
 abbrev pub LeadsFrom : Answers → Expander SourceReader → Step Token → Machine → Source → Type 0

@@ -5,22 +5,22 @@ use Rattle.std.specs.Fn.{iterate}
 use Rattle.pp_lexer.specs.Lexed.{Seen}
 use Rattle.pp_lexer.specs.declared.token.Location.{Location}
 use Rattle.pp_lexer.specs.declared.token.Token.{Token}
-use Rattle.pp_rs.specs.CallTurns.{TakesSomething}
-use Rattle.pp_rs.specs.Defined.{Defined}
-use Rattle.pp_rs.specs.Frames.{Layer}
-use Rattle.pp_rs.specs.Item.{Step}
-use Rattle.pp_rs.specs.Left.{work_of, regions, regions_of, most_open, most_bodies, holding_step}
-use Rattle.pp_rs.specs.Machine.{Machine, StepsTaking, held, moved, taken_as}
-use Rattle.pp_rs.specs.OpenBlocks.{OpenBlock}
-use Rattle.pp_rs.specs.Reach.{grown, through, total, work_in, frame_steps}
-use Rattle.pp_rs.specs.Reader.{Reader, of_source, of_list, Reads}
-use Rattle.pp_rs.specs.Source.{Source, StepsSource}
-use Rattle.pp_rs.specs.Turns.{Moves}
-use Rattle.pp_rs.specs.Work.{is_end, most_reads}
-use Rattle.pp_rs.specs.declared.pp.step.StepExit.TheVariants.{Finished}
-use Rattle.pp_rs.proofs.AdvanceLemmas.{some_steps_left}
-use Rattle.pp_rs.proofs.ReachLemmas.{through_up}
-use Rattle.pp_rs.proofs.SpendLemmas.{total_one_more}
+use Rattle.pp_expansion.specs.CallTurns.{TakesSomething}
+use Rattle.pp_expansion.specs.Defined.{Defined}
+use Rattle.pp_expansion.specs.Frames.{Layer}
+use Rattle.pp_expansion.specs.Item.{Step}
+use Rattle.pp_expansion.specs.Left.{work_of, regions, regions_of, most_open, most_bodies, holding_step}
+use Rattle.pp_expansion.specs.Machine.{Machine, StepsTaking, held, moved, taken_as}
+use Rattle.pp_expansion.specs.declared.blocks.OpenBlock.{OpenBlock}
+use Rattle.pp_expansion.specs.Reach.{grown, through, total, work_in, frame_steps}
+use Rattle.pp_expansion.specs.Reader.{Reader, of_source, of_list, Reads}
+use Rattle.pp_expansion.specs.Source.{Source, StepsSource}
+use Rattle.pp_expansion.specs.Turns.{Moves}
+use Rattle.pp_expansion.specs.Work.{is_end, most_reads}
+use Rattle.pp_expansion.specs.declared.step.StepExit.TheVariants.{Finished}
+use Rattle.pp_expansion.proofs.AdvanceLemmas.{some_steps_left}
+use Rattle.pp_expansion.proofs.ReachLemmas.{through_up}
+use Rattle.pp_expansion.proofs.SpendLemmas.{total_one_more}
 
 -- something is held that isn't the end
 abbrev pub HoldsMore : Option (Step Token) → Type 0

@@ -14,7 +14,7 @@ use Rattle.pp_rs.proofs.BranchActsLemmas.{step_keeps_branches}
 use Rattle.pp_rs.proofs.BranchedLemmas.{IsBranched}
 use Rattle.pp_rs.proofs.KnownAfterLemmas.{HasRead}
 use Rattle.pp_rs.proofs.LastLemmas.{last_split}
-use Rattle.pp_rs.proofs.LinedLemmas.{items_lined}
+use Rattle.pp_source.proofs.LinedLemmas.{items_lined}
 use Rattle.pp_rs.proofs.LinesBeforeLemmas.{no_lines_before}
 use Rattle.pp_rs.proofs.ReaderInvariantLemmas.{reached_keeps}
 

@@ -9,10 +9,10 @@ use Rattle.pp_model.specs.declared.directive.Directive.{Directive}
 use Rattle.pp_model.specs.declared.directive.Directive.TheVariants as d
 use Rattle.pp_model.specs.declared.sight.Sight.{Sight}
 use Rattle.pp_model.specs.declared.sight.Sight.TheVariants as sight
-use Rattle.pp_rs.specs.Item.{Step}
-use Rattle.pp_rs.specs.OpenBlocks.{last_block, is_live_in}
-use Rattle.pp_rs.specs.SourceMoves as moves
-use Rattle.pp_rs.specs.Source.{Source, Makes}
+use Rattle.pp_expansion.specs.Item.{Step}
+use Rattle.pp_expansion.specs.OpenBlocks.{last_block, is_live_in}
+use Rattle.pp_expansion.specs.SourceMoves as moves
+use Rattle.pp_expansion.specs.Source.{Source, Makes}
 use Rattle.pp_rs.specs.Stands.{StandsForReader}
 use Rattle.pp_rs.proofs.Simulates.{Simulates}
 use Rattle.pp_rs.proofs.StepHereLemmas.{gives_here, fails_here, pauses_here}

@@ -9,19 +9,19 @@ use Rattle.pp_model.specs.Calls.{Fault}
 use Rattle.pp_model.specs.Reading.{Expander}
 use Rattle.pp_model.specs.SourceReader.{SourceReader}
 use Rattle.pp_rs.specs.Fit.{EndIsLast, IsFit, IsTold}
-use Rattle.pp_rs.specs.Held.{HoldsOrdinary}
-use Rattle.pp_rs.specs.Item.{Item, Step, is_out_of_memory, wants_memory}
-use Rattle.pp_rs.specs.Left.{work_of}
-use Rattle.pp_rs.specs.LexerErrors.{ErrorAt}
-use Rattle.pp_rs.specs.Machine.{Machine}
-use Rattle.pp_rs.specs.Reader.{of_source}
-use Rattle.pp_rs.specs.Source.{Source, untold_of}
+use Rattle.pp_expansion.specs.Held.{HoldsOrdinary}
+use Rattle.pp_expansion.specs.Item.{Item, Step, is_out_of_memory, wants_memory}
+use Rattle.pp_expansion.specs.Left.{work_of}
+use Rattle.pp_expansion.specs.LexerErrors.{ErrorAt}
+use Rattle.pp_expansion.specs.Machine.{Machine}
+use Rattle.pp_expansion.specs.Reader.{of_source}
+use Rattle.pp_expansion.specs.Source.{Source, untold_of}
 use Rattle.pp_rs.specs.SourceTurns.{TurnsSource, StepsOver}
 use Rattle.pp_rs.specs.Stands.{StandsFor}
 use Rattle.pp_rs.specs.Kept.{Preprocessing, Stands, is_spent, most_items, errors_left, error_place}
 use Rattle.pp_rs.specs.Preprocessing.{IsLessLeft, IsErrorAt, of_lexer, of_its_own, IsRefusedItem, IsGivenItem, IsNextItem}
-use Rattle.pp_rs.specs.Untold.{with_read, IsToldBut}
-use Rattle.pp_rs.specs.declared.pp.step.StepExit.TheVariants.{Error, Continue, Finished}
+use Rattle.pp_expansion.specs.Untold.{with_read, IsToldBut}
+use Rattle.pp_expansion.specs.declared.step.StepExit.TheVariants.{Error, Continue, Finished}
 use Rattle.pp_rs.proofs.Leads.{LeadsFrom, Leads, leads_then}
 use Rattle.pp_rs.proofs.LeftLemmas.{SomethingLeft, some_left, left_is_work, no_work}
 use Rattle.pp_rs.proofs.UntoldTurnLemmas.{errors_of, ErrorsLeft, turn_errors}

@@ -8,18 +8,18 @@ use Rattle.pp_model.specs.Names.{Name, is_identifier, line_name}
 use Rattle.pp_model.specs.Definitions.{Definition}
 use Rattle.pp_model.specs.Taking.{line_number}
 use Rattle.pp_model.specs.declared.outcome.Outcome.TheVariants as outcome
-use Rattle.pp_rs.specs.CallTurns.{Sought, no_call, refused, gathered, sought_by, Seeks, alone, called, Finds, TurnsTo, passes, gives, object, seeks, paren_of, is_refusal, TakesSomething}
+use Rattle.pp_expansion.specs.CallTurns.{Sought, no_call, refused, gathered, sought_by, Seeks, alone, called, Finds, TurnsTo, passes, gives, object, seeks, paren_of, is_refusal, TakesSomething}
 use Rattle.pp_rs.specs.Fit.{NothingIn, IsReady, EndIsLast}
-use Rattle.pp_rs.specs.Frames.{Layer, Advance, advance, outermost_frame_line}
-use Rattle.pp_rs.specs.Item.{Step, wants_memory}
-use Rattle.pp_rs.specs.Machine.{Machine, StepsTaking, held, moved, TakesNext, now, later, GathersNext, closed, inside, overfull, ended, failed, step_of_outcome, taken_as}
-use Rattle.pp_rs.specs.Reader.{Reader, of_source, of_list, Reads, shown_line}
-use Rattle.pp_rs.specs.Turns.{as_pause, frame_move, Moves}
-use Rattle.pp_rs.specs.declared.pp.calls.Taken.{Taken}
-use Rattle.pp_rs.specs.declared.pp.step.StepExit.{StepExit}
-use Rattle.pp_rs.specs.declared.pp.step.StepExit.TheVariants.{Error, Continue, Finished}
+use Rattle.pp_expansion.specs.Frames.{Layer, Advance, advance, outermost_frame_line}
+use Rattle.pp_expansion.specs.Item.{Step, wants_memory}
+use Rattle.pp_expansion.specs.Machine.{Machine, StepsTaking, held, moved, TakesNext, now, later, GathersNext, closed, inside, overfull, ended, failed, step_of_outcome, taken_as}
+use Rattle.pp_expansion.specs.Reader.{Reader, of_source, of_list, Reads, shown_line}
+use Rattle.pp_expansion.specs.Turns.{as_pause, frame_move, Moves}
+use Rattle.pp_expansion.specs.declared.calls.Taken.{Taken}
+use Rattle.pp_expansion.specs.declared.step.StepExit.{StepExit}
+use Rattle.pp_expansion.specs.declared.step.StepExit.TheVariants.{Error, Continue, Finished}
 use Rattle.pp_rs.proofs.EndLemmas.{source_end}
-use Rattle.pp_rs.proofs.TurnLeadsLemmas.{wants_taken}
+use Rattle.pp_expansion.proofs.TurnLeadsLemmas.{wants_taken}
 use Rattle.pp_rs.proofs.UnspentLemmas.{steps_unspent}
 
 reads_ready : (r s : Reader) (step : Step Token) → IsReady r → Reads r step s → wants_memory step ≡ false → IsReady s

@@ -10,11 +10,12 @@ use Rattle.pp_model.specs.SourceReader.{has_directive, is_on_directive_line, has
 use Rattle.pp_model.specs.declared.directive.Directive.{Directive}
 use Rattle.pp_model.specs.declared.sight.Sight.{Sight}
 use Rattle.pp_model.specs.declared.sight.Sight.TheVariants as sight
-use Rattle.pp_rs.specs.OpenBlocks.{OpenBlock, last_block, is_live_in}
-use Rattle.pp_rs.specs.Source.{Source, IsAfter}
-use Rattle.pp_rs.specs.SourceMoves.{Note, notes_text, notes_directive, directive_line}
+use Rattle.pp_expansion.specs.OpenBlocks.{last_block, is_live_in}
+use Rattle.pp_expansion.specs.declared.blocks.OpenBlock.{OpenBlock}
+use Rattle.pp_expansion.specs.Source.{Source, IsAfter}
+use Rattle.pp_expansion.specs.SourceMoves.{Note, notes_text, notes_directive, directive_line}
 use Rattle.pp_rs.proofs.DirectiveBeforeLemmas.{begins_with_hash, hash_in_front, item_adds_none, AddsDirective, IsApart, directive_further, apart_further}
-use Rattle.pp_rs.proofs.DirectiveLineLemmas.{begins_directive, take_two}
+use Rattle.pp_expansion.proofs.DirectiveLineLemmas.{begins_directive, take_two}
 use Rattle.pp_rs.proofs.DirectivePlaceLemmas.{one_after, off_line_further, off_line_after}
 use Rattle.pp_rs.proofs.TextBeforeLemmas.{text_one, text_two, text_line}
 

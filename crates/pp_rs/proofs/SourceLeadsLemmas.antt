@@ -8,21 +8,21 @@ use Rattle.pp_model.specs.Reading.{Expander}
 use Rattle.pp_model.specs.Calls.{Answers}
 use Rattle.pp_model.specs.SourceReader.{SourceReader}
 use Rattle.pp_model.specs.declared.outcome.Outcome.TheVariants as outcome
-use Rattle.pp_rs.specs.CallTurns.{TurnsTo}
-use Rattle.pp_rs.specs.Item.{Step, wants_memory}
-use Rattle.pp_rs.specs.Machine.{Machine}
-use Rattle.pp_rs.specs.Reader.{Reader, of_source, of_list, Reads, shown_line, visible}
+use Rattle.pp_expansion.specs.CallTurns.{TurnsTo}
+use Rattle.pp_expansion.specs.Item.{Step, wants_memory}
+use Rattle.pp_expansion.specs.Machine.{Machine}
+use Rattle.pp_expansion.specs.Reader.{Reader, of_source, of_list, Reads, shown_line, visible}
 use Rattle.pp_model.specs.LineValues.{as_line_number}
 use Rattle.pp_model.specs.Reads.{here, later}
 use Rattle.pp_rs.specs.Comes.{source_rules}
-use Rattle.pp_rs.specs.Source.{Source}
+use Rattle.pp_expansion.specs.Source.{Source}
 use Rattle.pp_rs.specs.Stands.{StandsForReader}
-use Rattle.pp_rs.specs.declared.pp.calls.Taken.{Taken}
-use Rattle.pp_rs.specs.declared.pp.step.StepExit.TheVariants.{Error, Continue, Finished}
-use Rattle.pp_rs.proofs.SearchSimulates.{ReadsTo, StandsIn}
+use Rattle.pp_expansion.specs.declared.calls.Taken.{Taken}
+use Rattle.pp_expansion.specs.declared.step.StepExit.TheVariants.{Error, Continue, Finished}
+use Rattle.pp_expansion.proofs.SearchSimulates.{ReadsTo, StandsIn}
 use Rattle.pp_rs.proofs.Simulates.{Simulates}
 use Rattle.pp_rs.proofs.SourceSimulates.{source_simulates}
-use Rattle.pp_rs.proofs.TurnLeadsLemmas.{LeadsTo, turn_leads, wants_taken}
+use Rattle.pp_expansion.proofs.TurnLeadsLemmas.{LeadsTo, turn_leads, wants_taken}
 
 abbrev pub IsSource : Reader → SourceReader → Type 0
 IsSource (of_source source) x = StandsForReader source x

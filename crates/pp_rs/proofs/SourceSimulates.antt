@@ -4,12 +4,12 @@ use Rattle.std.specs.Prelude.{Err, MatchBool}
 use Rattle.pp_lexer.specs.declared.token.Token.{Token}
 use Rattle.pp_model.specs.Sights.{sight_of}
 use Rattle.pp_model.specs.SourceReader.{SourceReader}
-use Rattle.pp_rs.specs.Item.{Step, wants_memory}
-use Rattle.pp_rs.specs.OpenBlocks.{last_block, is_live_in}
-use Rattle.pp_rs.specs.SourceMoves as moves
-use Rattle.pp_rs.specs.Source.{Source, Makes, IsRefusedStep}
+use Rattle.pp_expansion.specs.Item.{Step, wants_memory}
+use Rattle.pp_expansion.specs.OpenBlocks.{last_block, is_live_in}
+use Rattle.pp_expansion.specs.SourceMoves as moves
+use Rattle.pp_expansion.specs.Source.{Source, Makes, IsRefusedStep}
 use Rattle.pp_rs.specs.Stands.{StandsForReader}
-use Rattle.pp_rs.specs.declared.pp.step.StepExit.TheVariants.{Finished}
+use Rattle.pp_expansion.specs.declared.step.StepExit.TheVariants.{Finished}
 use Rattle.pp_rs.proofs.Simulates.{Simulates, SourceSimulates}
 use Rattle.pp_rs.proofs.LiveSimulates.{live_simulates}
 use Rattle.pp_rs.proofs.DeadSimulates.{dead_simulates}

@@ -10,38 +10,38 @@ use Rattle.pp_model.specs.Reading.{Expander, masked}
 use Rattle.pp_model.specs.SourceReader.{SourceReader}
 use Rattle.pp_model.specs.SpliceList.{open_names, spliced}
 use Rattle.pp_model.specs.declared.splice.Entry.{Entry}
-use Rattle.pp_rs.specs.Calling.{PendingCall}
-use Rattle.pp_rs.specs.CallTurns.{TurnsTo, TurnsOrRefuses, TakesSomething}
-use Rattle.pp_rs.specs.Defined.{Defined, meaning_of}
-use Rattle.pp_rs.specs.Finishing.{site_at, Finishes, IsOpened}
+use Rattle.pp_expansion.specs.Calling.{PendingCall}
+use Rattle.pp_expansion.specs.CallTurns.{TurnsTo, TurnsOrRefuses, TakesSomething}
+use Rattle.pp_expansion.specs.Defined.{Defined, meaning_of}
+use Rattle.pp_expansion.specs.Finishing.{site_at, Finishes, IsOpened}
 use Rattle.pp_rs.specs.Fit.{EndIsLast, IsFit}
-use Rattle.pp_rs.specs.Frames.{layer, flat, names_of}
-use Rattle.pp_rs.specs.Halting.{exit_of}
-use Rattle.pp_rs.specs.Item.{Step, wants_memory}
-use Rattle.pp_rs.specs.Left.{work_of, most_alone, most_bodies, most_open, reads_left, regions, regions_of, one_more, holding_step, IsSound}
-use Rattle.pp_rs.specs.Machine.{Machine}
-use Rattle.pp_rs.specs.Reader.{of_source}
+use Rattle.pp_expansion.specs.Frames.{layer, flat, names_of}
+use Rattle.pp_expansion.specs.Halting.{exit_of}
+use Rattle.pp_expansion.specs.Item.{Step, wants_memory}
+use Rattle.pp_expansion.specs.Left.{work_of, most_alone, most_bodies, most_open, reads_left, regions, regions_of, one_more, holding_step, IsSound}
+use Rattle.pp_expansion.specs.Machine.{Machine}
+use Rattle.pp_expansion.specs.Reader.{of_source}
 use Rattle.pp_rs.specs.Comes.{source_rules}
-use Rattle.pp_rs.specs.Source.{Source}
+use Rattle.pp_expansion.specs.Source.{Source}
 use Rattle.pp_rs.specs.SourceTurns.{FollowsCall, opened, refused, FollowsTurn, TurnsSource, StepsOver}
 use Rattle.pp_rs.specs.Stands.{StandsForReader, StandsForHeld, StandsFor}
-use Rattle.pp_rs.specs.declared.pp.calls.Taken.{Taken}
-use Rattle.pp_rs.specs.declared.pp.calls.Taken.TheVariants as taken
-use Rattle.pp_rs.specs.declared.pp.halt.Halt.{Halt}
-use Rattle.pp_rs.specs.declared.pp.halt.Halt.TheVariants as halt
-use Rattle.pp_rs.specs.declared.pp.step.StepExit.{StepExit}
-use Rattle.pp_rs.specs.declared.pp.step.StepExit.TheVariants.{Error, Continue, Finished}
-use Rattle.pp_rs.proofs.CallFallsLemmas.{IsLess, IsPending, turn_falls, pending_opens}
-use Rattle.pp_rs.proofs.FlatLemmas.{open_flat}
+use Rattle.pp_expansion.specs.declared.calls.Taken.{Taken}
+use Rattle.pp_expansion.specs.declared.calls.Taken.TheVariants as taken
+use Rattle.pp_expansion.specs.declared.halt.Halt.{Halt}
+use Rattle.pp_expansion.specs.declared.halt.Halt.TheVariants as halt
+use Rattle.pp_expansion.specs.declared.step.StepExit.{StepExit}
+use Rattle.pp_expansion.specs.declared.step.StepExit.TheVariants.{Error, Continue, Finished}
+use Rattle.pp_expansion.proofs.CallFallsLemmas.{IsLess, IsPending, turn_falls, pending_opens}
+use Rattle.pp_expansion.proofs.FlatLemmas.{open_flat}
 use Rattle.pp_rs.proofs.Leads.{LeadsFrom, Leads}
-use Rattle.pp_rs.proofs.OpenSoundLemmas.{sound_rest}
-use Rattle.pp_rs.proofs.ReachLemmas.{frame_steps_level}
+use Rattle.pp_expansion.proofs.OpenSoundLemmas.{sound_rest}
+use Rattle.pp_expansion.proofs.ReachLemmas.{frame_steps_level}
 use Rattle.pp_rs.proofs.ReadyLemmas.{turn_ready, turn_last, turn_end, turn_some}
-use Rattle.pp_rs.proofs.SearchSimulates.{StandsIn, StandsHeld}
+use Rattle.pp_expansion.proofs.SearchSimulates.{StandsIn, StandsHeld}
 use Rattle.pp_rs.proofs.SourceLeadsLemmas.{IsSource, sources_simulate, source_shows, source_sees, source_leads}
-use Rattle.pp_rs.proofs.SpendLemmas.{Falls, no_more_falls, one_more_falls}
-use Rattle.pp_rs.proofs.TurnLeadsLemmas.{LeadsTo, wants_taken}
-use Rattle.pp_rs.proofs.WorkFallsLemmas.{frame_of, falls_work}
+use Rattle.pp_expansion.proofs.SpendLemmas.{Falls, no_more_falls, one_more_falls}
+use Rattle.pp_expansion.proofs.TurnLeadsLemmas.{LeadsTo, wants_taken}
+use Rattle.pp_expansion.proofs.WorkFallsLemmas.{frame_of, falls_work}
 
 -- the turns of the code
 module _ (levels : ℕ) (m n : Machine) (r s : Source) where

@@ -8,14 +8,15 @@ use Rattle.pp_model.specs.Blocks.{Truths, open_blocks, block_lines, blocks_at, i
 use Rattle.pp_model.specs.SourceReader.{SourceReader}
 use Rattle.pp_model.specs.Acts.{after_word}
 use Rattle.pp_model.specs.declared.block.BlockLine.{BlockLine}
-use Rattle.pp_rs.specs.Defined.{meaning_of}
-use Rattle.pp_rs.specs.Lined.{AreLined}
-use Rattle.pp_rs.specs.OpenBlocks.{OpenBlock, last_block, outer_blocks, is_live_in, StandForBlocks, AreBefore}
-use Rattle.pp_rs.specs.Source.{Source}
+use Rattle.pp_expansion.specs.Defined.{meaning_of}
+use Rattle.pp_source.specs.Lined.{AreLined}
+use Rattle.pp_expansion.specs.OpenBlocks.{last_block, outer_blocks, is_live_in, StandForBlocks, AreBefore}
+use Rattle.pp_expansion.specs.declared.blocks.OpenBlock.{OpenBlock}
+use Rattle.pp_expansion.specs.Source.{Source}
 use Rattle.pp_rs.specs.Stands.{StandsForReader}
 use Rattle.pp_rs.proofs.BlockStackLemmas.{Innermost, innermost_last, stands_innermost, none_stand, live_outside, live_inside}
 use Rattle.pp_rs.proofs.LastLemmas.{last_split}
-use Rattle.pp_rs.proofs.LinedLemmas.{lined_after}
+use Rattle.pp_source.proofs.LinedLemmas.{lined_after}
 use Rattle.pp_rs.proofs.LinesBeforeLemmas.{AreLinesBefore, AddsLines, lines_here, lines_further}
 use Rattle.pp_rs.proofs.RememberedLemmas.{IsRemembered}
 

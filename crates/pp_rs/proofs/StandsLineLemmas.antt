@@ -15,14 +15,15 @@ use Rattle.pp_model.specs.declared.block.BlockLine.{BlockLine}
 use Rattle.pp_model.specs.declared.block.Part.{Part}
 use Rattle.pp_model.specs.declared.directive.Directive.{Directive}
 use Rattle.pp_model.specs.declared.sight.Sight.TheVariants as sight
-use Rattle.pp_rs.specs.Item.{Step}
-use Rattle.pp_rs.specs.Defined.{meaning_of}
-use Rattle.pp_rs.specs.OpenBlocks.{OpenBlock, StandForBlocks, AreBefore}
-use Rattle.pp_rs.specs.SourceMoves as moves
-use Rattle.pp_rs.specs.Source.{Source, IsAfter, Pauses}
+use Rattle.pp_expansion.specs.Item.{Step}
+use Rattle.pp_expansion.specs.Defined.{meaning_of}
+use Rattle.pp_expansion.specs.OpenBlocks.{StandForBlocks, AreBefore}
+use Rattle.pp_expansion.specs.declared.blocks.OpenBlock.{OpenBlock}
+use Rattle.pp_expansion.specs.SourceMoves as moves
+use Rattle.pp_expansion.specs.Source.{Source, IsAfter, Pauses}
 use Rattle.pp_rs.specs.Stands.{StandsForReader}
-use Rattle.pp_rs.proofs.BodyLemmas.{line_length_least}
-use Rattle.pp_rs.proofs.DirectiveLineLemmas.{begins_directive}
+use Rattle.pp_expansion.proofs.BodyLemmas.{line_length_least}
+use Rattle.pp_expansion.proofs.DirectiveLineLemmas.{begins_directive}
 use Rattle.pp_rs.proofs.LinesBeforeLemmas.{AddsLines, directive_adds}
 use Rattle.pp_rs.proofs.RememberedLemmas.{IsRemembered, line_remembered}
 use Rattle.pp_rs.proofs.SkippedLemmas.{quiet_after_word}

@@ -7,15 +7,16 @@ use Rattle.pp_model.specs.Blocks.{block_lines, Block, blocks_at}
 use Rattle.pp_model.specs.SourceReader.{SourceReader}
 use Rattle.pp_model.specs.Acts.{moved}
 use Rattle.pp_model.specs.declared.sight.Sight.{Sight}
-use Rattle.pp_rs.specs.Defined.{meaning_of}
-use Rattle.pp_rs.specs.OpenBlocks.{OpenBlock, last_block, is_live_in, StandForBlocks}
-use Rattle.pp_rs.specs.SourceMoves as moves
-use Rattle.pp_rs.specs.SourceMoves.{notes_text, notes_directive}
-use Rattle.pp_rs.specs.Source.{Source, IsAfter}
+use Rattle.pp_expansion.specs.Defined.{meaning_of}
+use Rattle.pp_expansion.specs.OpenBlocks.{last_block, is_live_in, StandForBlocks}
+use Rattle.pp_expansion.specs.declared.blocks.OpenBlock.{OpenBlock}
+use Rattle.pp_expansion.specs.SourceMoves as moves
+use Rattle.pp_expansion.specs.SourceMoves.{notes_text, notes_directive}
+use Rattle.pp_expansion.specs.Source.{Source, IsAfter}
 use Rattle.pp_rs.specs.Stands.{StandsForReader}
 use Rattle.pp_rs.proofs.DirectiveBeforeLemmas.{begins_with_hash, AddsDirective}
 use Rattle.pp_rs.proofs.LinesBeforeLemmas.{AddsLines}
-use Rattle.pp_rs.proofs.QuietLemmas.{is_one_item, quiet_one, one_there, one_in_front}
+use Rattle.pp_expansion.proofs.QuietLemmas.{is_one_item, quiet_one, one_there, one_in_front}
 use Rattle.pp_rs.proofs.RememberedLemmas.{IsRemembered, one_remembered, two_remembered}
 use Rattle.pp_rs.proofs.StandsAfterLemmas.{live_now, remembered_here, stands_further, blocks_stay}
 use Rattle.pp_rs.proofs.TruthLemmas.{before_later}

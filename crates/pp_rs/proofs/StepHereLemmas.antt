@@ -16,12 +16,12 @@ use Rattle.pp_model.specs.declared.outcome.Outcome.{Outcome}
 use Rattle.pp_model.specs.declared.outcome.Outcome.TheVariants as outcome
 use Rattle.pp_model.specs.declared.sight.Sight.{Sight}
 use Rattle.pp_model.specs.declared.step.Step.TheVariants as step
-use Rattle.pp_rs.specs.Item.{Step}
-use Rattle.pp_rs.specs.OpenBlocks.{last_block, is_live_in}
-use Rattle.pp_rs.specs.SourceMoves as moves
-use Rattle.pp_rs.specs.Source.{Source, HasEffect, Makes}
+use Rattle.pp_expansion.specs.Item.{Step}
+use Rattle.pp_expansion.specs.OpenBlocks.{last_block, is_live_in}
+use Rattle.pp_expansion.specs.SourceMoves as moves
+use Rattle.pp_expansion.specs.Source.{Source, HasEffect, Makes}
 use Rattle.pp_rs.specs.Stands.{StandsForReader}
-use Rattle.pp_rs.specs.declared.pp.step.StepExit.TheVariants.{Error, Continue}
+use Rattle.pp_expansion.specs.declared.step.StepExit.TheVariants.{Error, Continue}
 use Rattle.pp_rs.proofs.Simulates.{Simulates}
 use Rattle.pp_rs.proofs.StandsAfterLemmas.{live_now, after_here}
 

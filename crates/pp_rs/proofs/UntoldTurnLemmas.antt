@@ -5,25 +5,25 @@ use Rattle.pp_lexer.specs.declared.token.Token.{Token}
 use Rattle.pp_model.specs.Calls.{Fault, Gathered, before}
 use Rattle.pp_model.specs.Definitions.{Definition}
 use Rattle.pp_model.specs.Names.{Name}
-use Rattle.pp_rs.specs.Calling.{PendingCall}
-use Rattle.pp_rs.specs.CallTurns.{Sought, no_call, sought_by, Seeks, alone, called, Finds, TurnsTo, passes, gives, object, seeks, paren_of, is_refusal}
-use Rattle.pp_rs.specs.Defined.{Defined}
+use Rattle.pp_expansion.specs.Calling.{PendingCall}
+use Rattle.pp_expansion.specs.CallTurns.{Sought, no_call, sought_by, Seeks, alone, called, Finds, TurnsTo, passes, gives, object, seeks, paren_of, is_refusal}
+use Rattle.pp_expansion.specs.Defined.{Defined}
 use Rattle.pp_rs.specs.Fit.{IsTold}
-use Rattle.pp_rs.specs.Frames.{Layer}
-use Rattle.pp_rs.specs.Item.{Step, is_out_of_memory, wants_memory}
-use Rattle.pp_rs.specs.LexerErrors.{ErrorAt}
-use Rattle.pp_rs.specs.Machine.{Machine, StepsTaking, held, moved, TakesNext, now, later, GathersNext, closed, inside, overfull, ended, failed, taken_as}
-use Rattle.pp_rs.specs.Reader.{Reader, of_source, of_list, Reads}
-use Rattle.pp_rs.specs.Source.{Source, untold_of}
+use Rattle.pp_expansion.specs.Frames.{Layer}
+use Rattle.pp_expansion.specs.Item.{Step, is_out_of_memory, wants_memory}
+use Rattle.pp_expansion.specs.LexerErrors.{ErrorAt}
+use Rattle.pp_expansion.specs.Machine.{Machine, StepsTaking, held, moved, TakesNext, now, later, GathersNext, closed, inside, overfull, ended, failed, taken_as}
+use Rattle.pp_expansion.specs.Reader.{Reader, of_source, of_list, Reads}
+use Rattle.pp_expansion.specs.Source.{Source, untold_of}
 use Rattle.pp_rs.specs.SourceTurns.{FollowsCall, opened, refused as call_refused, FollowsTurn, TurnsSource}
-use Rattle.pp_rs.specs.Turns.{Moves}
-use Rattle.pp_rs.specs.Untold.{Untold, with_read, ExitTells, StepTells, untold_with, IsToldBut}
-use Rattle.pp_rs.specs.declared.pp.calls.Taken.{Taken}
-use Rattle.pp_rs.specs.declared.pp.calls.Taken.TheVariants as taken
-use Rattle.pp_rs.specs.declared.pp.step.StepExit.{StepExit}
-use Rattle.pp_rs.specs.declared.pp.step.StepExit.TheVariants.{Error, Continue, Finished}
+use Rattle.pp_expansion.specs.Turns.{Moves}
+use Rattle.pp_expansion.specs.Untold.{Untold, with_read, ExitTells, StepTells, untold_with, IsToldBut}
+use Rattle.pp_expansion.specs.declared.calls.Taken.{Taken}
+use Rattle.pp_expansion.specs.declared.calls.Taken.TheVariants as taken
+use Rattle.pp_expansion.specs.declared.step.StepExit.{StepExit}
+use Rattle.pp_expansion.specs.declared.step.StepExit.TheVariants.{Error, Continue, Finished}
 use Rattle.pp_rs.proofs.ReadyLemmas.{step_free, next_free, gather_free}
-use Rattle.pp_rs.proofs.UntoldLemmas.{nothing_met}
+use Rattle.pp_source.proofs.UntoldLemmas.{nothing_met}
 
 -- a list of tokens has no errors of the lexer
 abbrev untold_in : Reader → Untold

@@ -6,7 +6,7 @@ use Rattle.pp_lexer.specs.declared.token.Token.{Token}
 use Rattle.pp_model.specs.Names.{Name}
 use Rattle.pp_model.specs.Run.{items_of, content_tokens, with_added}
 use Rattle.pp_rs.specs.Comes.{State}
-use Rattle.pp_rs.specs.Item.{Fault}
+use Rattle.pp_expansion.specs.Item.{Fault}
 use Rattle.pp_rs.specs.Kept.{Preprocessing, Stands, is_spent, most_items, errors_left, error_place}
 
 -- Each state that the preprocessor stood for is now one in which the name stands for a macro of these tokens. Where nothing was left,

@@ -4,7 +4,7 @@ use Rattle.pp_lexer.specs.declared.token.Token.{Token}
 use Rattle.pp_model.specs.declared.outcome.Outcome.{Outcome}
 use Rattle.pp_model.specs.declared.outcome.Outcome.TheVariants as outcome
 use Rattle.pp_rs.specs.Comes.{State, Gives, IsRunFrom}
-use Rattle.pp_rs.specs.Item.{Fault, Item}
+use Rattle.pp_expansion.specs.Item.{Fault, Item}
 use Rattle.pp_rs.specs.Kept.{Preprocessing, Stands, is_spent}
 
 -- the tokens before the first error item

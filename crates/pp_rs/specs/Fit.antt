@@ -1,14 +1,14 @@
 -- What holds of an expander over a source between any two calls, unless memory was refused.
 use Rattle.std.specs.Prelude.{◌≡◌, false, List, [], Option, Some, Err, ⊤}
 use Rattle.pp_lexer.specs.declared.token.Token.{Token}
-use Rattle.pp_rs.specs.Frames.{Layer}
-use Rattle.pp_rs.specs.Item.{Step}
-use Rattle.pp_rs.specs.Left.{IsSound}
-use Rattle.pp_rs.specs.Machine.{Machine}
-use Rattle.pp_rs.specs.Reader.{Reader, of_source, of_list}
-use Rattle.pp_rs.specs.Source.{Source, untold_of}
-use Rattle.pp_rs.specs.Untold.{IsToldBut}
-use Rattle.pp_rs.specs.declared.pp.step.StepExit.TheVariants.{Finished}
+use Rattle.pp_expansion.specs.Frames.{Layer}
+use Rattle.pp_expansion.specs.Item.{Step}
+use Rattle.pp_expansion.specs.Left.{IsSound}
+use Rattle.pp_expansion.specs.Machine.{Machine}
+use Rattle.pp_expansion.specs.Reader.{Reader, of_source, of_list}
+use Rattle.pp_expansion.specs.Source.{Source, untold_of}
+use Rattle.pp_expansion.specs.Untold.{IsToldBut}
+use Rattle.pp_expansion.specs.declared.step.StepExit.TheVariants.{Finished}
 
 -- a source with no item left, and no open block
 abbrev pub NothingIn : Reader → Type 0

@@ -4,8 +4,8 @@ use Rattle.pp_lexer.specs.PreprocessorError.{out_of_memory}
 use Rattle.pp_model.specs.declared.outcome.Outcome.{Outcome}
 use Rattle.pp_model.specs.declared.outcome.Outcome.TheVariants as outcome
 use Rattle.pp_rs.specs.Comes.{State, Comes}
-use Rattle.pp_rs.specs.Held.{AnswerHoldsOrdinary}
-use Rattle.pp_rs.specs.Item.{Fault, Item, is_out_of_memory}
+use Rattle.pp_expansion.specs.Held.{AnswerHoldsOrdinary}
+use Rattle.pp_expansion.specs.Item.{Fault, Item, is_out_of_memory}
 use Rattle.pp_rs.specs.Kept.{Preprocessing, Stands, is_spent, most_items, errors_left, error_place}
 
 -- the answer is that memory was refused

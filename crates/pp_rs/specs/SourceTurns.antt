@@ -4,18 +4,18 @@ use Rattle.pp_lexer.specs.PreprocessorError.{out_of_memory}
 use Rattle.pp_lexer.specs.declared.token.Token.{Token}
 use Rattle.pp_model.specs.Calls.{Fault}
 use Rattle.pp_model.specs.Emitting.{answers_at}
-use Rattle.pp_rs.specs.Calling.{PendingCall}
-use Rattle.pp_rs.specs.CallTurns.{TurnsTo, TakesSomething}
-use Rattle.pp_rs.specs.Defined.{Defined}
-use Rattle.pp_rs.specs.Finishing.{site_at, IsOpened}
-use Rattle.pp_rs.specs.Frames.{names_of}
-use Rattle.pp_rs.specs.Item.{Step}
-use Rattle.pp_rs.specs.Machine.{Machine}
-use Rattle.pp_rs.specs.Reader.{of_source}
-use Rattle.pp_rs.specs.Source.{Source}
-use Rattle.pp_rs.specs.declared.pp.calls.Taken.{Taken}
-use Rattle.pp_rs.specs.declared.pp.calls.Taken.TheVariants as taken
-use Rattle.pp_rs.specs.declared.pp.step.StepExit.TheVariants.{Error, Continue}
+use Rattle.pp_expansion.specs.Calling.{PendingCall}
+use Rattle.pp_expansion.specs.CallTurns.{TurnsTo, TakesSomething}
+use Rattle.pp_expansion.specs.Defined.{Defined}
+use Rattle.pp_expansion.specs.Finishing.{site_at, IsOpened}
+use Rattle.pp_expansion.specs.Frames.{names_of}
+use Rattle.pp_expansion.specs.Item.{Step}
+use Rattle.pp_expansion.specs.Machine.{Machine}
+use Rattle.pp_expansion.specs.Reader.{of_source}
+use Rattle.pp_expansion.specs.Source.{Source}
+use Rattle.pp_expansion.specs.declared.calls.Taken.{Taken}
+use Rattle.pp_expansion.specs.declared.calls.Taken.TheVariants as taken
+use Rattle.pp_expansion.specs.declared.step.StepExit.TheVariants.{Error, Continue}
 
 -- after a call its frame is open, which pauses, or its fault is given
 pub data FollowsCall (levels : ℕ) (definitions : List Defined) (call : PendingCall) (old : Machine) (step : Step Token) (new : Machine) : Type 0 where

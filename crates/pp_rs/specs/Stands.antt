@@ -5,14 +5,14 @@ use Rattle.pp_lexer.specs.declared.token.Token.{Token}
 use Rattle.pp_model.specs.Reading.{Expander}
 use Rattle.pp_model.specs.Blocks.{block_lines, blocks_at}
 use Rattle.pp_model.specs.SourceReader.{SourceReader, has_directive, is_on_directive_line, has_live_text_before}
-use Rattle.pp_rs.specs.Defined.{meaning_of}
-use Rattle.pp_rs.specs.Frames.{flat}
-use Rattle.pp_rs.specs.Item.{Step}
-use Rattle.pp_rs.specs.Lined.{AreLined}
-use Rattle.pp_rs.specs.Machine.{Machine, outcome_of_step}
-use Rattle.pp_rs.specs.OpenBlocks.{last_block, is_live_in, StandForBlocks, AreBefore}
-use Rattle.pp_rs.specs.Source.{Source}
-use Rattle.pp_rs.specs.declared.pp.step.StepExit.TheVariants.{Error, Continue}
+use Rattle.pp_expansion.specs.Defined.{meaning_of}
+use Rattle.pp_expansion.specs.Frames.{flat}
+use Rattle.pp_expansion.specs.Item.{Step}
+use Rattle.pp_source.specs.Lined.{AreLined}
+use Rattle.pp_expansion.specs.Machine.{Machine, outcome_of_step}
+use Rattle.pp_expansion.specs.OpenBlocks.{last_block, is_live_in, StandForBlocks, AreBefore}
+use Rattle.pp_expansion.specs.Source.{Source}
+use Rattle.pp_expansion.specs.declared.step.StepExit.TheVariants.{Error, Continue}
 
 -- A reader of a source: what is left to read stands after its position, the lines of blocks are those before it and those after it, and
 -- the blocks that are kept are those that are open there. It remembers whether a live token of the text was read, and a directive. No

@@ -3,7 +3,7 @@
 ghost use Rattle.std.specs.Prelude.{◌≡◌, Some, IfOk, OnOk, IfErr, OnErr, All};
 ghost use Rattle.pp_lexer.specs.PreprocessorError.{out_of_memory};
 ghost use Rattle.pp_rs.specs.Collecting.{AreItemsOf, IsGivenUp};
-ghost use Rattle.pp_rs.specs.Held.{ItemHoldsOrdinary};
+ghost use Rattle.pp_expansion.specs.Held.{ItemHoldsOrdinary};
 ghost use Rattle.pp_rs.specs.Kept.{most_items};
 ghost use Rattle.pp_rs.specs.Preprocessing.{is_refusal};
 

@@ -3,11 +3,11 @@
 ghost use Rattle.std.specs.Prelude.{◌≡◌, ◌-◌, ◌^◌, ◌<◌, false, length, map, All, IfOk};
 ghost use Rattle.pp_model.specs.Run.{add_define, next, call_of, HasRoom, IsRun, ends_run};
 ghost use Rattle.pp_rs.specs.Answering.{IsAnswered};
-ghost use Rattle.pp_rs.specs.Item.{is_out_of_memory};
+ghost use Rattle.pp_expansion.specs.Item.{is_out_of_memory};
 ghost use Rattle.pp_rs.specs.Kept.{is_spent};
 
 use crate::pp::preprocessor::Preprocessor;
-use crate::pp::step::is_out_of_memory;
+use pp_expansion::step::is_out_of_memory;
 use pp_model::call::{Call, Reply};
 use pp_model::outcome::{Fault, Outcome};
 use std::alloc::{AllocError, Global};

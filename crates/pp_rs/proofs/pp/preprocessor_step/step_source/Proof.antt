@@ -1,20 +1,49 @@
 use Rattle.std.specs.Prelude.{IfOk}
-use Rattle.pp_rs.proofs.Walk.{[], ◌∷◌, ◌++◌, ℕ, refl, MutBor, proved, full_share, common, id⊢, emp, wand, sep, apply∗, Lft, Incl, ftrue, flft, fdead, named, mut, ty_ref, ty_unit, vptr, fact, fact_i, tables, ⊑_meet, ⊑_refl, meet_⊑_left, meet_⊑_right, ‵, raw, ◌⊛◌, some, later, ◌$◌, ◌∵◌, !, qed, done, move, keep, use0, use1, use2, use3, split, join, fsplit, pick, await, suffices, frame, group, lft_new, lft_end, lft-common, agg, enter, addr, stop, no_more, and_then, returns, alloc_all, pass_all, free_all, look_at, get, through, sets, lands_as, vt_lit, lends_again, comes_back, LentAgain, MutRef, mut_vals, mut_Tells, mut_hides, MutAny, Includes-none, wide_val, table_at, plain, named_lft, nothing, heard, peeks, calls_at, lasts, triple_of, Stays, stay_ref, Goes-ref, ends_at, framed, hide_mut, Is, shows}
-use Rattle.pp_rs.specs.Reader.{of_source}
-use Rattle.pp_rs.specs.CallTurns.{TurnsOrRefuses, TakenHoldsOrdinary}
+use Rattle.std.proofs.Common.{[], ◌∷◌, ◌++◌, ℕ, refl, MutBor}
+use Rattle.std.proofs.raw_atomic.Walks.{proved}
+use base.Fraction.{full_share}
+use base.FractionLaws.{common}
+use base.Logic.{id⊢, emp, wand, sep, apply∗}
+use base.Fml.{Lft, Incl, ftrue, flft, fdead}
+use mir.Syntax.{named, mut, ty_ref, ty_unit}
+use mir.Val.{vptr}
+use contract.Monad.{fact, fact_i}
+use contract.Running.{tables}
+use contract.BorrowLft.{⊑_meet, ⊑_refl, meet_⊑_left, meet_⊑_right}
+use types.Kit.{‵, raw, ◌⊛◌, some, later, ◌$◌, ◌∵◌, !, qed, done, move, keep, use0, use1, use2, use3, split, join, fsplit, pick, await, suffices, frame, group}
+use types.Tokens.{lft_new, lft_end, lft-common}
+use types.Part.{agg}
+use types.Run.{enter, addr, stop, no_more, and_then, returns}
+use types.ByLocal.{alloc_all, pass_all, free_all, look_at, get, through, sets, lands_as}
+use denote.FnPtr.{vt_lit}
+use denote.Lend.{lends_again, comes_back, LentAgain}
+use denote.Ref.{MutRef, mut_vals, mut_Tells, mut_hides}
+use denote.Param.Table.{MutAny, Includes-none}
+use denote.Param.Dyn.{wide_val, table_at}
+use denote.Signature.{plain, named_lft}
+use denote.Steps.{nothing, heard, peeks}
+use denote.Triple.Call.{calls_at}
+use denote.Triple.Clauses.{lasts}
+use denote.Triple.Spec.{triple_of}
+use denote.Triple.Walked.{Stays, stay_ref, Goes-ref, ends_at}
+use denote.Triple.Table.{framed}
+use borrow.Pointer.Hide.{hide_mut}
+use denote.Laws.{Is, shows}
+use Rattle.pp_expansion.specs.Reader.{of_source}
+use Rattle.pp_expansion.specs.CallTurns.{TurnsOrRefuses, TakenHoldsOrdinary}
 use Rattle.pp_rs.specs.contracts.pp.preprocessor_step.step_source as f
 use Rattle.pp_rs.proofs.pp.preprocessor_step.step_source.Statement.{statement}
 use Rattle.pp_rs.proofs.pp.preprocessor_step.step_source.Code as code
-use Rattle.pp_rs.specs.contracts.pp.directives.DirectiveProcessor.{the_row as source_row}
-use Rattle.pp_rs.specs.contracts.pp.calls.Caller.{the_row as P}
-use Rattle.pp_rs.specs.contracts.pp.calls.Taken.{the_row as token_row}
-use Rattle.pp_rs.specs.contracts.pp.step.StepExit.{the_row as exit_row}
-use Rattle.pp_rs.proofs.pp.calls.Taken.TheLaws.{the_row_laws as token_laws}
-use Rattle.pp_rs.proofs.pp.step.StepExit.TheLaws.{the_row_laws as exit_laws}
+use Rattle.pp_source.specs.contracts.directives.DirectiveProcessor.{the_row as source_row}
+use Rattle.pp_expansion.specs.contracts.calls.Caller.{the_row as P}
+use Rattle.pp_expansion.specs.contracts.calls.Taken.{the_row as token_row}
+use Rattle.pp_expansion.specs.contracts.step.StepExit.{the_row as exit_row}
+use Rattle.pp_expansion.proofs.calls.Taken.TheLaws.{the_row_laws as token_laws}
+use Rattle.pp_expansion.proofs.step.StepExit.TheLaws.{the_row_laws as exit_laws}
 use Rattle.std.specs.contracts.result.Result.{the_row as result_row}
 use Rattle.std.proofs.result.Result.TheLaws.{the_row_laws as result_laws}
-use Rattle.pp_rs.specs.contracts.pp.calls.Caller.step as g
-use Rattle.pp_rs.proofs.pp.calls.Caller.step.Met.{met}
+use Rattle.pp_expansion.specs.contracts.calls.Caller.step as g
+use Rattle.pp_expansion.proofs.calls.Caller.step.Met.{met}
 use Rattle.pp_rs.proofs.pp.preprocessor_step.step_source.Object-1 as object
 use Rattle.pp_rs.proofs.pp.preprocessor_step.step_source.OwnLists as lists
 use Rattle.pp_rs.proofs.pp.preprocessor_step.step_source.Hidden as hidden
@@ -63,7 +92,7 @@ step_source_spec 𝓤 𝓛 𝓜 𝓡 wired =
     nothing ! $ move ! (2 ∷ 0 ∷ []) $ join ! $ move ! (5 ∷ 0 ∷ []) $ join ! $ join ! $
     nothing ! $ move ! (1 ∷ 0 ∷ []) $ use2 𝓛 (raw (G.pre z)) (id⊢ 𝓤 _) $
     calls_at ! (framed 𝓤 𝓛.H 𝓜 (tables 𝓤 𝓛.H 𝓜 𝓡 𝓡.env)) G
-    (met 𝓤 𝓛 𝓜 𝓡 (code.calls-pp_rs::pp::calls::Caller::step 𝓡.env wired) T (Includes-none lists.own-1) (hidden.met-1 𝓤 𝓛 𝓜 𝓡 wired)) z
+    (met 𝓤 𝓛 𝓜 𝓡 (code.calls-pp_expansion::calls::Caller::step 𝓡.env wired) T (Includes-none lists.own-1) (hidden.met-1 𝓤 𝓛 𝓜 𝓡 wired)) z
     (and_then ! (get ! refl) (and_then ! (get ! refl) (no_more !))) (λ v.
     use1 𝓛 (later (some (λ (u : O.Denot). ((‵ (flft (β ∷ []) full_share) ⊛ ‵ (flft κ' share) ⊛ ‵ ftrue) ⊛ ‵ (O.own_val u (v ∷ []))) ⊛
     some (λ (ws : P.Denot × (R.Denot × Unit {0})). ‵ (lasts (g.ended T) z.0.0 z.0.3 ws) ⊛ (raw (fact 𝓤 (TurnsOrRefuses p.now (of_source r.now) u ws.0 (of_source ws.1.0))) ⊛ raw (fact 𝓤 (IfOk u TakenHoldsOrdinary))))))) (id⊢ 𝓤 _) $

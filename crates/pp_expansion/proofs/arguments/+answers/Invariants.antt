@@ -1,0 +1,41 @@
+use Rattle.std.proofs.Common.{◌+◌, ◌*◌, ◌≤◌, List, length, ℕ, All}
+use Rattle.std.specs.Prelude.{Result}
+use Rattle.std.specs.Vec.Iter.{into_iter_items}
+use Rattle.pp_lexer.specs.declared.token.Token.{Token}
+use Rattle.pp_model.specs.Calls.{Fault}
+use Rattle.pp_model.specs.Emitting.{Each, Alone}
+use Rattle.pp_model.proofs.CollectLemmas.{after_items}
+use Rattle.pp_expansion.specs.Defined.{meaning_of}
+use Rattle.pp_expansion.specs.Held.{AllHoldOrdinary}
+use Rattle.pp_expansion.specs.Left.{work_of, most_alone}
+use Rattle.pp_expansion.specs.Reader.{of_list}
+use Rattle.pp_expansion.proofs.ListLeadsLemmas.{Reached}
+use Rattle.pp_expansion.proofs.arguments.+answers.Given as goal
+
+abbrev pub decreases-finish_call : goal.decreases-finish_call
+decreases-finish_call l = 4 * l.levels
+
+abbrev pub decreases-expand_argument : goal.decreases-expand_argument
+decreases-expand_argument l = 4 * l.levels + 1
+
+abbrev pub decreases-expand_arguments : goal.decreases-expand_arguments
+decreases-expand_arguments l = 4 * l.levels + 2
+
+abbrev pub decreases-expand_within : goal.decreases-expand_within
+decreases-expand_within l = 4 * l.levels + 3
+
+abbrev pub invariant-expand_argument-items : goal.invariant-expand_argument-items
+invariant-expand_argument-items l = record {
+  reached : Reached l.levels l.definitions l.hidden l.fn.tokens l.caller l.lexer l.items.items;
+  holds : AllHoldOrdinary l.items.items;
+}
+
+abbrev pub decreases-expand_argument-items : goal.decreases-expand_argument-items
+decreases-expand_argument-items l = work_of l.levels l.caller (of_list l.lexer)
+
+abbrev pub invariant-expand_arguments-loop-argument : goal.invariant-expand_arguments-loop-argument
+invariant-expand_arguments-loop-argument l = record {
+  goes_on : (out : Result (List (List Token)) Fault) → Each (Alone l.levels) (meaning_of l.definitions) l.hidden (into_iter_items l.argument-iterator) out → Each (Alone l.levels) (meaning_of l.definitions) l.hidden l.fn.arguments (after_items l.expanded.items out);
+  left : (n : ℕ) → All (λ (a : List Token). length a ≤ n) l.fn.arguments → All (λ (a : List Token). length a ≤ n) (into_iter_items l.argument-iterator);
+  short : (n : ℕ) → All (λ (a : List Token). length a ≤ n) l.fn.arguments → All (λ (a : List Token). length a ≤ most_alone l.levels l.definitions n) l.expanded.items;
+}

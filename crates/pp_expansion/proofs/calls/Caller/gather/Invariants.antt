@@ -1,0 +1,15 @@
+use Rattle.pp_expansion.specs.Held.{AllHoldOrdinary}
+use Rattle.pp_expansion.specs.Left.{regions}
+use Rattle.pp_expansion.specs.Reach.{total}
+use Rattle.pp_expansion.proofs.MachineLemmas.{Gathering}
+use Rattle.pp_expansion.proofs.calls.Caller.gather.Given as goal
+
+-- each token that is gathered stands before those that follow
+abbrev pub invariant-tokens : goal.invariant-tokens
+invariant-tokens o l = record {
+  goes_on : Gathering l.fn.paren l.fn.self ((goal.MeLexer-dyn o l.fn.lexer.now).reader l.fn.lexer.now.1) l.tokens.items l.depth l.last l.self ((goal.MeLexer-dyn o l.lexer.now).reader l.lexer.now.1);
+  holds : AllHoldOrdinary l.tokens.items;
+}
+
+abbrev pub decreases-tokens : goal.decreases-tokens
+decreases-tokens o l = total (regions l.self ((goal.MeLexer-dyn o l.lexer.now).reader l.lexer.now.1))

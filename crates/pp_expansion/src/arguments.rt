@@ -1,0 +1,227 @@
+//! Arguments of calls, each expanded alone.
+
+ghost use Rattle.std.specs.Prelude.{◌≡◌, ◌&&◌, ◌==◌, ◌≤◌, ◌⊎◌, ◌∷◌, ◌++◌, ◌-◌, ◌<◌, ◌^◌, [], IfOk, OnOk, OnErr, All, length, Ok, Err};
+ghost use Rattle.std.specs.List.{list_all};
+ghost use Rattle.pp_lexer.specs.PreprocessorError.{out_of_memory};
+ghost use Rattle.pp_model.specs.Calls.{arguments_of, misfit, is_one_empty, is_comma, nesting_after};
+ghost use Rattle.pp_model.specs.Emitting.{Alone, Each};
+ghost use Rattle.pp_expansion.specs.CallTurns.{TurnsTo};
+ghost use Rattle.pp_expansion.specs.Defined.{meaning_of};
+ghost use Rattle.pp_expansion.specs.Finishing.{Finishes, IsShort, AreShort};
+ghost use Rattle.pp_expansion.specs.Frames.{layer, names_of};
+ghost use Rattle.pp_expansion.specs.Held.{AllHoldOrdinary};
+ghost use Rattle.pp_expansion.specs.Left.{most_alone};
+ghost use Rattle.pp_expansion.specs.Machine.{Satisfies};
+ghost use Rattle.pp_expansion.specs.Plain.{is_plain};
+ghost use Rattle.pp_expansion.specs.Reader.{of_list};
+ghost use Rattle.pp_expansion.specs.declared.step.StepExit.TheVariants.{Error};
+
+use crate::calls::{Call, Caller, ExpandedArguments, Taken, is_left_paren, is_right_paren};
+use crate::define::Define;
+use crate::definitions::Definitions;
+use crate::expander::is_line_name;
+use crate::frames::TokenList;
+use crate::halt::Halt;
+use crate::list_lexer::ListLexer;
+use crate::list_step::step_list;
+use crate::open_around::OpenAround;
+use crate::step::{Step, StepExit, is_out_of_memory};
+use pp_lexer::token::{Location, PreprocessorError, Punct, Token, TokenValue};
+use std::alloc::{AllocError, Global};
+use std::rc::Rc;
+
+// Whether it is a comma.
+fn is_comma(value: &TokenValue) -> bool
+    ensures { result ≡ is_comma value.now }
+{
+    matches!(value, TokenValue::Punct(Punct::Comma))
+}
+
+// Whether it is a comma outside inner parentheses.
+fn ends_argument(depth: usize, value: &TokenValue) -> bool
+    ensures { result ≡ (is_comma value.now && (depth == 0)) }
+{
+    is_comma(value) && depth == 0
+}
+
+// How many parentheses are open after a token, where so many are open before it.
+fn nesting_after(depth: usize, value: &TokenValue) -> usize
+    requires { depth < 2 ^ 63 }
+    ensures { result ≡ nesting_after depth value.now }
+{
+    if is_left_paren(value) {
+        depth + 1
+    } else if is_right_paren(value) {
+        depth.saturating_sub(1)
+    } else {
+        depth
+    }
+}
+
+// The tokens of a call cut at the commas that stand outside inner parentheses.
+fn arguments_of(alloc: Global, tokens: Vec<Token>) -> Result<ExpandedArguments, AllocError>
+    requires { AllHoldOrdinary tokens.items }
+    ensures { IfOk result (λ arguments. arguments ≡ arguments_of tokens.items) }
+{
+    let mut pieces = Vec::new(alloc);
+    let mut piece = Vec::new(alloc);
+    let mut depth: usize = 0;
+    for token in tokens {
+        if ends_argument(depth, &token.value) {
+            pieces.push(TokenList::new(piece))?;
+            piece = Vec::new(alloc);
+            continue;
+        }
+        depth = nesting_after(depth, &token.value);
+        piece.push(token)?;
+    }
+    pieces.push(TokenList::new(piece))?;
+    Ok(ExpandedArguments::new(pieces))
+}
+
+// Whether there is one list, without a token.
+fn is_one_empty(arguments: &[TokenList]) -> bool
+    ensures { result ≡ is_one_empty arguments.now }
+{
+    match arguments {
+        [only] => only.as_slice().is_empty(),
+        _ => false,
+    }
+}
+
+// What is wrong with the number of arguments.
+fn misfit(define: &Define, arguments: &ExpandedArguments) -> Option<PreprocessorError>
+    ensures { result ≡ misfit define.now.parameters arguments.now }
+{
+    let wanted = define.parameters().len();
+    let given = arguments.as_slice().len();
+    if wanted == 0 && is_one_empty(arguments.as_slice()) {
+        None
+    } else if wanted < given {
+        Some(PreprocessorError::TooManyDefineArguments)
+    } else if given < wanted {
+        Some(PreprocessorError::TooFewDefineArguments)
+    } else {
+        None
+    }
+}
+
+/// Expands the arguments of a call, and opens its frame.
+#[cycle(answers)]
+pub fn finish_call(
+    alloc: Global,
+    caller: &mut Caller,
+    mut call: Call,
+    definitions: &Definitions,
+    hidden: &OpenAround<'_>,
+    levels: u32,
+) -> Result<(), Halt>
+    ensures { Finishes levels definitions.now hidden.now call caller.old result caller.new }
+{
+    let arguments = arguments_of(alloc, call.take_tokens(alloc))?;
+    match misfit(call.define(), &arguments) {
+        Some(error) => return Err(Halt::Fault((error, call.paren()))),
+        None => {}
+    }
+    if levels == 0 {
+        return Err(Halt::Fault((PreprocessorError::RecursionLimitReached, call.paren())));
+    }
+    let expanded = expand_within(alloc, &*caller, arguments, definitions, hidden, levels - 1)?;
+    caller.open_call(call, expanded)?;
+    Ok(())
+}
+
+// The arguments, each expanded alone, where the macros of the caller and those around it are open.
+#[cycle(answers)]
+fn expand_within(
+    alloc: Global,
+    caller: &Caller,
+    arguments: ExpandedArguments,
+    definitions: &Definitions,
+    hidden: &OpenAround<'_>,
+    levels: u32,
+) -> Result<ExpandedArguments, Halt>
+    ensures each { Satisfies result (λ out. Each (Alone levels) (meaning_of definitions.now) (names_of caller.now.frames ++ hidden.now) arguments out) }
+    ensures least { IfOk result (λ outs. AreShort levels definitions.now arguments outs) }
+{
+    let around = (&*caller).around(&*hidden)?;
+    expand_arguments(alloc, arguments, definitions, &around, levels)
+}
+
+// The arguments, each expanded alone, or the first fault.
+#[cycle(answers)]
+fn expand_arguments(
+    alloc: Global,
+    arguments: ExpandedArguments,
+    definitions: &Definitions,
+    hidden: &OpenAround<'_>,
+    levels: u32,
+) -> Result<ExpandedArguments, Halt>
+    ensures each { Satisfies result (λ out. Each (Alone levels) (meaning_of definitions.now) hidden.now arguments out) }
+    ensures least { IfOk result (λ outs. AreShort levels definitions.now arguments outs) }
+{
+    let mut expanded = Vec::new(alloc);
+    for argument in arguments.into_lists() {
+        let list = expand_argument(alloc, argument, definitions, hidden, levels)?;
+        expanded.push(list)?;
+    }
+    Ok(ExpandedArguments::new(expanded))
+}
+
+// Whether the value gives itself: it is neither `__LINE__` nor a name that is defined.
+fn is_plain(value: &TokenValue, definitions: &Definitions) -> bool
+    ensures { result ≡ is_plain definitions.now value.now }
+{
+    match value {
+        TokenValue::Ident(name) => {
+            !is_line_name(value) && definitions.find(name.as_str()).is_none()
+        }
+        _ => true,
+    }
+}
+
+// Whether each token gives itself.
+fn are_plain(tokens: &[Token], definitions: &Definitions) -> bool
+    ensures { result ≡ list_all (λ token. is_plain definitions.now token.value) tokens.now }
+{
+    tokens
+        .iter()
+        .all(|token| is_plain(&token.value, definitions))
+}
+
+// What a list of tokens comes to alone.
+#[cycle(answers)]
+fn expand_argument(
+    alloc: Global,
+    tokens: TokenList,
+    definitions: &Definitions,
+    hidden: &OpenAround<'_>,
+    levels: u32,
+) -> Result<TokenList, Halt>
+    ensures alone { Satisfies result (λ out. Alone levels tokens (meaning_of definitions.now) hidden.now out) }
+    ensures least { IfOk result (λ out. IsShort levels definitions.now (length tokens) out) }
+{
+    if are_plain(tokens.as_slice(), definitions) {
+        return Ok(tokens);
+    }
+    let mut lexer = ListLexer::argument(tokens.into_tokens(), definitions, &*hidden);
+    let mut caller = Caller::new(alloc);
+    let mut items = Vec::with_capacity(alloc, 16)?;
+    'items: loop {
+        match step_list(&mut caller, &mut lexer) {
+            Ok(Taken::Token(token)) => items.push(token)?,
+            Ok(Taken::Call(call)) => {
+                finish_call(alloc, &mut caller, call, definitions, hidden, levels)?
+            }
+            Err(StepExit::Continue) => {}
+            Err(StepExit::Finished) => return Ok(TokenList::new(items)),
+            Err(StepExit::Error(fault)) => {
+                if is_out_of_memory(&fault.0) {
+                    drop(fault);
+                    return Err(Halt::OutOfMemory);
+                }
+                return Err(Halt::Fault(fault));
+            }
+        }
+    }
+}

@@ -1,0 +1,533 @@
+//! Calls of function-like macros: taking, and the search for their arguments.
+
+ghost use Rattle.std.specs.Prelude.{◌≡◌, ◌⊎◌, ◌∷◌, ◌++◌, [], OnOk, ℕ, Bool, true, false, All, IfOk, IfSome, MatchResult, Ok, Err, Some, None, IsSome, option_map};
+ghost use Rattle.pp_lexer.specs.PreprocessorError.{out_of_memory};
+ghost use Rattle.pp_model.specs.Calls.{is_left_paren, is_right_paren, nesting};
+ghost use Rattle.pp_expansion.specs.CallNesting.{nesting_named};
+ghost use Rattle.pp_expansion.specs.Seeking.{FindsBy, Enters, FollowsToken};
+ghost use Rattle.pp_expansion.specs.Frames.{layer, names_of};
+ghost use Rattle.pp_expansion.specs.Held.{HoldsOrdinary, AllHoldOrdinary};
+ghost use Rattle.pp_expansion.specs.Idle.{is_idle};
+ghost use Rattle.pp_expansion.specs.CallTurns.{TurnsOrRefuses, is_refusal, paren_of, TakenHoldsOrdinary};
+ghost use Rattle.pp_expansion.specs.Machine.{StepsTaking, TakesNext, GathersNext, Satisfies, taken_as, is_pause};
+ghost use Rattle.pp_expansion.specs.Turns.{taken_in, opens, opens_value};
+ghost use Rattle.pp_lexer.specs.declared.token.TokenValue.TheVariants as value;
+ghost use Rattle.pp_expansion.specs.declared.step.StepExit.TheVariants.{Error, Continue};
+
+use crate::define::Define;
+use crate::expander::{MacroProcessor, gives_line_name};
+use crate::frames::TokenList;
+use crate::halt::Halt;
+use crate::open_around::OpenAround;
+use crate::reader::MeLexer;
+use crate::step::{Step, StepExit, is_out_of_memory};
+use pp_lexer::token::{Location, PreprocessorError, Punct, Text, Token, TokenValue, out_of_memory};
+use std::alloc::{AllocError, Global};
+use std::marker::Model;
+use std::mem;
+use std::rc::Rc;
+
+/// A call whose `)` has been taken.
+#[derive(Drop)]
+pub struct Call {
+    name: Text,
+    define: Rc<Define>,
+    paren: Location,
+    closing: Location,
+    tokens: Vec<Token>,
+}
+
+impl Model for Call {
+    ghost use Rattle.pp_expansion.specs.Calling.{PendingCall};
+    ghost use Rattle.pp_expansion.specs.Held.{AllHoldOrdinary};
+
+    ghost Value = { PendingCall };
+
+    ghost view = { λ c. record { name = c.name; definition = c.define.value; paren = c.paren; closing = c.closing; tokens = c.tokens.items } };
+
+    ghost invariant = { λ c. AllHoldOrdinary c.tokens.items };
+}
+
+impl Call {
+    /// Takes out what stands between its parentheses.
+    pub fn take_tokens(&mut self, alloc: Global) -> Vec<Token>
+        ensures taken { result.items ≡ self.old.tokens }
+        ensures holds { AllHoldOrdinary result.items }
+        ensures left { self.new ≡ record self.old { tokens = [] } }
+    {
+        mem::replace(&mut self.tokens, Vec::new(alloc))
+    }
+
+    /// What its macro stood for.
+    pub fn define(&self) -> &Define
+        ensures { result.now ≡ self.now.definition }
+    {
+        &self.define
+    }
+
+    /// The place of its `(`.
+    pub fn paren(&self) -> Location
+        ensures { result ≡ self.now.paren }
+    {
+        self.paren
+    }
+}
+
+/// Lists of tokens, one for each argument.
+#[derive(Drop)]
+pub struct ExpandedArguments {
+    items: Vec<TokenList>,
+}
+
+impl Model for ExpandedArguments {
+    ghost use Rattle.std.specs.Prelude.{List};
+    ghost use Rattle.pp_lexer.specs.declared.token.Token.{Token};
+
+    ghost Value = { List (List Token) };
+
+    ghost view = { λ e. e.items.items };
+}
+
+impl ExpandedArguments {
+    /// These lists.
+    pub fn new(items: Vec<TokenList>) -> Self
+        ensures { result ≡ items.items }
+    {
+        ExpandedArguments { items }
+    }
+
+    /// The lists.
+    pub fn as_slice(&self) -> &[TokenList]
+        ensures { result.now ≡ self.now }
+    {
+        &self.items
+    }
+
+    /// The lists as a vector.
+    pub fn into_lists(self) -> Vec<TokenList>
+        ensures { result.items ≡ self }
+    {
+        self.items
+    }
+}
+
+/// What a step gives: a token, or a call whose arguments are still to be expanded.
+#[derive(Drop)]
+pub enum Taken {
+    /// A token.
+    Token(Token),
+    /// A call.
+    Call(Call),
+}
+
+/// An expander: open macros, and a step that was found too early.
+#[derive(Drop)]
+pub struct Caller {
+    alloc: Global,
+    processor: MacroProcessor,
+    held: Option<Step<Token>>,
+}
+
+impl Model for Caller {
+    ghost use Rattle.std.specs.Prelude.{IfSome, IfOk};
+    ghost use Rattle.pp_expansion.specs.Held.{HoldsOrdinary};
+    ghost use Rattle.pp_expansion.specs.Machine.{Machine};
+
+    ghost Value = { Machine };
+
+    ghost view = { λ c. record { held = c.held; frames = c.processor } };
+
+    ghost invariant = { λ c. IfSome c.held (λ step. IfOk step (λ token. HoldsOrdinary token.value)) };
+}
+
+/// Where a token stands among the parentheses of a call.
+#[derive(Clone, Copy)]
+pub enum Nesting {
+    /// It closes the call.
+    Closes,
+    /// So many inner parentheses are open after it.
+    Within(u32),
+    /// It opens one too many.
+    TooMany,
+}
+
+/// The tokens between the parentheses of a call, and where the closing one stands.
+#[derive(Drop)]
+pub struct Gathered {
+    tokens: Vec<Token>,
+    closing: Location,
+}
+
+impl Model for Gathered {
+    ghost use Rattle.pp_model.specs.Calls as spec;
+    ghost use Rattle.pp_expansion.specs.Held.{AllHoldOrdinary};
+
+    ghost Value = { spec.Gathered };
+
+    ghost view = { λ g. record { tokens = g.tokens.items; closing = g.closing } };
+
+    ghost invariant = { λ g. AllHoldOrdinary g.tokens.items };
+}
+
+/// Whether it is a `(`.
+pub fn is_left_paren(value: &TokenValue) -> bool
+    ensures { result ≡ is_left_paren value.now }
+{
+    matches!(value, TokenValue::Punct(Punct::LeftParen))
+}
+
+/// Whether it is a `)`.
+pub fn is_right_paren(value: &TokenValue) -> bool
+    ensures { result ≡ is_right_paren value.now }
+{
+    matches!(value, TokenValue::Punct(Punct::RightParen))
+}
+
+// Where a token stands among the parentheses of a call.
+fn nesting_of(depth: u32, value: &TokenValue) -> Nesting
+    ensures { nesting depth value.now ≡ nesting_named result }
+{
+    if is_left_paren(value) {
+        if depth < u32::MAX {
+            Nesting::Within(depth + 1)
+        } else {
+            Nesting::TooMany
+        }
+    } else if is_right_paren(value) {
+        if depth == 0 {
+            Nesting::Closes
+        } else {
+            Nesting::Within(depth - 1)
+        }
+    } else {
+        Nesting::Within(depth)
+    }
+}
+
+/// What stands after the name of a function-like macro.
+#[derive(Drop)]
+pub enum Found {
+    /// No call.
+    NoCall,
+    /// A call, with the place of its `(`.
+    Whole(Location, Gathered),
+}
+
+// Whether memory was refused.
+fn is_refusal(step: &Step<Token>) -> bool
+    ensures { result ≡ is_refusal step.now }
+{
+    match step {
+        Err(StepExit::Error(fault)) => is_out_of_memory(&fault.0),
+        Err(StepExit::Continue) => false,
+        Err(StepExit::Finished) => false,
+        Ok(_) => false,
+    }
+}
+
+// The place of a `(`.
+fn paren_of(step: &Step<Token>) -> Option<Location>
+    ensures { result ≡ paren_of step.now }
+{
+    match step {
+        Ok(token) => {
+            if is_left_paren(&token.value) {
+                Some(token.location)
+            } else {
+                None
+            }
+        }
+        Err(_) => None,
+    }
+}
+
+// Whether the step is a pause.
+fn is_pause(step: &Step<Token>) -> bool
+    ensures { result ≡ is_pause step.now }
+{
+    match step {
+        Err(StepExit::Continue) => true,
+        Err(StepExit::Error(_)) => false,
+        Err(StepExit::Finished) => false,
+        Ok(_) => false,
+    }
+}
+
+// A refusal of memory, apart so that a token is moved without it.
+#[inline(never)]
+fn refused() -> Step<Taken>
+    ensures { result ≡ Err (Error out_of_memory) }
+{
+    Err(StepExit::Error(out_of_memory()))
+}
+
+impl Caller {
+    /// An expander in which nothing is open or held.
+    pub fn new(alloc: Global) -> Caller
+        ensures { result ≡ record { held = None; frames = [] } }
+    {
+        Caller {
+            alloc,
+            processor: MacroProcessor::new(alloc),
+            held: None,
+        }
+    }
+
+    /// Whether nothing is open or held: the next token then comes from the reader.
+    #[inline(always)]
+    pub fn is_idle(&self) -> bool
+        ensures { result ≡ is_idle self.now }
+    {
+        self.held.is_none() && self.processor.is_idle()
+    }
+
+    /// Holds a token that was taken, which is then the next step.
+    pub fn hold(&mut self, token: Token)
+        requires { HoldsOrdinary token.value }
+        ensures { self.new ≡ record self.old { held = Some (Ok token) } }
+    {
+        self.held = Some(Ok(token));
+    }
+
+    // One step of taking.
+    fn take(&mut self, lexer: &mut dyn MeLexer) -> Step<Token>
+        ensures steps { StepsTaking self.old (reader lexer.old) result self.new (reader lexer.new) }
+        ensures holds { IfOk result (λ token. HoldsOrdinary token.value) }
+    {
+        if self.held.is_some() {
+            return self.take_held();
+        }
+        let step = self.processor.advance(lexer);
+        if gives_line_name(&step) {
+            return self.show_line(&*lexer, step);
+        }
+        step
+    }
+
+    // Takes what is held. It stands apart, as `show_line` does, so that other tokens are moved
+    // less.
+    #[inline(never)]
+    fn take_held(&mut self) -> Step<Token>
+        requires { IsSome self.old.held }
+        ensures held { self.old.held ≡ Some result }
+        ensures left { self.new ≡ record self.old { held = None } }
+        ensures holds { IfOk result (λ token. HoldsOrdinary token.value) }
+    {
+        match self.held.take() {
+            Some(step) => step,
+            None => unreachable!(),
+        }
+    }
+
+    // A `__LINE__` that was read becomes a number.
+    #[inline(never)]
+    fn show_line(&self, lexer: &dyn MeLexer, step: Step<Token>) -> Step<Token>
+        requires { IfOk step (λ token. HoldsOrdinary token.value) }
+        ensures shows { result ≡ taken_as step self.now.frames (reader lexer.now) }
+        ensures holds { IfOk result (λ token. HoldsOrdinary token.value) }
+    {
+        match step {
+            Ok(token) => self.processor.take_in(lexer, token),
+            Err(exit) => Err(exit),
+        }
+    }
+
+    /// What is taken next: the first step that is no pause.
+    pub fn take_next(&mut self, lexer: &mut dyn MeLexer) -> Step<Token>
+        ensures takes { TakesNext self.old (reader lexer.old) result self.new (reader lexer.new) }
+        ensures holds { IfOk result (λ token. HoldsOrdinary token.value) }
+    {
+        loop {
+            let step = self.take(lexer);
+            if !is_pause(&step) {
+                return step;
+            }
+        }
+    }
+
+    // The tokens up to the `)` of a call whose `(` stands here, or the fault that is met before it.
+    fn gather(&mut self, lexer: &mut dyn MeLexer, paren: Location) -> Result<Gathered, Halt>
+        ensures gathers { Satisfies result (λ g. GathersNext 0 paren self.old (reader lexer.old) g self.new (reader lexer.new)) }
+    {
+        let mut tokens = Vec::with_capacity(self.alloc, 16)?;
+        let mut last = paren;
+        let mut depth: u32 = 0;
+        'tokens: loop {
+            let token = match self.take_next(lexer) {
+                Ok(token) => token,
+                Err(StepExit::Error(fault)) => {
+                    if is_out_of_memory(&fault.0) {
+                        drop(fault);
+                        return Err(Halt::OutOfMemory);
+                    }
+                    return Err(Halt::Fault(fault));
+                }
+                Err(StepExit::Finished) => {
+                    return Err(Halt::Fault((PreprocessorError::UnexpectedEndOfInput, last)));
+                }
+                Err(StepExit::Continue) => {
+                    return Err(Halt::Fault((PreprocessorError::UnexpectedEndOfInput, last)));
+                }
+            };
+            last = token.location;
+            match nesting_of(depth, &token.value) {
+                Nesting::Closes => {
+                    return Ok(Gathered {
+                        tokens,
+                        closing: last,
+                    });
+                }
+                Nesting::TooMany => {
+                    return Err(Halt::Fault((PreprocessorError::IntegerOverflow, last)));
+                }
+                Nesting::Within(deeper) => depth = deeper,
+            }
+            tokens.push(token)?;
+        }
+    }
+
+    // What stands after the name of a function-like macro. What is no call is held.
+    fn seek(&mut self, lexer: &mut dyn MeLexer) -> Result<Found, Halt>
+        ensures finds { FindsBy self.old (reader lexer.old) result self.new (reader lexer.new) }
+    {
+        let next = self.take_next(lexer);
+        if is_refusal(&next) {
+            drop(next);
+            return Err(Halt::OutOfMemory);
+        }
+        match paren_of(&next) {
+            None => {
+                self.held = Some(next);
+                Ok(Found::NoCall)
+            }
+            Some(paren) => {
+                drop(next);
+                let gathered = self.gather(lexer, paren)?;
+                Ok(Found::Whole(paren, gathered))
+            }
+        }
+    }
+
+    // Opens the frame of an object-like macro.
+    fn open_plain(&mut self, name: Text, line: u32, define: Rc<Define>) -> Step<Taken>
+        ensures opens { ((result ≡ Err Continue) × (self.new ≡ record self.old { frames = layer name line define.value [] ∷ self.old.frames })) ⊎ (result ≡ Err (Error out_of_memory)) }
+        ensures holds { IfOk result TakenHoldsOrdinary }
+    {
+        let arguments = Vec::new(self.alloc);
+        match self.processor.open(name, line, define, arguments) {
+            Ok(()) => Err(StepExit::Continue),
+            Err(_) => Err(StepExit::Error(out_of_memory())),
+        }
+    }
+
+    // The name of a function-like macro: its call is sought.
+    fn enter_call(
+        &mut self,
+        lexer: &mut dyn MeLexer,
+        name: Text,
+        location: Location,
+        define: Rc<Define>,
+    ) -> Step<Taken>
+        requires function { define.value.function_like ≡ true }
+        ensures enters { Enters (record { value = value.Ident name; location = location }) name define.value self.old (reader lexer.old) result self.new (reader lexer.new) ⊎ (result ≡ Err (Error out_of_memory)) }
+        ensures holds { IfOk result TakenHoldsOrdinary }
+    {
+        match self.seek(lexer)? {
+            Found::NoCall => Ok(Taken::Token(Token {
+                value: TokenValue::Ident(name),
+                location,
+            })),
+            Found::Whole(paren, gathered) => {
+                let Gathered { tokens, closing } = gathered;
+                Ok(Taken::Call(Call {
+                    name,
+                    define,
+                    paren,
+                    closing,
+                    tokens,
+                }))
+            }
+        }
+    }
+
+    // What the value stands for as a name, unless its macro is open.
+    fn find_macro(
+        &self,
+        lexer: &dyn MeLexer,
+        value: &TokenValue,
+    ) -> Result<Option<Rc<Define>>, AllocError>
+        ensures { IfOk result (λ found. option_map (λ define. define.value) found ≡ option_map (λ opening. opening.1) (opens_value self.now.frames (reader lexer.now) value.now)) }
+    {
+        match value {
+            TokenValue::Ident(name) => self.processor.find_macro(lexer, name),
+            _ => Ok(None),
+        }
+    }
+
+    // A name that is taken opens its macro, or begins its call.
+    #[inline(never)]
+    fn enter(&mut self, lexer: &mut dyn MeLexer, token: Token, define: Rc<Define>) -> Step<Taken>
+        requires opens { option_map (λ opening. opening.1) (opens self.old.frames (reader lexer.old) token) ≡ Some define.value }
+        requires holds { HoldsOrdinary token.value }
+        ensures follows { FollowsToken (opens self.old.frames (reader lexer.old) token) token self.old (reader lexer.old) result self.new (reader lexer.new) ⊎ (result ≡ Err (Error out_of_memory)) }
+        ensures holds { IfOk result TakenHoldsOrdinary }
+    {
+        let location = token.location;
+        match token.value {
+            TokenValue::Ident(name) => {
+                if define.is_function_like() {
+                    self.enter_call(lexer, name, location, define)
+                } else {
+                    self.open_plain(name, location.line, define)
+                }
+            }
+            value => Ok(Taken::Token(Token { value, location })),
+        }
+    }
+
+    // A token that is taken opens its macro, begins its call, or is given.
+    fn follow(&mut self, lexer: &mut dyn MeLexer, token: Token) -> Step<Taken>
+        requires { HoldsOrdinary token.value }
+        ensures follows { FollowsToken (opens self.old.frames (reader lexer.old) token) token self.old (reader lexer.old) result self.new (reader lexer.new) ⊎ (result ≡ Err (Error out_of_memory)) }
+        ensures holds { IfOk result TakenHoldsOrdinary }
+    {
+        match self.find_macro(&*lexer, &token.value) {
+            Ok(None) => Ok(Taken::Token(token)),
+            Ok(Some(define)) => self.enter(lexer, token, define),
+            Err(_) => refused(),
+        }
+    }
+
+    /// One step: a token is taken, and is given, or opens its macro, or begins a call that is gathered.
+    pub fn step(&mut self, lexer: &mut dyn MeLexer) -> Step<Taken>
+        ensures turns { TurnsOrRefuses self.old (reader lexer.old) result self.new (reader lexer.new) }
+        ensures holds { IfOk result TakenHoldsOrdinary }
+    {
+        match self.take(lexer) {
+            Ok(token) => self.follow(lexer, token),
+            Err(exit) => Err(exit),
+        }
+    }
+
+    /// The macros that are open here or around.
+    pub fn around<'a>(&'a self, hidden: &OpenAround<'a>) -> Result<OpenAround<'a>, AllocError>
+        ensures { IfOk result (λ names. names ≡ names_of self.now.frames ++ hidden.now) }
+    {
+        OpenAround::within(self.alloc, &self.processor, hidden)
+    }
+
+    /// Opens the frame of a call.
+    pub fn open_call(&mut self, call: Call, arguments: ExpandedArguments) -> Result<(), AllocError>
+        ensures { OnOk result (self.new ≡ record self.old { frames = layer call.name call.closing.line call.definition arguments ∷ self.old.frames }) }
+    {
+        let Call {
+            name,
+            define,
+            paren: _,
+            closing,
+            tokens: _,
+        } = call;
+        self.processor
+            .open(name, closing.line, define, arguments.into_lists())
+    }
+}

@@ -1,0 +1,102 @@
+//! Macros.
+
+ghost use Rattle.std.specs.Prelude.{◌≡◌, ◌↔◌, true, IsTrue, All};
+ghost use Rattle.pp_lexer.specs.TokenValue.{is_ordinary};
+ghost use Rattle.pp_lexer.specs.Spelling.{values_of};
+ghost use Rattle.pp_model.specs.Definitions.{IsSameDefinition, object_like};
+
+use pp_lexer::token::{Text, Token};
+use std::alloc::Global;
+use std::marker::Model;
+
+/// What a macro's name stands for.
+#[derive(Drop)]
+pub struct Define {
+    function_like: bool,
+    parameters: Vec<Text>,
+    body: Vec<Token>,
+}
+
+impl Model for Define {
+    ghost use Rattle.std.specs.Prelude.{All, IsTrue};
+    ghost use Rattle.pp_lexer.specs.TokenValue.{is_ordinary};
+    ghost use Rattle.pp_model.specs.Definitions.{Definition};
+
+    ghost Value = { Definition };
+
+    ghost view = { λ d. record { function_like = d.function_like; parameters = d.parameters.items; body = d.body.items } };
+
+    ghost invariant = { λ d. All (λ token. IsTrue (is_ordinary token.value)) d.body.items };
+}
+
+// Whether both lists have equal values, places aside.
+fn have_same_values(old: &[Token], new: &[Token]) -> bool
+    ensures { IsTrue result ↔ (values_of old.now ≡ values_of new.now) }
+{
+    old.len() == new.len() && old.iter().zip(new).all(|(a, b)| a.value == b.value)
+}
+
+// Whether the names are the same, in the same order.
+#[tactic(auto, using(crate::proofs::DefineLemmas::names_decide))]
+fn are_same_names(old: &[Text], new: &[Text]) -> bool
+    ensures { IsTrue result ↔ (old.now ≡ new.now) }
+{
+    old == new
+}
+
+impl Define {
+    /// A macro without parameters.
+    pub fn object_like(alloc: Global, body: Vec<Token>) -> Define
+        requires { All (λ token. IsTrue (is_ordinary token.value)) body.items }
+        ensures { result ≡ object_like body.items }
+    {
+        Define {
+            function_like: false,
+            parameters: Vec::new(alloc),
+            body,
+        }
+    }
+
+    /// A macro with these parameters.
+    pub fn function_like(parameters: Vec<Text>, body: Vec<Token>) -> Define
+        requires { All (λ token. IsTrue (is_ordinary token.value)) body.items }
+        ensures { result ≡ record { function_like = true; parameters = parameters.items; body = body.items } }
+    {
+        Define {
+            function_like: true,
+            parameters,
+            body,
+        }
+    }
+
+    /// Whether the macro has parameters in parentheses.
+    pub fn is_function_like(&self) -> bool
+        ensures { result ≡ self.now.function_like }
+    {
+        self.function_like
+    }
+
+    /// The names of the parameters.
+    pub fn parameters(&self) -> &[Text]
+        ensures { result.now ≡ self.now.parameters }
+    {
+        &self.parameters
+    }
+
+    /// The tokens that replace the macro.
+    pub fn body(&self) -> &[Token]
+        ensures is { result.now ≡ self.now.body }
+        ensures ordinary { All (λ token. IsTrue (is_ordinary token.value)) result.now }
+    {
+        &self.body
+    }
+
+    /// Whether the name may be defined again so: kind, parameters and the values of the body are equal.
+    pub fn is_same(&self, other: &Define) -> bool
+        ensures { IsTrue result ↔ IsSameDefinition self.now other.now }
+    {
+        self.function_like == other.function_like
+            && are_same_names(&self.parameters, &other.parameters)
+            && have_same_values(&self.body, &other.body)
+    }
+}

@@ -1,0 +1,194 @@
+//! The expander: open macros over a reader.
+
+ghost use Rattle.std.specs.Prelude.{◌≡◌, ◌⊎◌, ◌∷◌, [], drop, IfOk, OnOk, MatchResult, Ok, Err, option_map, is_some, not, pos, false};
+ghost use Rattle.std.specs.Str.{chars};
+ghost use Rattle.pp_lexer.specs.PreprocessorError.{out_of_memory};
+ghost use Rattle.pp_lexer.specs.declared.token.PreprocessorError.TheVariants.{LineOverflow};
+ghost use Rattle.pp_lexer.specs.declared.token.TokenValue.TheVariants as value;
+ghost use Rattle.pp_model.specs.Names.{is_in, is_identifier, line_name};
+ghost use Rattle.pp_model.specs.declared.outcome.Outcome.TheVariants as outcome;
+ghost use Rattle.pp_expansion.specs.Frames.{layer, names_of, outermost_frame_line};
+ghost use Rattle.pp_expansion.specs.Held.{HoldsOrdinary};
+ghost use Rattle.pp_expansion.specs.Turns.{Moves, taken_in, gives_line_name, opens_value};
+ghost use Rattle.pp_expansion.specs.declared.step.StepExit.TheVariants.{Error, Continue};
+
+use crate::define::Define;
+use crate::frames::{Frame, TokenList};
+use crate::open_names::OpenNames;
+use crate::reader::MeLexer;
+use crate::step::{Step, StepExit};
+use pp_lexer::token::{Integer, Location, Text, Token, TokenValue, out_of_memory};
+use pp_model::names::is_spelled;
+use std::alloc::{AllocError, Global};
+use std::marker::Model;
+use std::rc::Rc;
+
+/// Macros that are open, the innermost last.
+#[derive(Drop)]
+pub struct MacroProcessor {
+    alloc: Global,
+    frames: Vec<Frame>,
+    open_names: OpenNames,
+}
+
+impl Model for MacroProcessor {
+    ghost use Rattle.std.specs.Prelude.{List, reverse};
+    ghost use Rattle.pp_expansion.specs.Frames.{Layer, names_of};
+    ghost use Rattle.pp_expansion.specs.OpenNames.{AreNamesOf};
+
+    ghost Value = { List Layer };
+
+    ghost view = { λ p. reverse p.frames.items };
+
+    ghost invariant = { λ p. AreNamesOf p.open_names (names_of (reverse p.frames.items)) };
+}
+
+/// Whether the token is `__LINE__`.
+#[inline(always)]
+pub fn is_line_name(value: &TokenValue) -> bool
+    ensures { result ≡ is_identifier line_name value.now }
+{
+    match value {
+        TokenValue::Ident(name) => is_spelled(name, "__LINE__"),
+        _ => false,
+    }
+}
+
+/// Whether the step gives `__LINE__`.
+pub fn gives_line_name(step: &Step<Token>) -> bool
+    ensures { result ≡ gives_line_name step.now }
+{
+    match step {
+        Ok(token) => is_line_name(&token.value),
+        Err(_) => false,
+    }
+}
+
+/// A line number as an unsigned integer at this place.
+pub fn make_line_number(line: u32, location: Location) -> Token
+    ensures { result ≡ record { value = value.Integer (record { value = line; signed = false; width = pos 32 }); location = location } }
+{
+    Token {
+        value: TokenValue::Integer(Integer {
+            value: line as u64,
+            signed: false,
+            width: 32,
+        }),
+        location,
+    }
+}
+
+impl MacroProcessor {
+    /// An expander in which no macro is open. It takes no memory.
+    pub fn new(alloc: Global) -> MacroProcessor
+        ensures { result ≡ [] }
+    {
+        MacroProcessor {
+            alloc,
+            frames: Vec::new(alloc),
+            open_names: OpenNames::new(alloc),
+        }
+    }
+
+    /// Whether no macro is open.
+    #[inline(always)]
+    pub fn is_idle(&self) -> bool
+        ensures { is_some (outermost_frame_line self.now) ≡ not result }
+    {
+        self.outermost_line().is_none()
+    }
+
+    /// Whether the macro of this name is open.
+    pub fn is_open(&self, name: &str) -> bool
+        ensures { result ≡ is_in (chars name.now) (names_of self.now) }
+    {
+        self.open_names.is_open(name)
+    }
+
+    // The line of the outermost macro that is open.
+    #[inline(always)]
+    fn outermost_line(&self) -> Option<u32>
+        ensures { result ≡ outermost_frame_line self.now }
+    {
+        match self.frames.first() {
+            Some(frame) => Some(frame.line()),
+            None => None,
+        }
+    }
+
+    // Closes the innermost frame.
+    fn close(&mut self)
+        ensures { self.new ≡ drop 1 self.old }
+    {
+        let Some(frame) = self.frames.pop() else {
+            return;
+        };
+        self.open_names
+            .close(frame.name().as_str(), self.frames.len());
+    }
+
+    // One step of the innermost frame, or of the reader where no macro is open. A frame at its
+    // end is closed.
+    pub fn advance(&mut self, lexer: &mut dyn MeLexer) -> Step<Token>
+        ensures moves { Moves self.old (reader lexer.old) result self.new (reader lexer.new) }
+        ensures holds { IfOk result (λ token. HoldsOrdinary token.value) }
+    {
+        let Some(frame) = self.frames.last_mut() else {
+            return lexer.step();
+        };
+        if frame.is_spent() {
+            self.close();
+            return Err(StepExit::Continue);
+        }
+        frame.advance(self.alloc)
+    }
+
+    // A token that is taken: `__LINE__` becomes a number at once.
+    pub fn take_in(&self, lexer: &dyn MeLexer, token: Token) -> Step<Token>
+        requires { HoldsOrdinary token.value }
+        ensures taken { MatchResult result (λ taken. taken_in self.now (reader lexer.now) token ≡ outcome.Token taken) (λ exit. (exit ≡ Error (LineOverflow, token.location)) × (taken_in self.now (reader lexer.now) token ≡ outcome.Fault (LineOverflow, token.location))) }
+        ensures holds { IfOk result (λ token. HoldsOrdinary token.value) }
+    {
+        if !is_line_name(&token.value) {
+            return Ok(token);
+        }
+        let location = token.location;
+        let line = self.outermost_line().unwrap_or(location.line);
+        let shown = lexer.apply_line_offset(line, location)?;
+        Ok(make_line_number(shown, location))
+    }
+
+    // What the name stands for, unless its macro is open.
+    pub fn find_macro(
+        &self,
+        lexer: &dyn MeLexer,
+        name: &Text,
+    ) -> Result<Option<Rc<Define>>, AllocError>
+        ensures { IfOk result (λ found. option_map (λ define. (name.now, define.value)) found ≡ opens_value self.now (reader lexer.now) (value.Ident name.now)) }
+    {
+        let Some(define) = lexer.get_define(name.as_str()) else {
+            return Ok(None);
+        };
+        if self.is_open(name.as_str()) {
+            return Ok(None);
+        }
+        Ok(Some(define.clone()?))
+    }
+
+    /// Opens the macro of this name, which stands on the line, with these arguments.
+    pub fn open(
+        &mut self,
+        name: Text,
+        line: u32,
+        define: Rc<Define>,
+        arguments: Vec<TokenList>,
+    ) -> Result<(), AllocError>
+        ensures { OnOk result (self.new ≡ layer name line define.value arguments.items ∷ self.old) }
+    {
+        self.frames.reserve(1)?;
+        self.open_names.open(name.as_str(), self.frames.len())?;
+        let frame = Frame::new(name, line, define, arguments);
+        self.frames.push_reserved(frame);
+        Ok(())
+    }
+}

@@ -1,0 +1,214 @@
+//! Frames: macros that are open, each with how far its body and its arguments are read.
+
+ghost use Rattle.std.specs.Prelude.{◌≡◌, ◌⊎◌, ◌<◌, ◌^◌, IfOk, IfSome, IsTrue, All, MatchOption, Some, None, Ok, Err, option_map, slice_get, position, is_none};
+ghost use Rattle.pp_lexer.specs.PreprocessorError.{out_of_memory};
+ghost use Rattle.pp_model.specs.Names.{is_same_name};
+ghost use Rattle.pp_model.specs.SpliceList.{parameter_of};
+ghost use Rattle.pp_expansion.specs.Frames.{layer, argument_at, advance};
+ghost use Rattle.pp_expansion.specs.Held.{HoldsOrdinary, AllHoldOrdinary};
+ghost use Rattle.pp_expansion.specs.Turns.{as_pause};
+ghost use Rattle.pp_expansion.specs.declared.step.StepExit.TheVariants.{Error, Continue};
+
+use crate::define::Define;
+use crate::step::{Step, StepExit};
+use pp_lexer::token::{Text, Token, TokenValue, out_of_memory};
+use std::alloc::Global;
+use std::marker::Model;
+use std::rc::Rc;
+
+/// Tokens that an argument of a call comes to. A directive item among them holds ordinary tokens.
+#[derive(Drop)]
+pub struct TokenList {
+    items: Vec<Token>,
+}
+
+impl Model for TokenList {
+    ghost use Rattle.std.specs.Prelude.{List};
+    ghost use Rattle.pp_lexer.specs.declared.token.Token.{Token};
+    ghost use Rattle.pp_expansion.specs.Held.{AllHoldOrdinary};
+
+    ghost Value = { List Token };
+
+    ghost view = { λ list. list.items.items };
+
+    ghost invariant = { λ list. AllHoldOrdinary list.items.items };
+}
+
+impl TokenList {
+    /// The list of these tokens.
+    pub fn new(items: Vec<Token>) -> TokenList
+        requires { AllHoldOrdinary items.items }
+        ensures { result ≡ items.items }
+    {
+        TokenList { items }
+    }
+
+    /// The tokens as a vector.
+    pub fn into_tokens(self) -> Vec<Token>
+        ensures is { result.items ≡ self }
+        ensures holds { AllHoldOrdinary result.items }
+    {
+        self.items
+    }
+
+    /// The tokens.
+    pub fn as_slice(&self) -> &[Token]
+        ensures is { result.now ≡ self.now }
+        ensures holds { AllHoldOrdinary result.now }
+    {
+        &self.items
+    }
+}
+
+/// A macro that is open.
+#[derive(Drop)]
+pub struct Frame {
+    name: Text,
+    line: u32,
+    define: Rc<Define>,
+    position: usize,
+    arguments: Vec<TokenList>,
+    expanding: Option<usize>,
+    argument_position: usize,
+}
+
+impl Model for Frame {
+    ghost use Rattle.std.specs.Prelude.{drop, option_map};
+    ghost use Rattle.pp_expansion.specs.Frames.{Layer, argument_at};
+
+    ghost Value = { Layer };
+
+    ghost view = { λ f. record {
+      name = f.name;
+      line = f.line;
+      parameters = f.define.value.parameters;
+      body = drop f.position f.define.value.body;
+      arguments = f.arguments.items;
+      reading = option_map (λ k. drop f.argument_position (argument_at f.arguments.items k)) f.expanding;
+    } };
+}
+
+// The position of the name among the names.
+fn position_of(names: &[Text], name: &Text) -> Option<usize>
+    ensures { result ≡ position (is_same_name name.now) names.now }
+{
+    names.iter().position(|other| *name == *other)
+}
+
+// The position of the parameter that the value names.
+fn parameter_of(parameters: &[Text], value: &TokenValue) -> Option<usize>
+    ensures { result ≡ parameter_of parameters.now value.now }
+{
+    match value {
+        TokenValue::Ident(name) => position_of(parameters, name),
+        _ => None,
+    }
+}
+
+/// The token at the position.
+pub fn token_at(tokens: &[Token], position: usize) -> Option<&Token>
+    requires { AllHoldOrdinary tokens.now }
+    ensures token { option_map (λ token. token.now) result ≡ slice_get tokens.now position }
+    ensures small { IfSome result (λ _. position < 2 ^ 63) }
+    ensures holds { IfSome result (λ token. HoldsOrdinary token.now.value) }
+{
+    tokens.get(position)
+}
+
+// The token of the argument with this index at the position.
+fn argument_token(arguments: &[TokenList], index: usize, position: usize) -> Option<&Token>
+    ensures token { option_map (λ token. token.now) result ≡ slice_get (argument_at arguments.now index) position }
+    ensures small { IfSome result (λ _. position < 2 ^ 63) }
+    ensures holds { IfSome result (λ token. HoldsOrdinary token.now.value) }
+{
+    match arguments.get(index) {
+        Some(argument) => token_at(argument.as_slice(), position),
+        None => None,
+    }
+}
+
+/// A copy of a token as what a step gives.
+pub fn give(alloc: Global, token: &Token) -> Step<Token>
+    ensures { (result ≡ Err (Error out_of_memory)) ⊎ (result ≡ Ok token.now) }
+{
+    match token.clone(alloc) {
+        Ok(copy) => Ok(copy),
+        Err(_) => refused_token(),
+    }
+}
+
+// A refusal of memory, apart so that a token is moved without it.
+#[inline(never)]
+fn refused_token() -> Step<Token>
+    ensures { result ≡ Err (Error out_of_memory) }
+{
+    Err(StepExit::Error(out_of_memory()))
+}
+
+impl Frame {
+    /// The frame of a macro as it opens.
+    pub fn new(name: Text, line: u32, define: Rc<Define>, arguments: Vec<TokenList>) -> Frame
+        ensures { result ≡ layer name line define.value arguments.items }
+    {
+        Frame {
+            name,
+            line,
+            define,
+            position: 0,
+            arguments,
+            expanding: None,
+            argument_position: 0,
+        }
+    }
+
+    /// The macro's name.
+    pub fn name(&self) -> &Text
+        ensures { result.now ≡ self.now.name }
+    {
+        &self.name
+    }
+
+    /// The line that `__LINE__` shows in it.
+    pub fn line(&self) -> u32
+        ensures { result ≡ self.now.line }
+    {
+        self.line
+    }
+
+    /// Whether its body has ended, and no argument is being read.
+    pub fn is_spent(&self) -> bool
+        ensures { result ≡ is_none (advance self.now) }
+    {
+        match self.expanding {
+            Some(_) => false,
+            None => self.define.body().len() <= self.position,
+        }
+    }
+
+    /// The next step of the frame. A parameter and the end of an argument are pauses, and so is
+    /// the end of the body.
+    pub fn advance(&mut self, alloc: Global) -> Step<Token>
+        ensures step { (result ≡ Err (Error out_of_memory)) ⊎ MatchOption (advance self.old) (result ≡ Err Continue) (λ step. (result ≡ as_pause step.gives) × (self.new ≡ step.after)) }
+        ensures name { self.new.name ≡ self.old.name }
+        ensures holds { IfOk result (λ token. HoldsOrdinary token.value) }
+    {
+        if let Some(index) = self.expanding {
+            let Some(token) = argument_token(&self.arguments, index, self.argument_position) else {
+                self.expanding = None;
+                return Err(StepExit::Continue);
+            };
+            self.argument_position += 1;
+            return give(alloc, token);
+        }
+        let Some(token) = token_at(self.define.body(), self.position) else {
+            return Err(StepExit::Continue);
+        };
+        self.position += 1;
+        if let Some(index) = parameter_of(self.define.parameters(), &token.value) {
+            self.expanding = Some(index);
+            self.argument_position = 0;
+            return Err(StepExit::Continue);
+        }
+        give(alloc, token)
+    }
+}

@@ -1,0 +1,61 @@
+//! Why a part of the source has no value.
+
+use crate::step::StepExit;
+use pp_lexer::token::{Location, PreprocessorError, out_of_memory};
+use std::alloc::{AllocError, AllocFailed};
+
+/// Why a part of the source has no value.
+#[derive(Drop)]
+pub enum Halt {
+    /// Its first fault.
+    Fault((PreprocessorError, Location)),
+    /// An allocation was refused.
+    OutOfMemory,
+}
+
+impl From<AllocError> for Halt {
+    ghost use Rattle.std.specs.Prelude.{◌≡◌};
+    ghost use Rattle.pp_expansion.specs.declared.halt.Halt.TheVariants.{OutOfMemory};
+
+    ghost from_gives = { λ error halt. halt ≡ OutOfMemory };
+
+    fn from(_error: AllocError) -> Self {
+        Halt::OutOfMemory
+    }
+}
+
+impl<T: Drop> From<AllocFailed<T>> for Halt {
+    ghost use Rattle.std.specs.Prelude.{◌≡◌};
+    ghost use Rattle.pp_expansion.specs.declared.halt.Halt.TheVariants.{OutOfMemory};
+
+    ghost from_gives = { λ error halt. halt ≡ OutOfMemory };
+
+    fn from(_error: AllocFailed<T>) -> Self {
+        Halt::OutOfMemory
+    }
+}
+
+impl From<(PreprocessorError, Location)> for Halt {
+    ghost use Rattle.std.specs.Prelude.{◌≡◌};
+    ghost use Rattle.pp_expansion.specs.declared.halt.Halt.TheVariants.{Fault};
+
+    ghost from_gives = { λ fault halt. halt ≡ Fault fault };
+
+    fn from(fault: (PreprocessorError, Location)) -> Self {
+        Halt::Fault(fault)
+    }
+}
+
+impl From<Halt> for StepExit {
+    ghost use Rattle.std.specs.Prelude.{◌≡◌};
+    ghost use Rattle.pp_expansion.specs.Halting.{exit_of};
+
+    ghost from_gives = { λ halt exit. exit ≡ exit_of halt };
+
+    fn from(halt: Halt) -> Self {
+        match halt {
+            Halt::Fault(fault) => StepExit::Error(fault),
+            Halt::OutOfMemory => StepExit::Error(out_of_memory()),
+        }
+    }
+}

@@ -1,0 +1,17 @@
+//! Macros: definitions, the expander over a reader of tokens, calls and their arguments; and the blocks that are open.
+#![tactic(auto)]
+
+pub mod arguments;
+pub mod blocks;
+pub mod calls;
+pub mod define;
+pub mod definitions;
+pub mod expander;
+pub mod frames;
+pub mod halt;
+pub mod list_lexer;
+pub mod list_step;
+pub mod open_around;
+pub mod open_names;
+pub mod reader;
+pub mod step;

@@ -1,0 +1,28 @@
+//! Steps over a list of tokens.
+
+ghost use Rattle.std.specs.Prelude.{IfOk};
+ghost use Rattle.pp_expansion.specs.CallTurns.{TurnsOrRefuses, TakenHoldsOrdinary};
+ghost use Rattle.pp_expansion.specs.Held.{HoldsOrdinary};
+ghost use Rattle.pp_expansion.specs.Machine.{TakesNext};
+ghost use Rattle.pp_expansion.specs.Reader.{of_list};
+
+use crate::calls::{Caller, Taken};
+use crate::list_lexer::ListLexer;
+use crate::step::Step;
+use pp_lexer::token::Token;
+
+/// One step of the expander, where a list stands after the frames.
+pub fn step_list(caller: &mut Caller, list: &mut ListLexer<'_>) -> Step<Taken>
+    ensures turns { TurnsOrRefuses caller.old (of_list list.old) result caller.new (of_list list.new) }
+    ensures holds { IfOk result TakenHoldsOrdinary }
+{
+    caller.step(list)
+}
+
+/// What is taken next and not looked up, where a list stands after the frames.
+pub fn take_list(caller: &mut Caller, list: &mut ListLexer<'_>) -> Step<Token>
+    ensures takes { TakesNext caller.old (of_list list.old) result caller.new (of_list list.new) }
+    ensures holds { IfOk result (λ token. HoldsOrdinary token.value) }
+{
+    caller.take_next(list)
+}

@@ -1,0 +1,31 @@
+//! What stands after the frames: a reader of tokens.
+
+ghost use Rattle.std.specs.Prelude.{◌≡◌, IfOk, option_map, ok_or};
+ghost use Rattle.std.specs.Str.{chars};
+ghost use Rattle.pp_lexer.specs.declared.token.PreprocessorError.TheVariants.{LineOverflow};
+ghost use Rattle.pp_expansion.specs.Held.{HoldsOrdinary};
+ghost use Rattle.pp_expansion.specs.Item.{as_step};
+ghost use Rattle.pp_expansion.specs.Reader.{Reader, Reads, visible, shown_line};
+
+use crate::define::Define;
+use crate::step::Step;
+use pp_lexer::token::{Location, Token};
+use std::rc::Rc;
+
+/// A reader of tokens, with what names stand for where it stands.
+pub trait MeLexer {
+    ghost reader: { Self → Reader };
+
+    /// Reads on by one token or line.
+    fn step(&mut self) -> Step<Token>
+        ensures reads { Reads (reader self.old) result (reader self.new) }
+        ensures holds { IfOk result (λ token. HoldsOrdinary token.value) };
+
+    /// What the name stands for there.
+    fn get_define(&self, name: &str) -> Option<&Rc<Define>>
+        ensures { option_map (λ define. define.now.value) result ≡ visible (reader self.now) (chars name.now) };
+
+    /// The number that `__LINE__` shows for a line, or `LineOverflow` at the place.
+    fn apply_line_offset(&self, line: u32, location: Location) -> Step<u32>
+        ensures { result ≡ as_step (ok_or (shown_line (reader self.now) line) (LineOverflow, location)) };
+}

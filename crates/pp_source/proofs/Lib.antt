@@ -1,0 +1,17 @@
+pub mod LinedLemmas
+pub mod EndedLemmas
+pub mod UntoldLemmas
+pub mod HeldLemmas
+pub mod LineReadingLemmas
+pub mod ContentLemmas
+pub mod CommentsAfterLemmas
+pub mod SourceActsLemmas
+pub mod UnnotedLemmas
+pub mod NotedLemmas
+pub mod SourceStepLemmas
+pub mod ConditionActsLemmas
+pub mod LineTurnLemmas
+pub mod LineReadLemmas
+pub mod LineOperandLemmas
+pub mod LineWordsLemmas
+pub mod LineValueLemmas

@@ -1,0 +1,13 @@
+use Rattle.std.proofs.Common.{◌∙◌, ◌∷◌, ◌++◌, [], ap}
+use Rattle.pp_expansion.specs.OpenBlocks.{outer_blocks}
+use Rattle.pp_expansion.specs.declared.blocks.OpenBlock.{OpenBlock}
+use Rattle.pp_source.proofs.ConditionActsLemmas.{elif_parts}
+use Rattle.pp_source.proofs.directives.DirectiveProcessor.part_if.Goals as goal
+
+pub returns-clause-acts : goal.returns-clause-acts
+returns-clause-acts c =
+    let p = c.self.inside in
+    let e = c.in_ok-tokens.ensures in
+    rw (← c.self.view_is)
+    (elif_parts p.definitions p.blocks p.line_offset p.has_text p.has_directive p.lexer c.rest_of_line.new.lexer c.args.word c.in_ok-tokens.tokens.items e.is e.takes c.args.block c.in_ok-holds.holds c.replace_last.new.self
+    c.in_ok-holds.ensures (c.replace_last.ensures ∙ ap (λ (b : OpenBlock). outer_blocks p.blocks ++ b ∷ []) c.decided.ensures))

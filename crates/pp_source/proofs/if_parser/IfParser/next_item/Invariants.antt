@@ -1,0 +1,10 @@
+use Rattle.pp_expansion.specs.Left.{work_of}
+use Rattle.pp_expansion.specs.Reader.{of_list}
+use Rattle.pp_source.proofs.LineReadLemmas.{ItemsOn}
+use Rattle.pp_source.proofs.if_parser.IfParser.next_item.Given as goal
+
+abbrev pub invariant-items : goal.invariant-items
+invariant-items l = ItemsOn l.self.levels l.self.definitions.now l.initial.line.caller l.initial.line.lexer l.line.caller l.line.lexer
+
+abbrev pub decreases-items : goal.decreases-items
+decreases-items l = work_of l.self.levels l.line.caller (of_list l.line.lexer)

@@ -1,0 +1,525 @@
+//! The source's reader: directives act, and the tokens between them are given.
+
+ghost use Rattle.std.specs.Prelude.{◌≡◌, ◌≢◌, ◌||◌, ◌-◌, ◌^◌, ◌<◌, [], length, drop, false, true, Ok, Err, is_ok, IfOk, IfSome, option_map, Some, None, pos, ◌+ℤ◌, ◌-ℤ◌};
+ghost use Rattle.std.specs.Str.{chars};
+ghost use Rattle.pp_lexer.specs.Items.{places_of};
+ghost use Rattle.pp_lexer.specs.Lexed.{start_of};
+ghost use Rattle.pp_lexer.specs.Spots.{spots_of};
+ghost use Rattle.pp_lexer.specs.declared.lexer.item.TokenValue.TheVariants.{NewLine};
+ghost use Rattle.pp_model.specs.Conversions.{conversion};
+ghost use Rattle.pp_model.specs.Lines.{only_name, line_tokens, line_length, first_name, first_token};
+ghost use Rattle.pp_model.specs.LineValues.{as_line_number};
+ghost use Rattle.pp_model.specs.Run.{items_of, content_tokens};
+ghost use Rattle.pp_model.specs.declared.directive.Directive.TheVariants as d;
+ghost use Rattle.pp_expansion.specs.Defined.{meaning_of};
+ghost use Rattle.pp_expansion.specs.DirectiveItems.{is_item};
+ghost use Rattle.pp_expansion.specs.Held.{HoldsOrdinary};
+ghost use Rattle.pp_expansion.specs.Item.{as_step};
+ghost use Rattle.pp_source.specs.ReadNames.{named};
+ghost use Rattle.pp_expansion.specs.OpenBlocks.{last_block, is_live_in, block_skipped};
+ghost use Rattle.pp_source.specs.SettingContent.{SetsContent};
+ghost use Rattle.pp_expansion.specs.Source.{StepsSource, untold_of};
+ghost use Rattle.pp_source.specs.SourceActs.{Acts, ActsAs, Gives, live_word_move, dead_word_move, word_move, defining};
+ghost use Rattle.pp_expansion.specs.SourceMoves as moves;
+ghost use Rattle.pp_expansion.specs.Untold.{Tells, ExitTells, StepTells};
+
+use pp_lexer::lexer;
+use pp_expansion::blocks::{Blocks, OpenBlock};
+use crate::content::content_tokens;
+use crate::convert::convert_lexer_token_to_step;
+use pp_expansion::define::Define;
+use pp_expansion::definitions::Definitions;
+use pp_expansion::halt::Halt;
+use crate::line_value::{condition, line_number};
+use crate::lines::{
+    DefineLine, define_line, ended_line, endif_end, first_name, first_token, line_tokens,
+    only_name, rest_of_line, skip_line,
+};
+use crate::source_lexer::SourceLexer;
+use pp_expansion::step::{Step, StepExit};
+use pp_lexer::token::{
+    Extension, Location, Pragma, PreprocessorError, Text, Token, TokenValue, Version,
+};
+use pp_model::directive::{Directive, directive_of};
+use std::alloc::Global;
+use std::marker::Model;
+use std::rc::Rc;
+
+/// The source after the lexer, with its directives.
+#[derive(Drop)]
+pub struct DirectiveProcessor<'a> {
+    alloc: Global,
+    lexer: SourceLexer<'a>,
+    definitions: Definitions,
+    blocks: Blocks,
+    line_offset: i64,
+    has_text: bool,
+    has_directive: bool,
+}
+
+impl<'a> Model for DirectiveProcessor<'a> {
+    ghost use Rattle.pp_expansion.specs.Source.{Source};
+
+    ghost Value = { Source };
+
+    ghost view = { λ p. record { rest = p.lexer.rest; places = p.lexer.places; error_place = p.lexer.error_place; definitions = p.definitions; blocks = p.blocks; line_offset = p.line_offset; spent = p.lexer.spent; has_text = p.has_text; has_directive = p.has_directive } };
+}
+
+impl<'a> DirectiveProcessor<'a> {
+    /// A reader at the start of a source of fewer than 2^32 - 1 bytes.
+    ///
+    /// Takes no memory and reads nothing yet.
+    pub fn new(alloc: Global, input: &'a str) -> DirectiveProcessor<'a>
+        requires { length input.now < 2 ^ 32 - 1 }
+        ensures { result ≡ record { rest = (start_of (spots_of input.now)).rest; places = places_of (spots_of input.now); error_place = None; definitions = []; blocks = []; line_offset = pos 0; spent = false; has_text = false; has_directive = false } }
+    {
+        DirectiveProcessor {
+            alloc,
+            lexer: SourceLexer::new(alloc, input),
+            definitions: Definitions::new(alloc),
+            blocks: Blocks::new(alloc),
+            line_offset: 0,
+            has_text: false,
+            has_directive: false,
+        }
+    }
+
+    /// What the name stands for.
+    pub fn find(&self, name: &str) -> Option<&Rc<Define>>
+        ensures { option_map (λ d. d.now.value) result ≡ meaning_of self.now.definitions (chars name.now) }
+    {
+        self.definitions.find(name)
+    }
+
+    /// What is defined.
+    pub fn definitions(&self) -> &Definitions
+        ensures { result.now ≡ self.now.definitions }
+    {
+        &self.definitions
+    }
+
+    /// The line that `__LINE__` shows for a line of the source, where it has 32 bits.
+    pub fn shown_line(&self, line: u32) -> Option<u32>
+        ensures { result ≡ as_line_number (pos line +ℤ self.now.line_offset) }
+    {
+        let shown = self.line_offset.checked_add(i64::from(line))?;
+        u32::try_from(shown).ok()
+    }
+
+    /// Where the error of the lexer stands that was read and not told yet, which is told now.
+    pub fn take_error_place(&mut self) -> Option<Location>
+        ensures place { result ≡ self.old.error_place }
+        ensures others { self.new ≡ record self.old { error_place = None } }
+    {
+        self.lexer.take_error_place()
+    }
+
+    /// Lets the name stand for the tokens of a content of fewer than 2^32 - 1 bytes from now on, whatever it stood for.
+    /// Where that is refused, nothing changes.
+    pub fn set_content(&mut self, name: &str, content: &str) -> Result<(), Halt>
+        requires { length content.now < 2 ^ 32 - 1 }
+        ensures { SetsContent (chars name.now) (content_tokens (items_of content.now)) self.old result self.new }
+    {
+        let body = content_tokens(self.alloc, content)?;
+        let define = Rc::new(self.alloc, Define::object_like(self.alloc, body))?;
+        let name = Text::from(String::from_str(self.alloc, name)?);
+        self.definitions.set(name, define)?;
+        Ok(())
+    }
+
+    // Whether the text is live.
+    fn is_live(&self) -> bool
+        ensures { result ≡ is_live_in (last_block self.now.blocks) }
+    {
+        self.blocks.are_live()
+    }
+
+    // Lets a name stand for what its line says. A name that stands for that already keeps its old definition.
+    fn add(&mut self, line: DefineLine) -> Result<(), Halt>
+        requires { self.old.spent ≡ false }
+        ensures acts { Acts (defining (named line)) self.old result self.new }
+        ensures errors { Tells result (untold_of self.old) (untold_of self.new) }
+    {
+        if let Some(before) = self.definitions.find(line.name.as_str()) {
+            if before.is_same(&line.define) {
+                return Ok(());
+            }
+            let fault = (PreprocessorError::DefineRedefined, line.location);
+            return Err(Halt::Fault(fault));
+        }
+        let define = Rc::new(self.alloc, line.define)?;
+        self.definitions.set(line.name, define)?;
+        Ok(())
+    }
+
+    // Does what a `#define` line says, after its word.
+    fn define(&mut self, word: Location) -> Result<(), Halt>
+        requires { self.old.spent ≡ false }
+        ensures acts { Acts (moves.directive_move true (last_block self.old.blocks) d.Define word self.old.rest) self.old result self.new }
+        ensures errors { Tells result (untold_of self.old) (untold_of self.new) }
+    {
+        let line = define_line(self.alloc, word, &mut self.lexer)?;
+        self.add(line)
+    }
+
+    // Does what an `#undef` line says, after its word.
+    fn undef(&mut self, word: Location) -> Result<(), Halt>
+        requires { self.old.spent ≡ false }
+        ensures acts { Acts (moves.line_move (only_name word self.old.rest) moves.undefines (line_length self.old.rest)) self.old result self.new }
+        ensures errors { Tells result (untold_of self.old) (untold_of self.new) }
+    {
+        let name = only_name(word, &mut self.lexer)?;
+        self.definitions.remove(name.as_str());
+        Ok(())
+    }
+
+    // Opens a block where the name on the line is defined, or where it isn't.
+    fn open_where(&mut self, wanted: bool, word: Location) -> Result<(), Halt>
+        requires { self.old.spent ≡ false }
+        ensures acts { Acts (moves.line_move (only_name word self.old.rest) (moves.opens_where wanted word) (line_length self.old.rest)) self.old result self.new }
+        ensures errors { Tells result (untold_of self.old) (untold_of self.new) }
+    {
+        let name = only_name(word, &mut self.lexer)?;
+        let is_defined = self.definitions.find(name.as_str()).is_some();
+        drop(name);
+        self.blocks
+            .push(OpenBlock::opened(word, is_defined == wanted))?;
+        Ok(())
+    }
+
+    // Opens a block where the condition on the line holds.
+    fn open_if(&mut self, word: Location) -> Result<(), Halt>
+        requires { self.old.spent ≡ false }
+        ensures acts { Acts (moves.line_move (line_tokens self.old.rest) (moves.opens_if word) (line_length self.old.rest)) self.old result self.new }
+        ensures errors { Tells result (untold_of self.old) (untold_of self.new) }
+    {
+        let tokens = rest_of_line(self.alloc, &mut self.lexer)?;
+        let holds = condition(self.alloc, word, tokens, &self.definitions)?;
+        self.blocks.push(OpenBlock::opened(word, holds))?;
+        Ok(())
+    }
+
+    // Opens a block in dead text, whatever stands on its line.
+    fn open_unread(&mut self, word: Location) -> Result<(), Halt>
+        requires { self.old.spent ≡ false }
+        ensures acts { Acts (moves.skip_move (moves.opens_unread word) self.old.rest) self.old result self.new }
+        ensures errors { Tells result (untold_of self.old) (untold_of self.new) }
+    {
+        self.blocks.push(OpenBlock::unread(word))?;
+        skip_line(&mut self.lexer)
+    }
+
+    // Skips the branch after an `#elif` of the innermost block.
+    fn skip_branch(&mut self, block: OpenBlock) -> Result<(), Halt>
+        requires unspent { self.old.spent ≡ false }
+        requires innermost { last_block self.old.blocks ≡ Some block }
+        ensures acts { Acts (moves.skip_move (moves.parts (block_skipped block)) self.old.rest) self.old result self.new }
+        ensures errors { Tells result (untold_of self.old) (untold_of self.new) }
+    {
+        skip_line(&mut self.lexer)?;
+        self.blocks.replace_last(block.skipped());
+        Ok(())
+    }
+
+    // Parts the innermost block by the condition on the line.
+    fn part_if(&mut self, block: OpenBlock, word: Location) -> Result<(), Halt>
+        requires unspent { self.old.spent ≡ false }
+        requires innermost { last_block self.old.blocks ≡ Some block }
+        ensures acts { Acts (moves.line_move (line_tokens self.old.rest) (moves.parts_if block word) (line_length self.old.rest)) self.old result self.new }
+        ensures errors { Tells result (untold_of self.old) (untold_of self.new) }
+    {
+        let tokens = rest_of_line(self.alloc, &mut self.lexer)?;
+        let holds = condition(self.alloc, word, tokens, &self.definitions)?;
+        self.blocks.replace_last(block.decided(holds));
+        Ok(())
+    }
+
+    // Does what an `#elif` line says, after its word.
+    fn elif_line(&mut self, word: Location) -> Result<(), Halt>
+        requires { self.old.spent ≡ false }
+        ensures acts { Acts (moves.elif_move (last_block self.old.blocks) word self.old.rest) self.old result self.new }
+        ensures errors { Tells result (untold_of self.old) (untold_of self.new) }
+    {
+        let Some(block) = self.blocks.last() else {
+            return Err(Halt::Fault((PreprocessorError::ElifOutsideOfBlock, word)));
+        };
+        if block.with_else {
+            return Err(Halt::Fault((PreprocessorError::ElifAfterElse, word)));
+        }
+        if block.skips_branches() {
+            return self.skip_branch(block);
+        }
+        self.part_if(block, word)
+    }
+
+    // Does what an `#else` line says, after its word.
+    fn else_line(&mut self, word: Location) -> Result<(), Halt>
+        requires { self.old.spent ≡ false }
+        ensures acts { Acts (moves.else_move (last_block self.old.blocks) word self.old.rest) self.old result self.new }
+        ensures errors { Tells result (untold_of self.old) (untold_of self.new) }
+    {
+        ended_line(word, &mut self.lexer)?;
+        let Some(block) = self.blocks.last() else {
+            return Err(Halt::Fault((PreprocessorError::ElseOutsideOfBlock, word)));
+        };
+        if block.with_else {
+            return Err(Halt::Fault((PreprocessorError::MoreThanOneElse, word)));
+        }
+        self.blocks.replace_last(block.parted());
+        Ok(())
+    }
+
+    // Does what an `#endif` line says, after its word: the block closes, whatever else stands on the line.
+    fn endif_line(&mut self, word: Location) -> Result<(), Halt>
+        requires { self.old.spent ≡ false }
+        ensures acts { Acts (moves.endif_move (last_block self.old.blocks) word self.old.rest) self.old result self.new }
+        ensures errors { Tells result (untold_of self.old) (untold_of self.new) }
+    {
+        let Some(block) = self.blocks.pop() else {
+            return Err(Halt::Fault((PreprocessorError::EndifOutsideOfBlock, word)));
+        };
+        endif_end(block.live_around, word, &mut self.lexer)
+    }
+
+    // Shows the line as this number from now on, and the lines after it accordingly.
+    fn count_from(&mut self, line: u32, number: u32)
+        ensures { self.new ≡ record self.old { line_offset = pos number -ℤ pos line } }
+    {
+        self.line_offset = i64::from(number) - i64::from(line);
+    }
+
+    // Does what a `#line` line says, after its word: the next lines are numbered from there.
+    fn number_lines(&mut self, word: Location) -> Result<(), Halt>
+        requires { self.old.spent ≡ false }
+        ensures acts { Acts (moves.line_move (line_tokens self.old.rest) (moves.renumbers word) (line_length self.old.rest)) self.old result self.new }
+        ensures errors { Tells result (untold_of self.old) (untold_of self.new) }
+    {
+        let tokens = rest_of_line(self.alloc, &mut self.lexer)?;
+        let number = line_number(self.alloc, word, tokens, &self.definitions)?;
+        self.count_from(word.line, number);
+        Ok(())
+    }
+
+    // Skips the line.
+    fn skip(&mut self) -> Result<(), Halt>
+        requires { self.old.spent ≡ false }
+        ensures acts { Acts (moves.skip_move moves.passes self.old.rest) self.old result self.new }
+        ensures errors { Tells result (untold_of self.old) (untold_of self.new) }
+    {
+        skip_line(&mut self.lexer)
+    }
+
+    // A `#version` line as an item.
+    fn version(&mut self, word: Location) -> Result<Token, Halt>
+        requires unspent { self.old.spent ≡ false }
+        requires left { self.old.rest ≢ [] }
+        ensures acts { ActsAs (λ token. Ok token) (moves.live_move (last_block self.old.blocks) d.Version word self.old.rest) self.old result self.new }
+        ensures holds { IfOk result (λ token. HoldsOrdinary token.value) }
+        ensures errors { Tells result (untold_of self.old) (untold_of self.new) }
+    {
+        let tokens = line_tokens(self.alloc, &mut self.lexer)?;
+        let value = TokenValue::Version(Version {
+            tokens,
+            is_first_directive: !(self.has_directive || self.has_text),
+            has_comments_before: self.lexer.had_comments(),
+        });
+        Ok(Token {
+            value,
+            location: word,
+        })
+    }
+
+    // An `#extension` line as an item.
+    fn extension(&mut self, word: Location) -> Result<Token, Halt>
+        requires unspent { self.old.spent ≡ false }
+        requires left { self.old.rest ≢ [] }
+        ensures acts { ActsAs (λ token. Ok token) (moves.live_move (last_block self.old.blocks) d.Extension word self.old.rest) self.old result self.new }
+        ensures holds { IfOk result (λ token. HoldsOrdinary token.value) }
+        ensures errors { Tells result (untold_of self.old) (untold_of self.new) }
+    {
+        let tokens = line_tokens(self.alloc, &mut self.lexer)?;
+        let value = TokenValue::Extension(Extension {
+            tokens,
+            has_non_directive_before: self.has_text,
+        });
+        Ok(Token {
+            value,
+            location: word,
+        })
+    }
+
+    // A `#pragma` line as an item.
+    fn pragma(&mut self, word: Location) -> Result<Token, Halt>
+        requires unspent { self.old.spent ≡ false }
+        requires left { self.old.rest ≢ [] }
+        ensures acts { ActsAs (λ token. Ok token) (moves.live_move (last_block self.old.blocks) d.Pragma word self.old.rest) self.old result self.new }
+        ensures holds { IfOk result (λ token. HoldsOrdinary token.value) }
+        ensures errors { Tells result (untold_of self.old) (untold_of self.new) }
+    {
+        let tokens = line_tokens(self.alloc, &mut self.lexer)?;
+        Ok(Token {
+            value: TokenValue::Pragma(Pragma { tokens }),
+            location: word,
+        })
+    }
+
+    // Does what a directive that is no item says in live text, after its word.
+    fn act_live(&mut self, directive: Directive, word: Location) -> Result<(), Halt>
+        requires unspent { self.old.spent ≡ false }
+        requires silent { is_item directive ≡ false }
+        ensures acts { Acts (moves.directive_move true (last_block self.old.blocks) directive word self.old.rest) self.old result self.new }
+        ensures errors { Tells result (untold_of self.old) (untold_of self.new) }
+    {
+        match directive {
+            Directive::Define => self.define(word),
+            Directive::Undef => self.undef(word),
+            Directive::If => self.open_if(word),
+            Directive::Ifdef => self.open_where(true, word),
+            Directive::Ifndef => self.open_where(false, word),
+            Directive::Elif => self.elif_line(word),
+            Directive::Else => self.else_line(word),
+            Directive::Endif => self.endif_line(word),
+            Directive::Line => self.number_lines(word),
+            Directive::Error => Err(Halt::Fault((PreprocessorError::ErrorDirective, word))),
+            _ => Err(Halt::Fault((PreprocessorError::UnknownDirective, word))),
+        }
+    }
+
+    // What a directive gives in live text, after its word.
+    fn give_live(&mut self, directive: Directive, word: Location) -> Result<Option<Token>, Halt>
+        requires unspent { self.old.spent ≡ false }
+        requires left { self.old.rest ≢ [] }
+        ensures gives { Gives (moves.directive_move true (last_block self.old.blocks) directive word self.old.rest) self.old result self.new }
+        ensures holds { IfOk result (λ given. IfSome given (λ token. HoldsOrdinary token.value)) }
+        ensures errors { Tells result (untold_of self.old) (untold_of self.new) }
+    {
+        match directive {
+            Directive::Version => Ok(Some(self.version(word)?)),
+            Directive::Extension => Ok(Some(self.extension(word)?)),
+            Directive::Pragma => Ok(Some(self.pragma(word)?)),
+            _ => {
+                self.act_live(directive, word)?;
+                Ok(None)
+            }
+        }
+    }
+
+    // Does what a directive says in dead text, after its word.
+    fn act_dead(&mut self, directive: Directive, word: Location) -> Result<(), Halt>
+        requires { self.old.spent ≡ false }
+        ensures acts { Acts (moves.directive_move false (last_block self.old.blocks) directive word self.old.rest) self.old result self.new }
+        ensures errors { Tells result (untold_of self.old) (untold_of self.new) }
+    {
+        match directive {
+            Directive::If | Directive::Ifdef | Directive::Ifndef => self.open_unread(word),
+            Directive::Elif => self.elif_line(word),
+            Directive::Else => self.else_line(word),
+            Directive::Endif => self.endif_line(word),
+            Directive::Unknown => Ok(()),
+            _ => self.skip(),
+        }
+    }
+
+    // What a directive gives in live text, after its number sign.
+    fn read_live(&mut self, hash: Location) -> Result<Option<Token>, Halt>
+        requires { self.old.spent ≡ false }
+        ensures gives { Gives (live_word_move (last_block self.old.blocks) (first_name hash self.old.rest) (drop 1 self.old.rest)) self.old result self.new }
+        ensures holds { IfOk result (λ given. IfSome given (λ token. HoldsOrdinary token.value)) }
+        ensures errors { Tells result (untold_of self.old) (untold_of self.new) }
+    {
+        let word = first_name(hash, &mut self.lexer)?;
+        let given = self.give_live(directive_of(&word.name), word.location)?;
+        self.has_directive = true;
+        Ok(given)
+    }
+
+    // Does what a directive says in dead text, after its number sign. Where no word stands there, nothing is said.
+    fn read_dead(&mut self, hash: Location) -> Result<(), Halt>
+        requires { self.old.spent ≡ false }
+        ensures acts { Acts (dead_word_move (last_block self.old.blocks) (first_token hash self.old.rest) (drop 1 self.old.rest)) self.old result self.new }
+        ensures errors { Tells result (untold_of self.old) (untold_of self.new) }
+    {
+        let token = first_token(hash, &mut self.lexer)?;
+        let word = token.location;
+        match token.value {
+            lexer::TokenValue::Ident(name) => {
+                self.act_dead(directive_of(&name), word)?;
+                self.has_directive = true;
+                Ok(())
+            }
+            _ => Ok(()),
+        }
+    }
+
+    // What a directive gives, after its number sign.
+    fn read_directive(&mut self, hash: Location) -> Result<Option<Token>, Halt>
+        requires { self.old.spent ≡ false }
+        ensures gives { Gives (word_move (is_live_in (last_block self.old.blocks)) (last_block self.old.blocks) hash self.old.rest) self.old result self.new }
+        ensures holds { IfOk result (λ given. IfSome given (λ token. HoldsOrdinary token.value)) }
+        ensures errors { Tells result (untold_of self.old) (untold_of self.new) }
+    {
+        if self.is_live() {
+            return self.read_live(hash);
+        }
+        self.read_dead(hash)?;
+        Ok(None)
+    }
+
+    // A token of live text. A number sign is refused.
+    fn give_token(&mut self, token: lexer::Token) -> Step<Token>
+        requires { token.value ≢ NewLine }
+        ensures is { result ≡ as_step (conversion token) }
+        ensures holds { IfOk result (λ token. HoldsOrdinary token.value) }
+        ensures remembers { self.new ≡ record self.old { has_text = is_ok result || self.old.has_text } }
+        ensures errors { StepTells result (untold_of self.old) (untold_of self.new) }
+    {
+        let token = convert_lexer_token_to_step(token)?;
+        self.has_text = true;
+        Ok(token)
+    }
+
+    // Tells the innermost of the blocks that are open at the end of the source, or the end.
+    fn end(&mut self) -> StepExit
+        requires { self.old.spent ≡ false → self.old.rest ≡ [] }
+        ensures reads { StepsSource self.old (Err result) self.new }
+        ensures errors { ExitTells result (untold_of self.old) (untold_of self.new) }
+    {
+        if self.lexer.is_spent() {
+            return StepExit::Finished;
+        }
+        match self.blocks.pop() {
+            Some(block) => StepExit::Error((PreprocessorError::UnfinishedBlock, block.word)),
+            None => StepExit::Finished,
+        }
+    }
+
+    /// Reads on by one token or one line of a directive.
+    ///
+    /// A newline and a directive that acts are pauses, and so are the tokens of dead text. These
+    /// directives act: `#define`, `#undef`, `#if`, `#ifdef`, `#ifndef`, `#elif`, `#else`, `#endif` and `#line`. In live text `#version`, `#extension` and `#pragma` are tokens at their
+    /// word, which hold the tokens of their line; `#error` is `ErrorDirective` at its word, and a
+    /// number sign that begins no line is `UnexpectedHash` at its place. The lexer's errors are
+    /// given as they are. At the end `UnfinishedBlock` is told of each block that is open, the
+    /// innermost first.
+    #[inline(always)]
+    pub fn step(&mut self) -> Step<Token>
+        ensures reads { StepsSource self.old result self.new }
+        ensures holds { IfOk result (λ token. HoldsOrdinary token.value) }
+        ensures errors { StepTells result (untold_of self.old) (untold_of self.new) }
+    {
+        let Some(token) = self.lexer.next_token()? else {
+            return Err(self.end());
+        };
+        match token.value {
+            lexer::TokenValue::NewLine => Err(StepExit::Continue),
+            lexer::TokenValue::Hash if token.start_of_line => {
+                match self.read_directive(token.location)? {
+                    Some(item) => Ok(item),
+                    None => Err(StepExit::Continue),
+                }
+            }
+            _ if self.is_live() => self.give_token(token),
+            _ => Err(StepExit::Continue),
+        }
+    }
+}

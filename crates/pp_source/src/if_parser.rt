@@ -1,0 +1,361 @@
+//! The words of an `#if`, `#elif` or `#line` line.
+
+ghost use Rattle.std.specs.Prelude.{◌≡◌, [], IfOk, is_some};
+ghost use Rattle.pp_model.specs.LineWords.{reading, unknown_name, unexpected, name_in_value, unwanted_word};
+ghost use Rattle.pp_model.specs.inner.LineWords.{is_open_paren, is_close_paren};
+ghost use Rattle.pp_model.specs.Names.{is_identifier, defined_name};
+ghost use Rattle.pp_model.specs.WordsRead.{reading_named, unwanted_read, IsOf};
+ghost use Rattle.pp_expansion.specs.Defined.{meaning_of};
+ghost use Rattle.pp_expansion.specs.Halting.{halt_of};
+ghost use Rattle.pp_expansion.specs.Held.{AllHoldOrdinary};
+ghost use Rattle.pp_source.specs.IfParsing.{Stands, GivesItem, TakesOff, GivesTaken, IsNameOrFault, GivesOperand, GivesParenthesized, GivesClosed, AreWordsOf, AreWordsOfLine};
+ghost use Rattle.pp_source.specs.LineItems.{outcome_of};
+
+use pp_expansion::arguments::finish_call;
+use pp_expansion::calls::{Caller, Taken, is_left_paren, is_right_paren};
+use pp_expansion::definitions::Definitions;
+use pp_expansion::halt::Halt;
+use pp_expansion::list_lexer::ListLexer;
+use pp_expansion::list_step::{step_list, take_list};
+use pp_expansion::open_around::OpenAround;
+use pp_expansion::step::{StepExit, is_out_of_memory};
+use pp_lexer::token::{Integer, Location, PreprocessorError, Text, Token, TokenValue};
+use pp_model::names::is_defined_name;
+use pp_model::outcome::Fault;
+use pp_model::word::{LineKind, Word, WordReading};
+use std::alloc::{AllocError, Global};
+use std::marker::Model;
+
+/// The words of a line, and the fault of reading that ends them, if one does.
+#[derive(Drop)]
+pub struct Words {
+    /// The words.
+    pub words: Vec<Word>,
+    /// The fault.
+    pub ending: Option<Fault>,
+}
+
+impl Model for Words {
+    ghost use Rattle.pp_model.specs.LineWords as spec;
+
+    ghost Value = { spec.Words };
+
+    ghost view = { λ w. record { words = w.words.items; ending = w.ending } };
+}
+
+// A line that is read: the macros that are open, and the tokens that are left.
+#[derive(Drop)]
+struct LineExpander<'a> {
+    caller: Caller,
+    lexer: ListLexer<'a>,
+}
+
+// The reader of a line's words: what the line is, where its directive stands, what is defined there,
+// and how many levels deep arguments may be read inside each other.
+#[derive(Drop)]
+struct IfParser<'a> {
+    alloc: Global,
+    kind: LineKind,
+    directive: Location,
+    definitions: &'a Definitions,
+    levels: u32,
+}
+
+// The fault of a step, or that memory was refused.
+fn halt_of(fault: Fault) -> Halt
+    ensures { result ≡ halt_of fault }
+{
+    if is_out_of_memory(&fault.0) {
+        drop(fault);
+        return Halt::OutOfMemory;
+    }
+    Halt::Fault(fault)
+}
+
+// The fault of a token that is not wanted.
+fn unexpected(token: Token) -> Fault
+    ensures { result ≡ unexpected token }
+{
+    let Token { value, location } = token;
+    (PreprocessorError::UnexpectedToken(value), location)
+}
+
+// Whether the token is the identifier `defined`.
+fn is_operator(value: &TokenValue) -> bool
+    ensures { result ≡ is_identifier defined_name value.now }
+{
+    match value {
+        TokenValue::Ident(name) => is_defined_name(name),
+        _ => false,
+    }
+}
+
+// Whether the token is an identifier.
+fn is_name(value: &TokenValue) -> bool
+    ensures { result ≡ is_some (name_in_value value.now) }
+{
+    matches!(value, TokenValue::Ident(_))
+}
+
+// What an unknown identifier of a line is.
+fn unknown_name(kind: LineKind, token: Token) -> WordReading
+    ensures { unknown_name kind token ≡ reading_named result }
+{
+    match kind {
+        LineKind::Condition => {
+            let location = token.location;
+            drop(token);
+            WordReading::Word(Token {
+                value: TokenValue::Integer(Integer {
+                    value: 0,
+                    signed: true,
+                    width: 64,
+                }),
+                location,
+            })
+        }
+        LineKind::LineNumber => WordReading::Refused(unexpected(token)),
+    }
+}
+
+// What a token of an expanded line is.
+fn reading_of(kind: LineKind, token: Token) -> WordReading
+    ensures reads { reading kind token ≡ reading_named result }
+    ensures whole { IsOf token result }
+{
+    if is_operator(&token.value) {
+        WordReading::Operator(token)
+    } else if is_name(&token.value) {
+        unknown_name(kind, token)
+    } else {
+        WordReading::Word(token)
+    }
+}
+
+// The fault of what was read as a word where a part of `defined` is wanted.
+fn unwanted_reading(read: WordReading) -> Fault
+    ensures { result ≡ unwanted_read read }
+{
+    match read {
+        WordReading::Operator(token) => unexpected(token),
+        WordReading::Word(word) => unexpected(word),
+        WordReading::Refused(fault) => fault,
+    }
+}
+
+// Whether it is a `(`.
+fn is_open_paren(found: &Option<Token>) -> bool
+    ensures { result ≡ is_open_paren (outcome_of found.now) }
+{
+    match found {
+        Some(token) => is_left_paren(&token.value),
+        None => false,
+    }
+}
+
+// Whether it is a `)`.
+fn is_close_paren(found: &Option<Token>) -> bool
+    ensures { result ≡ is_close_paren (outcome_of found.now) }
+{
+    match found {
+        Some(token) => is_right_paren(&token.value),
+        None => false,
+    }
+}
+
+// The words of a line with its fault.
+fn ended(words: Vec<Word>, ending: Option<Fault>) -> Words
+    ensures { result ≡ record { words = words.items; ending = ending } }
+{
+    Words { words, ending }
+}
+
+impl<'a> IfParser<'a> {
+    // The next item of the line, or nothing at its end.
+    fn next_item(&self, line: &mut LineExpander<'_>) -> Result<Option<Token>, Halt>
+        requires { Stands self.now line.old }
+        ensures reads { GivesItem self.now line.old result line.new }
+        ensures less { TakesOff self.now line.old result line.new }
+    {
+        let hidden = OpenAround::nothing(self.alloc);
+        'items: loop {
+            match step_list(&mut line.caller, &mut line.lexer) {
+                Ok(Taken::Token(token)) => return Ok(Some(token)),
+                Ok(Taken::Call(call)) => finish_call(
+                    self.alloc,
+                    &mut line.caller,
+                    call,
+                    self.definitions,
+                    &hidden,
+                    self.levels,
+                )?,
+                Err(StepExit::Continue) => {}
+                Err(StepExit::Finished) => return Ok(None),
+                Err(StepExit::Error(fault)) => return Err(halt_of(fault)),
+            }
+        }
+    }
+
+    // What is taken next and not looked up, or nothing at the end of the line.
+    fn take(&self, line: &mut LineExpander<'_>) -> Result<Option<Token>, Halt>
+        requires { Stands self.now line.old }
+        ensures { GivesTaken self.now line.old result line.new }
+    {
+        match take_list(&mut line.caller, &mut line.lexer) {
+            Ok(token) => Ok(Some(token)),
+            Err(StepExit::Finished) => Ok(None),
+            Err(StepExit::Continue) => Ok(None),
+            Err(StepExit::Error(fault)) => Err(halt_of(fault)),
+        }
+    }
+
+    // Whether the name is defined.
+    fn is_defined(&self, name: &Text) -> bool
+        ensures { result ≡ is_some (meaning_of self.now.definitions.now name.now) }
+    {
+        self.definitions.find(name.as_str()).is_some()
+    }
+
+    // The fault of an item where a part of `defined` is wanted.
+    fn unwanted_word(&self, found: Option<Token>) -> Fault
+        ensures { result ≡ unwanted_word self.now.kind self.now.directive (outcome_of found) }
+    {
+        match found {
+            Some(token) => unwanted_reading(reading_of(self.kind, token)),
+            None => (PreprocessorError::UnexpectedEndOfInput, self.directive),
+        }
+    }
+
+    // The name of an identifier, or the fault of anything else where a part of `defined` is wanted.
+    fn name_or_fault(&self, found: Option<Token>) -> Result<Text, Fault>
+        ensures { IsNameOrFault self.now.directive found result }
+    {
+        match found {
+            Some(token) => {
+                let Token { value, location } = token;
+                match value {
+                    TokenValue::Ident(name) => Ok(name),
+                    other => Err((PreprocessorError::UnexpectedToken(other), location)),
+                }
+            }
+            None => Err((PreprocessorError::UnexpectedEndOfInput, self.directive)),
+        }
+    }
+
+    // What a `defined` comes to after its `(` and the name.
+    fn closed_operand(&self, line: &mut LineExpander<'_>, name: &Text) -> Result<bool, Halt>
+        requires { Stands self.now line.old }
+        ensures { GivesClosed self.now name.now line.old result line.new }
+    {
+        let found = self.next_item(line)?;
+        if is_close_paren(&found) {
+            drop(found);
+            Ok(self.is_defined(name))
+        } else {
+            Err(Halt::Fault(self.unwanted_word(found)))
+        }
+    }
+
+    // What a `defined` comes to after its `(`.
+    fn operand_in_parentheses(&self, line: &mut LineExpander<'_>) -> Result<bool, Halt>
+        requires { Stands self.now line.old }
+        ensures { GivesParenthesized self.now line.old result line.new }
+    {
+        let found = self.take(line)?;
+        match self.name_or_fault(found) {
+            Ok(name) => self.closed_operand(line, &name),
+            Err(fault) => Err(Halt::Fault(fault)),
+        }
+    }
+
+    // What the operand of a `defined` comes to.
+    fn operand(&self, line: &mut LineExpander<'_>) -> Result<bool, Halt>
+        requires { Stands self.now line.old }
+        ensures { GivesOperand self.now line.old result line.new }
+    {
+        let found = self.take(line)?;
+        if is_open_paren(&found) {
+            drop(found);
+            return self.operand_in_parentheses(line);
+        }
+        match self.name_or_fault(found) {
+            Ok(name) => Ok(self.is_defined(&name)),
+            Err(fault) => Err(Halt::Fault(fault)),
+        }
+    }
+
+    // The words that the rest of a line comes to.
+    fn read_words(&self, line: &mut LineExpander<'_>) -> Result<Words, AllocError>
+        requires { Stands self.now line.old }
+        ensures { IfOk result (AreWordsOf self.now line.old) }
+    {
+        let mut words = Vec::new(self.alloc);
+        'words: loop {
+            let token = match self.next_item(line) {
+                Ok(Some(token)) => token,
+                Ok(None) => return Ok(ended(words, None)),
+                Err(Halt::Fault(fault)) => return Ok(ended(words, Some(fault))),
+                Err(Halt::OutOfMemory) => return Err(AllocError),
+            };
+            let place = token.location;
+            match reading_of(self.kind, token) {
+                WordReading::Refused(fault) => return Ok(ended(words, Some(fault))),
+                WordReading::Word(word) => words.push(Word::Plain(word))?,
+                WordReading::Operator(operator) => {
+                    drop(operator);
+                    match self.operand(line) {
+                        Ok(answer) => words.push(Word::Defined(place, Ok(answer)))?,
+                        Err(Halt::Fault(fault)) => {
+                            words.push(Word::Defined(place, Err(fault)))?;
+                            return Ok(ended(words, None));
+                        }
+                        Err(Halt::OutOfMemory) => return Err(AllocError),
+                    }
+                }
+            }
+        }
+    }
+
+    // The words of a line around which no macro is open.
+    fn words_of_line(
+        &self,
+        tokens: Vec<Token>,
+        definitions: &Definitions,
+        around: &OpenAround<'_>,
+    ) -> Result<Words, AllocError>
+        requires holds { AllHoldOrdinary tokens.items }
+        requires same { self.now.definitions.now ≡ definitions.now }
+        requires alone { around.now ≡ [] }
+        ensures { IfOk result (AreWordsOfLine self.now.kind self.now.directive self.now.levels tokens.items definitions.now) }
+    {
+        let lexer = ListLexer::line(tokens, definitions, &*around);
+        let mut line = LineExpander {
+            caller: Caller::new(self.alloc),
+            lexer,
+        };
+        self.read_words(&mut line)
+    }
+}
+
+/// The words that a line comes to, and the fault of reading that ends them, if one does.
+pub fn line_words(
+    alloc: Global,
+    kind: LineKind,
+    directive: Location,
+    tokens: Vec<Token>,
+    definitions: &Definitions,
+    levels: u32,
+) -> Result<Words, AllocError>
+    requires { AllHoldOrdinary tokens.items }
+    ensures { IfOk result (AreWordsOfLine kind directive levels tokens.items definitions.now) }
+{
+    let parser = IfParser {
+        alloc,
+        kind,
+        directive,
+        definitions,
+        levels,
+    };
+    let around = OpenAround::nothing(alloc);
+    parser.words_of_line(tokens, definitions, &around)
+}

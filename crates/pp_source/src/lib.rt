@@ -1,0 +1,13 @@
+//! A source's reader: its directives act, and the tokens between them are given.
+#![tactic(auto)]
+
+pub mod content;
+pub mod convert;
+pub mod directives;
+pub mod if_parser;
+pub mod limit;
+pub mod line_value;
+pub mod lines;
+pub mod parameters;
+pub mod source_lexer;
+pub mod source_reader;

@@ -1,0 +1,97 @@
+//! The parameters of a macro, read token by token.
+
+ghost use Rattle.std.specs.Prelude.{◌≡◌, ◌++◌, ◌∷◌, [], false};
+ghost use Rattle.pp_model.specs.DefineLines.{parameters};
+ghost use Rattle.pp_model.specs.Names.{is_in};
+ghost use Rattle.pp_expansion.specs.LineReading as spec;
+ghost use Rattle.pp_expansion.specs.ParameterReading.{ends_parameters, one_parameter, first_parameter, alone, GoesOn};
+ghost use Rattle.pp_expansion.specs.SourceLexed.{untold_at};
+ghost use Rattle.pp_expansion.specs.Untold.{Tells};
+
+use pp_lexer::lexer;
+use pp_expansion::halt::Halt;
+use crate::lines::{first_token, refused_token};
+use crate::source_lexer::SourceLexer;
+use pp_lexer::token::{Location, PreprocessorError, Punct, Text};
+use std::alloc::Global;
+
+// Whether the name is one of these.
+fn is_among(names: &[Text], name: &Text) -> bool
+    ensures { result ≡ is_in name.now names.now }
+{
+    names.iter().any(|other| *name == *other)
+}
+
+// The name of one more parameter, which comes next.
+fn one_parameter(names: &[Text], word: Location, lexer: &mut SourceLexer<'_>) -> Result<Text, Halt>
+    requires { lexer.old.spent ≡ false }
+    ensures is { spec.Meets (λ name. names.now ++ name ∷ []) result (one_parameter word names.now lexer.old.rest) }
+    ensures takes { spec.TakesItems 1 lexer.old result lexer.new }
+    ensures errors { Tells result (untold_at lexer.old) (untold_at lexer.new) }
+{
+    let token = first_token(word, lexer)?;
+    let location = token.location;
+    match token.value {
+        lexer::TokenValue::Ident(name) => {
+            if is_among(names, &name) {
+                drop(name);
+                return Err(Halt::Fault((PreprocessorError::DuplicateParameter, location)));
+            }
+            Ok(name)
+        }
+        _ => Err(Halt::Fault(refused_token(token))),
+    }
+}
+
+// The name of the first parameter, or nothing where there is none.
+fn first_parameter(word: Location, lexer: &mut SourceLexer<'_>) -> Result<Option<Text>, Halt>
+    requires { lexer.old.spent ≡ false }
+    ensures is { spec.Meets alone result (first_parameter word lexer.old.rest) }
+    ensures takes { spec.TakesItems 1 lexer.old result lexer.new }
+    ensures errors { Tells result (untold_at lexer.old) (untold_at lexer.new) }
+{
+    let token = first_token(word, lexer)?;
+    match token.value {
+        lexer::TokenValue::Punct(Punct::RightParen) => Ok(None),
+        lexer::TokenValue::Ident(name) => Ok(Some(name)),
+        _ => Err(Halt::Fault(refused_token(token))),
+    }
+}
+
+// Whether the parameters end after one of them. A comma goes on.
+fn ends_parameters(word: Location, lexer: &mut SourceLexer<'_>) -> Result<bool, Halt>
+    requires { lexer.old.spent ≡ false }
+    ensures is { spec.Meets (λ b. b) result (ends_parameters word lexer.old.rest) }
+    ensures takes { spec.TakesItems 1 lexer.old result lexer.new }
+    ensures errors { Tells result (untold_at lexer.old) (untold_at lexer.new) }
+{
+    let token = first_token(word, lexer)?;
+    match token.value {
+        lexer::TokenValue::Punct(Punct::RightParen) => Ok(true),
+        lexer::TokenValue::Punct(Punct::Comma) => Ok(false),
+        _ => Err(Halt::Fault(refused_token(token))),
+    }
+}
+
+/// The parameters of a macro, after its `(`.
+pub fn parameters(
+    alloc: Global,
+    word: Location,
+    lexer: &mut SourceLexer<'_>,
+) -> Result<Vec<Text>, Halt>
+    requires { lexer.old.spent ≡ false }
+    ensures is { spec.Meets (λ names. record { names = names.items; after = lexer.new.rest }) result (parameters word lexer.old.rest) }
+    ensures goes { GoesOn result lexer.old lexer.new }
+    ensures errors { Tells result (untold_at lexer.old) (untold_at lexer.new) }
+{
+    let mut names = Vec::new(alloc);
+    let Some(first) = first_parameter(word, lexer)? else {
+        return Ok(names);
+    };
+    names.push(first)?;
+    'parameters: while !ends_parameters(word, lexer)? {
+        let name = one_parameter(&names, word, lexer)?;
+        names.push(name)?;
+    }
+    Ok(names)
+}

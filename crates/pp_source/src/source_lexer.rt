@@ -1,0 +1,106 @@
+//! The lexer of a source, which can say whether it is spent.
+
+ghost use Rattle.std.specs.Prelude.{◌≡◌, ◌-◌, ◌^◌, ◌<◌, length, false, true, None, Ok, IfOk};
+ghost use Rattle.pp_lexer.specs.Lexed.{start_of, comments_before};
+ghost use Rattle.pp_lexer.specs.Spots.{spots_of};
+ghost use Rattle.pp_expansion.specs.LineReading as spec;
+ghost use Rattle.pp_expansion.specs.SourceLexed.{beginning, untold_at, EndStays};
+ghost use Rattle.pp_expansion.specs.Untold.{Tells};
+
+use pp_lexer::lexer::{self, Lexer};
+use pp_expansion::halt::Halt;
+use pp_expansion::step::is_out_of_memory;
+use pp_lexer::token::Location;
+use std::alloc::Global;
+use std::marker::Model;
+
+/// The lexer of a source. Once memory was refused it is spent. It remembers where an error stands that was read, until
+/// that is told.
+#[derive(Drop)]
+pub struct SourceLexer<'a> {
+    lexer: Lexer<'a>,
+    error_place: Option<Location>,
+    spent: bool,
+}
+
+impl<'a> Model for SourceLexer<'a> {
+    ghost use Rattle.std.specs.Prelude.{◌≡◌, false};
+    ghost use Rattle.pp_source.specs.Lined.{AreEnded};
+    ghost use Rattle.pp_expansion.specs.SourceLexed.{SourceLexed, HavePlaces};
+
+    ghost Value = { SourceLexed };
+
+    ghost view = { λ s. record { rest = s.lexer.rest; places = s.lexer.places; error_place = s.error_place; had_comments = s.lexer.had_comments; at_end = s.lexer.at_end; spent = s.spent } };
+
+    ghost invariant = { λ s. s.spent ≡ false → (s.lexer.spent ≡ false) × AreEnded s.lexer.rest × HavePlaces s.lexer.rest s.lexer.places };
+}
+
+impl<'a> SourceLexer<'a> {
+    /// A lexer at the start of a source of fewer than 2^32 - 1 bytes.
+    ///
+    /// Takes no memory and reads nothing yet.
+    pub fn new(alloc: Global, input: &'a str) -> SourceLexer<'a>
+        requires { length input.now < 2 ^ 32 - 1 }
+        ensures { result ≡ beginning (start_of (spots_of input.now)) }
+    {
+        SourceLexer {
+            lexer: Lexer::new(alloc, input),
+            error_place: None,
+            spent: false,
+        }
+    }
+
+    /// Whether memory was refused.
+    pub fn is_spent(&self) -> bool
+        ensures { result ≡ self.now.spent }
+    {
+        self.spent
+    }
+
+    /// Whether a comment stands before the token that was given last, or before the end once that
+    /// was met.
+    pub fn had_comments(&self) -> bool
+        ensures { result ≡ self.now.had_comments }
+    {
+        self.lexer.had_comments()
+    }
+
+    /// Where the error stands that was read and not told yet, which is told now.
+    pub fn take_error_place(&mut self) -> Option<Location>
+        ensures place { result ≡ self.old.error_place }
+        ensures others { self.new ≡ record self.old { error_place = None } }
+    {
+        let place = self.error_place;
+        self.error_place = None;
+        place
+    }
+
+    /// The next token, or nothing at the end. A spent lexer is at its end, and stays as it is.
+    pub fn next_token(&mut self) -> Result<Option<lexer::Token>, Halt>
+        ensures is { self.old.spent ≡ false → spec.Meets (λ t. t) result (spec.next_token self.old.rest) }
+        ensures takes { self.old.spent ≡ false → spec.TakesItems 1 self.old result self.new }
+        ensures fault { self.old.spent ≡ false → spec.FaultTakesSome result self.old self.new }
+        ensures comments { IfOk result (λ token. self.old.spent ≡ false → self.new.had_comments ≡ comments_before self.old.rest self.old.at_end) }
+        ensures left { IfOk result (λ token. spec.LeavesSome token self.new.rest) }
+        ensures ended { EndStays result self.old self.new }
+        ensures errors { Tells result (untold_at self.old) (untold_at self.new) }
+        ensures refused { spec.RefusedWithin result self.old.rest }
+        ensures spent { self.old.spent ≡ true → (result ≡ Ok None) × (self.new ≡ self.old) }
+    {
+        if self.spent {
+            return Ok(None);
+        }
+        match self.lexer.next() {
+            None => Ok(None),
+            Some(Ok(token)) => Ok(Some(token)),
+            Some(Err(error)) => {
+                self.spent = is_out_of_memory(&error.0);
+                if self.spent {
+                    return Err(Halt::OutOfMemory);
+                }
+                self.error_place = Some(self.lexer.place());
+                Err(Halt::Fault(error))
+            }
+        }
+    }
+}

@@ -1,0 +1,29 @@
+//! The source as a reader of tokens.
+
+ghost use Rattle.pp_expansion.specs.Reader.{of_source};
+
+use pp_expansion::define::Define;
+use crate::directives::DirectiveProcessor;
+use pp_expansion::reader::MeLexer;
+use pp_expansion::step::{Step, StepExit};
+use pp_lexer::token::{Location, PreprocessorError, Token};
+use std::rc::Rc;
+
+impl<'a> MeLexer for DirectiveProcessor<'a> {
+    ghost reader = { λ source. of_source source };
+
+    fn step(&mut self) -> Step<Token> {
+        DirectiveProcessor::step(self)
+    }
+
+    fn get_define(&self, name: &str) -> Option<&Rc<Define>> {
+        self.find(name)
+    }
+
+    fn apply_line_offset(&self, line: u32, location: Location) -> Step<u32> {
+        match self.shown_line(line) {
+            Some(shown) => Ok(shown),
+            None => Err(StepExit::Error((PreprocessorError::LineOverflow, location))),
+        }
+    }
+}
