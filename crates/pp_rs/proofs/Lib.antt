@@ -27,6 +27,7 @@ pub mod RepliesLemmas
 pub mod StandsAfterLemmas
 pub mod AddingLemmas
 pub mod ComesLemmas
+pub mod AfreshLemmas
 pub mod CollectingLemmas
 pub mod StepHereLemmas
 pub mod StandsQuietLemmas

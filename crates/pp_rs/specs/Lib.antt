@@ -15,6 +15,8 @@ pub mod Preprocessing
 pub mod Stands
 pub mod LiveBranch
 pub mod Adding
+pub mod Afresh
+pub mod ItemValues
 pub mod Comes
 pub mod Collecting
 pub mod Answering

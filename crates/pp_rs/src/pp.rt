@@ -1,5 +1,6 @@
 //! Directives and tokens: from the lexer's tokens to those of the preprocessed source.
 
+mod afresh;
 mod all_items;
 mod call_list;
 mod preprocessor;
@@ -7,7 +8,8 @@ mod preprocessor_step;
 mod source_turn;
 mod spelling;
 
-pub use all_items::preprocess_all;
+pub use afresh::are_read_afresh;
+pub use all_items::{drain, preprocess_all};
 pub use call_list::replies;
 pub use pp_source::convert::{convert_lexer_token, convert_lexer_token_to_step};
 pub use pp_source::limit::EXPANSION_LIMIT;

@@ -59,3 +59,18 @@ pub fn preprocess_all(
         Err(_) => Err(out_of_memory()),
     }
 }
+
+/// Calls `next` until it gives `None`, and drops the items. pp-rs 0.2.1 has no such function.
+///
+/// It comes to an end after any calls, also where errors were given or memory was refused, and takes no memory of its own. From
+/// then on `next` gives `None`, whatever is added.
+pub fn drain(pp: &mut Preprocessor<'_>)
+    ensures ended { most_items pp.new ≡ 0 }
+{
+    'items: loop {
+        match pp.next() {
+            Some(item) => drop(item),
+            None => return,
+        }
+    }
+}

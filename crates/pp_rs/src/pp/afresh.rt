@@ -1,0 +1,61 @@
+//! Output that is read afresh.
+
+ghost use Rattle.std.specs.Prelude.{◌≡◌, ◌↔◌, true, IfOk, IfErr, IsTrue, All, Ok, map};
+ghost use Rattle.pp_lexer.specs.PreprocessorError.{out_of_memory};
+ghost use Rattle.pp_lexer.specs.Spelling.{values_of};
+ghost use Rattle.pp_lexer.specs.TokenValue.{is_ordinary};
+ghost use Rattle.pp_rs.specs.Afresh.{AreReadAfresh, IsOutput};
+ghost use Rattle.pp_rs.specs.ItemValues.{value_of_item};
+
+use crate::pp::all_items::preprocess_all;
+use crate::pp::preprocessor::{Preprocessor, PreprocessorItem};
+use crate::pp::spelling::spell_tokens;
+use crate::token::{Location, PreprocessorError, Token};
+use std::alloc::Global;
+
+// A source has fewer bytes than this.
+const SOURCE_LIMIT: usize = 4294967295;
+
+// Whether the item is a token with the value of this one.
+fn has_value(item: &PreprocessorItem, token: &Token) -> bool
+    ensures { IsTrue result ↔ (value_of_item item.now ≡ Ok token.now.value) }
+{
+    match item {
+        Ok(given) => given.value == token.value,
+        Err(_) => false,
+    }
+}
+
+// Whether the items are tokens with these values.
+fn have_values(items: &[PreprocessorItem], tokens: &[Token]) -> bool
+    ensures { IsTrue result ↔ (map value_of_item items.now ≡ map Ok (values_of tokens.now)) }
+{
+    items.len() == tokens.len()
+        && items
+            .iter()
+            .zip(tokens)
+            .all(|(item, token)| has_value(item, token))
+}
+
+/// Whether the text that spells the tokens with single spaces gives tokens of the same values when it is preprocessed afresh,
+/// and then the end. pp-rs 0.2.1 has no such function.
+///
+/// It is so of all plain tokens that a run of some source gives, if their text has fewer than 2^32 - 1 bytes; of a longer text
+/// the answer is no. The one error is `OutOfMemory`, where memory is refused.
+pub fn are_read_afresh(
+    alloc: Global,
+    tokens: &[Token],
+) -> Result<bool, (PreprocessorError, Location)>
+    requires ordinary { All (λ t. IsTrue (is_ordinary t.value)) tokens.now }
+    ensures same { IfOk result (λ same. same ≡ true → AreReadAfresh tokens.now) }
+    ensures output { IfOk result (λ same. IsOutput tokens.now → same ≡ true) }
+    ensures refused { IfErr result (λ fault. fault ≡ out_of_memory) }
+{
+    let text = spell_tokens(alloc, tokens)?;
+    if text.len() >= SOURCE_LIMIT {
+        return Ok(false);
+    }
+    let mut pp = Preprocessor::new(alloc, text.as_str());
+    let items = preprocess_all(alloc, &mut pp)?;
+    Ok(have_values(&items, tokens))
+}
