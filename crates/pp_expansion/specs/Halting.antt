@@ -3,7 +3,7 @@ use Rattle.std.specs.Prelude.{if◌then◌else◌, Option, Result, Ok, Err}
 use Rattle.pp_lexer.specs.PreprocessorError.{out_of_memory}
 use Rattle.pp_lexer.specs.declared.token.Token.{Token}
 use Rattle.pp_expansion.specs.Item.{Fault, Step, is_out_of_memory}
-use Rattle.pp_expansion.specs.Turns.{as_pause}
+use Rattle.pp_expansion.specs.inner.Turns.{as_pause}
 use Rattle.pp_expansion.specs.declared.halt.Halt.{Halt}
 use Rattle.pp_expansion.specs.declared.halt.Halt.TheVariants as halt
 use Rattle.pp_expansion.specs.declared.step.StepExit.{StepExit}

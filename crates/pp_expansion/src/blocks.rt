@@ -1,7 +1,7 @@
 //! Blocks of conditional text that are open.
 
 ghost use Rattle.std.specs.Prelude.{◌≡◌, ◌<◌, ◌++◌, ◌∷◌, [], length, OnOk};
-ghost use Rattle.pp_expansion.specs.OpenBlocks as spec;
+ghost use Rattle.pp_expansion.specs.inner.OpenBlocks as spec;
 
 use pp_lexer::token::Location;
 use std::alloc::{AllocError, Global};

@@ -3,14 +3,14 @@
 ghost use Rattle.std.specs.Prelude.{◌≡◌, ◌⊎◌, ◌∷◌, ◌++◌, [], OnOk, ℕ, Bool, true, false, All, IfOk, IfSome, MatchResult, Ok, Err, Some, None, IsSome, option_map};
 ghost use Rattle.pp_lexer.specs.PreprocessorError.{out_of_memory};
 ghost use Rattle.pp_model.specs.Calls.{is_left_paren, is_right_paren, nesting};
-ghost use Rattle.pp_expansion.specs.CallNesting.{nesting_named};
-ghost use Rattle.pp_expansion.specs.Seeking.{FindsBy, Enters, FollowsToken};
-ghost use Rattle.pp_expansion.specs.Frames.{layer, names_of};
+ghost use Rattle.pp_expansion.specs.inner.CallNesting.{nesting_named};
+ghost use Rattle.pp_expansion.specs.inner.Seeking.{FindsBy, Enters, FollowsToken};
+ghost use Rattle.pp_expansion.specs.inner.Frames.{layer, names_of};
 ghost use Rattle.pp_expansion.specs.Held.{HoldsOrdinary, AllHoldOrdinary};
-ghost use Rattle.pp_expansion.specs.Idle.{is_idle};
-ghost use Rattle.pp_expansion.specs.CallTurns.{TurnsOrRefuses, is_refusal, paren_of, TakenHoldsOrdinary};
-ghost use Rattle.pp_expansion.specs.Machine.{StepsTaking, TakesNext, GathersNext, Satisfies, taken_as, is_pause};
-ghost use Rattle.pp_expansion.specs.Turns.{taken_in, opens, opens_value};
+ghost use Rattle.pp_expansion.specs.inner.Idle.{is_idle};
+ghost use Rattle.pp_expansion.specs.inner.CallTurns.{TurnsOrRefuses, is_refusal, paren_of, TakenHoldsOrdinary};
+ghost use Rattle.pp_expansion.specs.inner.Machine.{StepsTaking, TakesNext, GathersNext, Satisfies, taken_as, is_pause};
+ghost use Rattle.pp_expansion.specs.inner.Turns.{taken_in, opens, opens_value};
 ghost use Rattle.pp_lexer.specs.declared.token.TokenValue.TheVariants as value;
 ghost use Rattle.pp_expansion.specs.declared.step.StepExit.TheVariants.{Error, Continue};
 
@@ -38,7 +38,7 @@ pub struct Call {
 }
 
 impl Model for Call {
-    ghost use Rattle.pp_expansion.specs.Calling.{PendingCall};
+    ghost use Rattle.pp_expansion.specs.inner.Calling.{PendingCall};
     ghost use Rattle.pp_expansion.specs.Held.{AllHoldOrdinary};
 
     ghost Value = { PendingCall };
@@ -131,7 +131,7 @@ pub struct Caller {
 impl Model for Caller {
     ghost use Rattle.std.specs.Prelude.{IfSome, IfOk};
     ghost use Rattle.pp_expansion.specs.Held.{HoldsOrdinary};
-    ghost use Rattle.pp_expansion.specs.Machine.{Machine};
+    ghost use Rattle.pp_expansion.specs.inner.Machine.{Machine};
 
     ghost Value = { Machine };
 

@@ -37,7 +37,7 @@ fn have_same_values(old: &[Token], new: &[Token]) -> bool
 }
 
 // Whether the names are the same, in the same order.
-#[tactic(auto, using(crate::proofs::DefineLemmas::names_decide))]
+#[tactic(auto, using(crate::proofs::defined_names::DefineLemmas::names_decide))]
 fn are_same_names(old: &[Text], new: &[Text]) -> bool
     ensures { IsTrue result ↔ (old.now ≡ new.now) }
 {

@@ -2,7 +2,7 @@
 
 ghost use Rattle.std.specs.Prelude.{◌≡◌, [], Some, None, option_map, OnOk, OnErr};
 ghost use Rattle.std.specs.Str.{chars};
-ghost use Rattle.pp_expansion.specs.Defined.{meaning_of, IsChanged};
+ghost use Rattle.pp_expansion.specs.inner.Defined.{meaning_of, IsChanged};
 
 use crate::define::Define;
 use pp_lexer::token::Text;
@@ -20,7 +20,7 @@ pub struct Definitions {
 impl Model for Definitions {
     ghost use Rattle.std.specs.Prelude.{List, map, string_bytes};
     ghost use Rattle.std.specs.Str.{chars};
-    ghost use Rattle.pp_expansion.specs.Defined.{Defined};
+    ghost use Rattle.pp_expansion.specs.inner.Defined.{Defined};
 
     ghost Value = { List Defined };
 

@@ -7,9 +7,9 @@ ghost use Rattle.pp_lexer.specs.declared.token.PreprocessorError.TheVariants.{Li
 ghost use Rattle.pp_lexer.specs.declared.token.TokenValue.TheVariants as value;
 ghost use Rattle.pp_model.specs.Names.{is_in, is_identifier, line_name};
 ghost use Rattle.pp_model.specs.declared.outcome.Outcome.TheVariants as outcome;
-ghost use Rattle.pp_expansion.specs.Frames.{layer, names_of, outermost_frame_line};
+ghost use Rattle.pp_expansion.specs.inner.Frames.{layer, names_of, outermost_frame_line};
 ghost use Rattle.pp_expansion.specs.Held.{HoldsOrdinary};
-ghost use Rattle.pp_expansion.specs.Turns.{Moves, taken_in, gives_line_name, opens_value};
+ghost use Rattle.pp_expansion.specs.inner.Turns.{Moves, taken_in, gives_line_name, opens_value};
 ghost use Rattle.pp_expansion.specs.declared.step.StepExit.TheVariants.{Error, Continue};
 
 use crate::define::Define;
@@ -33,8 +33,8 @@ pub struct MacroProcessor {
 
 impl Model for MacroProcessor {
     ghost use Rattle.std.specs.Prelude.{List, reverse};
-    ghost use Rattle.pp_expansion.specs.Frames.{Layer, names_of};
-    ghost use Rattle.pp_expansion.specs.OpenNames.{AreNamesOf};
+    ghost use Rattle.pp_expansion.specs.inner.Frames.{Layer, names_of};
+    ghost use Rattle.pp_expansion.specs.inner.OpenNames.{AreNamesOf};
 
     ghost Value = { List Layer };
 

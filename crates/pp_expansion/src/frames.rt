@@ -4,9 +4,9 @@ ghost use Rattle.std.specs.Prelude.{◌≡◌, ◌⊎◌, ◌<◌, ◌^◌, IfOk
 ghost use Rattle.pp_lexer.specs.PreprocessorError.{out_of_memory};
 ghost use Rattle.pp_model.specs.Names.{is_same_name};
 ghost use Rattle.pp_model.specs.SpliceList.{parameter_of};
-ghost use Rattle.pp_expansion.specs.Frames.{layer, argument_at, advance};
+ghost use Rattle.pp_expansion.specs.inner.Frames.{layer, argument_at, advance};
 ghost use Rattle.pp_expansion.specs.Held.{HoldsOrdinary, AllHoldOrdinary};
-ghost use Rattle.pp_expansion.specs.Turns.{as_pause};
+ghost use Rattle.pp_expansion.specs.inner.Turns.{as_pause};
 ghost use Rattle.pp_expansion.specs.declared.step.StepExit.TheVariants.{Error, Continue};
 
 use crate::define::Define;
@@ -74,7 +74,7 @@ pub struct Frame {
 
 impl Model for Frame {
     ghost use Rattle.std.specs.Prelude.{drop, option_map};
-    ghost use Rattle.pp_expansion.specs.Frames.{Layer, argument_at};
+    ghost use Rattle.pp_expansion.specs.inner.Frames.{Layer, argument_at};
 
     ghost Value = { Layer };
 

@@ -4,7 +4,7 @@ ghost use Rattle.std.specs.Prelude.{◌≡◌, ◌&&◌, [], false, true};
 ghost use Rattle.std.specs.Str.{chars};
 ghost use Rattle.pp_model.specs.Names.{is_same_name, defined_name};
 ghost use Rattle.pp_expansion.specs.Held.{AllHoldOrdinary};
-ghost use Rattle.pp_expansion.specs.Reader.{of_list, is_masked};
+ghost use Rattle.pp_expansion.specs.inner.Reader.{of_list, is_masked};
 
 use crate::define::Define;
 use crate::definitions::Definitions;
@@ -35,7 +35,7 @@ pub struct ListLexer<'a> {
 impl<'a> Model for ListLexer<'a> {
     ghost use Rattle.std.specs.Vec.Iter.{into_iter_items};
     ghost use Rattle.pp_expansion.specs.Held.{AllHoldOrdinary};
-    ghost use Rattle.pp_expansion.specs.Reader.{Listing};
+    ghost use Rattle.pp_expansion.specs.inner.Reader.{Listing};
 
     ghost Value = { Listing };
 

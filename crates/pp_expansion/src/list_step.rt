@@ -1,10 +1,10 @@
 //! Steps over a list of tokens.
 
 ghost use Rattle.std.specs.Prelude.{IfOk};
-ghost use Rattle.pp_expansion.specs.CallTurns.{TurnsOrRefuses, TakenHoldsOrdinary};
+ghost use Rattle.pp_expansion.specs.inner.CallTurns.{TurnsOrRefuses, TakenHoldsOrdinary};
 ghost use Rattle.pp_expansion.specs.Held.{HoldsOrdinary};
-ghost use Rattle.pp_expansion.specs.Machine.{TakesNext};
-ghost use Rattle.pp_expansion.specs.Reader.{of_list};
+ghost use Rattle.pp_expansion.specs.inner.Machine.{TakesNext};
+ghost use Rattle.pp_expansion.specs.inner.Reader.{of_list};
 
 use crate::calls::{Caller, Taken};
 use crate::list_lexer::ListLexer;

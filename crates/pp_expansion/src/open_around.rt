@@ -4,7 +4,7 @@ ghost use Rattle.std.specs.Prelude.{◌≡◌, ◌++◌, [], IfOk};
 ghost use Rattle.std.specs.List.{list_any};
 ghost use Rattle.std.specs.Str.{chars};
 ghost use Rattle.pp_model.specs.Names.{is_in};
-ghost use Rattle.pp_expansion.specs.Frames.{names_of};
+ghost use Rattle.pp_expansion.specs.inner.Frames.{names_of};
 
 use crate::expander::MacroProcessor;
 use std::alloc::{AllocError, Global};
@@ -20,7 +20,7 @@ pub struct OpenAround<'a> {
 impl<'a> Model for OpenAround<'a> {
     ghost use Rattle.std.specs.Prelude.{List};
     ghost use Rattle.pp_model.specs.Names.{Name};
-    ghost use Rattle.pp_expansion.specs.OpenAround.{names_around};
+    ghost use Rattle.pp_expansion.specs.inner.OpenAround.{names_around};
 
     ghost Value = { List Name };
 

@@ -2,7 +2,7 @@
 
 ghost use Rattle.std.specs.Prelude.{◌≡◌, [], OnOk, OnErr, is_some};
 ghost use Rattle.std.specs.Str.{chars};
-ghost use Rattle.pp_expansion.specs.OpenNames.{position_at, IsOpenedAt, IsClosedAt};
+ghost use Rattle.pp_expansion.specs.inner.OpenNames.{position_at, IsOpenedAt, IsClosedAt};
 
 use std::alloc::{AllocError, Global};
 use std::collections::BTreeMap;
@@ -19,7 +19,7 @@ pub struct OpenNames {
 impl Model for OpenNames {
     ghost use Rattle.std.specs.Prelude.{List, ℕ, map, string_bytes};
     ghost use Rattle.std.specs.Str.{chars};
-    ghost use Rattle.pp_expansion.specs.OpenNames.{Position};
+    ghost use Rattle.pp_expansion.specs.inner.OpenNames.{Position};
 
     ghost Value = { List Position };
 

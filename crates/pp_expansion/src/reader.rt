@@ -5,7 +5,7 @@ ghost use Rattle.std.specs.Str.{chars};
 ghost use Rattle.pp_lexer.specs.declared.token.PreprocessorError.TheVariants.{LineOverflow};
 ghost use Rattle.pp_expansion.specs.Held.{HoldsOrdinary};
 ghost use Rattle.pp_expansion.specs.Item.{as_step};
-ghost use Rattle.pp_expansion.specs.Reader.{Reader, Reads, visible, shown_line};
+ghost use Rattle.pp_expansion.specs.inner.Reader.{Reader, Reads, visible, shown_line};
 
 use crate::define::Define;
 use crate::step::Step;

@@ -13,9 +13,9 @@ use Rattle.pp_expression.specs.declared.symbol.Found.{Found}
 use Rattle.pp_expression.specs.Operators.{level_of}
 use Rattle.pp_expression.specs.Arithmetic.{literal}
 use Rattle.pp_expression.specs.Lines.{Line, next, Stops, Reads}
-use Rattle.pp_expression.specs.Parsing.{after_next, sign_at, atom_at, closing_at, binary_at, located, IsFault}
-use Rattle.pp_expression.specs.Pending.{innermost, outer, wanted_in, Awaits, HasOperand}
-use Rattle.pp_expression.specs.Evaluator.{IsHalt}
+use Rattle.pp_expression.specs.inner.Parsing.{after_next, sign_at, atom_at, closing_at, binary_at, located, IsFault}
+use Rattle.pp_expression.specs.inner.Pending.{innermost, outer, wanted_in, Awaits, HasOperand}
+use Rattle.pp_expression.specs.inner.Evaluator.{IsHalt}
 use Rattle.pp_expression.proofs.Trees.{operand_stops, read_number, read_group}
 use Rattle.pp_expression.proofs.Steps as steps
 use Rattle.pp_expression.proofs.PendingLemmas.{operator_stops, end_stops, next_unread, stops_eleven, wanted_low}

@@ -12,7 +12,7 @@ use Rattle.pp_expression.specs.Trees.{Infix, spelling, value, HasValue}
 use Rattle.pp_expression.specs.Answers.{◌>>=◌}
 use Rattle.pp_expression.specs.Lines.{Line, next, next_of, Reads}
 use Rattle.pp_expression.specs.FirstFault.{sign_of, atom_of, closing, Front, Here, InGroup, InPrefix, InInfix, front_spelling, FitsFront, wanted, unread_at, Fails, unread, wrong, unread_after, unclosed, signed, operated, Possible}
-use Rattle.pp_expression.specs.Parsing.{after_next, sign_at}
+use Rattle.pp_expression.specs.inner.Parsing.{after_next, sign_at}
 use Rattle.pp_expression.proofs.Levels.{operator_at, operator_of}
 use Rattle.pp_expression.proofs.Trees.{next_is, sign_is, operator_is, fits_looser, operation_spelled, operation_fits}
 

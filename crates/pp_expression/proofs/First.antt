@@ -12,7 +12,7 @@ use Rattle.pp_expression.specs.Trees.{Tree, Number, Group, Prefix, Infix, spelli
 use Rattle.pp_expression.specs.Answers.{◌>>=◌}
 use Rattle.pp_expression.specs.Lines.{Line, next}
 use Rattle.pp_expression.specs.FirstFault.{sign_of, unread_at, Front, Here, InGroup, InPrefix, InInfix, front_spelling, FitsFront, wanted, Fails, unread, wrong, unread_after, unclosed, signed, operated, Possible}
-use Rattle.pp_expression.specs.Parsing.{sign_at}
+use Rattle.pp_expression.specs.inner.Parsing.{sign_at}
 use Rattle.pp_expression.proofs.Levels.{operator_at}
 use Rattle.pp_expression.proofs.Trees.{operand_stops}
 use Rattle.pp_expression.proofs.Run.{Halt, Outcome, Operand, Level, Loop, Settles, level_goes, level_operand, loop_unread, loop_goes, loop_overflows, loop_right, operand_unread, operand_overflows, operand_in_sign, operand_wrong, operand_unclosed, operand_in_group}

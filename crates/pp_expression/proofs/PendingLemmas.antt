@@ -13,9 +13,9 @@ use Rattle.pp_expression.specs.declared.symbol.Found.{Found}
 use Rattle.pp_expression.specs.Operators.{level_of, binary_of}
 use Rattle.pp_expression.specs.Answers.{◌>>=◌}
 use Rattle.pp_expression.specs.Lines.{Line, next_of, goes_on, Stops, Reads}
-use Rattle.pp_expression.specs.Parsing.{after_next, binary_sign_of, binary_at, located, IsFault}
+use Rattle.pp_expression.specs.inner.Parsing.{after_next, binary_sign_of, binary_at, located, IsFault}
 use Rattle.pp_expression.proofs.Levels.{operator_of, operator_at}
-use Rattle.pp_expression.specs.Pending.{operator_level, operation, computed_at, right_level, wanted_in, Awaits, HasOperand}
+use Rattle.pp_expression.specs.inner.Pending.{operator_level, operation, computed_at, right_level, wanted_in, Awaits, HasOperand}
 use Rattle.pp_expression.proofs.Trees.{operand_stops, read_looser, read_signed, read_operation}
 use Rattle.pp_expression.proofs.Steps as steps
 use Rattle.pp_expression.proofs.Unique.{low_operator, level_same, loosest, stops_above, stops_more}

@@ -15,7 +15,7 @@ use Rattle.pp_expression.specs.Trees.{Tree, Number, Group, Prefix, Infix, spelli
 use Rattle.pp_expression.specs.Answers.{◌>>=◌}
 use Rattle.pp_expression.specs.Lines.{Line, next, Stops, Reads}
 use Rattle.pp_expression.specs.FirstFault.{unread_at, Front, Here, InGroup, InPrefix, InInfix, front_spelling, FitsFront, wanted, Possible, Any, Before, IsFirst, IsValue, Fails, unread, wrong, unread_after, unclosed, signed, operated}
-use Rattle.pp_expression.specs.Parsing.{after_next, IsFault}
+use Rattle.pp_expression.specs.inner.Parsing.{after_next, IsFault}
 use Rattle.pp_expression.proofs.Levels.{operator_at}
 use Rattle.pp_expression.proofs.Trees.{operand_stops}
 use Rattle.pp_expression.proofs.Run.{Halt, Outcome, Mode, Operand, Level, Loop, Settles, settles_once, loop_overflows, loop_right, operand_overflows, operand_in_sign, operand_in_group}

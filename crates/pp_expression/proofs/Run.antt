@@ -12,7 +12,7 @@ use Rattle.pp_expression.specs.Arithmetic.{unary_value, binary_value, literal}
 use Rattle.pp_expression.specs.Answers.{◌>>=◌}
 use Rattle.pp_expression.specs.Lines.{Line, next}
 use Rattle.pp_expression.specs.FirstFault.{atom_of, closing, unread_at}
-use Rattle.pp_expression.specs.Parsing.{after_next, sign_at}
+use Rattle.pp_expression.specs.inner.Parsing.{after_next, sign_at}
 use Rattle.pp_expression.proofs.Levels.{operator_at}
 
 -- a fault, the symbols that are unread when it is found, and its order among those found there

@@ -16,7 +16,7 @@ use Rattle.pp_expression.specs.Answers.{◌>>=◌}
 use Rattle.pp_expression.specs.Lines.{Line, next, next_of, goes_on, Reads}
 use Rattle.pp_expression.specs.inner.Lines.{binds_from}
 use Rattle.pp_expression.specs.FirstFault.{atom_of, closing, unread_at, Possible, unread}
-use Rattle.pp_expression.specs.Parsing.{after_next, sign_at}
+use Rattle.pp_expression.specs.inner.Parsing.{after_next, sign_at}
 use Rattle.pp_expression.proofs.Levels.{of_level, operator_of, operator_at}
 use Rattle.pp_expression.proofs.Trees.{read_number, read_group, read_signed, read_looser, read_operation}
 use Rattle.pp_expression.proofs.Faults.{here, at_group, at_number, at_close, sign_unread, not_begun, in_group, not_closed, in_sign, sign_fails, looser, not_read_after, in_right, operation_fails}

@@ -12,7 +12,7 @@ use Rattle.pp_expression.specs.Trees.{HasValue}
 use Rattle.pp_expression.specs.Answers.{◌>>=◌}
 use Rattle.pp_expression.specs.Lines.{Line, next, Reads}
 use Rattle.pp_expression.specs.FirstFault.{atom_of, closing, unread_at, Possible}
-use Rattle.pp_expression.specs.Parsing.{after_next, sign_at, atom_at, closing_at, located, IsFault}
+use Rattle.pp_expression.specs.inner.Parsing.{after_next, sign_at, atom_at, closing_at, located, IsFault}
 use Rattle.pp_expression.proofs.Levels.{operator_at}
 use Rattle.pp_expression.proofs.Unique.{bind_ok, bind_err}
 use Rattle.pp_expression.proofs.Faults as faults

@@ -17,7 +17,7 @@ use Rattle.pp_expression.specs.Answers.{◌>>=◌}
 use Rattle.pp_expression.specs.Lines.{Line, next, next_of, goes_on, Stops, Reads}
 use Rattle.pp_expression.specs.inner.Lines.{binds_from}
 use Rattle.pp_expression.specs.FirstFault.{sign_of}
-use Rattle.pp_expression.specs.Parsing.{after_next, sign_at}
+use Rattle.pp_expression.specs.inner.Parsing.{after_next, sign_at}
 use Rattle.pp_expression.proofs.Levels.{of_level, operator_of, operator_at}
 
 same_unary : (a o : Unary) → Some a ≡ Some o → unary_punct a ≡ unary_punct o

@@ -16,7 +16,7 @@ use Rattle.pp_expression.specs.Trees.{Tree, Number, Group, Prefix, Infix, spelli
 use Rattle.pp_expression.specs.Answers.{◌>>=◌}
 use Rattle.pp_expression.specs.Lines.{Line, next_of, goes_on, Stops, Reads}
 use Rattle.pp_expression.specs.inner.Lines.{binds_from}
-use Rattle.pp_expression.specs.Parsing.{sign_at}
+use Rattle.pp_expression.specs.inner.Parsing.{sign_at}
 use Rattle.pp_expression.proofs.Levels.{of_level, operator_at, operator_of}
 use Rattle.pp_expression.proofs.Run.{Halt, Outcome, Operand, Level, Loop, Settles, level_goes, level_fails, level_operand, loop_ends, loop_goes, operand_signed, operand_number, operand_group}
 

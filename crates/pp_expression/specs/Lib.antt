@@ -4,8 +4,5 @@ pub mod Arithmetic
 pub mod Trees
 pub mod Lines
 pub mod FirstFault
-pub mod Parsing
-pub mod Pending
-pub mod Evaluator
 pub mod ExpressionLaws
 pub mod inner

@@ -1,1 +1,4 @@
 pub mod Lines
+pub mod Parsing
+pub mod Pending
+pub mod Evaluator

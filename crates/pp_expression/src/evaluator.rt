@@ -5,9 +5,9 @@ ghost use Rattle.std.specs.Prelude.{◌≡◌, ◌+◌, ◌^◌, ◌<◌, ◌≤
 ghost use Rattle.pp_expression.specs.Lines.{Line, next, Stops, Reads};
 ghost use Rattle.pp_expression.specs.FirstFault.{Evaluates};
 ghost use Rattle.pp_expression.specs.FirstFault as spec;
-ghost use Rattle.pp_expression.specs.Parsing.{after_next, binary_at, sign_at, atom_at, closing_at, located};
-ghost use Rattle.pp_expression.specs.Pending.{computed_at, wanted_in};
-ghost use Rattle.pp_expression.specs.Evaluator.{Leads, Computes, GetsOn, IsHalt};
+ghost use Rattle.pp_expression.specs.inner.Parsing.{after_next, binary_at, sign_at, atom_at, closing_at, located};
+ghost use Rattle.pp_expression.specs.inner.Pending.{computed_at, wanted_in};
+ghost use Rattle.pp_expression.specs.inner.Evaluator.{Leads, Computes, GetsOn, IsHalt};
 
 use crate::arithmetic;
 use crate::halt::Halt;

@@ -12,11 +12,9 @@ pub mod Cursor
 pub mod Lines
 pub mod Continuations
 pub mod Comments
-pub mod Readers
 pub mod PhaseLaws
 pub mod Reading
 pub mod Spots
-pub mod Fronts
 pub mod Spellings
 pub mod Longest
 pub mod Identifiers
@@ -26,12 +24,9 @@ pub mod Spelling
 pub mod Outcome
 pub mod NumberValue
 pub mod Words
-pub mod Scan
 pub mod Segments
 pub mod Items
 pub mod Lexed
-pub mod Passing
-pub mod PlainWords
 pub mod ItemLaws
 pub mod Respelling
 pub mod inner

@@ -10,8 +10,8 @@ ghost use Rattle.pp_lexer.specs.Spots.{spots_of};
 ghost use Rattle.pp_lexer.specs.Segments.{is_mark};
 ghost use Rattle.pp_lexer.specs.Words.{is_blank};
 ghost use Rattle.pp_lexer.specs.Lexed.{start_of, first_item, after_first_item, first_place, places_after_first, IsNext};
-ghost use Rattle.pp_lexer.specs.Passing.{is_newline_result, seen_of, newline_seen, lexeme_seen, comments_at_end, newline_places, places_left, IsPlaced, IsLexed};
-ghost use Rattle.pp_lexer.specs.PlainWords.{IsPlainLexed, IsNewlineLexed};
+ghost use Rattle.pp_lexer.specs.inner.Passing.{is_newline_result, seen_of, newline_seen, lexeme_seen, comments_at_end, newline_places, places_left, IsPlaced, IsLexed};
+ghost use Rattle.pp_lexer.specs.inner.PlainWords.{IsPlainLexed, IsNewlineLexed};
 
 use crate::token::{Location, NOWHERE, PreprocessorError, out_of_memory};
 use std::alloc::{AllocError, Global};
@@ -346,7 +346,7 @@ impl<'a> Model for Lexer<'a> {
 
     ghost Value = { Lexed };
 
-    ghost use Rattle.pp_lexer.specs.Passing.{lexed};
+    ghost use Rattle.pp_lexer.specs.inner.Passing.{lexed};
 
     ghost view = { λ s. lexed s.flags s.inner s.place s.spent };
 }

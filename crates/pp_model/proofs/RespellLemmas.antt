@@ -18,9 +18,9 @@ use Rattle.pp_lexer.specs.declared.token.Location.{Location}
 use Rattle.pp_lexer.specs.declared.token.Token.{Token}
 use Rattle.pp_lexer.specs.declared.token.TokenValue.{TokenValue}
 use Rattle.pp_lexer.specs.declared.token.TokenValue.TheVariants.{Ident, Integer, Float, Punct, Version, Extension, Pragma}
-use Rattle.pp_lexer.proofs.RespellingLemmas.{read_back}
-use Rattle.pp_lexer.proofs.SpelledValuesLemmas.{values_spelled}
-use Rattle.pp_lexer.proofs.TokenLinesLemmas.{tokens_have_lines}
+use Rattle.pp_lexer.proofs.spelling.RespellingLemmas.{read_back}
+use Rattle.pp_lexer.proofs.spelling.SpelledValuesLemmas.{values_spelled}
+use Rattle.pp_lexer.proofs.items.TokenLinesLemmas.{tokens_have_lines}
 use Rattle.pp_model.specs.Names.{is_identifier, line_name}
 use Rattle.pp_model.specs.Conversions.{is_newline, is_hash, conversion}
 use Rattle.pp_model.specs.Calls.{Fault}

@@ -9,7 +9,7 @@ use Rattle.pp_model.specs.Calls.{Fault, Answers}
 use Rattle.pp_model.specs.LineWords.{Words, word_before, Operand}
 use Rattle.pp_model.specs.inner.LineWords.{is_open_paren}
 use Rattle.pp_model.specs.LineWords as line
-use Rattle.pp_model.specs.WordsRead.{unclosed, closed, Parenthesized, no_name, named}
+use Rattle.pp_model.specs.inner.WordsRead.{unclosed, closed, Parenthesized, no_name, named}
 use Rattle.pp_model.specs.declared.outcome.Outcome.{Outcome}
 use Rattle.pp_model.specs.declared.word.LineKind.{LineKind}
 use Rattle.pp_model.specs.declared.word.Word.{Word}

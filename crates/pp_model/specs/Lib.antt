@@ -25,5 +25,4 @@ pub mod BlockLaws
 pub use Rattle.pp_lexer.specs.Spelling
 pub mod RespellLaws
 pub mod RunChains
-pub mod WordsRead
 pub mod inner

@@ -10,3 +10,4 @@ pub mod SpliceList
 pub mod LineValues
 pub mod SourceReader
 pub mod LineWords
+pub mod WordsRead

@@ -8,7 +8,7 @@ use Rattle.pp_model.specs.Calls.{Fault}
 use Rattle.pp_model.specs.LineWords.{Words}
 use Rattle.pp_model.specs.LineValues.{line_of, alone_on_line}
 use Rattle.pp_model.specs.inner.LineValues.{IsFollowed}
-use Rattle.pp_plain.specs.Halting.{Meets, Satisfies}
+use Rattle.pp_plain.specs.inner.Halting.{Meets, Satisfies}
 use Rattle.pp_plain.specs.declared.stop.Halt.{Halt}
 use Rattle.pp_plain.specs.declared.stop.Halt.TheVariants as halt
 

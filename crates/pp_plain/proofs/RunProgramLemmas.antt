@@ -4,12 +4,12 @@ use Rattle.std.specs.Str.{chars}
 use Rattle.pp_lexer.specs.declared.token.Token.{Token}
 use Rattle.pp_model.specs.Reading.{Expander}
 use Rattle.pp_model.specs.Calls.{Answers}
-use Rattle.pp_plain.specs.Halting.{Meets}
+use Rattle.pp_plain.specs.inner.Halting.{Meets}
 use Rattle.pp_model.specs.SourceReader.{SourceReader}
 use Rattle.pp_model.specs.Run as run
 use Rattle.pp_model.specs.Run.{by_rules, Call, add_define, next, items_of, content_tokens, Runs, call_of, HasRoom, ends_run}
-use Rattle.pp_plain.specs.SeenSource as by
-use Rattle.pp_plain.specs.SeenSource.{Replying, RefusedBy}
+use Rattle.pp_plain.specs.inner.SeenSource as by
+use Rattle.pp_plain.specs.inner.SeenSource.{Replying, RefusedBy}
 use Rattle.pp_model.specs.declared.call.Call.{Call as Called}
 use Rattle.pp_model.specs.declared.call.Reply.{Reply}
 use Rattle.pp_model.specs.declared.call.Reply.TheVariants as reply

@@ -9,7 +9,7 @@ use Rattle.pp_model.specs.Blocks.{Block}
 use Rattle.pp_model.specs.SourceReader.{SourceReader}
 use Rattle.pp_model.specs.Acts.{Acted, ended_by, act}
 use Rattle.pp_model.specs.Reads.{defining, Steps, passes, gives, defines, repeats, redefines, decides, undecided, renumbers, unnumbered}
-use Rattle.pp_plain.specs.Acting.{Defining, Deciding, DecidesBy, Renumbering, RenumbersBy}
+use Rattle.pp_plain.specs.inner.Acting.{Defining, Deciding, DecidesBy, Renumbering, RenumbersBy}
 use Rattle.pp_model.specs.declared.definition.Named.{Named}
 use Rattle.pp_model.specs.declared.outcome.Outcome.{Outcome}
 use Rattle.pp_model.specs.declared.step.Step.{Step}

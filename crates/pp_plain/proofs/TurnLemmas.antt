@@ -11,7 +11,7 @@ use Rattle.pp_model.specs.Calls.{Fault, Answers, Gathered, Gathers, arguments_of
 use Rattle.pp_model.specs.Calls as calls
 use Rattle.pp_model.specs.Emitting.{Emits, opened, holding, Collects}
 use Rattle.pp_model.specs.Emitting as emitting
-use Rattle.pp_plain.specs.Seen.{TakesParen, none, some, Finds, nothing, broken, whole, turned, TurnsAt, object, function, Turns, itself, opens, Resolves}
+use Rattle.pp_plain.specs.inner.Seen.{TakesParen, none, some, Finds, nothing, broken, whole, turned, TurnsAt, object, function, Turns, itself, opens, Resolves}
 use Rattle.pp_plain.specs.declared.expander.Call.{Call}
 use Rattle.pp_plain.specs.declared.expander.Site.{Site}
 use Rattle.pp_plain.specs.declared.expander.Found.{Found}

@@ -2,7 +2,7 @@
 
 ghost use Rattle.std.specs.Prelude.{◌≡◌, IfOk};
 ghost use Rattle.pp_model.specs.Calls.{nesting, arguments_of, misfit, paren_at, is_left_paren, is_right_paren, is_comma, is_one_empty};
-ghost use Rattle.pp_plain.specs.Nested.{nesting_named};
+ghost use Rattle.pp_plain.specs.inner.Nested.{nesting_named};
 
 use crate::list::take_first;
 use crate::lists::TokenLists;

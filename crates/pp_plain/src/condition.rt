@@ -4,9 +4,9 @@ ghost use Rattle.std.specs.Prelude.{◌≡◌, ◌≤◌, not, map, IfOk};
 ghost use Rattle.pp_expression.specs.Arithmetic.{is_zero};
 ghost use Rattle.std.specs.Option.{option_copied};
 ghost use Rattle.pp_expression.specs.FirstFault.{Evaluates};
-ghost use Rattle.pp_plain.specs.Changes.{meaning_of};
+ghost use Rattle.pp_plain.specs.inner.Changes.{meaning_of};
 ghost use Rattle.pp_model.specs.Emitting.{answers_at};
-ghost use Rattle.pp_plain.specs.Halting.{Meets, Satisfies};
+ghost use Rattle.pp_plain.specs.inner.Halting.{Meets, Satisfies};
 ghost use Rattle.pp_model.specs.LineValues as spec;
 ghost use Rattle.pp_model.specs.inner.LineValues as parts;
 

@@ -2,7 +2,7 @@
 
 ghost use Rattle.std.specs.Prelude.{◌≡◌, IfOk};
 ghost use Rattle.pp_model.specs.Conversions as spec;
-ghost use Rattle.pp_plain.specs.Halting.{Meets};
+ghost use Rattle.pp_plain.specs.inner.Halting.{Meets};
 
 use crate::stop::{Halt, Stop};
 use pp_lexer::lexer;

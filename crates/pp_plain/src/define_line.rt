@@ -4,7 +4,7 @@ ghost use Rattle.std.specs.Prelude.{◌≡◌, [], IfOk};
 ghost use Rattle.pp_model.specs.Conversions as conversions;
 ghost use Rattle.pp_model.specs.DefineLines as spec;
 ghost use Rattle.pp_model.specs.inner.DefineLines as parts;
-ghost use Rattle.pp_plain.specs.Halting.{Meets};
+ghost use Rattle.pp_plain.specs.inner.Halting.{Meets};
 
 use crate::conversion::{
     closes_parameters, identifier_of, opens_parameters, parts_parameters, refused_token,

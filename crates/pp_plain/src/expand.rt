@@ -1,11 +1,11 @@
 //! The next item of an expander, and an argument's expansion alone.
 
 ghost use Rattle.std.specs.Prelude.{◌≡◌, ◌≤◌, IfOk};
-ghost use Rattle.pp_plain.specs.Changes.{meaning_of};
+ghost use Rattle.pp_plain.specs.inner.Changes.{meaning_of};
 ghost use Rattle.pp_model.specs.Emitting.{Emits, Collects, Each, Alone, answers_at, expansion_limit};
 ghost use Rattle.pp_model.specs.Reading.{reading_of, argument_reading};
-ghost use Rattle.pp_plain.specs.Seen.{seen};
-ghost use Rattle.pp_plain.specs.SeenList.{list_state};
+ghost use Rattle.pp_plain.specs.inner.Seen.{seen};
+ghost use Rattle.pp_plain.specs.inner.SeenList.{list_state};
 
 use crate::calls::misfit;
 use crate::copies::{copy_names, copy_tokens};

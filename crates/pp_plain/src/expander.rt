@@ -5,7 +5,7 @@ ghost use Rattle.pp_model.specs.Reading.{opening, masked};
 ghost use Rattle.pp_model.specs.Taking.{Takes, taken_token, read_outcome, line_number};
 ghost use Rattle.pp_model.specs.Calls.{Gathers};
 ghost use Rattle.pp_model.specs.Emitting.{opened};
-ghost use Rattle.pp_plain.specs.Seen.{seen, turned, Resolves, TakesParen, Finds, TurnsAt, Turns};
+ghost use Rattle.pp_plain.specs.inner.Seen.{seen, turned, Resolves, TakesParen, Finds, TurnsAt, Turns};
 
 use crate::calls::{Gathered, Nesting, arguments_of, nesting_of, paren_at};
 use crate::copies::{copy_definition, copy_names, copy_token};

@@ -3,7 +3,7 @@
 ghost use Rattle.std.specs.Prelude.{◌≡◌, ◌≤◌, [], length, IfOk, OnOk};
 ghost use Rattle.pp_model.specs.Lines as spec;
 ghost use Rattle.pp_model.specs.inner.Lines as parts;
-ghost use Rattle.pp_plain.specs.Halting.{Meets};
+ghost use Rattle.pp_plain.specs.inner.Halting.{Meets};
 
 use crate::conversion::{conversion, identifier_of, is_newline, refused_token};
 use crate::item::SourceItem;

@@ -1,15 +1,15 @@
 //! The words of an `#if`, `#elif` or `#line` line.
 
 ghost use Rattle.std.specs.Prelude.{◌≡◌, ◌≤◌, [], IfOk, MatchResult, Some, None, is_some};
-ghost use Rattle.pp_plain.specs.Changes.{meaning_of};
+ghost use Rattle.pp_plain.specs.inner.Changes.{meaning_of};
 ghost use Rattle.pp_model.specs.Emitting.{answers_at};
 ghost use Rattle.pp_model.specs.LineWords.{LineWords, Operand, reading, unknown_name, unexpected, name_in, name_in_value, is_defined, unwanted, unwanted_word};
 ghost use Rattle.pp_model.specs.inner.LineWords.{is_open_paren, is_close_paren};
 ghost use Rattle.pp_model.specs.Names.{is_identifier, defined_name};
 ghost use Rattle.pp_model.specs.Reading.{reading_of};
-ghost use Rattle.pp_model.specs.WordsRead.{reading_named, unwanted_read, IsOf, Closes, Parenthesized};
-ghost use Rattle.pp_plain.specs.Seen.{seen};
-ghost use Rattle.pp_plain.specs.SeenList.{line_state};
+ghost use Rattle.pp_model.specs.inner.WordsRead.{reading_named, unwanted_read, IsOf, Closes, Parenthesized};
+ghost use Rattle.pp_plain.specs.inner.Seen.{seen};
+ghost use Rattle.pp_plain.specs.inner.SeenList.{line_state};
 
 use crate::calls::{is_left_paren, is_right_paren};
 use crate::definitions::Definitions;

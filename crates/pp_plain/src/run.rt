@@ -2,11 +2,11 @@
 
 ghost use Rattle.std.specs.Prelude.{◌≡◌, ◌≤◌, ◌<◌, ◌^◌, ◌-◌, [], ◌∷◌, length, map, All, IfOk, IfSome};
 ghost use Rattle.pp_model.specs.Emitting.{answers_at, expansion_limit};
-ghost use Rattle.pp_plain.specs.Halting.{Meets};
+ghost use Rattle.pp_plain.specs.inner.Halting.{Meets};
 ghost use Rattle.pp_model.specs.Run as spec;
 ghost use Rattle.pp_model.specs.Run.{call_of, ends_run, HasRoom};
-ghost use Rattle.pp_plain.specs.Seen.{seen};
-ghost use Rattle.pp_plain.specs.SeenSource.{source_state, RefusedBy, Replying, is_refused};
+ghost use Rattle.pp_plain.specs.inner.Seen.{seen};
+ghost use Rattle.pp_plain.specs.inner.SeenSource.{source_state, RefusedBy, Replying, is_refused};
 ghost use Rattle.std.specs.Str.{chars};
 
 use crate::block::blocks_at;

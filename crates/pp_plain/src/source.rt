@@ -1,10 +1,10 @@
 //! A source as a reader after an expander.
 
 ghost use Rattle.std.specs.Prelude.{◌≡◌, ◌≤◌, ◌+◌, Some, length, IfOk};
-ghost use Rattle.pp_plain.specs.Acting.{Defining, Deciding, Renumbering};
-ghost use Rattle.pp_plain.specs.Changes.{meaning_of};
+ghost use Rattle.pp_plain.specs.inner.Acting.{Defining, Deciding, Renumbering};
+ghost use Rattle.pp_plain.specs.inner.Changes.{meaning_of};
 ghost use Rattle.pp_model.specs.Emitting.{answers_at, expansion_limit};
-ghost use Rattle.pp_plain.specs.ReaderState.{reader_of};
+ghost use Rattle.pp_plain.specs.inner.ReaderState.{reader_of};
 ghost use Rattle.pp_model.specs.Reads.{Steps};
 ghost use Rattle.pp_model.specs.declared.outcome.Outcome.TheVariants as outcome;
 
@@ -129,7 +129,7 @@ impl<'a> Source<'a> {
 
 impl Reader for Source<'_> {
     ghost use Rattle.pp_model.specs.Emitting.{answers_at, expansion_limit};
-    ghost use Rattle.pp_plain.specs.ReaderState.{reader_of};
+    ghost use Rattle.pp_plain.specs.inner.ReaderState.{reader_of};
     ghost use Rattle.pp_model.specs.Reads.{source_reading};
     ghost use Rattle.pp_model.specs.SourceReader as spec;
 

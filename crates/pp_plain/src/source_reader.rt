@@ -2,11 +2,11 @@
 
 ghost use Rattle.std.specs.Prelude.{◌≡◌, ◌≤◌, ◌+◌, Some, None, length, drop, take, IfOk, OnOk};
 ghost use Rattle.std.specs.Option.{option_copied};
-ghost use Rattle.pp_plain.specs.Acting.{ActsAs, HasLine, HasLineIfOk};
+ghost use Rattle.pp_plain.specs.inner.Acting.{ActsAs, HasLine, HasLineIfOk};
 ghost use Rattle.pp_model.specs.Acts as spec;
 ghost use Rattle.pp_model.specs.inner.Acts as parts;
 ghost use Rattle.pp_model.specs.Blocks.{are_surroundings_live};
-ghost use Rattle.pp_plain.specs.ReaderState.{reader_of};
+ghost use Rattle.pp_plain.specs.inner.ReaderState.{reader_of};
 ghost use Rattle.pp_model.specs.Reads.{renumbered, shown_line};
 ghost use Rattle.pp_model.specs.inner.Run.{adding};
 ghost use Rattle.pp_model.specs.Sights.{least_items};
@@ -53,7 +53,7 @@ pub struct SourceReader<'a> {
 
 impl<'a> Model for SourceReader<'a> {
     ghost use Rattle.std.specs.Prelude.{◌≤◌, length};
-    ghost use Rattle.pp_plain.specs.ReaderState as spec;
+    ghost use Rattle.pp_plain.specs.inner.ReaderState as spec;
 
     ghost Value = { spec.ReaderState };
 

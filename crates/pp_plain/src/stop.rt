@@ -68,7 +68,7 @@ impl From<Stop> for Halt {
 }
 
 impl From<AllocError> for Halt {
-    ghost use Rattle.pp_plain.specs.Halting.{IsStop};
+    ghost use Rattle.pp_plain.specs.inner.Halting.{IsStop};
 
     ghost from_gives = { λ error halt. IsStop halt };
 
@@ -78,7 +78,7 @@ impl From<AllocError> for Halt {
 }
 
 impl<T: Drop> From<AllocFailed<T>> for Halt {
-    ghost use Rattle.pp_plain.specs.Halting.{IsStop};
+    ghost use Rattle.pp_plain.specs.inner.Halting.{IsStop};
 
     ghost from_gives = { λ error halt. IsStop halt };
 

@@ -8,7 +8,7 @@ use Rattle.pp_model.specs.Run.{with_added}
 use Rattle.pp_rs.specs.Adding.{IsAdded, refused, faulty, added}
 use Rattle.pp_rs.specs.Comes.{State}
 use Rattle.pp_rs.specs.Kept.{Preprocessing}
-use Rattle.pp_print.specs.Defining.{AreAdded}
+use Rattle.pp_print.specs.inner.Defining.{AreAdded}
 use Rattle.pp_print.specs.Runs.{IsAccepted}
 use Rattle.pp_print.specs.SourceRuns.{Definition, Adds, none, first}
 

@@ -4,7 +4,7 @@ use Rattle.pp_model.specs.Calls.{Fault}
 use Rattle.pp_model.specs.declared.outcome.Outcome.TheVariants as outcome
 use Rattle.pp_rs.specs.Comes.{State, Comes, Gives, nothing, first}
 use Rattle.pp_rs.specs.declared.token.Token.{Token}
-use Rattle.pp_rs.proofs.ComesLemmas.{one_comes}
+use Rattle.pp_rs.proofs.runs.ComesLemmas.{one_comes}
 use Rattle.pp_print.specs.SourceRuns.{last_outcome, AreFirstFrom, EndsFrom}
 use Rattle.pp_print.specs.declared.ends.RunEnd.{RunEnd}
 use Rattle.pp_print.specs.declared.ends.RunEnd.TheVariants.{Done, Stopped}

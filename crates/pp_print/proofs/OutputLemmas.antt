@@ -6,7 +6,7 @@ use Rattle.pp_rs.specs.Spelling.{spelling, spelled_text, values_of}
 use Rattle.pp_rs.specs.TokenValue.{is_ordinary}
 use Rattle.pp_rs.specs.declared.token.Token.{Token}
 use Rattle.pp_print.specs.Output.{begins_ordinary, put_before, lines_of, directive_text, line_text, output_lines}
-use Rattle.pp_print.specs.Printing.{lines_from}
+use Rattle.pp_print.specs.inner.Printing.{lines_from}
 
 abbrev bytes_of : List Token → List ℕ
 bytes_of line = encode_utf8_all (line_text line)

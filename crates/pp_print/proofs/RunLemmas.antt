@@ -6,9 +6,9 @@ use Rattle.pp_model.specs.declared.outcome.Outcome.TheVariants as outcome
 use Rattle.pp_rs.specs.Comes.{State, Comes, Gives}
 use Rattle.pp_rs.specs.Kept.{Preprocessing, Stands}
 use Rattle.pp_rs.specs.declared.token.Token.{Token}
-use Rattle.pp_rs.proofs.ComesLemmas.{gives_nothing, gives_more}
+use Rattle.pp_rs.proofs.runs.ComesLemmas.{gives_nothing, gives_more}
 use Rattle.pp_print.specs.Output.{output_lines, written_lines, output}
-use Rattle.pp_print.specs.Printing.{begun_line, line_after, ended_lines, lines_from}
+use Rattle.pp_print.specs.inner.Printing.{begun_line, line_after, ended_lines, lines_from}
 use Rattle.pp_print.specs.Runs.{IsPrinted, IsBegun}
 use Rattle.pp_print.specs.SourceRuns.{last_outcome, AreFirstFrom, EndsFrom}
 use Rattle.pp_print.specs.declared.ends.RunEnd.{RunEnd}

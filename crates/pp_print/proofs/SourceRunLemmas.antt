@@ -7,8 +7,8 @@ use Rattle.pp_model.specs.Run.{with_added}
 use Rattle.pp_rs.specs.Comes.{State}
 use Rattle.pp_rs.specs.Kept.{Preprocessing, Stands}
 use Rattle.pp_rs.specs.declared.token.Token.{Token}
-use Rattle.pp_print.specs.Defining.{AreAdded}
-use Rattle.pp_print.specs.Printing.{ArePrinted, AreBegun}
+use Rattle.pp_print.specs.inner.Defining.{AreAdded}
+use Rattle.pp_print.specs.inner.Printing.{ArePrinted, AreBegun}
 use Rattle.pp_print.specs.Runs.{IsPrinted, IsBegun}
 use Rattle.pp_print.specs.SourceRuns.{Definition, tokens_of, start_of, Adds, none, first, AreFirstOf, EndsFrom, IsRunOf}
 use Rattle.pp_print.specs.declared.ends.RunEnd.{RunEnd}

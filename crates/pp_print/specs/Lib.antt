@@ -1,10 +1,8 @@
 pub mod Words
 pub mod Ends
-pub mod Input
 pub mod Output
-pub mod Printing
 pub mod SourceRuns
 pub mod Runs
-pub mod Defining
 pub mod OutputLaws
 pub mod RunLaws
+pub mod inner

@@ -1,7 +1,7 @@
 //! Adding the definitions of the command line.
 
 ghost use Rattle.std.specs.Prelude.{All, Any, [], ◌∷◌, OnOk, IfErr};
-ghost use Rattle.pp_print.specs.Defining.{AreAdded, IsAddingFault};
+ghost use Rattle.pp_print.specs.inner.Defining.{AreAdded, IsAddingFault};
 ghost use Rattle.pp_print.specs.Runs.{IsRefused};
 
 use super::ends::RunFault;

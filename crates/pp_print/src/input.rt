@@ -3,7 +3,7 @@
 ghost use Rattle.std.specs.Prelude.{◌≡◌, ◌+◌, ◌-◌, ◌^◌, ◌<◌, ◌≤◌, false, length, vec_len, string_bytes, string_len, OnOk, IfOk, IfErr, IfSome};
 ghost use Rattle.std.specs.Io.{StartsWith, appended_bytes};
 ghost use Rattle.std.specs.Io.KnownBytes.{Consumes, IsAtEnd};
-ghost use Rattle.pp_print.specs.Input.{IsReadFault, IsDeviceFault};
+ghost use Rattle.pp_print.specs.inner.Input.{IsReadFault, IsDeviceFault};
 
 use super::devices::Source;
 use super::ends::RunFault;

@@ -8,9 +8,9 @@ ghost use Rattle.pp_rs.specs.TokenValue.{is_ordinary};
 ghost use Rattle.pp_rs.specs.Kept.{is_spent};
 ghost use Rattle.pp_rs.specs.Held.{HoldsOrdinary, is_ordinary_leaf};
 ghost use Rattle.pp_rs.specs.Spelling.{spelled_text, values_of};
-ghost use Rattle.pp_print.specs.Input.{IsDeviceFault};
+ghost use Rattle.pp_print.specs.inner.Input.{IsDeviceFault};
 ghost use Rattle.pp_print.specs.Output.{AllOrdinary, with_tokens, directive_text, written_lines};
-ghost use Rattle.pp_print.specs.Printing.{begun_line, line_after, ended_lines, ArePrinted, AreBegun};
+ghost use Rattle.pp_print.specs.inner.Printing.{begun_line, line_after, ended_lines, ArePrinted, AreBegun};
 ghost use Rattle.pp_print.specs.Runs.{IsStoppedBySource};
 
 use super::devices::Sink;

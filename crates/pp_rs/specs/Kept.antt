@@ -7,13 +7,13 @@ use Rattle.pp_lexer.specs.declared.token.Location.{Location}
 use Rattle.pp_model.specs.Emitting.{expansion_limit}
 use Rattle.pp_model.specs.Reading.{Expander}
 use Rattle.pp_model.specs.SourceReader.{SourceReader}
-use Rattle.pp_expansion.specs.Left.{work_of}
+use Rattle.pp_expansion.specs.inner.Left.{work_of}
 use Rattle.pp_expansion.specs.LexerErrors.{ErrorAt}
-use Rattle.pp_expansion.specs.Machine.{Machine}
-use Rattle.pp_expansion.specs.Reader.{of_source}
-use Rattle.pp_expansion.specs.Source.{Source, untold_of}
-use Rattle.pp_rs.specs.Stands.{StandsFor}
-use Rattle.pp_expansion.specs.Untold.{untold_with}
+use Rattle.pp_expansion.specs.inner.Machine.{Machine}
+use Rattle.pp_expansion.specs.inner.Reader.{of_source}
+use Rattle.pp_expansion.specs.inner.Source.{Source, untold_of}
+use Rattle.pp_rs.specs.inner.Stands.{StandsFor}
+use Rattle.pp_expansion.specs.inner.Untold.{untold_with}
 
 -- the macros that are open with what is held, the source after them, whether memory was refused, and where the last error stands
 pub record Preprocessing : Type 0 where

@@ -12,13 +12,9 @@ pub use Rattle.pp_lexer.specs.ItemLaws
 pub use Rattle.pp_expansion.specs.Held
 pub mod Kept
 pub mod Preprocessing
-pub mod Stands
 pub mod LiveBranch
 pub mod Adding
 pub mod Afresh
-pub mod ItemValues
 pub mod Comes
 pub mod Collecting
-pub mod Answering
-pub mod SourceTurns
-pub mod Fit
+pub mod inner

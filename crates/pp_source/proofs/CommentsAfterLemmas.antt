@@ -7,7 +7,7 @@ use Rattle.pp_model.specs.Calls.{Fault}
 use Rattle.pp_model.specs.Conversions.{is_newline, conversion}
 use Rattle.pp_model.specs.Lines.{comments_before_end}
 use Rattle.pp_expression.specs.Answers.{◌>>=◌}
-use Rattle.pp_expansion.specs.LineReading.{some_token, next_line_token, comments_after}
+use Rattle.pp_expansion.specs.inner.LineReading.{some_token, next_line_token, comments_after}
 
 comments_by : (rest : List Seen) (had at_item : Bool) (next : Option Token) (ends : Bool) (first : Result Token Fault) → (if ends then Ok None else (first >>= some_token)) ≡ Ok next → had ≡ at_item
     → comments_after next rest had ≡ (if ends then at_item else comments_before_end rest)

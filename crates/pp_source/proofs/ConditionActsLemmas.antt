@@ -4,14 +4,14 @@ use Rattle.std.specs.Prelude.{ℤ, pos, ◌-ℤ◌}
 use Rattle.pp_lexer.specs.declared.token.Location.{Location}
 use Rattle.pp_lexer.specs.declared.token.Token.{Token}
 use Rattle.pp_model.specs.Lines.{line_length, line_tokens}
-use Rattle.pp_expansion.specs.Defined.{Defined}
-use Rattle.pp_expansion.specs.LineReading.{HasTaken}
-use Rattle.pp_expansion.specs.OpenBlocks.{outer_blocks, block_opened, block_decided}
+use Rattle.pp_expansion.specs.inner.Defined.{Defined}
+use Rattle.pp_expansion.specs.inner.LineReading.{HasTaken}
+use Rattle.pp_expansion.specs.inner.OpenBlocks.{outer_blocks, block_opened, block_decided}
 use Rattle.pp_expansion.specs.declared.blocks.OpenBlock.{OpenBlock}
-use Rattle.pp_expansion.specs.Source.{IsAfter, Condition, LineNumber, holds, numbers}
-use Rattle.pp_source.specs.SourceActs.{Acts}
-use Rattle.pp_expansion.specs.SourceLexed.{SourceLexed}
-use Rattle.pp_expansion.specs.SourceMoves.{opens_if, parts_if, renumbers, unnoted, line_move}
+use Rattle.pp_expansion.specs.inner.Source.{IsAfter, Condition, LineNumber, holds, numbers}
+use Rattle.pp_source.specs.inner.SourceActs.{Acts}
+use Rattle.pp_expansion.specs.inner.SourceLexed.{SourceLexed}
+use Rattle.pp_expansion.specs.inner.SourceMoves.{opens_if, parts_if, renumbers, unnoted, line_move}
 use Rattle.pp_source.proofs.SourceActsLemmas.{source_of}
 
 module _ (definitions : List Defined) (blocks : List OpenBlock) (line_offset : ℤ) (has_text has_directive : Bool) (old new : SourceLexed) (word : Location) (tokens : List Token)

@@ -11,7 +11,7 @@ use Rattle.pp_expression.specs.Answers.{◌>>=◌}
 use Rattle.pp_model.specs.Run.{content_tokens}
 use Rattle.pp_model.specs.inner.Run.{content_from}
 use Rattle.pp_model.proofs.PartsLemmas.{content_tokens_is}
-use Rattle.pp_expansion.specs.LineReading.{as_next, next_token}
+use Rattle.pp_expansion.specs.inner.LineReading.{as_next, next_token}
 use Rattle.pp_source.proofs.LineReadingLemmas.{tokens_before, tokens_before-push}
 
 token_item : (item : Lexeme) (token : LexerToken) → as_next item ≡ Ok (Some token) → item ≡ Ok token

@@ -3,11 +3,11 @@ use Rattle.std.proofs.Common.{◌≡◌, ◌≢◌, ◌∙◌, Bool, true, false
 use Rattle.pp_lexer.specs.declared.lexer.char_iterator.Spot.{Spot}
 use Rattle.pp_lexer.specs.declared.lexer.Flags.{Flags}
 use Rattle.pp_lexer.specs.Lexed.{Seen, start_of, after_first_item}
-use Rattle.pp_lexer.specs.Passing.{passed, item_seen, newline_seen, seen_from}
+use Rattle.pp_lexer.specs.inner.Passing.{passed, item_seen, newline_seen, seen_from}
 use Rattle.pp_lexer.specs.Reading.{Reading}
 use Rattle.pp_lexer.specs.Segments.{Kind, blank, comment, item, Segment, segments}
-use Rattle.pp_lexer.proofs.ItemsLemmas.{start_seen}
-use Rattle.pp_source.specs.Lined.{AreEnded}
+use Rattle.pp_lexer.proofs.items.ItemsLemmas.{start_seen}
+use Rattle.pp_source.specs.inner.Lined.{AreEnded}
 use Rattle.pp_source.proofs.LinedLemmas.{ends_with}
 
 -- the items that a lexer with these flags gives

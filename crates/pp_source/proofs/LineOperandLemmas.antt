@@ -10,14 +10,14 @@ use Rattle.pp_model.specs.Emitting.{Emits, answers_at}
 use Rattle.pp_model.specs.LineWords.{Operand, is_defined, name_in, unwanted, unwanted_word}
 use Rattle.pp_model.specs.inner.LineWords.{is_open_paren, is_close_paren}
 use Rattle.pp_model.specs.LineWords as line
-use Rattle.pp_model.specs.WordsRead.{Closes, Parenthesized, unclosed, closed, no_name, named}
+use Rattle.pp_model.specs.inner.WordsRead.{Closes, Parenthesized, unclosed, closed, no_name, named}
 use Rattle.pp_model.specs.declared.outcome.Outcome.TheVariants as outcome
 use Rattle.pp_model.specs.declared.word.LineKind.{LineKind}
 use Rattle.pp_model.proofs.WordLemmas.{operand_parenthesized}
-use Rattle.pp_expansion.specs.Defined.{Defined, meaning_of}
-use Rattle.pp_source.specs.LineItems.{ReadsOn, ReadsItem, ReadsTaken, ReadsClosed, ReadsParenthesized, ReadsOperand, expander_of, outcome_of, outcome_of_item}
-use Rattle.pp_expansion.specs.Machine.{Machine}
-use Rattle.pp_expansion.specs.Reader.{Listing}
+use Rattle.pp_expansion.specs.inner.Defined.{Defined, meaning_of}
+use Rattle.pp_source.specs.inner.LineItems.{ReadsOn, ReadsItem, ReadsTaken, ReadsClosed, ReadsParenthesized, ReadsOperand, expander_of, outcome_of, outcome_of_item}
+use Rattle.pp_expansion.specs.inner.Machine.{Machine}
+use Rattle.pp_expansion.specs.inner.Reader.{Listing}
 use Rattle.pp_expansion.specs.declared.halt.Halt.{Halt}
 use Rattle.pp_expansion.specs.declared.halt.Halt.TheVariants as halt
 use Rattle.pp_source.proofs.LineReadLemmas.{reads_broken, reads_then}

@@ -7,23 +7,23 @@ use Rattle.pp_model.specs.Calls.{Fault}
 use Rattle.pp_model.specs.Emitting.{Emits, answers_at}
 use Rattle.pp_model.specs.Taking.{Takes}
 use Rattle.pp_model.specs.declared.outcome.Outcome.TheVariants as outcome
-use Rattle.pp_expansion.specs.Calling.{PendingCall}
-use Rattle.pp_expansion.specs.CallTurns.{TurnsTo, TurnsOrRefuses}
-use Rattle.pp_expansion.specs.Finishing.{Finishes, IsOpened}
-use Rattle.pp_expansion.specs.Frames.{names_of}
-use Rattle.pp_expansion.specs.Defined.{Defined}
+use Rattle.pp_expansion.specs.inner.Calling.{PendingCall}
+use Rattle.pp_expansion.specs.inner.CallTurns.{TurnsTo, TurnsOrRefuses}
+use Rattle.pp_expansion.specs.inner.Finishing.{Finishes, IsOpened}
+use Rattle.pp_expansion.specs.inner.Frames.{names_of}
+use Rattle.pp_expansion.specs.inner.Defined.{Defined}
 use Rattle.pp_expansion.specs.Halting.{halt_of}
 use Rattle.pp_expansion.specs.Item.{Step, is_out_of_memory}
-use Rattle.pp_expansion.specs.Left.{work_of}
-use Rattle.pp_source.specs.LineItems.{IsOnLine, IsWorkLess, Reads, ReadsOn, ReadsItem, ReadsTaken, expander_of, outcome_of_item}
-use Rattle.pp_expansion.specs.Machine.{Machine, TakesNext}
-use Rattle.pp_expansion.specs.Reader.{of_list, Listing}
+use Rattle.pp_expansion.specs.inner.Left.{work_of}
+use Rattle.pp_source.specs.inner.LineItems.{IsOnLine, IsWorkLess, Reads, ReadsOn, ReadsItem, ReadsTaken, expander_of, outcome_of_item}
+use Rattle.pp_expansion.specs.inner.Machine.{Machine, TakesNext}
+use Rattle.pp_expansion.specs.inner.Reader.{of_list, Listing}
 use Rattle.pp_expansion.specs.declared.calls.Taken.{Taken}
 use Rattle.pp_expansion.specs.declared.calls.Taken.TheVariants as taken
 use Rattle.pp_expansion.specs.declared.step.StepExit.TheVariants.{Error, Continue, Finished}
 use Rattle.pp_source.proofs.LineTurnLemmas.{GoesOn, token_read, pause_read, end_read, fault_read, call_read, call_fault_read, next_read}
-use Rattle.pp_expansion.proofs.ListedLeadsLemmas.{turned}
-use Rattle.pp_expansion.proofs.TurnLeadsLemmas.{wants_taken}
+use Rattle.pp_expansion.proofs.taking.ListedLeadsLemmas.{turned}
+use Rattle.pp_expansion.proofs.taking.TurnLeadsLemmas.{wants_taken}
 use Rattle.pp_expansion.specs.declared.halt.Halt.{Halt}
 use Rattle.pp_expansion.specs.declared.halt.Halt.TheVariants as halt
 

@@ -8,8 +8,8 @@ use Rattle.pp_model.specs.Conversions.{is_newline, conversion}
 use Rattle.pp_model.specs.inner.Emitting.{token_before}
 use Rattle.pp_model.specs.Lines.{line_tokens, line_length, line_fault}
 use Rattle.pp_expression.specs.Answers.{◌>>=◌}
-use Rattle.pp_expansion.specs.LineReading.{HasTaken, TakesItems, some_token, next_line_token, tokens_after, length_after, unless_fault, skipped_line, goes_on_after, line_goes_on}
-use Rattle.pp_expansion.specs.SourceLexed.{SourceLexed}
+use Rattle.pp_expansion.specs.inner.LineReading.{HasTaken, TakesItems, some_token, next_line_token, tokens_after, length_after, unless_fault, skipped_line, goes_on_after, line_goes_on}
+use Rattle.pp_expansion.specs.inner.SourceLexed.{SourceLexed}
 use Rattle.pp_expansion.specs.declared.halt.Halt.{Halt}
 use Rattle.pp_expansion.specs.declared.halt.Halt.TheVariants as halt
 

@@ -12,30 +12,30 @@ use Rattle.pp_model.specs.Taking.{Takes, line_number}
 use Rattle.pp_model.specs.declared.outcome.Outcome.{Outcome}
 use Rattle.pp_model.specs.declared.outcome.Outcome.TheVariants as outcome
 use Rattle.pp_model.specs.declared.splice.Entry.{Entry}
-use Rattle.pp_expansion.specs.Calling.{PendingCall}
-use Rattle.pp_expansion.specs.CallTurns.{Sought, no_call, refused, gathered, sought_by, Seeks, alone, called, Finds, TurnsTo, passes, gives, object, seeks, is_refusal}
-use Rattle.pp_expansion.specs.Defined.{Defined}
-use Rattle.pp_expansion.specs.Finishing.{site_at, IsOpened}
-use Rattle.pp_expansion.specs.Frames.{Layer, Advance, advance, names_of, outermost_frame_line}
+use Rattle.pp_expansion.specs.inner.Calling.{PendingCall}
+use Rattle.pp_expansion.specs.inner.CallTurns.{Sought, no_call, refused, gathered, sought_by, Seeks, alone, called, Finds, TurnsTo, passes, gives, object, seeks, is_refusal}
+use Rattle.pp_expansion.specs.inner.Defined.{Defined}
+use Rattle.pp_expansion.specs.inner.Finishing.{site_at, IsOpened}
+use Rattle.pp_expansion.specs.inner.Frames.{Layer, Advance, advance, names_of, outermost_frame_line}
 use Rattle.pp_expansion.specs.Item.{Step, wants_memory, is_out_of_memory}
-use Rattle.pp_expansion.specs.Left.{work_of, IsSound, most_open, most_bodies, regions}
-use Rattle.pp_source.specs.LineItems.{expander_of, IsHeld, IsOnLine, ReadsOn, IsWorkLess}
-use Rattle.pp_expansion.specs.Machine.{Machine, outcome_of_step, step_of_outcome, taken_as, is_pause, StepsTaking, held, moved, TakesNext, now, later}
-use Rattle.pp_expansion.specs.Reader.{Reader, of_source, of_list, Listing, listed_step}
-use Rattle.pp_expansion.specs.Turns.{Moves, as_pause, frame_move}
+use Rattle.pp_expansion.specs.inner.Left.{work_of, IsSound, most_open, most_bodies, regions}
+use Rattle.pp_source.specs.inner.LineItems.{expander_of, IsHeld, IsOnLine, ReadsOn, IsWorkLess}
+use Rattle.pp_expansion.specs.inner.Machine.{Machine, outcome_of_step, step_of_outcome, taken_as, is_pause, StepsTaking, held, moved, TakesNext, now, later}
+use Rattle.pp_expansion.specs.inner.Reader.{Reader, of_source, of_list, Listing, listed_step}
+use Rattle.pp_expansion.specs.inner.Turns.{Moves, as_pause, frame_move}
 use Rattle.pp_expansion.specs.declared.calls.Taken.{Taken}
 use Rattle.pp_expansion.specs.declared.calls.Taken.TheVariants as taken
 use Rattle.pp_expansion.specs.declared.step.StepExit.{StepExit}
 use Rattle.pp_expansion.specs.declared.step.StepExit.TheVariants.{Error, Continue, Finished}
-use Rattle.pp_expansion.proofs.CallFallsLemmas.{IsLess, IsPending, turn_falls}
-use Rattle.pp_expansion.proofs.ListedLeadsLemmas.{IsListed, list_simulates, list_shows, list_sees, StandsListed, listed_leads, stands_listed, site_same, opened_less}
-use Rattle.pp_expansion.proofs.MachineLemmas.{next_no_pause}
-use Rattle.pp_expansion.proofs.OpenSoundLemmas.{next_sound}
-use Rattle.pp_expansion.proofs.ReachLemmas.{frame_steps_level}
-use Rattle.pp_expansion.proofs.SearchSimulates.{StandsHeld, next_simulates}
-use Rattle.pp_expansion.proofs.SpendLemmas.{step_spends, next_left, next_spends, no_more}
-use Rattle.pp_expansion.proofs.TurnLeadsLemmas.{LeadsTo, wants_taken}
-use Rattle.pp_expansion.proofs.WorkFallsLemmas.{frame_of, no_more_work}
+use Rattle.pp_expansion.proofs.work.CallFallsLemmas.{IsLess, IsPending, turn_falls}
+use Rattle.pp_expansion.proofs.taking.ListedLeadsLemmas.{IsListed, list_simulates, list_shows, list_sees, StandsListed, listed_leads, stands_listed, site_same, opened_less}
+use Rattle.pp_expansion.proofs.taking.MachineLemmas.{next_no_pause}
+use Rattle.pp_expansion.proofs.open_frames.OpenSoundLemmas.{next_sound}
+use Rattle.pp_expansion.proofs.work.ReachLemmas.{frame_steps_level}
+use Rattle.pp_expansion.proofs.taking.SearchSimulates.{StandsHeld, next_simulates}
+use Rattle.pp_expansion.proofs.work.SpendLemmas.{step_spends, next_left, next_spends, no_more}
+use Rattle.pp_expansion.proofs.taking.TurnLeadsLemmas.{LeadsTo, wants_taken}
+use Rattle.pp_expansion.proofs.work.WorkFallsLemmas.{frame_of, no_more_work}
 
 -- a list, and no source
 abbrev IsList : Reader → Type 0

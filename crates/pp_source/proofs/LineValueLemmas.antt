@@ -10,7 +10,7 @@ use Rattle.pp_model.specs.Calls.{Fault}
 use Rattle.pp_model.specs.LineValues.{line_of, alone_on_line}
 use Rattle.pp_model.specs.inner.LineValues.{IsFollowed}
 use Rattle.pp_model.specs.LineWords.{Words}
-use Rattle.pp_expansion.specs.Machine.{Satisfies}
+use Rattle.pp_expansion.specs.inner.Machine.{Satisfies}
 use Rattle.pp_expansion.specs.declared.halt.Halt.{Halt}
 use Rattle.pp_expansion.specs.declared.halt.Halt.TheVariants as halt
 

@@ -11,10 +11,10 @@ use Rattle.pp_model.specs.declared.word.LineKind.{LineKind}
 use Rattle.pp_model.specs.declared.word.Word.{Word}
 use Rattle.pp_model.specs.declared.word.Word.TheVariants.{Plain, Defined}
 use Rattle.pp_model.proofs.WordLemmas.{after_words, after_words-before, after_words-end}
-use Rattle.pp_expansion.specs.Defined as definitions
-use Rattle.pp_source.specs.LineItems.{IsOnLine, ReadsItem, ReadsOperand, expander_of}
-use Rattle.pp_expansion.specs.Machine.{Machine}
-use Rattle.pp_expansion.specs.Reader.{Listing}
+use Rattle.pp_expansion.specs.inner.Defined as definitions
+use Rattle.pp_source.specs.inner.LineItems.{IsOnLine, ReadsItem, ReadsOperand, expander_of}
+use Rattle.pp_expansion.specs.inner.Machine.{Machine}
+use Rattle.pp_expansion.specs.inner.Reader.{Listing}
 use Rattle.pp_expansion.specs.declared.halt.Halt.TheVariants as halt
 
 -- What the reading of a line has reached: its words so far, after which those from here on come.

@@ -7,16 +7,16 @@ use Rattle.pp_lexer.specs.declared.lexer.item.TokenValue.{TokenValue}
 use Rattle.pp_lexer.specs.declared.lexer.item.TokenValue.TheVariants.{Hash, NewLine, Ident, Integer, Float, Punct}
 use Rattle.pp_lexer.specs.declared.token.PreprocessorError.{PreprocessorError}
 use Rattle.pp_lexer.specs.Lexed.{Seen, start_of}
-use Rattle.pp_lexer.specs.Passing.{is_newline_result, passed, lexeme_seen, item_seen, newline_seen, seen_from}
+use Rattle.pp_lexer.specs.inner.Passing.{is_newline_result, passed, lexeme_seen, item_seen, newline_seen, seen_from}
 use Rattle.pp_lexer.specs.Reading.{Reading}
 use Rattle.pp_lexer.specs.Segments.{Kind, blank, comment, item, Segment, segments}
 use Rattle.pp_lexer.specs.Spots.{spots_of}
-use Rattle.pp_lexer.proofs.ItemsLemmas.{start_seen}
+use Rattle.pp_lexer.proofs.items.ItemsLemmas.{start_seen}
 use Rattle.pp_model.specs.Conversions.{is_newline, is_hash}
 use Rattle.pp_model.specs.Lines.{ends_line}
 use Rattle.pp_model.specs.Run.{items_of}
 use Rattle.pp_model.specs.Sights.{is_directive_hash}
-use Rattle.pp_source.specs.Lined.{BeginsNoDirective, AreLined}
+use Rattle.pp_source.specs.inner.Lined.{BeginsNoDirective, AreLined}
 
 same_newline : (value : TokenValue) → is_newline value ≡ is_newline_result (Ok value)
 same_newline Hash = refl

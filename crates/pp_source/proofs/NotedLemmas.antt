@@ -6,12 +6,12 @@ use Rattle.pp_lexer.specs.declared.token.Token.{Token}
 use Rattle.pp_model.specs.Definitions.{Definition}
 use Rattle.pp_model.specs.declared.definition.Named.{Named}
 use Rattle.pp_model.specs.declared.directive.Directive.{Directive}
-use Rattle.pp_expansion.specs.Defined.{Defined, meaning_of}
+use Rattle.pp_expansion.specs.inner.Defined.{Defined, meaning_of}
 use Rattle.pp_expansion.specs.declared.blocks.OpenBlock.{OpenBlock}
-use Rattle.pp_expansion.specs.Source.{Source, IsAfter, DefinesOver, HasEffect, Makes, Decides, holds, faulty, Renumbers, numbers, unnumbered}
-use Rattle.pp_expansion.specs.SourceLexed.{SourceLexed}
-use Rattle.pp_expansion.specs.SourceMoves.{Effect, gives, gives_item, fails, ends, passes, defines, undefines, opens_where, opens_if, opens_unread, parts, parts_if, closes, unfinished, renumbers, Note, unnoted, directive_line, directive_move, taking_more}
-use Rattle.pp_expansion.specs.Turns.{as_pause}
+use Rattle.pp_expansion.specs.inner.Source.{Source, IsAfter, DefinesOver, HasEffect, Makes, Decides, holds, faulty, Renumbers, numbers, unnumbered}
+use Rattle.pp_expansion.specs.inner.SourceLexed.{SourceLexed}
+use Rattle.pp_expansion.specs.inner.SourceMoves.{Effect, gives, gives_item, fails, ends, passes, defines, undefines, opens_where, opens_if, opens_unread, parts, parts_if, closes, unfinished, renumbers, Note, unnoted, directive_line, directive_move, taking_more}
+use Rattle.pp_expansion.specs.inner.Turns.{as_pause}
 use Rattle.pp_source.proofs.SourceActsLemmas.{source_of, pause_no_fault, pause_no_end, effect_after}
 use Rattle.pp_source.proofs.UnnotedLemmas.{directive_unnoted}
 

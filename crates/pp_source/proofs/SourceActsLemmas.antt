@@ -11,15 +11,15 @@ use Rattle.pp_model.specs.declared.definition.Named.{Named}
 use Rattle.pp_model.specs.DefineLines.{defined_on}
 use Rattle.pp_model.specs.Lines.{line_length}
 use Rattle.pp_model.specs.declared.directive.Directive.TheVariants as d
-use Rattle.pp_expansion.specs.Defined.{Defined, meaning_of}
-use Rattle.pp_expansion.specs.LineReading.{Meets, TakesItems, HasTaken}
-use Rattle.pp_expansion.specs.OpenBlocks.{last_block}
+use Rattle.pp_expansion.specs.inner.Defined.{Defined, meaning_of}
+use Rattle.pp_expansion.specs.inner.LineReading.{Meets, TakesItems, HasTaken}
+use Rattle.pp_expansion.specs.inner.OpenBlocks.{last_block}
 use Rattle.pp_expansion.specs.declared.blocks.OpenBlock.{OpenBlock}
-use Rattle.pp_expansion.specs.Source.{Source, IsAfter, IsAfterFault, DefinesOver, HasEffect, Decides, holds, faulty, Renumbers, numbers, unnumbered}
-use Rattle.pp_source.specs.SourceActs.{HasKept, RedefinesWith, FailsWith, Acts, Gives, defining}
-use Rattle.pp_expansion.specs.SourceLexed.{SourceLexed}
-use Rattle.pp_expansion.specs.SourceMoves.{Effect, gives, gives_item, fails, ends, passes, defines, undefines, opens_where, opens_if, opens_unread, parts, parts_if, closes, unfinished, renumbers, Note, unnoted, Move, directive_move, line_move}
-use Rattle.pp_expansion.specs.Turns.{as_pause}
+use Rattle.pp_expansion.specs.inner.Source.{Source, IsAfter, IsAfterFault, DefinesOver, HasEffect, Decides, holds, faulty, Renumbers, numbers, unnumbered}
+use Rattle.pp_source.specs.inner.SourceActs.{HasKept, RedefinesWith, FailsWith, Acts, Gives, defining}
+use Rattle.pp_expansion.specs.inner.SourceLexed.{SourceLexed}
+use Rattle.pp_expansion.specs.inner.SourceMoves.{Effect, gives, gives_item, fails, ends, passes, defines, undefines, opens_where, opens_if, opens_unread, parts, parts_if, closes, unfinished, renumbers, Note, unnoted, Move, directive_move, line_move}
+use Rattle.pp_expansion.specs.inner.Turns.{as_pause}
 use Rattle.pp_expansion.specs.declared.halt.Halt.{Halt}
 use Rattle.pp_expansion.specs.declared.halt.Halt.TheVariants as halt
 use Rattle.pp_expansion.specs.declared.step.StepExit.TheVariants.{Error, Finished}

@@ -18,19 +18,19 @@ use Rattle.pp_model.specs.Names.{Name}
 use Rattle.pp_model.specs.declared.definition.Placed.{Placed}
 use Rattle.pp_model.specs.Sights.{directive_of, named_directive, token_sight, sight_of}
 use Rattle.pp_model.specs.inner.Sights.{directive_sight}
-use Rattle.pp_expansion.specs.Defined.{Defined}
+use Rattle.pp_expansion.specs.inner.Defined.{Defined}
 use Rattle.pp_expansion.specs.Halting.{step_of}
 use Rattle.pp_expansion.specs.Item.{Step}
-use Rattle.pp_expansion.specs.LineReading.{HasTaken, as_next, next_token}
-use Rattle.pp_expansion.specs.OpenBlocks.{last_block, is_live_in}
+use Rattle.pp_expansion.specs.inner.LineReading.{HasTaken, as_next, next_token}
+use Rattle.pp_expansion.specs.inner.OpenBlocks.{last_block, is_live_in}
 use Rattle.pp_expansion.specs.declared.blocks.OpenBlock.{OpenBlock}
-use Rattle.pp_expansion.specs.Source.{Source, Makes, IsRefusedStep, StepsSource}
-use Rattle.pp_source.specs.SourceActs.{Gives, live_word_move, dead_word_move, dead_name_move, word_move}
-use Rattle.pp_expansion.specs.SourceLexed.{SourceLexed, EndStays}
-use Rattle.pp_expansion.specs.SourceMoves.{Effect, fails, passes, Note, unnoted, directive_line, Move, directive_move, taking_more, move_at, move_of}
+use Rattle.pp_expansion.specs.inner.Source.{Source, Makes, IsRefusedStep, StepsSource}
+use Rattle.pp_source.specs.inner.SourceActs.{Gives, live_word_move, dead_word_move, dead_name_move, word_move}
+use Rattle.pp_expansion.specs.inner.SourceLexed.{SourceLexed, EndStays}
+use Rattle.pp_expansion.specs.inner.SourceMoves.{Effect, fails, passes, Note, unnoted, directive_line, Move, directive_move, taking_more, move_at, move_of}
 use Rattle.pp_expansion.specs.declared.halt.Halt.{Halt}
 use Rattle.pp_expansion.specs.declared.halt.Halt.TheVariants as halt
-use Rattle.pp_expansion.proofs.LinePartsLemmas.{name_or_refused_is}
+use Rattle.pp_expansion.proofs.work.LinePartsLemmas.{name_or_refused_is}
 use Rattle.pp_source.proofs.SourceActsLemmas.{source_of, gives_after, fault_makes}
 
 match_false : (P Q : Type 0) (b : Bool) → b ≡ false → Q → MatchBool b P Q

@@ -8,10 +8,10 @@ use Rattle.pp_model.specs.DefineLines.{defined_on}
 use Rattle.pp_model.specs.Lines.{line_length, line_fault, comments_before_end, ended_line, only_name, line_tokens}
 use Rattle.pp_model.specs.declared.directive.Directive.{Directive}
 use Rattle.pp_model.specs.declared.directive.Directive.TheVariants as d
-use Rattle.pp_expansion.specs.DirectiveItems.{version, extension, pragma, line_entries}
-use Rattle.pp_expansion.specs.OpenBlocks.{block_skipped, skips_branches}
+use Rattle.pp_expansion.specs.inner.DirectiveItems.{version, extension, pragma, line_entries}
+use Rattle.pp_expansion.specs.inner.OpenBlocks.{block_skipped, skips_branches}
 use Rattle.pp_expansion.specs.declared.blocks.OpenBlock.{OpenBlock}
-use Rattle.pp_expansion.specs.SourceMoves.{Effect, gives_item, defines, undefines, opens_where, opens_if, opens_unread, parts, parts_if, closes, passes, renumbers, unnoted, Move, failing, line_move, skip_by, skip_move, else_effect, else_move, elif_move, endif_move, live_move, dead_move, directive_move}
+use Rattle.pp_expansion.specs.inner.SourceMoves.{Effect, gives_item, defines, undefines, opens_where, opens_if, opens_unread, parts, parts_if, closes, passes, renumbers, unnoted, Move, failing, line_move, skip_by, skip_move, else_effect, else_move, elif_move, endif_move, live_move, dead_move, directive_move}
 
 abbrev IsUnnoted : Move → Type 0
 IsUnnoted move = move.note ≡ unnoted

@@ -5,10 +5,10 @@ use Rattle.pp_lexer.specs.ItemLaws.{StandAt}
 use Rattle.pp_lexer.specs.Lexed.{Seen, seen, after_first_item, places_after_first}
 use Rattle.pp_lexer.specs.declared.lexer.char_iterator.Spot.{Spot}
 use Rattle.pp_lexer.specs.declared.token.Location.{Location}
-use Rattle.pp_lexer.proofs.ItemPlacesLemmas.{places_of_items}
+use Rattle.pp_lexer.proofs.items.ItemPlacesLemmas.{places_of_items}
 use Rattle.pp_expansion.specs.Item.{Fault}
-use Rattle.pp_expansion.specs.SourceLexed.{HavePlaces}
-use Rattle.pp_expansion.specs.Untold.{Untold, IsMet, Tells}
+use Rattle.pp_expansion.specs.inner.SourceLexed.{HavePlaces}
+use Rattle.pp_expansion.specs.inner.Untold.{Untold, IsMet, Tells}
 use Rattle.pp_expansion.specs.declared.halt.Halt.{Halt}
 
 -- the items of a text have places

@@ -4,12 +4,12 @@ ghost use Rattle.std.specs.Prelude.{◌≡◌, ◌-◌, ◌^◌, ◌<◌, length
 ghost use Rattle.pp_lexer.specs.TokenValue.{is_ordinary};
 ghost use Rattle.pp_model.specs.Conversions.{is_newline};
 ghost use Rattle.pp_model.specs.Run.{items_of, content_tokens};
-ghost use Rattle.pp_expansion.specs.LineReading as spec;
+ghost use Rattle.pp_expansion.specs.inner.LineReading as spec;
 
-use pp_lexer::lexer;
 use crate::convert::convert_lexer_token;
-use pp_expansion::halt::Halt;
 use crate::source_lexer::SourceLexer;
+use pp_expansion::halt::Halt;
+use pp_lexer::lexer;
 use pp_lexer::token::Token;
 use std::alloc::Global;
 

@@ -6,8 +6,8 @@ ghost use Rattle.pp_lexer.specs.declared.lexer.item.TokenValue.TheVariants.{NewL
 ghost use Rattle.pp_model.specs.Conversions.{conversion};
 ghost use Rattle.pp_expansion.specs.Item.{as_step};
 
-use pp_lexer::lexer;
 use pp_expansion::step::{Step, StepExit};
+use pp_lexer::lexer;
 use pp_lexer::token::{Location, PreprocessorError, Token, TokenValue};
 
 /// The token with its value and place.

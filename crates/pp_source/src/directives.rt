@@ -11,32 +11,32 @@ ghost use Rattle.pp_model.specs.Lines.{only_name, line_tokens, line_length, firs
 ghost use Rattle.pp_model.specs.LineValues.{as_line_number};
 ghost use Rattle.pp_model.specs.Run.{items_of, content_tokens};
 ghost use Rattle.pp_model.specs.declared.directive.Directive.TheVariants as d;
-ghost use Rattle.pp_expansion.specs.Defined.{meaning_of};
-ghost use Rattle.pp_expansion.specs.DirectiveItems.{is_item};
+ghost use Rattle.pp_expansion.specs.inner.Defined.{meaning_of};
+ghost use Rattle.pp_expansion.specs.inner.DirectiveItems.{is_item};
 ghost use Rattle.pp_expansion.specs.Held.{HoldsOrdinary};
 ghost use Rattle.pp_expansion.specs.Item.{as_step};
-ghost use Rattle.pp_source.specs.ReadNames.{named};
-ghost use Rattle.pp_expansion.specs.OpenBlocks.{last_block, is_live_in, block_skipped};
-ghost use Rattle.pp_source.specs.SettingContent.{SetsContent};
-ghost use Rattle.pp_expansion.specs.Source.{StepsSource, untold_of};
-ghost use Rattle.pp_source.specs.SourceActs.{Acts, ActsAs, Gives, live_word_move, dead_word_move, word_move, defining};
-ghost use Rattle.pp_expansion.specs.SourceMoves as moves;
-ghost use Rattle.pp_expansion.specs.Untold.{Tells, ExitTells, StepTells};
+ghost use Rattle.pp_source.specs.inner.ReadNames.{named};
+ghost use Rattle.pp_expansion.specs.inner.OpenBlocks.{last_block, is_live_in, block_skipped};
+ghost use Rattle.pp_source.specs.inner.SettingContent.{SetsContent};
+ghost use Rattle.pp_expansion.specs.inner.Source.{StepsSource, untold_of};
+ghost use Rattle.pp_source.specs.inner.SourceActs.{Acts, ActsAs, Gives, live_word_move, dead_word_move, word_move, defining};
+ghost use Rattle.pp_expansion.specs.inner.SourceMoves as moves;
+ghost use Rattle.pp_expansion.specs.inner.Untold.{Tells, ExitTells, StepTells};
 
-use pp_lexer::lexer;
-use pp_expansion::blocks::{Blocks, OpenBlock};
 use crate::content::content_tokens;
 use crate::convert::convert_lexer_token_to_step;
-use pp_expansion::define::Define;
-use pp_expansion::definitions::Definitions;
-use pp_expansion::halt::Halt;
 use crate::line_value::{condition, line_number};
 use crate::lines::{
     DefineLine, define_line, ended_line, endif_end, first_name, first_token, line_tokens,
     only_name, rest_of_line, skip_line,
 };
 use crate::source_lexer::SourceLexer;
+use pp_expansion::blocks::{Blocks, OpenBlock};
+use pp_expansion::define::Define;
+use pp_expansion::definitions::Definitions;
+use pp_expansion::halt::Halt;
 use pp_expansion::step::{Step, StepExit};
+use pp_lexer::lexer;
 use pp_lexer::token::{
     Extension, Location, Pragma, PreprocessorError, Text, Token, TokenValue, Version,
 };
@@ -58,7 +58,7 @@ pub struct DirectiveProcessor<'a> {
 }
 
 impl<'a> Model for DirectiveProcessor<'a> {
-    ghost use Rattle.pp_expansion.specs.Source.{Source};
+    ghost use Rattle.pp_expansion.specs.inner.Source.{Source};
 
     ghost Value = { Source };
 

@@ -4,12 +4,12 @@ ghost use Rattle.std.specs.Prelude.{◌≡◌, [], IfOk, is_some};
 ghost use Rattle.pp_model.specs.LineWords.{reading, unknown_name, unexpected, name_in_value, unwanted_word};
 ghost use Rattle.pp_model.specs.inner.LineWords.{is_open_paren, is_close_paren};
 ghost use Rattle.pp_model.specs.Names.{is_identifier, defined_name};
-ghost use Rattle.pp_model.specs.WordsRead.{reading_named, unwanted_read, IsOf};
-ghost use Rattle.pp_expansion.specs.Defined.{meaning_of};
+ghost use Rattle.pp_model.specs.inner.WordsRead.{reading_named, unwanted_read, IsOf};
+ghost use Rattle.pp_expansion.specs.inner.Defined.{meaning_of};
 ghost use Rattle.pp_expansion.specs.Halting.{halt_of};
 ghost use Rattle.pp_expansion.specs.Held.{AllHoldOrdinary};
-ghost use Rattle.pp_source.specs.IfParsing.{Stands, GivesItem, TakesOff, GivesTaken, IsNameOrFault, GivesOperand, GivesParenthesized, GivesClosed, AreWordsOf, AreWordsOfLine};
-ghost use Rattle.pp_source.specs.LineItems.{outcome_of};
+ghost use Rattle.pp_source.specs.inner.IfParsing.{Stands, GivesItem, TakesOff, GivesTaken, IsNameOrFault, GivesOperand, GivesParenthesized, GivesClosed, AreWordsOf, AreWordsOfLine};
+ghost use Rattle.pp_source.specs.inner.LineItems.{outcome_of};
 
 use pp_expansion::arguments::finish_call;
 use pp_expansion::calls::{Caller, Taken, is_left_paren, is_right_paren};

@@ -3,15 +3,15 @@
 ghost use Rattle.std.specs.Prelude.{◌≡◌, ◌++◌, ◌∷◌, [], false};
 ghost use Rattle.pp_model.specs.DefineLines.{parameters};
 ghost use Rattle.pp_model.specs.Names.{is_in};
-ghost use Rattle.pp_expansion.specs.LineReading as spec;
-ghost use Rattle.pp_expansion.specs.ParameterReading.{ends_parameters, one_parameter, first_parameter, alone, GoesOn};
-ghost use Rattle.pp_expansion.specs.SourceLexed.{untold_at};
-ghost use Rattle.pp_expansion.specs.Untold.{Tells};
+ghost use Rattle.pp_expansion.specs.inner.LineReading as spec;
+ghost use Rattle.pp_expansion.specs.inner.ParameterReading.{ends_parameters, one_parameter, first_parameter, alone, GoesOn};
+ghost use Rattle.pp_expansion.specs.inner.SourceLexed.{untold_at};
+ghost use Rattle.pp_expansion.specs.inner.Untold.{Tells};
 
-use pp_lexer::lexer;
-use pp_expansion::halt::Halt;
 use crate::lines::{first_token, refused_token};
 use crate::source_lexer::SourceLexer;
+use pp_expansion::halt::Halt;
+use pp_lexer::lexer;
 use pp_lexer::token::{Location, PreprocessorError, Punct, Text};
 use std::alloc::Global;
 

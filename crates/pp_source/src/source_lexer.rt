@@ -3,13 +3,13 @@
 ghost use Rattle.std.specs.Prelude.{◌≡◌, ◌-◌, ◌^◌, ◌<◌, length, false, true, None, Ok, IfOk};
 ghost use Rattle.pp_lexer.specs.Lexed.{start_of, comments_before};
 ghost use Rattle.pp_lexer.specs.Spots.{spots_of};
-ghost use Rattle.pp_expansion.specs.LineReading as spec;
-ghost use Rattle.pp_expansion.specs.SourceLexed.{beginning, untold_at, EndStays};
-ghost use Rattle.pp_expansion.specs.Untold.{Tells};
+ghost use Rattle.pp_expansion.specs.inner.LineReading as spec;
+ghost use Rattle.pp_expansion.specs.inner.SourceLexed.{beginning, untold_at, EndStays};
+ghost use Rattle.pp_expansion.specs.inner.Untold.{Tells};
 
-use pp_lexer::lexer::{self, Lexer};
 use pp_expansion::halt::Halt;
 use pp_expansion::step::is_out_of_memory;
+use pp_lexer::lexer::{self, Lexer};
 use pp_lexer::token::Location;
 use std::alloc::Global;
 use std::marker::Model;
@@ -25,8 +25,8 @@ pub struct SourceLexer<'a> {
 
 impl<'a> Model for SourceLexer<'a> {
     ghost use Rattle.std.specs.Prelude.{◌≡◌, false};
-    ghost use Rattle.pp_source.specs.Lined.{AreEnded};
-    ghost use Rattle.pp_expansion.specs.SourceLexed.{SourceLexed, HavePlaces};
+    ghost use Rattle.pp_source.specs.inner.Lined.{AreEnded};
+    ghost use Rattle.pp_expansion.specs.inner.SourceLexed.{SourceLexed, HavePlaces};
 
     ghost Value = { SourceLexed };
 

@@ -1,9 +1,9 @@
 //! The source as a reader of tokens.
 
-ghost use Rattle.pp_expansion.specs.Reader.{of_source};
+ghost use Rattle.pp_expansion.specs.inner.Reader.{of_source};
 
-use pp_expansion::define::Define;
 use crate::directives::DirectiveProcessor;
+use pp_expansion::define::Define;
 use pp_expansion::reader::MeLexer;
 use pp_expansion::step::{Step, StepExit};
 use pp_lexer::token::{Location, PreprocessorError, Token};

@@ -4,7 +4,7 @@ ghost use Rattle.std.specs.Prelude.{⊤, ◌≡◌, ◌+◌, ◌-◌, ◌^◌, �
 ghost use Rattle.std.specs.Str.{chars, IsUtf8};
 ghost use Rattle.pp_lexer.specs.Reading.{IsAhead, first_char, first_of, spots_after_first, after_first, spots};
 ghost use Rattle.pp_lexer.specs.Spots.{spots_of};
-ghost use Rattle.pp_lexer.specs.Fronts.{spots_from, is_plain, IsLeft};
+ghost use Rattle.pp_lexer.specs.inner.Fronts.{spots_from, is_plain, IsLeft};
 
 use crate::lexer::chars_and_line::Left;
 use crate::lexer::replace_comments::ReplaceComments;

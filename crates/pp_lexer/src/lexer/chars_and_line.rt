@@ -4,8 +4,8 @@ ghost use Rattle.std.specs.Char.{len_utf8};
 ghost use Rattle.std.specs.Iterator.{at_most};
 ghost use Rattle.pp_lexer.specs.Cursor.{start_of, first, after, is_item};
 ghost use Rattle.pp_lexer.specs.Lines.{lines};
-ghost use Rattle.pp_lexer.specs.Readers.{IsFirstPiece, IsAtEnd, IsSkipped};
-ghost use Rattle.pp_lexer.specs.Fronts.{left};
+ghost use Rattle.pp_lexer.specs.inner.Readers.{IsFirstPiece, IsAtEnd, IsSkipped};
+ghost use Rattle.pp_lexer.specs.inner.Fronts.{left};
 
 use std::alloc::AllocError;
 use std::marker::Model;
@@ -28,7 +28,7 @@ impl<'a> Model for CharsAndLine<'a> {
     ghost use Rattle.std.specs.Str.{chars};
     ghost use Rattle.pp_lexer.specs.Cursor.{Cursor};
     ghost use Rattle.pp_lexer.specs.Lines.{pieces};
-    ghost use Rattle.pp_lexer.specs.Readers.{placed_from};
+    ghost use Rattle.pp_lexer.specs.inner.Readers.{placed_from};
 
     ghost Value = { Cursor };
 

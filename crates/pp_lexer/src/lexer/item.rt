@@ -90,7 +90,7 @@ impl Token {
 }
 
 // `==` decides whether two tokens are equal in all fields.
-#[tactic(auto, using(crate::proofs::EqualityLemmas::lexer_token_decides))]
+#[tactic(auto, using(crate::proofs::values::EqualityLemmas::lexer_token_decides))]
 fn same_token(a: &Token, b: &Token) -> bool
     ensures { IsTrue result ↔ (a.now ≡ b.now) }
 {

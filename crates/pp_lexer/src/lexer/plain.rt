@@ -4,7 +4,7 @@ ghost use Rattle.std.specs.Prelude.{⊤, ◌≡◌, ◌<◌, ◌≤◌, true, fa
 ghost use Rattle.std.specs.List.{list_all};
 ghost use Rattle.std.specs.Str.{IsAscii, IsUtf8};
 ghost use Rattle.pp_lexer.specs.LexerToken.{holds_memory};
-ghost use Rattle.pp_lexer.specs.PlainWords.{is_space, begins, continues, value_of, without_suffix, Stops, IsFirstWord, IsPlainNewline};
+ghost use Rattle.pp_lexer.specs.inner.PlainWords.{is_space, begins, continues, value_of, without_suffix, Stops, IsFirstWord, IsPlainNewline};
 
 use crate::lexer::item::TokenValue;
 use crate::token::{Float, Integer, Punct, Text};

@@ -7,8 +7,8 @@ ghost use Rattle.pp_lexer.specs.Lines.{lines};
 ghost use Rattle.pp_lexer.specs.Continuations.{continued};
 ghost use Rattle.pp_lexer.specs.Comments.{replaced};
 ghost use Rattle.std.specs.List.{list_all};
-ghost use Rattle.pp_lexer.specs.Fronts.{left, is_straight};
-ghost use Rattle.pp_lexer.specs.Readers.{joined, uncommented, past_line, past_block};
+ghost use Rattle.pp_lexer.specs.inner.Fronts.{left, is_straight};
+ghost use Rattle.pp_lexer.specs.inner.Readers.{joined, uncommented, past_line, past_block};
 
 use crate::lexer::chars_and_line::{Left, is_char};
 use crate::lexer::skip_backslash_newline::SkipBackslashNewline;
@@ -34,7 +34,7 @@ pub struct ReplaceComments<'a> {
 
 impl<'a> Model for ReplaceComments<'a> {
     ghost use Rattle.pp_lexer.specs.Cursor.{Cursor};
-    ghost use Rattle.pp_lexer.specs.Readers.{uncommented};
+    ghost use Rattle.pp_lexer.specs.inner.Readers.{uncommented};
 
     ghost Value = { Cursor };
 

@@ -5,8 +5,8 @@ ghost use Rattle.std.specs.Iterator.{at_most};
 ghost use Rattle.pp_lexer.specs.Cursor.{start_of, first, after};
 ghost use Rattle.pp_lexer.specs.Lines.{lines};
 ghost use Rattle.pp_lexer.specs.Continuations.{continued};
-ghost use Rattle.pp_lexer.specs.Fronts.{left};
-ghost use Rattle.pp_lexer.specs.Readers.{joined};
+ghost use Rattle.pp_lexer.specs.inner.Fronts.{left};
+ghost use Rattle.pp_lexer.specs.inner.Readers.{joined};
 
 use crate::lexer::chars_and_line::{CharsAndLine, Left, is_char};
 use std::alloc::AllocError;
@@ -26,7 +26,7 @@ pub struct SkipBackslashNewline<'a> {
 
 impl<'a> Model for SkipBackslashNewline<'a> {
     ghost use Rattle.pp_lexer.specs.Cursor.{Cursor};
-    ghost use Rattle.pp_lexer.specs.Readers.{joined};
+    ghost use Rattle.pp_lexer.specs.inner.Readers.{joined};
 
     ghost Value = { Cursor };
 

@@ -5,7 +5,7 @@ ghost use Rattle.std.specs.Prelude.{◌≡◌, ◌↔◌, IsTrue};
 use crate::token::{Float, PreprocessorError, Token, TokenValue};
 
 /// `==` of floats.
-#[tactic(auto, using(crate::proofs::EqualityLemmas::float_decides))]
+#[tactic(auto, using(crate::proofs::values::EqualityLemmas::float_decides))]
 fn same_float(a: &Float, b: &Float) -> bool
     ensures { IsTrue result ↔ (a.now ≡ b.now) }
 {
@@ -13,7 +13,7 @@ fn same_float(a: &Float, b: &Float) -> bool
 }
 
 /// `==` of what tokens are.
-#[tactic(auto, using(crate::proofs::EqualityLemmas::value_decides))]
+#[tactic(auto, using(crate::proofs::values::EqualityLemmas::value_decides))]
 fn same_value(a: &TokenValue, b: &TokenValue) -> bool
     ensures { IsTrue result ↔ (a.now ≡ b.now) }
 {
@@ -21,7 +21,7 @@ fn same_value(a: &TokenValue, b: &TokenValue) -> bool
 }
 
 /// `==` of tokens.
-#[tactic(auto, using(crate::proofs::EqualityLemmas::token_decides))]
+#[tactic(auto, using(crate::proofs::values::EqualityLemmas::token_decides))]
 fn same_token(a: &Token, b: &Token) -> bool
     ensures { IsTrue result ↔ (a.now ≡ b.now) }
 {
@@ -29,7 +29,7 @@ fn same_token(a: &Token, b: &Token) -> bool
 }
 
 /// `==` of errors.
-#[tactic(auto, using(crate::proofs::EqualityLemmas::error_decides))]
+#[tactic(auto, using(crate::proofs::values::EqualityLemmas::error_decides))]
 fn same_error(a: &PreprocessorError, b: &PreprocessorError) -> bool
     ensures { IsTrue result ↔ (a.now ≡ b.now) }
 {

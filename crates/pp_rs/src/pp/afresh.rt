@@ -5,7 +5,7 @@ ghost use Rattle.pp_lexer.specs.PreprocessorError.{out_of_memory};
 ghost use Rattle.pp_lexer.specs.Spelling.{values_of};
 ghost use Rattle.pp_lexer.specs.TokenValue.{is_ordinary};
 ghost use Rattle.pp_rs.specs.Afresh.{AreReadAfresh, IsOutput};
-ghost use Rattle.pp_rs.specs.ItemValues.{value_of_item};
+ghost use Rattle.pp_rs.specs.inner.ItemValues.{value_of_item};
 
 use crate::pp::all_items::preprocess_all;
 use crate::pp::preprocessor::{Preprocessor, PreprocessorItem};

@@ -2,7 +2,7 @@
 
 ghost use Rattle.std.specs.Prelude.{◌≡◌, ◌-◌, ◌^◌, ◌<◌, false, length, map, All, IfOk};
 ghost use Rattle.pp_model.specs.Run.{add_define, next, call_of, HasRoom, IsRun, ends_run};
-ghost use Rattle.pp_rs.specs.Answering.{IsAnswered};
+ghost use Rattle.pp_rs.specs.inner.Answering.{IsAnswered};
 ghost use Rattle.pp_expansion.specs.Item.{is_out_of_memory};
 ghost use Rattle.pp_rs.specs.Kept.{is_spent};
 

@@ -11,12 +11,12 @@ ghost use Rattle.pp_rs.specs.Kept.{Stands, is_spent, most_items, errors_left, er
 ghost use Rattle.pp_expansion.specs.LexerErrors.{lexer_errors};
 ghost use Rattle.pp_rs.specs.Preprocessing.{IsNextItem};
 
-use pp_expansion::calls::Caller;
-use pp_source::directives::DirectiveProcessor;
-use pp_expansion::halt::Halt;
 use crate::pp::source_turn::turn_source;
-use pp_expansion::step::{StepExit, is_out_of_memory};
 use crate::token::{Location, NOWHERE, PreprocessorError, Token, out_of_memory};
+use pp_expansion::calls::Caller;
+use pp_expansion::halt::Halt;
+use pp_expansion::step::{StepExit, is_out_of_memory};
+use pp_source::directives::DirectiveProcessor;
 use std::alloc::Global;
 use std::marker::Model;
 
@@ -37,7 +37,7 @@ pub struct Preprocessor<'a> {
 
 impl<'a> Model for Preprocessor<'a> {
     ghost use Rattle.std.specs.Prelude.{◌≡◌, false};
-    ghost use Rattle.pp_rs.specs.Fit.{IsFit, IsTold};
+    ghost use Rattle.pp_rs.specs.inner.Fit.{IsFit, IsTold};
     ghost use Rattle.pp_rs.specs.Kept.{Preprocessing};
 
     ghost Value = { Preprocessing };

@@ -5,23 +5,23 @@ ghost use Rattle.pp_lexer.specs.declared.token.PreprocessorError.TheVariants.{Li
 ghost use Rattle.pp_model.specs.Emitting.{expansion_limit};
 ghost use Rattle.pp_model.specs.declared.outcome.Outcome.TheVariants as outcome;
 ghost use Rattle.pp_expansion.specs.Held.{HoldsOrdinary};
-ghost use Rattle.pp_expansion.specs.Idle.{gives_itself};
-ghost use Rattle.pp_expansion.specs.Reader.{of_source, Reads};
-ghost use Rattle.pp_expansion.specs.Source.{Source};
-ghost use Rattle.pp_rs.specs.SourceTurns.{StepsOver};
-ghost use Rattle.pp_expansion.specs.Turns.{taken_in};
+ghost use Rattle.pp_expansion.specs.inner.Idle.{gives_itself};
+ghost use Rattle.pp_expansion.specs.inner.Reader.{of_source, Reads};
+ghost use Rattle.pp_expansion.specs.inner.Source.{Source};
+ghost use Rattle.pp_rs.specs.inner.SourceTurns.{StepsOver};
+ghost use Rattle.pp_expansion.specs.inner.Turns.{taken_in};
 ghost use Rattle.pp_expansion.specs.declared.step.StepExit.TheVariants.{Error};
 
+use crate::pp::preprocessor_step::step_source;
+use crate::token::{Token, TokenValue};
 use pp_expansion::arguments::finish_call;
 use pp_expansion::calls::{Caller, Taken};
-use pp_source::directives::DirectiveProcessor;
 use pp_expansion::expander::{is_line_name, make_line_number};
-use pp_source::limit::expansion_limit;
 use pp_expansion::open_around::OpenAround;
-use crate::pp::preprocessor_step::step_source;
 use pp_expansion::reader::MeLexer;
 use pp_expansion::step::{Step, StepExit};
-use crate::token::{Token, TokenValue};
+use pp_source::directives::DirectiveProcessor;
+use pp_source::limit::expansion_limit;
 use std::alloc::Global;
 
 // One step of the expander over a source, after which a call is finished at once.

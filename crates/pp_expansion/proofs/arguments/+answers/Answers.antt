@@ -2,22 +2,22 @@ use Rattle.std.proofs.Common.{◌≡◌, ◌≤◌, refl, subst, arith, ◌∙�
 use Rattle.std.specs.Prelude.{Ok, Err, None}
 use Rattle.std.specs.Vec.Iter.{into_iter_items}
 use Rattle.pp_model.specs.Calls.{Fault, arguments_of, misfit}
-use Rattle.pp_expansion.specs.Frames.{names_of}
+use Rattle.pp_expansion.specs.inner.Frames.{names_of}
 use Rattle.std.proofs.lemmas.Result.{err_from_is_err_and}
 use Rattle.pp_model.specs.Emitting.{Alone, first_failed, more, none}
 use Rattle.pp_model.specs.inner.Emitting.{list_before}
 use Rattle.pp_model.proofs.CollectLemmas.{after_lists-before, after_items-end}
-use Rattle.pp_expansion.specs.Defined.{meaning_of}
+use Rattle.pp_expansion.specs.inner.Defined.{meaning_of}
 use Rattle.pp_expansion.specs.Item.{is_out_of_memory}
 use Rattle.pp_expansion.specs.declared.step.StepExit.TheVariants.{Error}
 use Rattle.std.proofs.lemmas.List.{nil_from_length}
 use Rattle.std.proofs.lemmas.List.Elements.{All-push, All-nil, All-head, All-tail}
 use Rattle.pp_lexer.specs.declared.token.Token.{Token}
 use Rattle.pp_expansion.specs.Held.{HoldsOrdinary}
-use Rattle.pp_expansion.proofs.AnswerLemmas.{satisfies_exit, fault_of, finish_fault, opens_frame, short_more, short_list}
-use Rattle.pp_expansion.proofs.ListLeadsLemmas.{reached_start, reached_token, token_less, reached_pause, pause_less, reached_end, reached_fault, reached_call_fault, call_less, reached_call}
-use Rattle.pp_expansion.proofs.ListedLeadsLemmas.{turned}
-use Rattle.pp_expansion.proofs.PlainLemmas.{plain_alone, plain_short}
+use Rattle.pp_expansion.proofs.taking.AnswerLemmas.{satisfies_exit, fault_of, finish_fault, opens_frame, short_more, short_list}
+use Rattle.pp_expansion.proofs.taking.ListLeadsLemmas.{reached_start, reached_token, token_less, reached_pause, pause_less, reached_end, reached_fault, reached_call_fault, call_less, reached_call}
+use Rattle.pp_expansion.proofs.taking.ListedLeadsLemmas.{turned}
+use Rattle.pp_expansion.proofs.taking.PlainLemmas.{plain_alone, plain_short}
 use Rattle.pp_expansion.proofs.arguments.+answers.Goals as goal
 
 pub expand_argument-returns-then-are_plain : goal.expand_argument-returns-then-are_plain

@@ -5,11 +5,11 @@ use Rattle.pp_lexer.specs.declared.token.Token.{Token}
 use Rattle.pp_model.specs.Calls.{Fault}
 use Rattle.pp_model.specs.Emitting.{Each, Alone}
 use Rattle.pp_model.proofs.CollectLemmas.{after_items}
-use Rattle.pp_expansion.specs.Defined.{meaning_of}
+use Rattle.pp_expansion.specs.inner.Defined.{meaning_of}
 use Rattle.pp_expansion.specs.Held.{AllHoldOrdinary}
-use Rattle.pp_expansion.specs.Left.{work_of, most_alone}
-use Rattle.pp_expansion.specs.Reader.{of_list}
-use Rattle.pp_expansion.proofs.ListLeadsLemmas.{Reached}
+use Rattle.pp_expansion.specs.inner.Left.{work_of, most_alone}
+use Rattle.pp_expansion.specs.inner.Reader.{of_list}
+use Rattle.pp_expansion.proofs.taking.ListLeadsLemmas.{Reached}
 use Rattle.pp_expansion.proofs.arguments.+answers.Given as goal
 
 abbrev pub decreases-finish_call : goal.decreases-finish_call

@@ -3,7 +3,7 @@ use Rattle.std.proofs.lemmas.List.Elements.{All-push, All-nil, All-head, All-tai
 use Rattle.std.specs.Vec.Iter.{into_iter_items}
 use Rattle.pp_lexer.specs.declared.token.Token.{Token}
 use Rattle.pp_expansion.specs.Held.{HoldsOrdinary, AllHoldOrdinary}
-use Rattle.pp_expansion.proofs.PieceLemmas.{ends_piece, grows_piece, piece_within, piece_ended}
+use Rattle.pp_expansion.proofs.taking.PieceLemmas.{ends_piece, grows_piece, piece_within, piece_ended}
 use Rattle.pp_expansion.proofs.arguments.arguments_of.Goals as goal
 
 pub loop-token-preserved-then-ends_argument : goal.loop-token-preserved-then-ends_argument

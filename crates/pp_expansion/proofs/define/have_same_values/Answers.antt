@@ -1,7 +1,7 @@
 use Rattle.std.proofs.Common.{rules, tests}
 use Rattle.std.proofs.lemmas.Iterator.{YieldsList-from_slice, YieldsList-from_zip}
 use Rattle.std.proofs.lemmas.Iterator.Search.{all_from_yields_List}
-use Rattle.pp_expansion.proofs.DefineLemmas.{values_tested}
+use Rattle.pp_expansion.proofs.defined_names.DefineLemmas.{values_tested}
 use Rattle.pp_expansion.proofs.define.have_same_values.Goals as goal
 
 pub returns-then-old-new : goal.returns-then-old-new

@@ -1,6 +1,6 @@
 use Rattle.std.proofs.Common.{◌∙◌, refl}
 use Rattle.std.specs.Str.{chars}
-use Rattle.pp_lexer.proofs.TextLemmas.{chars_tested}
+use Rattle.pp_lexer.proofs.values.TextLemmas.{chars_tested}
 use Rattle.pp_model.specs.Names.{defined_name}
 use Rattle.pp_expansion.proofs.list_lexer.is_reserved.Goals as goal
 

@@ -1,7 +1,7 @@
 use Rattle.std.specs.Prelude.{IfOk}
-use Rattle.pp_expansion.proofs.Walk.{[], ◌∷◌, ◌++◌, ℕ, refl, MutBor, proved, full_share, common, id⊢, emp, wand, sep, apply∗, Lft, Incl, ftrue, flft, fdead, named, mut, ty_ref, ty_unit, vptr, fact, fact_i, tables, ⊑_meet, ⊑_refl, meet_⊑_left, meet_⊑_right, ‵, raw, ◌⊛◌, some, later, ◌$◌, ◌∵◌, !, qed, done, move, keep, use0, use1, use2, use3, split, join, fsplit, pick, await, suffices, frame, group, lft_new, lft_end, lft-common, agg, enter, addr, stop, no_more, and_then, returns, alloc_all, pass_all, free_all, look_at, get, through, sets, lands_as, vt_lit, lends_again, comes_back, LentAgain, MutRef, mut_vals, mut_Tells, mut_hides, MutAny, Includes-none, wide_val, table_at, plain, named_lft, nothing, heard, peeks, calls_at, lasts, triple_of, Stays, stay_ref, Goes-ref, ends_at, framed, hide_mut, Is, shows}
-use Rattle.pp_expansion.specs.Reader.{of_list}
-use Rattle.pp_expansion.specs.CallTurns.{TurnsOrRefuses, TakenHoldsOrdinary}
+use Rattle.pp_expansion.proofs.taking.Walk.{[], ◌∷◌, ◌++◌, ℕ, refl, MutBor, proved, full_share, common, id⊢, emp, wand, sep, apply∗, Lft, Incl, ftrue, flft, fdead, named, mut, ty_ref, ty_unit, vptr, fact, fact_i, tables, ⊑_meet, ⊑_refl, meet_⊑_left, meet_⊑_right, ‵, raw, ◌⊛◌, some, later, ◌$◌, ◌∵◌, !, qed, done, move, keep, use0, use1, use2, use3, split, join, fsplit, pick, await, suffices, frame, group, lft_new, lft_end, lft-common, agg, enter, addr, stop, no_more, and_then, returns, alloc_all, pass_all, free_all, look_at, get, through, sets, lands_as, vt_lit, lends_again, comes_back, LentAgain, MutRef, mut_vals, mut_Tells, mut_hides, MutAny, Includes-none, wide_val, table_at, plain, named_lft, nothing, heard, peeks, calls_at, lasts, triple_of, Stays, stay_ref, Goes-ref, ends_at, framed, hide_mut, Is, shows}
+use Rattle.pp_expansion.specs.inner.Reader.{of_list}
+use Rattle.pp_expansion.specs.inner.CallTurns.{TurnsOrRefuses, TakenHoldsOrdinary}
 use Rattle.pp_expansion.specs.contracts.list_step.step_list as f
 use Rattle.pp_expansion.proofs.list_step.step_list.Statement.{statement}
 use Rattle.pp_expansion.proofs.list_step.step_list.Code as code

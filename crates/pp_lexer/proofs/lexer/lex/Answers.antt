@@ -1,7 +1,7 @@
 use Rattle.std.proofs.Common.{◌≡◌, ◌∙◌, ap, refl, Ok, Some}
-use Rattle.pp_lexer.specs.Passing.{seen_of, comments_at_end, places_left, IsPlaced, IsLexed}
-use Rattle.pp_lexer.proofs.LexLemmas.{lexed_before, placed_before, on_ok_placed}
-use Rattle.pp_lexer.proofs.PlainLexLemmas.{lexed_err}
+use Rattle.pp_lexer.specs.inner.Passing.{seen_of, comments_at_end, places_left, IsPlaced, IsLexed}
+use Rattle.pp_lexer.proofs.items.LexLemmas.{lexed_before, placed_before, on_ok_placed}
+use Rattle.pp_lexer.proofs.items.PlainLexLemmas.{lexed_err}
 use Rattle.pp_lexer.proofs.lexer.lex.Goals as goal
 
 pub returns-in-Some-clause-lexed : goal.returns-in-Some-clause-lexed

@@ -1,6 +1,6 @@
 use Rattle.std.proofs.Common.{sym, ◌∙◌, subst, refl}
-use Rattle.pp_lexer.specs.Passing.{IsPlaced}
-use Rattle.pp_lexer.proofs.LexLemmas.{lexed_before, lexed_front, lexed_refused, lexed_end, placed_before, placed_front, placed_end}
+use Rattle.pp_lexer.specs.inner.Passing.{IsPlaced}
+use Rattle.pp_lexer.proofs.items.LexLemmas.{lexed_before, lexed_front, lexed_refused, lexed_end, placed_before, placed_front, placed_end}
 use Rattle.pp_lexer.proofs.lexer.lex_by_characters.Goals as goal
 
 pub returns-in_default-clause-lexed : goal.returns-in_default-clause-lexed

@@ -1,6 +1,6 @@
 use Rattle.std.proofs.Common.{subst}
-use Rattle.pp_lexer.specs.PlainWords.{IsPlainNewline}
-use Rattle.pp_lexer.proofs.NewlinesLemmas.{lexed_newline, placed_newline}
+use Rattle.pp_lexer.specs.inner.PlainWords.{IsPlainNewline}
+use Rattle.pp_lexer.proofs.characters.NewlinesLemmas.{lexed_newline, placed_newline}
 use Rattle.pp_lexer.proofs.lexer.lex_newline.Goals as goal
 
 pub range_from-requires : goal.range_from-requires

@@ -1,10 +1,10 @@
 use Rattle.std.proofs.Common.{◌≡◌, ◌∙◌, sym, ap, subst, refl, take, rules, Err}
 use Rattle.std.specs.Str.{IsAscii}
 use Rattle.std.specs.declared.alloc.AllocError.{AllocError}
-use Rattle.pp_lexer.specs.Passing.{IsLexed}
-use Rattle.pp_lexer.specs.PlainWords.{value_of, IsFirstWord, IsPlainWord}
-use Rattle.pp_lexer.proofs.PlainFrontsLemmas.{range_front}
-use Rattle.pp_lexer.proofs.PlainLexLemmas.{gone, lexed_plain, placed_plain, refused_plain, plain_refused}
+use Rattle.pp_lexer.specs.inner.Passing.{IsLexed}
+use Rattle.pp_lexer.specs.inner.PlainWords.{value_of, IsFirstWord, IsPlainWord}
+use Rattle.pp_lexer.proofs.characters.PlainFrontsLemmas.{range_front}
+use Rattle.pp_lexer.proofs.items.PlainLexLemmas.{gone, lexed_plain, placed_plain, refused_plain, plain_refused}
 use Rattle.pp_lexer.proofs.lexer.lex_plain.Goals as goal
 
 pub range-requires : goal.range-requires

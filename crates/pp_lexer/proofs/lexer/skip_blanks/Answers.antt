@@ -1,5 +1,5 @@
 use Rattle.std.proofs.Common.{sym, ◌∙◌}
-use Rattle.pp_lexer.proofs.PassingLemmas.{blank_passed}
+use Rattle.pp_lexer.proofs.items.PassingLemmas.{blank_passed}
 use Rattle.pp_lexer.proofs.lexer.skip_blanks.Goals as goal
 
 pub blanks-preserved : goal.blanks-preserved

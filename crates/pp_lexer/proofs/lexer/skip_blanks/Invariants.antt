@@ -1,5 +1,5 @@
 use Rattle.std.proofs.Common.{◌≡◌, length}
-use Rattle.pp_lexer.specs.Passing.{seen_of, comments_at_end, places_left}
+use Rattle.pp_lexer.specs.inner.Passing.{seen_of, comments_at_end, places_left}
 use Rattle.pp_lexer.proofs.lexer.skip_blanks.Given as goal
 
 abbrev pub invariant-blanks : goal.invariant-blanks

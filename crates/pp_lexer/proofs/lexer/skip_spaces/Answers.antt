@@ -1,10 +1,10 @@
 use Rattle.std.proofs.Common.{◌≡◌, ◌<◌, ◌≤◌, ◌∙◌, sym, ap, subst, length, take, true, arith}
 use Rattle.std.specs.Str.{IsUtf8}
 use Rattle.std.specs.List.{list_all}
-use Rattle.pp_lexer.specs.PlainWords.{is_space}
-use Rattle.pp_lexer.proofs.PlainFrontsLemmas.{all_plain, cut_after_plain}
-use Rattle.pp_lexer.proofs.SpacesLemmas.{space_plain}
-use Rattle.pp_lexer.proofs.PlainLexLemmas.{gone, spaces_same, spaces_placed, spaces_comments}
+use Rattle.pp_lexer.specs.inner.PlainWords.{is_space}
+use Rattle.pp_lexer.proofs.characters.PlainFrontsLemmas.{all_plain, cut_after_plain}
+use Rattle.pp_lexer.proofs.characters.SpacesLemmas.{space_plain}
+use Rattle.pp_lexer.proofs.items.PlainLexLemmas.{gone, spaces_same, spaces_placed, spaces_comments}
 use Rattle.pp_lexer.proofs.lexer.skip_spaces.Goals as goal
 
 pub range_from-requires : goal.range_from-requires

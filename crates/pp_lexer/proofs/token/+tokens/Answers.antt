@@ -1,5 +1,5 @@
 use Rattle.std.proofs.Common.{◌∙◌}
-use Rattle.pp_lexer.proofs.PreorderLemmas.{tokens_answer}
+use Rattle.pp_lexer.proofs.values.PreorderLemmas.{tokens_answer}
 use Rattle.pp_lexer.proofs.token.+tokens.Goals as goal
 
 pub TokensPartialEq::eq-returns : goal.TokensPartialEq::eq-returns

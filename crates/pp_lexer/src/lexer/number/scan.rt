@@ -5,7 +5,7 @@ ghost use Rattle.std.specs.Char.{is_digit};
 ghost use Rattle.pp_lexer.specs.Longest.{longest, front_len};
 ghost use Rattle.pp_lexer.specs.Numbers.{is_decimal, is_hex, hex_tail, decimal_tail, exponent, fraction, is_number, begins_number};
 ghost use Rattle.pp_lexer.specs.Reading.{first_char, letters, advanced};
-ghost use Rattle.pp_lexer.specs.Scan.{Takes, upcoming, further};
+ghost use Rattle.pp_lexer.specs.inner.Scan.{Takes, upcoming, further};
 ghost use Rattle.pp_lexer.specs.Spellings.{many};
 ghost use Rattle.pp_lexer.specs.Surroundings.{begins_with};
 
@@ -21,7 +21,7 @@ struct Scanner<'a> {
 
 impl<'a> Model for Scanner<'a> {
     ghost use Rattle.std.specs.Prelude.{◌+◌, ◌^◌, ◌<◌, length};
-    ghost use Rattle.pp_lexer.specs.Scan.{Scan};
+    ghost use Rattle.pp_lexer.specs.inner.Scan.{Scan};
 
     ghost Value = { Scan };
 

@@ -5,7 +5,7 @@ ghost use Rattle.std.specs.List.{list_all};
 ghost use Rattle.std.specs.Str.{IsUtf8};
 ghost use Rattle.std.specs.Str.Parse.{digits_value};
 ghost use Rattle.pp_lexer.specs.Numbers.{is_decimal};
-ghost use Rattle.pp_lexer.specs.PlainWords.{continues_number, Stops, IsSuffixed, IsFirstWord};
+ghost use Rattle.pp_lexer.specs.inner.PlainWords.{continues_number, Stops, IsSuffixed, IsFirstWord};
 
 use crate::lexer::plain::{Form, Word, continues};
 

@@ -2,7 +2,7 @@
 
 ghost use Rattle.std.specs.Prelude.{⊤, ◌≡◌, ◌<◌, ◌∷◌, [], ◌&&◌, ◌||◌, length, slice_index, Some, MatchOption};
 ghost use Rattle.std.specs.Str.{IsUtf8};
-ghost use Rattle.pp_lexer.specs.PlainWords.{single, before_equals, doubled, begins_comment, IsFirstWord};
+ghost use Rattle.pp_lexer.specs.inner.PlainWords.{single, before_equals, doubled, begins_comment, IsFirstWord};
 ghost use Rattle.pp_lexer.specs.Numbers.{is_decimal, is_point};
 ghost use Rattle.pp_lexer.specs.Punctuators.{punct_of};
 

@@ -1,7 +1,7 @@
 use Rattle.std.proofs.Common.{◌∙◌, ap, nat_eq}
 use Rattle.std.specs.Str.{chars}
 use Rattle.std.specs.Cmp.Lexicographic.{pointwise}
-use Rattle.pp_lexer.proofs.TextLemmas.{chars_tested}
+use Rattle.pp_lexer.proofs.values.TextLemmas.{chars_tested}
 use Rattle.pp_model.proofs.names.is_spelled.Goals as goal
 
 pub returns : goal.returns

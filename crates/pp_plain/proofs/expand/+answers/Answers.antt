@@ -1,12 +1,12 @@
 use Rattle.std.proofs.Common.{[], refl, ◌∙◌, subst, arith}
 use Rattle.std.specs.Prelude.{Ok, Err}
 use Rattle.std.proofs.lemmas.Result.{IfOk-weaker}
-use Rattle.pp_plain.specs.Changes.{meaning_of}
+use Rattle.pp_plain.specs.inner.Changes.{meaning_of}
 use Rattle.pp_model.specs.Emitting.{Collects, done, failed, item, Alone, answers_at}
 use Rattle.pp_model.specs.inner.Emitting.{token_before, list_before}
 use Rattle.pp_model.specs.Reading.{Expander, Listed, argument_reading}
-use Rattle.pp_plain.specs.Seen.{seen}
-use Rattle.pp_plain.specs.SeenList.{list_state}
+use Rattle.pp_plain.specs.inner.Seen.{seen}
+use Rattle.pp_plain.specs.inner.SeenList.{list_state}
 use Rattle.pp_plain.specs.declared.expander.Turn.TheVariants.{Item, Replaced, Called}
 use Rattle.pp_model.specs.declared.outcome.Outcome.TheVariants as outcome
 use Rattle.pp_model.proofs.CollectLemmas.{after_items-before, after_lists-before, after_items-end, Alone-collects, each_at-failed, each_at-more, each_at-end}

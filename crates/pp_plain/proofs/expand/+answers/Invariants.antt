@@ -2,11 +2,11 @@ use Rattle.std.proofs.Common.{◌≤◌, ◌+◌, ◌*◌, List, drop}
 use Rattle.std.specs.Prelude.{Result}
 use Rattle.pp_lexer.specs.declared.token.Token.{Token}
 use Rattle.pp_model.specs.Calls.{Fault}
-use Rattle.pp_plain.specs.Changes.{meaning_of}
+use Rattle.pp_plain.specs.inner.Changes.{meaning_of}
 use Rattle.pp_model.specs.Emitting.{Emits, Each, Alone, Collects, answers_at}
 use Rattle.pp_model.specs.Reading.{Expander, Listed, argument_reading}
-use Rattle.pp_plain.specs.Seen.{seen}
-use Rattle.pp_plain.specs.SeenList.{list_state}
+use Rattle.pp_plain.specs.inner.Seen.{seen}
+use Rattle.pp_plain.specs.inner.SeenList.{list_state}
 use Rattle.pp_model.specs.declared.outcome.Outcome.{Outcome}
 use Rattle.pp_model.proofs.CollectLemmas.{after_items}
 use Rattle.pp_plain.proofs.expand.+answers.Given as goal

@@ -1,7 +1,7 @@
 use Rattle.std.proofs.Common.{◌∙◌, arith}
-use Rattle.pp_plain.specs.Changes.{meaning_of}
+use Rattle.pp_plain.specs.inner.Changes.{meaning_of}
 use Rattle.pp_model.specs.Emitting.{answers_at}
-use Rattle.pp_plain.specs.Seen.{seen}
+use Rattle.pp_plain.specs.inner.Seen.{seen}
 use Rattle.pp_plain.specs.declared.expander.Turn.TheVariants.{Item, Replaced, Called}
 use Rattle.pp_model.specs.declared.outcome.Outcome.TheVariants as outcome
 use Rattle.pp_plain.proofs.TurnLemmas.{turns_mean, answer_known, resolves_fault, resolves_next}

@@ -1,7 +1,7 @@
 use Rattle.std.proofs.Common.{◌≤◌}
 use Rattle.pp_model.specs.Emitting.{Emits, answers_at}
 use Rattle.pp_model.specs.Reading.{Expander}
-use Rattle.pp_plain.specs.Seen.{seen}
+use Rattle.pp_plain.specs.inner.Seen.{seen}
 use Rattle.pp_model.specs.declared.outcome.Outcome.{Outcome}
 use Rattle.pp_plain.proofs.expand.emit.Given as goal
 

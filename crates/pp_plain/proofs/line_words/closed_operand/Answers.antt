@@ -1,7 +1,7 @@
 use Rattle.std.proofs.Common.{sym, ap, ◌∙◌}
 use Rattle.std.specs.Prelude.{Result, Ok, Err, Bool}
 use Rattle.pp_model.specs.Calls.{Fault}
-use Rattle.pp_model.specs.WordsRead.{closed, unclosed}
+use Rattle.pp_model.specs.inner.WordsRead.{closed, unclosed}
 use Rattle.pp_plain.proofs.line_words.closed_operand.Goals as goal
 
 pub returns-then-is_close_paren-clause-closes : goal.returns-then-is_close_paren-clause-closes

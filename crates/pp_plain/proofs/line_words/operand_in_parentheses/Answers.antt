@@ -2,7 +2,7 @@ use Rattle.std.proofs.Common.{ap}
 use Rattle.std.specs.Prelude.{Result, Err, Bool}
 use Rattle.std.proofs.lemmas.Result.{IfOk-weaker}
 use Rattle.pp_model.specs.Calls.{Fault}
-use Rattle.pp_model.specs.WordsRead.{no_name, named}
+use Rattle.pp_model.specs.inner.WordsRead.{no_name, named}
 use Rattle.pp_plain.proofs.line_words.operand_in_parentheses.Goals as goal
 
 pub returns-in-Ok-clause-parenthesized : goal.returns-in-Ok-clause-parenthesized

@@ -1,8 +1,8 @@
 use Rattle.std.proofs.Common.{◌≤◌}
 use Rattle.pp_model.specs.Emitting.{answers_at}
 use Rattle.pp_model.specs.LineWords.{LineWords, Words}
-use Rattle.pp_plain.specs.Seen.{seen}
-use Rattle.pp_plain.specs.SeenList.{line_state}
+use Rattle.pp_plain.specs.inner.Seen.{seen}
+use Rattle.pp_plain.specs.inner.SeenList.{line_state}
 use Rattle.pp_model.proofs.WordLemmas.{after_words}
 use Rattle.pp_plain.proofs.line_words.read_words.Given as goal
 

@@ -1,4 +1,4 @@
-use Rattle.pp_lexer.proofs.EqualityLemmas.{value_decides}
+use Rattle.pp_lexer.proofs.values.EqualityLemmas.{value_decides}
 use Rattle.pp_plain.proofs.redefinition.is_same_value.Goals as goal
 
 pub returns : goal.returns

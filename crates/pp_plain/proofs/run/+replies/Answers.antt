@@ -1,7 +1,7 @@
 use Rattle.std.proofs.Common.{sym, ◌∙◌}
 use Rattle.pp_model.specs.Emitting.{answers_at, expansion_limit}
-use Rattle.pp_plain.specs.Seen.{seen}
-use Rattle.pp_plain.specs.SeenSource.{source_state}
+use Rattle.pp_plain.specs.inner.Seen.{seen}
+use Rattle.pp_plain.specs.inner.SeenSource.{source_state}
 use Rattle.pp_plain.proofs.RunProgramLemmas.{runs_none, runs_last, runs_on, no_calls}
 use Rattle.pp_plain.proofs.SourceStepLemmas.{ok_more}
 use Rattle.pp_plain.proofs.run.+replies.Goals as goal

@@ -2,8 +2,8 @@ use Rattle.std.proofs.Common.{ap, ◌∙◌}
 use Rattle.pp_model.specs.Names.{Name}
 use Rattle.pp_model.specs.Emitting.{answers_at, expansion_limit}
 use Rattle.pp_model.specs.inner.Run.{adding}
-use Rattle.pp_plain.specs.Seen.{seen}
-use Rattle.pp_plain.specs.SeenSource.{source_state}
+use Rattle.pp_plain.specs.inner.Seen.{seen}
+use Rattle.pp_plain.specs.inner.SeenSource.{source_state}
 use Rattle.pp_model.specs.SourceReader.{SourceReader}
 use Rattle.pp_plain.proofs.RunProgramLemmas.{refused_reply, added_reply}
 use Rattle.pp_plain.proofs.SourceStepLemmas.{ok_more}

@@ -1,5 +1,5 @@
 use Rattle.std.proofs.Common.{refl}
-use Rattle.pp_plain.specs.SeenSource.{given}
+use Rattle.pp_plain.specs.inner.SeenSource.{given}
 use Rattle.pp_plain.proofs.run.reply_to.Goals as goal
 
 pub returns-in_ok-emit-in-Next : goal.returns-in_ok-emit-in-Next

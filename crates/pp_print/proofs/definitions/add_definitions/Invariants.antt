@@ -1,5 +1,5 @@
 use Rattle.std.proofs.Common.{take}
-use Rattle.pp_print.specs.Defining.{AreAdded}
+use Rattle.pp_print.specs.inner.Defining.{AreAdded}
 use Rattle.pp_print.proofs.definitions.add_definitions.Given as goal
 
 abbrev pub invariant-loop-definition : goal.invariant-loop-definition

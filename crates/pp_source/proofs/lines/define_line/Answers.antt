@@ -1,6 +1,6 @@
 use Rattle.std.proofs.Common.{Ok}
 use Rattle.pp_source.proofs.LineReadingLemmas.{takes_after}
-use Rattle.pp_expansion.proofs.ParameterLemmas.{name_place}
+use Rattle.pp_expansion.proofs.work.ParameterLemmas.{name_place}
 use Rattle.pp_source.proofs.lines.define_line.Goals as goal
 
 pub returns-clause-takes : goal.returns-clause-takes

@@ -1,8 +1,8 @@
 use Rattle.std.proofs.Common.{◌≡◌, ap, drop, ◌∙◌, sym, Ok}
 use Rattle.pp_expression.specs.Answers.{◌>>=◌}
-use Rattle.pp_expansion.specs.LineReading.{line_token, length_after}
+use Rattle.pp_expansion.specs.inner.LineReading.{line_token, length_after}
 use Rattle.pp_source.proofs.LineReadingLemmas.{line_place-next, takes_after}
-use Rattle.pp_expansion.proofs.ParameterLemmas.{paren_place}
+use Rattle.pp_expansion.proofs.work.ParameterLemmas.{paren_place}
 use Rattle.pp_source.proofs.lines.definition.Goals.{in_default-via-in-Some+else-is_attached_paren, in_default-via-in-None-1}
 use Rattle.pp_source.proofs.lines.definition.Goals as goal
 

@@ -1,5 +1,5 @@
 use Rattle.std.proofs.Common.{◌∙◌, sym}
-use Rattle.pp_expansion.proofs.ParameterLemmas.{parameters_on_line}
+use Rattle.pp_expansion.proofs.work.ParameterLemmas.{parameters_on_line}
 use Rattle.pp_source.proofs.lines.function_after.Goals as goal
 
 pub returns-clause-takes : goal.returns-clause-takes

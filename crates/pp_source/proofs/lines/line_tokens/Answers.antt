@@ -1,5 +1,5 @@
 use Rattle.std.proofs.Common.{Ok, ap, drop, ◌∙◌, sym}
-use Rattle.pp_expansion.specs.LineReading.{length_after}
+use Rattle.pp_expansion.specs.inner.LineReading.{length_after}
 use Rattle.pp_source.proofs.HeldLemmas.{preorder_ordinary}
 use Rattle.pp_source.proofs.LineReadingLemmas.{line_place-next, takes_after}
 use Rattle.pp_source.proofs.lines.line_tokens.Goals as goal

@@ -1,7 +1,7 @@
 use Rattle.std.proofs.Common.{◌≡◌, ◌≢◌, [], false, IsTrue, All, IfSome, ◌+◌, ◌≤◌, length, drop}
 use Rattle.pp_lexer.specs.TokenValue.{is_ordinary}
-use Rattle.pp_expansion.specs.LineReading as spec
-use Rattle.pp_expansion.specs.SourceLexed.{untold_at}
+use Rattle.pp_expansion.specs.inner.LineReading as spec
+use Rattle.pp_expansion.specs.inner.SourceLexed.{untold_at}
 use Rattle.pp_source.proofs.LineReadingLemmas.{tokens_before, wanted_items}
 use Rattle.pp_source.proofs.lines.line_tokens_from.Given as goal
 

@@ -1,5 +1,5 @@
 use Rattle.std.proofs.Common.{ap, drop, ◌∙◌, sym}
-use Rattle.pp_expansion.specs.LineReading.{length_after}
+use Rattle.pp_expansion.specs.inner.LineReading.{length_after}
 use Rattle.pp_source.proofs.LineReadingLemmas.{line_place-next, takes_after}
 use Rattle.pp_source.proofs.lines.rest_of_line.Goals as goal
 

@@ -1,7 +1,7 @@
 use Rattle.std.proofs.Common.{◌≡◌, false, ◌≤◌, length, drop}
 use Rattle.pp_model.specs.Lines.{line_length}
-use Rattle.pp_expansion.specs.LineReading as spec
-use Rattle.pp_expansion.specs.SourceLexed.{untold_at}
+use Rattle.pp_expansion.specs.inner.LineReading as spec
+use Rattle.pp_expansion.specs.inner.SourceLexed.{untold_at}
 use Rattle.pp_source.proofs.lines.skip_line.Given as goal
 
 -- what is left of the line is its end

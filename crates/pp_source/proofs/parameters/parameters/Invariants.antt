@@ -1,6 +1,6 @@
 use Rattle.std.proofs.Common.{◌≡◌, false, ◌≤◌, length}
 use Rattle.pp_model.specs.DefineLines.{parameters, after_parameter}
-use Rattle.pp_expansion.specs.SourceLexed.{untold_at}
+use Rattle.pp_expansion.specs.inner.SourceLexed.{untold_at}
 use Rattle.pp_source.proofs.parameters.parameters.Given as goal
 
 -- what goes on after these parameters is the whole

@@ -1,5 +1,5 @@
 use Rattle.std.proofs.Common.{◌∙◌, sym, ap}
-use Rattle.pp_expansion.proofs.SeekLemmas.{follows_object}
+use Rattle.pp_expansion.proofs.taking.SeekLemmas.{follows_object}
 use Rattle.pp_expansion.proofs.calls.Caller.enter.Goals as goal
 
 pub returns-else-is_function_like-clause-follows : goal.returns-else-is_function_like-clause-follows

@@ -1,7 +1,7 @@
 use Rattle.std.proofs.Common.{◌∙◌, ap, inl, Err}
 use Rattle.std.proofs.lemmas.Result.{err_from_is_err_and}
 use Rattle.pp_model.specs.Calls.{Gathered}
-use Rattle.pp_expansion.proofs.SeekLemmas.{enters_nothing, enters_whole, enters_halt}
+use Rattle.pp_expansion.proofs.taking.SeekLemmas.{enters_nothing, enters_whole, enters_halt}
 use Rattle.pp_expansion.proofs.calls.Caller.enter_call.Goals as goal
 
 pub returns-in_err-seek-clause-enters : goal.returns-in_err-seek-clause-enters

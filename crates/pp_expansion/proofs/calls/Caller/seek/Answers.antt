@@ -1,7 +1,7 @@
 use Rattle.std.proofs.Common.{◌∙◌, sym, ap, Some, Err}
 use Rattle.std.proofs.lemmas.Result.{err_from_is_err_and}
-use Rattle.pp_expansion.specs.Machine.{Machine}
-use Rattle.pp_expansion.proofs.SeekLemmas.{finds_nothing, finds_whole, finds_fault}
+use Rattle.pp_expansion.specs.inner.Machine.{Machine}
+use Rattle.pp_expansion.proofs.taking.SeekLemmas.{finds_nothing, finds_whole, finds_fault}
 use Rattle.pp_expansion.proofs.calls.Caller.seek.Goals as goal
 
 pub returns-in_err-gathered-in-Some : goal.returns-in_err-gathered-in-Some

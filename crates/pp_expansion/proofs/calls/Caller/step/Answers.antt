@@ -1,5 +1,5 @@
 use Rattle.std.proofs.Common.{refl}
-use Rattle.pp_expansion.proofs.SeekLemmas.{turns_token, turns_exit}
+use Rattle.pp_expansion.proofs.taking.SeekLemmas.{turns_token, turns_exit}
 use Rattle.pp_expansion.proofs.calls.Caller.step.Goals as goal
 
 pub returns-in-Ok-clause-turns : goal.returns-in-Ok-clause-turns

@@ -1,5 +1,5 @@
 use Rattle.std.proofs.Common.{◌≡◌, ◌∙◌, sym, None}
-use Rattle.pp_expansion.proofs.MachineLemmas.{takes_held, takes_step, takes_shown, none_held}
+use Rattle.pp_expansion.proofs.taking.MachineLemmas.{takes_held, takes_step, takes_shown, none_held}
 use Rattle.pp_expansion.proofs.calls.Caller.take.Goals as goal
 
 pub returns-then-is_some-clause-steps : goal.returns-then-is_some-clause-steps

@@ -1,4 +1,4 @@
-use Rattle.pp_expansion.proofs.MachineLemmas.{leads_more, leads_now, pause_falls}
+use Rattle.pp_expansion.proofs.taking.MachineLemmas.{leads_more, leads_now, pause_falls}
 use Rattle.pp_expansion.proofs.calls.Caller.take_next.Goals as goal
 
 pub loop-step-init : goal.loop-step-init

@@ -1,6 +1,6 @@
-use Rattle.pp_expansion.specs.Left.{regions}
-use Rattle.pp_expansion.specs.Reach.{total}
-use Rattle.pp_expansion.proofs.MachineLemmas.{LeadsToNext}
+use Rattle.pp_expansion.specs.inner.Left.{regions}
+use Rattle.pp_expansion.specs.inner.Reach.{total}
+use Rattle.pp_expansion.proofs.taking.MachineLemmas.{LeadsToNext}
 use Rattle.pp_expansion.proofs.calls.Caller.take_next.Given as goal
 
 -- a pause keeps what is taken next

@@ -1,5 +1,5 @@
 use Rattle.std.proofs.Common.{sym, ◌∙◌}
-use Rattle.pp_expansion.proofs.DefinitionsLemmas.{text_name, text_tests, found_by, shown}
+use Rattle.pp_expansion.proofs.defined_names.DefinitionsLemmas.{text_name, text_tests, found_by, shown}
 use Rattle.pp_expansion.proofs.definitions.Definitions.find.Goals as goal
 
 pub returns : goal.returns

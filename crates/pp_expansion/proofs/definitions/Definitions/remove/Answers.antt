@@ -1,6 +1,6 @@
 use Rattle.std.proofs.Common.{arith}
 use Rattle.std.specs.String.{string_cmp}
-use Rattle.pp_expansion.proofs.DefinitionsLemmas.{text_name, texts_same, text_tests, is_removed}
+use Rattle.pp_expansion.proofs.defined_names.DefinitionsLemmas.{text_name, texts_same, text_tests, is_removed}
 use Rattle.pp_expansion.proofs.definitions.Definitions.remove.Goals as goal
 
 pub returns : goal.returns

@@ -1,4 +1,4 @@
-use Rattle.pp_expansion.proofs.DefinitionsLemmas.{text_name, texts_same, is_set}
+use Rattle.pp_expansion.proofs.defined_names.DefinitionsLemmas.{text_name, texts_same, is_set}
 use Rattle.std.specs.String.{string_cmp, string_cmp_total}
 use Rattle.pp_expansion.proofs.definitions.Definitions.set.Goals as goal
 

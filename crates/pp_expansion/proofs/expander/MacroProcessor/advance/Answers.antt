@@ -1,8 +1,8 @@
 use Rattle.std.proofs.Common.{refl, vec_len, subst, sym, ◌∙◌}
 use Rattle.pp_model.specs.Names.{Name}
 use Rattle.std.specs.Prelude.{List}
-use Rattle.pp_expansion.specs.OpenNames.{AreNamesOf}
-use Rattle.pp_expansion.proofs.OpenMacroLemmas.{last_moves, last_closes, names_kept}
+use Rattle.pp_expansion.specs.inner.OpenNames.{AreNamesOf}
+use Rattle.pp_expansion.proofs.open_frames.OpenMacroLemmas.{last_moves, last_closes, names_kept}
 use Rattle.pp_expansion.proofs.expander.MacroProcessor.advance.Goals as goal
 
 pub invariant_of-self-2 : goal.invariant_of-self-2

@@ -1,5 +1,5 @@
 use Rattle.std.proofs.Common.{◌∙◌}
-use Rattle.pp_expansion.proofs.OpenMacroLemmas.{names_closed}
+use Rattle.pp_expansion.proofs.open_frames.OpenMacroLemmas.{names_closed}
 use Rattle.pp_expansion.proofs.expander.MacroProcessor.close.Goals as goal
 
 pub invariant_of-self-2 : goal.invariant_of-self-2

@@ -1,6 +1,6 @@
 use Rattle.std.proofs.Common.{◌∙◌}
 use Rattle.std.specs.Str.{chars}
-use Rattle.pp_expansion.proofs.OpenNamesLemmas.{is_open_name}
+use Rattle.pp_expansion.proofs.open_frames.OpenNamesLemmas.{is_open_name}
 use Rattle.pp_expansion.proofs.expander.MacroProcessor.is_open.Goals as goal
 
 pub returns : goal.returns

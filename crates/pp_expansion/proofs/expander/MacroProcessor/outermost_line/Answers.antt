@@ -1,5 +1,5 @@
 use Rattle.std.proofs.Common.{◌≡◌, Some, slice_get, ap, sym}
-use Rattle.pp_expansion.proofs.OpenMacroLemmas.{outermost_first}
+use Rattle.pp_expansion.proofs.open_frames.OpenMacroLemmas.{outermost_first}
 use Rattle.pp_expansion.proofs.expander.MacroProcessor.outermost_line.Goals as goal
 
 pub returns-in-Some : goal.returns-in-Some

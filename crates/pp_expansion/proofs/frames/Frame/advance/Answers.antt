@@ -1,7 +1,7 @@
 use Rattle.std.proofs.Common.{◌≡◌, ◌∙◌, ◌+◌, [], ◌∷◌, Some, None, drop, ap, sym, refl}
 use Rattle.pp_model.specs.SpliceList.{parameter_of}
-use Rattle.pp_expansion.specs.Frames.{argument_at, advance}
-use Rattle.pp_expansion.proofs.FrameLemmas.{drop-some, drop-none, advances_to, pauses, finishes}
+use Rattle.pp_expansion.specs.inner.Frames.{argument_at, advance}
+use Rattle.pp_expansion.proofs.open_frames.FrameLemmas.{drop-some, drop-none, advances_to, pauses, finishes}
 use Rattle.pp_expansion.proofs.frames.Frame.advance.Goals as goal
 
 pub returns-in_default-argument_token-clause-step : goal.returns-in_default-argument_token-clause-step

@@ -1,6 +1,6 @@
 use Rattle.std.proofs.Common.{◌∙◌, ap, sym, refl}
-use Rattle.pp_expansion.specs.Frames.{Layer}
-use Rattle.pp_expansion.proofs.FrameLemmas.{body_spent}
+use Rattle.pp_expansion.specs.inner.Frames.{Layer}
+use Rattle.pp_expansion.proofs.open_frames.FrameLemmas.{body_spent}
 use Rattle.pp_expansion.proofs.frames.Frame.is_spent.Goals as goal
 
 pub returns-in-None : goal.returns-in-None

@@ -4,7 +4,7 @@ use Rattle.std.specs.Vec.Iter.{into_iter_items}
 use Rattle.std.proofs.lemmas.List.Elements.{All-head, All-tail}
 use Rattle.pp_lexer.specs.declared.token.Token.{Token}
 use Rattle.pp_expansion.specs.Held.{HoldsOrdinary}
-use Rattle.pp_expansion.proofs.ListedLemmas.{lists_end, lists_token}
+use Rattle.pp_expansion.proofs.taking.ListedLemmas.{lists_end, lists_token}
 use Rattle.pp_expansion.proofs.list_lexer.ListLexerMeLexer.step.Goals as goal
 
 pub returns-in_default-clause-reads : goal.returns-in_default-clause-reads

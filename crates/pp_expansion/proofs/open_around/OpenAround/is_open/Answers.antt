@@ -1,5 +1,5 @@
 use Rattle.std.specs.Str.{chars}
-use Rattle.pp_expansion.proofs.OpenAroundLemmas.{is_in-names_around}
+use Rattle.pp_expansion.proofs.open_frames.OpenAroundLemmas.{is_in-names_around}
 use Rattle.pp_expansion.proofs.open_around.OpenAround.is_open.Goals as goal
 
 pub returns : goal.returns

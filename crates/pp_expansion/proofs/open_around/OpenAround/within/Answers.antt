@@ -1,7 +1,7 @@
 use Rattle.std.proofs.Common.{◌∙◌, ◌++◌, ap}
-use Rattle.pp_expansion.specs.Frames.{names_of}
-use Rattle.pp_expansion.specs.OpenAround.{names_around}
-use Rattle.pp_expansion.proofs.OpenAroundLemmas.{around_first, around_more, around_all}
+use Rattle.pp_expansion.specs.inner.Frames.{names_of}
+use Rattle.pp_expansion.specs.inner.OpenAround.{names_around}
+use Rattle.pp_expansion.proofs.open_frames.OpenAroundLemmas.{around_first, around_more, around_all}
 use Rattle.pp_expansion.proofs.open_around.OpenAround.within.Goals as goal
 
 pub loop-other-init : goal.loop-other-init

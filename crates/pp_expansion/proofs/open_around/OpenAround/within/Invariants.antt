@@ -1,6 +1,6 @@
 use Rattle.std.proofs.Common.{◌≡◌, ◌++◌, take}
-use Rattle.pp_expansion.specs.Frames.{names_of}
-use Rattle.pp_expansion.specs.OpenAround.{names_around}
+use Rattle.pp_expansion.specs.inner.Frames.{names_of}
+use Rattle.pp_expansion.specs.inner.OpenAround.{names_around}
 use Rattle.pp_expansion.proofs.open_around.OpenAround.within.Given as goal
 
 abbrev pub invariant-loop-other : goal.invariant-loop-other

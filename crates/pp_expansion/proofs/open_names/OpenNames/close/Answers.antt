@@ -4,9 +4,9 @@ use Rattle.std.specs.Option.{option_copied}
 use Rattle.std.specs.Str.{chars}
 use Rattle.std.specs.Ordering.{eq_by_cmp}
 use Rattle.std.specs.String.{string_cmp}
-use Rattle.pp_expansion.specs.OpenNames.{position_at}
-use Rattle.pp_expansion.proofs.DefinitionsLemmas.{text_name, texts_same, text_tests}
-use Rattle.pp_expansion.proofs.OpenNamesLemmas.{position_found, position_at-changed, closes_inner, closes_outermost, none_inner, other_inner}
+use Rattle.pp_expansion.specs.inner.OpenNames.{position_at}
+use Rattle.pp_expansion.proofs.defined_names.DefinitionsLemmas.{text_name, texts_same, text_tests}
+use Rattle.pp_expansion.proofs.open_frames.OpenNamesLemmas.{position_found, position_at-changed, closes_inner, closes_outermost, none_inner, other_inner}
 use Rattle.pp_expansion.proofs.open_names.OpenNames.close.Goals as goal
 
 pub returns-in_default : goal.returns-in_default

@@ -1,6 +1,6 @@
 use Rattle.std.proofs.Common.{sym, ap, is_some, ◌∙◌}
-use Rattle.pp_expansion.proofs.DefinitionsLemmas.{text_name, text_tests}
-use Rattle.pp_expansion.proofs.OpenNamesLemmas.{position_found}
+use Rattle.pp_expansion.proofs.defined_names.DefinitionsLemmas.{text_name, text_tests}
+use Rattle.pp_expansion.proofs.open_frames.OpenNamesLemmas.{position_found}
 use Rattle.pp_expansion.proofs.open_names.OpenNames.is_open.Goals as goal
 
 pub returns : goal.returns

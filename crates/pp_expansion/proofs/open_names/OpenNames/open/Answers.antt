@@ -2,8 +2,8 @@ use Rattle.std.proofs.Common.{◌≡◌, sym, ap, is_some, refl, ◌∙◌}
 use Rattle.std.specs.Str.{chars}
 use Rattle.std.specs.Ordering.{eq_by_cmp}
 use Rattle.std.specs.String.{string_cmp}
-use Rattle.pp_expansion.proofs.DefinitionsLemmas.{text_name, texts_same, text_tests}
-use Rattle.pp_expansion.proofs.OpenNamesLemmas.{position_found, position_at-changed, opens_again, opens_new}
+use Rattle.pp_expansion.proofs.defined_names.DefinitionsLemmas.{text_name, texts_same, text_tests}
+use Rattle.pp_expansion.proofs.open_frames.OpenNamesLemmas.{position_found, position_at-changed, opens_again, opens_new}
 use Rattle.pp_expansion.proofs.open_names.OpenNames.open.Goals as goal
 
 pub returns-then-contains_key-clause-ok : goal.returns-then-contains_key-clause-ok

@@ -1,6 +1,6 @@
 use Rattle.std.proofs.Common.{◌≡◌, length}
 use Rattle.pp_expression.specs.Lines.{Line}
-use Rattle.pp_expression.specs.Pending.{HasOperand}
+use Rattle.pp_expression.specs.inner.Pending.{HasOperand}
 use Rattle.pp_expression.proofs.evaluator.Evaluator.compute_from.Given as goal
 
 abbrev pub invariant-loop-operator : goal.invariant-loop-operator

@@ -1,7 +1,7 @@
 use Rattle.std.proofs.Common.{rules, ◌≡◌, Ok, Some, None, w64, FitsSigned, sym, arith}
 use Rattle.std.proofs.lemmas.Int.{to_z-of_z}
-use Rattle.pp_expression.specs.Parsing.{binary_at}
-use Rattle.pp_expression.specs.Pending.{innermost}
+use Rattle.pp_expression.specs.inner.Parsing.{binary_at}
+use Rattle.pp_expression.specs.inner.Pending.{innermost}
 use Rattle.pp_expression.proofs.EvaluatorLemmas as lemmas
 use Rattle.pp_expression.proofs.evaluator.Evaluator.end_expression.Goals as goal
 

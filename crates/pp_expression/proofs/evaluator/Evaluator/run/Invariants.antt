@@ -1,4 +1,4 @@
-use Rattle.pp_expression.specs.Evaluator.{Stands, steps_left}
+use Rattle.pp_expression.specs.inner.Evaluator.{Stands, steps_left}
 use Rattle.pp_expression.proofs.evaluator.Evaluator.run.Given as goal
 
 abbrev pub invariant-loop-state : goal.invariant-loop-state

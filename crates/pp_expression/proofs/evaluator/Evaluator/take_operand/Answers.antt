@@ -1,6 +1,6 @@
 use Rattle.std.proofs.Common.{rules, ◌≡◌, Ok, Some, None, length, w64, FitsSigned, sym}
 use Rattle.std.proofs.lemmas.Int.{to_z-of_z}
-use Rattle.pp_expression.specs.Parsing.{located, sign_at, atom_at}
+use Rattle.pp_expression.specs.inner.Parsing.{located, sign_at, atom_at}
 use Rattle.pp_expression.proofs.Steps as steps
 use Rattle.pp_expression.proofs.EvaluatorLemmas as lemmas
 use Rattle.pp_expression.proofs.evaluator.Evaluator.take_operand.Goals as goal

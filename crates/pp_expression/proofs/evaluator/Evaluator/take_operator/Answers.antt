@@ -1,6 +1,6 @@
 use Rattle.std.proofs.Common.{rules, ◌≡◌, ◌≤◌, Ok, Some, w64, FitsSigned}
 use Rattle.std.proofs.lemmas.Int.{to_z-of_z}
-use Rattle.pp_expression.specs.Parsing.{binary_at}
+use Rattle.pp_expression.specs.inner.Parsing.{binary_at}
 use Rattle.pp_expression.proofs.Unique.{low_operator}
 use Rattle.pp_expression.proofs.EvaluatorLemmas as lemmas
 use Rattle.pp_expression.proofs.evaluator.Evaluator.take_operator.Goals as goal

@@ -1,4 +1,4 @@
-use Rattle.pp_lexer.proofs.ItemsLemmas.{start_seen}
+use Rattle.pp_lexer.proofs.items.ItemsLemmas.{start_seen}
 use Rattle.pp_lexer.proofs.lexer.Lexer.new.Goals as goal
 
 pub returns : goal.returns

@@ -1,8 +1,8 @@
 use Rattle.std.proofs.Common.{◌≡◌, ◌<◌, ◌+◌, sym, ◌∙◌, ap, subst, length, true, arith, get_or}
 use Rattle.std.specs.Str.{IsUtf8}
-use Rattle.pp_lexer.specs.Fronts.{is_plain}
+use Rattle.pp_lexer.specs.inner.Fronts.{is_plain}
 use Rattle.pp_lexer.specs.Reading.{IsAhead, spots}
-use Rattle.pp_lexer.proofs.PlainFrontsLemmas.{cut_one, one_ahead}
+use Rattle.pp_lexer.proofs.characters.PlainFrontsLemmas.{cut_one, one_ahead}
 use Rattle.pp_lexer.proofs.lexer.char_iterator.take_plain.Goals as goal
 
 pub range_from-requires : goal.range_from-requires

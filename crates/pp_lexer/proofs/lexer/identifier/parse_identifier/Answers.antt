@@ -2,7 +2,7 @@ use Rattle.std.proofs.Common.{◌≡◌, ◌∷◌, take}
 use Rattle.unicode_ident.specs.Ident.{is_xid_continue}
 use Rattle.pp_lexer.specs.Longest.{front_len}
 use Rattle.pp_lexer.specs.Reading.{letters}
-use Rattle.pp_lexer.proofs.IdentifiersLemmas.{identifier_read}
+use Rattle.pp_lexer.proofs.words.IdentifiersLemmas.{identifier_read}
 use Rattle.pp_lexer.proofs.lexer.identifier.parse_identifier.Goals as goal
 
 pub returns-clause-text : goal.returns-clause-text

@@ -1,6 +1,6 @@
-use Rattle.pp_lexer.proofs.RisingLemmas.{rising-lines, rising-continued, never_falls}
-use Rattle.pp_lexer.proofs.ReplacedLemmas.{rising-replaced}
-use Rattle.pp_lexer.proofs.PhaseLemmas.{pair-counts-once, lines-count}
+use Rattle.pp_lexer.proofs.characters.RisingLemmas.{rising-lines, rising-continued, never_falls}
+use Rattle.pp_lexer.proofs.characters.ReplacedLemmas.{rising-replaced}
+use Rattle.pp_lexer.proofs.characters.PhaseLemmas.{pair-counts-once, lines-count}
 use Rattle.pp_lexer.proofs.lexer.laws.line_ends.Goals as goal
 
 pub returns-clause-pairs : goal.returns-clause-pairs

@@ -1,5 +1,5 @@
-use Rattle.pp_lexer.proofs.ReplacedLemmas.{length-replaced}
-use Rattle.pp_lexer.proofs.PhaseLemmas.{length-lines, length-continued}
+use Rattle.pp_lexer.proofs.characters.ReplacedLemmas.{length-replaced}
+use Rattle.pp_lexer.proofs.characters.PhaseLemmas.{length-lines, length-continued}
 use Rattle.pp_lexer.proofs.lexer.laws.phase_lengths.Goals as goal
 
 pub returns : goal.returns

@@ -1,13 +1,13 @@
 use Rattle.std.proofs.Common.{arith}
 use Rattle.pp_lexer.specs.PhaseLaws.{replaced_of}
-use Rattle.pp_lexer.proofs.RisingLemmas.{rising-lines, rising-continued, stretches_follow}
-use Rattle.pp_lexer.proofs.ReplacedLemmas.{rising-replaced}
-use Rattle.pp_lexer.proofs.PhaseLemmas.{length-replaced_of}
-use Rattle.pp_lexer.proofs.PlacesLemmas.{items_within}
-use Rattle.pp_lexer.proofs.TokenLinesLemmas.{tokens_have_lines}
+use Rattle.pp_lexer.proofs.characters.RisingLemmas.{rising-lines, rising-continued, stretches_follow}
+use Rattle.pp_lexer.proofs.characters.ReplacedLemmas.{rising-replaced}
+use Rattle.pp_lexer.proofs.characters.PhaseLemmas.{length-replaced_of}
+use Rattle.pp_lexer.proofs.items.PlacesLemmas.{items_within}
+use Rattle.pp_lexer.proofs.items.TokenLinesLemmas.{tokens_have_lines}
 use Rattle.pp_lexer.specs.Spots.{spots_of}
-use Rattle.pp_lexer.proofs.ItemPlacesLemmas.{places_of_items}
-use Rattle.pp_lexer.proofs.CountLemmas.{length-items_of}
+use Rattle.pp_lexer.proofs.items.ItemPlacesLemmas.{places_of_items}
+use Rattle.pp_lexer.proofs.items.CountLemmas.{length-items_of}
 use Rattle.pp_lexer.proofs.lexer.laws.places.Goals as goal
 
 pub returns-clause-within : goal.returns-clause-within

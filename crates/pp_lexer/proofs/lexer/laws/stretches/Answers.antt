@@ -1,7 +1,7 @@
 use Rattle.std.proofs.Common.{◌∙◌}
-use Rattle.pp_lexer.proofs.RisingLemmas.{rising-lines, rising-continued, stretches_follow}
-use Rattle.pp_lexer.proofs.ReplacedLemmas.{rising-replaced, last_end-replaced}
-use Rattle.pp_lexer.proofs.PhaseLemmas.{last_end-lines, last_end-continued}
+use Rattle.pp_lexer.proofs.characters.RisingLemmas.{rising-lines, rising-continued, stretches_follow}
+use Rattle.pp_lexer.proofs.characters.ReplacedLemmas.{rising-replaced, last_end-replaced}
+use Rattle.pp_lexer.proofs.characters.PhaseLemmas.{last_end-lines, last_end-continued}
 use Rattle.pp_lexer.proofs.lexer.laws.stretches.Goals as goal
 
 pub returns : goal.returns

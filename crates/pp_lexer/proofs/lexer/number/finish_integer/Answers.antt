@@ -3,7 +3,7 @@ use Rattle.pp_lexer.specs.NumberValue.{is_u, is_s, width_refusal, integer_value}
 use Rattle.pp_lexer.specs.inner.NumberValue.{unsigned_suffix_len, unless_refused}
 use Rattle.pp_lexer.specs.Reading.{Reading, letters, advanced}
 use Rattle.pp_lexer.specs.Surroundings.{begins_with}
-use Rattle.pp_lexer.proofs.AdvancedLemmas.{letters-advanced}
+use Rattle.pp_lexer.proofs.characters.AdvancedLemmas.{letters-advanced}
 use Rattle.pp_lexer.proofs.lexer.number.finish_integer.Goals as goal
 
 -- the characters after the `u`, if there is one

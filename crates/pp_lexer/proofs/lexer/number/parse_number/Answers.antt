@@ -4,7 +4,7 @@ use Rattle.pp_lexer.specs.Numbers.{is_number}
 use Rattle.pp_lexer.specs.inner.NumberValue.{float_suffix_len, unsigned_suffix_len}
 use Rattle.pp_lexer.specs.Outcome.{IsGiven}
 use Rattle.pp_lexer.specs.Reading.{letters, advanced}
-use Rattle.pp_lexer.proofs.NumberAtLemmas.{at_float, at_integer, letters_after, after_suffix}
+use Rattle.pp_lexer.proofs.numbers.NumberAtLemmas.{at_float, at_integer, letters_after, after_suffix}
 use Rattle.pp_lexer.proofs.lexer.number.parse_number.Goals as goal
 
 pub returns-then-is_float-clause-value : goal.returns-then-is_float-clause-value

@@ -1,6 +1,6 @@
 use Rattle.std.proofs.Common.{sym, ◌∙◌, ap, if◌then◌else◌}
 use Rattle.pp_lexer.specs.Reading.{after_first, advanced}
-use Rattle.pp_lexer.proofs.AdvancedLemmas.{advanced-zero, after_first-one}
+use Rattle.pp_lexer.proofs.characters.AdvancedLemmas.{advanced-zero, after_first-one}
 use Rattle.pp_lexer.proofs.lexer.number.take_suffix.Goals as goal
 
 pub returns-then-found-clause-state : goal.returns-then-found-clause-state

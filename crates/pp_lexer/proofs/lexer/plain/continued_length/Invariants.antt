@@ -1,6 +1,6 @@
 use Rattle.std.proofs.Common.{◌≡◌, true, take}
 use Rattle.std.specs.List.{list_all}
-use Rattle.pp_lexer.specs.PlainWords.{continues}
+use Rattle.pp_lexer.specs.inner.PlainWords.{continues}
 use Rattle.pp_lexer.proofs.lexer.plain.continued_length.Given as goal
 
 abbrev pub invariant-loop-i : goal.invariant-loop-i

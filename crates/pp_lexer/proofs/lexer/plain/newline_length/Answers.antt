@@ -1,6 +1,6 @@
 use Rattle.std.proofs.Common.{arith}
 use Rattle.std.proofs.lemmas.Bool.{ne_eqb}
-use Rattle.pp_lexer.proofs.NewlinesLemmas.{line_feed, return_feed}
+use Rattle.pp_lexer.proofs.characters.NewlinesLemmas.{line_feed, return_feed}
 use Rattle.pp_lexer.proofs.lexer.plain.newline_length.Goals as goal
 
 pub returns-then-bytes-eq10 : goal.returns-then-bytes-eq10

@@ -1,4 +1,4 @@
-use Rattle.pp_lexer.proofs.PlainWordsLemmas.{plain_identifier}
+use Rattle.pp_lexer.proofs.words.PlainWordsLemmas.{plain_identifier}
 use Rattle.pp_lexer.proofs.lexer.plain.plain_identifier.Goals as goal
 
 pub returns : goal.returns

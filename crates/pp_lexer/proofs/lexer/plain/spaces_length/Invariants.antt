@@ -1,6 +1,6 @@
 use Rattle.std.proofs.Common.{◌≡◌, true, take}
 use Rattle.std.specs.List.{list_all}
-use Rattle.pp_lexer.specs.PlainWords.{is_space}
+use Rattle.pp_lexer.specs.inner.PlainWords.{is_space}
 use Rattle.pp_lexer.proofs.lexer.plain.spaces_length.Given as goal
 
 abbrev pub invariant-loop-i : goal.invariant-loop-i

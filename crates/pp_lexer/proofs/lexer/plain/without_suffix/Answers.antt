@@ -1,7 +1,7 @@
 use Rattle.std.proofs.Common.{◌∙◌, ◌-◌, sym, subst, length}
 use Rattle.std.specs.Str.{IsAscii}
 use Rattle.std.proofs.lemmas.Str.{IsAscii-take}
-use Rattle.pp_lexer.proofs.PlainFrontsLemmas.{range_front}
+use Rattle.pp_lexer.proofs.characters.PlainFrontsLemmas.{range_front}
 use Rattle.pp_lexer.proofs.lexer.plain.without_suffix.Goals as goal
 
 pub returns-clause-ascii : goal.returns-clause-ascii

@@ -3,8 +3,8 @@ use Rattle.pp_lexer.specs.declared.token.Punct.{Punct as Punctuator}
 use Rattle.pp_lexer.specs.Reading.{Reading, letters, after_first, advanced}
 use Rattle.pp_lexer.specs.Longest.{longest}
 use Rattle.pp_lexer.specs.Punctuators.{is_punctuator, punct_of}
-use Rattle.pp_lexer.proofs.AdvancedLemmas.{advanced-zero, after_first-one, after_first-advanced}
-use Rattle.pp_lexer.proofs.PunctuationLemmas.{at_hash, at_punct, at_nothing, none_passed}
+use Rattle.pp_lexer.proofs.characters.AdvancedLemmas.{advanced-zero, after_first-one, after_first-advanced}
+use Rattle.pp_lexer.proofs.words.PunctuationLemmas.{at_hash, at_punct, at_nothing, none_passed}
 use Rattle.pp_lexer.proofs.lexer.punctuation.parse_punctuation.Goals as goal
 
 pub returns-then-is_next-clause-value : goal.returns-then-is_next-clause-value

@@ -1,7 +1,7 @@
 use Rattle.std.proofs.Common.{sym, ◌∙◌, ap, option_map}
 use Rattle.pp_lexer.specs.Reading.{after_first, first_char}
-use Rattle.pp_lexer.proofs.TakenPunctLemmas.{taken_none, taken_bad, taken_one_end, taken_one, taken_two_end, taken_two, taken_three}
-use Rattle.pp_lexer.proofs.PunctuatorsLemmas.{single_is, pair_is, triple_is}
+use Rattle.pp_lexer.proofs.words.TakenPunctLemmas.{taken_none, taken_bad, taken_one_end, taken_one, taken_two_end, taken_two, taken_three}
+use Rattle.pp_lexer.proofs.words.PunctuatorsLemmas.{single_is, pair_is, triple_is}
 use Rattle.pp_lexer.proofs.lexer.punctuation.take_punct.Goals as goal
 
 pub returns-in_err-first-clause-value : goal.returns-in_err-first-clause-value

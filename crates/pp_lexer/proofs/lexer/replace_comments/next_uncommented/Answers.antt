@@ -1,7 +1,7 @@
 use Rattle.std.proofs.Common.{◌∙◌, ap, rules}
 use Rattle.pp_lexer.specs.Cursor.{after}
-use Rattle.pp_lexer.proofs.ContinuationsLemmas.{looked}
-use Rattle.pp_lexer.proofs.CommentsLemmas.{uncommented_end, no_slash_step, lone_slash_step, line_comment_step, block_comment_step}
+use Rattle.pp_lexer.proofs.characters.ContinuationsLemmas.{looked}
+use Rattle.pp_lexer.proofs.characters.CommentsLemmas.{uncommented_end, no_slash_step, lone_slash_step, line_comment_step, block_comment_step}
 use Rattle.pp_lexer.proofs.lexer.replace_comments.next_uncommented.Goals as goal
 
 pub returns-in_err-current : goal.returns-in_err-current

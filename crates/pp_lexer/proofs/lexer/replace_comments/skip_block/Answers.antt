@@ -1,6 +1,6 @@
 use Rattle.std.proofs.Common.{◌≡◌, ◌∙◌, ◌&&◌, ◌==◌, false, refl, rules}
 use Rattle.std.proofs.lemmas.Bool.{ne_eqb}
-use Rattle.pp_lexer.proofs.CommentsLemmas.{block_step}
+use Rattle.pp_lexer.proofs.characters.CommentsLemmas.{block_step}
 use Rattle.pp_lexer.proofs.lexer.replace_comments.skip_block.Goals as goal
 use Rattle.pp_lexer.proofs.lexer.replace_comments.skip_block.Goals.{else-was_star-via-then-was_star+else-next-eq47, else-was_star-via-else-was_star}
 

@@ -1,6 +1,6 @@
 use Rattle.std.proofs.Common.{◌≡◌, ◌≤◌, length}
-use Rattle.pp_lexer.specs.Readers.{past_block}
-use Rattle.pp_lexer.proofs.CommentsLemmas.{past_block_after}
+use Rattle.pp_lexer.specs.inner.Readers.{past_block}
+use Rattle.pp_lexer.proofs.characters.CommentsLemmas.{past_block_after}
 use Rattle.pp_lexer.proofs.lexer.replace_comments.skip_block.Given as goal
 
 abbrev pub invariant-block : goal.invariant-block

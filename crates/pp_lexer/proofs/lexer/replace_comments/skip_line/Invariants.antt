@@ -1,5 +1,5 @@
 use Rattle.std.proofs.Common.{◌≡◌, ◌≤◌, length}
-use Rattle.pp_lexer.specs.Readers.{past_line}
+use Rattle.pp_lexer.specs.inner.Readers.{past_line}
 use Rattle.pp_lexer.proofs.lexer.replace_comments.skip_line.Given as goal
 
 abbrev pub invariant-line : goal.invariant-line

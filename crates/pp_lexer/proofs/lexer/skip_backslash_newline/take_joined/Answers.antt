@@ -1,6 +1,6 @@
 use Rattle.std.proofs.Common.{◌∙◌, ap, rules}
 use Rattle.pp_lexer.specs.Cursor.{after}
-use Rattle.pp_lexer.proofs.ContinuationsLemmas.{steps_same, end_step, plain_step, backslash_step, gone_step, looked}
+use Rattle.pp_lexer.proofs.characters.ContinuationsLemmas.{steps_same, end_step, plain_step, backslash_step, gone_step, looked}
 use Rattle.pp_lexer.proofs.lexer.skip_backslash_newline.take_joined.Goals as goal
 
 pub returns-in_err-current : goal.returns-in_err-current

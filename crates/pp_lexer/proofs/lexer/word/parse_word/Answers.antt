@@ -7,8 +7,8 @@ use Rattle.pp_lexer.specs.NumberValue.{number_at}
 use Rattle.pp_lexer.specs.Outcome.{IsGiven, takes_memory}
 use Rattle.pp_lexer.specs.Punctuators.{punctuation_at}
 use Rattle.pp_lexer.specs.Reading.{letters, after_first, advanced}
-use Rattle.pp_lexer.proofs.AdvancedLemmas.{after_first-one}
-use Rattle.pp_lexer.proofs.WordAtLemmas.{newline_first, identifier_first, number_first, other_first}
+use Rattle.pp_lexer.proofs.characters.AdvancedLemmas.{after_first-one}
+use Rattle.pp_lexer.proofs.words.WordAtLemmas.{newline_first, identifier_first, number_first, other_first}
 use Rattle.pp_lexer.proofs.lexer.word.parse_word.Goals as goal
 
 -- a fact holds on `Ok` where it holds

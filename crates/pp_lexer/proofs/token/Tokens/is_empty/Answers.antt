@@ -1,6 +1,6 @@
 use Rattle.std.proofs.Common.{◌∙◌, ap, ◌==◌}
 use Rattle.std.proofs.lemmas.Bool.Decides.{Decides-at}
-use Rattle.pp_lexer.proofs.PreorderLemmas.{preorder-empty}
+use Rattle.pp_lexer.proofs.values.PreorderLemmas.{preorder-empty}
 use Rattle.pp_lexer.proofs.token.Tokens.is_empty.Goals as goal
 
 pub returns : goal.returns

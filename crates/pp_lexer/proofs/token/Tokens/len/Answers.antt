@@ -1,5 +1,5 @@
 use Rattle.std.proofs.Common.{◌∙◌, sym}
-use Rattle.pp_lexer.proofs.PreorderLemmas.{count_by-preorder}
+use Rattle.pp_lexer.proofs.values.PreorderLemmas.{count_by-preorder}
 use Rattle.pp_lexer.proofs.token.Tokens.len.Goals as goal
 
 pub returns : goal.returns

@@ -1,5 +1,5 @@
 use Rattle.std.proofs.Common.{◌≡◌, drop}
-use Rattle.pp_plain.specs.Changes.{meaning_of}
+use Rattle.pp_plain.specs.inner.Changes.{meaning_of}
 use Rattle.pp_plain.proofs.definitions.Definitions.find.Given as goal
 
 abbrev pub invariant-loop-change : goal.invariant-loop-change

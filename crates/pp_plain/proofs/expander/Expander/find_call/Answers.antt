@@ -1,6 +1,6 @@
 use Rattle.std.proofs.Common.{refl, ap, ◌∙◌}
 use Rattle.pp_model.specs.Calls.{Gathered, arguments_of}
-use Rattle.pp_plain.specs.Seen.{nothing, broken, whole}
+use Rattle.pp_plain.specs.inner.Seen.{nothing, broken, whole}
 use Rattle.pp_plain.proofs.expander.Expander.find_call.Goals as goal
 
 pub returns-in_default-clause-finds : goal.returns-in_default-clause-finds

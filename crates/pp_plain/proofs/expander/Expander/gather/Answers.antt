@@ -2,7 +2,7 @@ use Rattle.std.proofs.Common.{[], refl, arith}
 use Rattle.std.specs.Prelude.{Ok, Err}
 use Rattle.pp_lexer.specs.declared.token.PreprocessorError.TheVariants.{IntegerOverflow, UnexpectedEndOfInput}
 use Rattle.pp_model.specs.Calls.{before, closed, inside, overfull, ended, failed}
-use Rattle.pp_plain.specs.Seen.{seen}
+use Rattle.pp_plain.specs.inner.Seen.{seen}
 use Rattle.pp_model.proofs.GatherLemmas.{after_tokens-before, after_tokens-closed}
 use Rattle.pp_plain.proofs.expander.Expander.gather.Goals as goal
 

@@ -1,7 +1,7 @@
 use Rattle.std.specs.Prelude.{Result}
 use Rattle.pp_model.specs.Reading.{Expander}
 use Rattle.pp_model.specs.Calls.{Fault, Gathered, Gathers}
-use Rattle.pp_plain.specs.Seen.{seen}
+use Rattle.pp_plain.specs.inner.Seen.{seen}
 use Rattle.pp_model.proofs.GatherLemmas.{after_tokens}
 use Rattle.std.proofs.Common.{◌≤◌}
 use Rattle.pp_plain.proofs.expander.Expander.gather.Given as goal

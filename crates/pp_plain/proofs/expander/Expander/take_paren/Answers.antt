@@ -1,5 +1,5 @@
 use Rattle.std.proofs.Common.{refl, sym}
-use Rattle.pp_plain.specs.Seen.{none, some}
+use Rattle.pp_plain.specs.inner.Seen.{none, some}
 use Rattle.pp_plain.proofs.expander.Expander.take_paren.Goals as goal
 
 pub returns-in-None-clause-takes : goal.returns-in-None-clause-takes

@@ -1,6 +1,6 @@
 use Rattle.std.proofs.Common.{refl, sym}
 use Rattle.std.proofs.lemmas.Result.{IfOk-weaker}
-use Rattle.pp_plain.specs.Seen.{itself, opens}
+use Rattle.pp_plain.specs.inner.Seen.{itself, opens}
 use Rattle.pp_plain.proofs.expander.Expander.turn.Goals as goal
 
 pub returns-in-Ok-None-clause-turns : goal.returns-in-Ok-None-clause-turns

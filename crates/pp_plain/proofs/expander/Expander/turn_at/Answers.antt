@@ -1,5 +1,5 @@
 use Rattle.std.proofs.Common.{refl, sym, ◌∙◌}
-use Rattle.pp_plain.specs.Seen.{object, function}
+use Rattle.pp_plain.specs.inner.Seen.{object, function}
 use Rattle.pp_plain.proofs.expander.Expander.turn_at.Goals as goal
 
 pub returns-then-not-is_function_like-clause-turns : goal.returns-then-not-is_function_like-clause-turns

@@ -1,6 +1,6 @@
 use Rattle.std.proofs.Common.{◌∙◌, ap}
 use Rattle.pp_model.specs.Emitting.{answers_at, expansion_limit}
-use Rattle.pp_plain.specs.ReaderState.{reader_of}
+use Rattle.pp_plain.specs.inner.ReaderState.{reader_of}
 use Rattle.pp_model.specs.declared.step.Step.{Step}
 use Rattle.pp_plain.proofs.SourceStepLemmas.{comes, step_passes, step_gives, step_defines, step_decides, step_renumbers, ok_more}
 use Rattle.pp_plain.proofs.source.Source.step.Goals as goal

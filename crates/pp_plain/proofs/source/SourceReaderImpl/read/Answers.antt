@@ -1,5 +1,5 @@
 use Rattle.std.proofs.Common.{arith}
-use Rattle.pp_plain.specs.ReaderState.{reader_of}
+use Rattle.pp_plain.specs.inner.ReaderState.{reader_of}
 use Rattle.pp_model.specs.Reads.{here, later}
 use Rattle.pp_plain.proofs.source.SourceReaderImpl.read.Goals as goal
 

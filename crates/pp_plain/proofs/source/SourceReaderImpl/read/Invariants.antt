@@ -1,5 +1,5 @@
 use Rattle.pp_model.specs.Emitting.{answers_at, expansion_limit}
-use Rattle.pp_plain.specs.ReaderState.{reader_of}
+use Rattle.pp_plain.specs.inner.ReaderState.{reader_of}
 use Rattle.pp_model.specs.Reads.{Reads}
 use Rattle.pp_model.specs.SourceReader.{SourceReader}
 use Rattle.pp_model.specs.declared.outcome.Outcome.{Outcome}

@@ -1,5 +1,5 @@
 use Rattle.std.proofs.Common.{◌∷◌, ◌++◌, [], ◌∙◌, ap, sym}
-use Rattle.pp_rs.proofs.CollectingLemmas.{gathered_none, gathered_more}
+use Rattle.pp_rs.proofs.runs.CollectingLemmas.{gathered_none, gathered_more}
 use Rattle.pp_rs.proofs.pp.all_items.gather.Goals as goal
 
 pub items-init : goal.items-init

@@ -1,5 +1,5 @@
 use Rattle.pp_rs.specs.Kept.{most_items}
-use Rattle.pp_rs.proofs.CollectingLemmas.{Gathered}
+use Rattle.pp_rs.proofs.runs.CollectingLemmas.{Gathered}
 use Rattle.pp_rs.proofs.pp.all_items.gather.Given as goal
 
 abbrev pub invariant-items : goal.invariant-items

@@ -1,7 +1,7 @@
 use Rattle.std.proofs.Common.{◌∙◌, ◌+◌, ap, arith, drop, map, sym, take}
 use Rattle.std.proofs.lemmas.List.{take_all}
 use Rattle.pp_model.specs.Run.{call_of}
-use Rattle.pp_rs.proofs.RepliesLemmas.{replied_none, replied_more, replied_last, replied_all, calls_more, calls_cut}
+use Rattle.pp_rs.proofs.runs.RepliesLemmas.{replied_none, replied_more, replied_last, replied_all, calls_more, calls_cut}
 use Rattle.pp_rs.proofs.pp.call_list.replies.Goals as goal
 
 pub loop-call-init : goal.loop-call-init

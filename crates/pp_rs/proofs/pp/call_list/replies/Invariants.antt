@@ -1,6 +1,6 @@
 use Rattle.std.proofs.Common.{map, take}
 use Rattle.pp_model.specs.Run.{call_of}
-use Rattle.pp_rs.proofs.RepliesLemmas.{Replied}
+use Rattle.pp_rs.proofs.runs.RepliesLemmas.{Replied}
 use Rattle.pp_rs.proofs.pp.call_list.replies.Given as goal
 
 abbrev pub invariant-loop-call : goal.invariant-loop-call

@@ -1,4 +1,4 @@
-use Rattle.pp_rs.proofs.RepliesLemmas.{added_answered, refused_answered}
+use Rattle.pp_rs.proofs.runs.RepliesLemmas.{added_answered, refused_answered}
 use Rattle.pp_rs.proofs.pp.call_list.reply_to_definition.Goals as goal
 
 pub returns-in-Ok : goal.returns-in-Ok

@@ -1,4 +1,4 @@
-use Rattle.pp_rs.proofs.RepliesLemmas.{token_answered, end_answered, fault_answered}
+use Rattle.pp_rs.proofs.runs.RepliesLemmas.{token_answered, end_answered, fault_answered}
 use Rattle.pp_rs.proofs.pp.call_list.reply_to_next.Goals as goal
 
 pub returns-in-Some-Ok : goal.returns-in-Some-Ok

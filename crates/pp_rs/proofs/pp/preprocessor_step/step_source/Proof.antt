@@ -29,8 +29,8 @@ use denote.Triple.Walked.{Stays, stay_ref, Goes-ref, ends_at}
 use denote.Triple.Table.{framed}
 use borrow.Pointer.Hide.{hide_mut}
 use denote.Laws.{Is, shows}
-use Rattle.pp_expansion.specs.Reader.{of_source}
-use Rattle.pp_expansion.specs.CallTurns.{TurnsOrRefuses, TakenHoldsOrdinary}
+use Rattle.pp_expansion.specs.inner.Reader.{of_source}
+use Rattle.pp_expansion.specs.inner.CallTurns.{TurnsOrRefuses, TakenHoldsOrdinary}
 use Rattle.pp_rs.specs.contracts.pp.preprocessor_step.step_source as f
 use Rattle.pp_rs.proofs.pp.preprocessor_step.step_source.Statement.{statement}
 use Rattle.pp_rs.proofs.pp.preprocessor_step.step_source.Code as code

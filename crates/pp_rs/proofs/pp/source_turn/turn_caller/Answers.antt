@@ -1,7 +1,7 @@
 use Rattle.std.proofs.Common.{◌∙◌, ap, Err}
 use Rattle.std.proofs.lemmas.Result.{err_from_is_err_and}
 use Rattle.pp_model.specs.Emitting.{expansion_limit}
-use Rattle.pp_rs.proofs.SourceTurnLemmas.{goes_refused_as}
+use Rattle.pp_rs.proofs.runs.SourceTurnLemmas.{goes_refused_as}
 use Rattle.pp_rs.proofs.pp.source_turn.turn_caller.Goals as goal
 
 pub returns-in_err-finish_call-in-Call-clause-turns :

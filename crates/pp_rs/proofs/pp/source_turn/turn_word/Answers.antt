@@ -1,7 +1,7 @@
 use Rattle.std.proofs.Common.{◌∙◌, ap, Err}
 use Rattle.std.proofs.lemmas.Result.{err_from_is_err_and}
 use Rattle.pp_model.specs.Emitting.{expansion_limit}
-use Rattle.pp_rs.proofs.IdleLemmas.{idle_fault, idle_word}
+use Rattle.pp_rs.proofs.runs.IdleLemmas.{idle_fault, idle_word}
 use Rattle.pp_rs.proofs.pp.source_turn.turn_word.Goals as goal
 
 pub returns-in_err-token-clause-turns : goal.returns-in_err-token-clause-turns

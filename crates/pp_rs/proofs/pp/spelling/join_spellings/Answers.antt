@@ -1,7 +1,7 @@
 use Rattle.std.proofs.Common.{◌++◌, ◌∙◌, ap, arith, string_bytes, IsTrue}
 use Rattle.pp_lexer.specs.TokenValue.{is_ordinary}
 use Rattle.std.proofs.lemmas.Str.{IsUtf8-string_bytes}
-use Rattle.pp_rs.proofs.SpellingLemmas.{spelled_none, spelled_first, spelled_more, spelled_all, all_after_first}
+use Rattle.pp_rs.proofs.runs.SpellingLemmas.{spelled_none, spelled_first, spelled_more, spelled_all, all_after_first}
 use Rattle.pp_rs.proofs.pp.spelling.join_spellings.Goals as goal
 
 pub returns-in_default : goal.returns-in_default

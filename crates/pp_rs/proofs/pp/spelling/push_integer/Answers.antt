@@ -1,7 +1,7 @@
 use Rattle.std.proofs.Common.{◌++◌, ap, ◌∙◌, arith, rules}
 use Rattle.std.specs.String.{string_bytes}
 use Rattle.std.proofs.lemmas.Str.{IsUtf8-string_bytes}
-use Rattle.pp_rs.proofs.SpellingLemmas.{unsigned-pushed, signed-pushed}
+use Rattle.pp_rs.proofs.runs.SpellingLemmas.{unsigned-pushed, signed-pushed}
 use Rattle.pp_rs.proofs.pp.spelling.push_integer.Goals as goal
 
 pub returns-in_ok-push : goal.returns-in_ok-push

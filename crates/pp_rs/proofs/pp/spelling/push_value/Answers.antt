@@ -1,5 +1,5 @@
 use Rattle.std.proofs.lemmas.Str.{IsUtf8-string_bytes}
-use Rattle.pp_rs.proofs.SpellingLemmas.{chars-punctuator, chars-pushed}
+use Rattle.pp_rs.proofs.runs.SpellingLemmas.{chars-punctuator, chars-pushed}
 use Rattle.pp_rs.proofs.pp.spelling.push_value.Goals as goal
 
 pub returns-in-Ident : goal.returns-in-Ident

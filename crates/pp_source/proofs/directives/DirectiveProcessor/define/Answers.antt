@@ -1,4 +1,4 @@
-use Rattle.pp_source.specs.ReadNames.{named}
+use Rattle.pp_source.specs.inner.ReadNames.{named}
 use Rattle.pp_source.proofs.SourceActsLemmas.{err_result, define_failed, define_acts}
 use Rattle.pp_source.proofs.directives.DirectiveProcessor.define.Goals as goal
 

@@ -1,5 +1,5 @@
 use Rattle.std.proofs.Common.{◌∙◌, ◌∷◌, ◌++◌, [], ap}
-use Rattle.pp_expansion.specs.OpenBlocks.{outer_blocks}
+use Rattle.pp_expansion.specs.inner.OpenBlocks.{outer_blocks}
 use Rattle.pp_expansion.specs.declared.blocks.OpenBlock.{OpenBlock}
 use Rattle.pp_source.proofs.ConditionActsLemmas.{elif_parts}
 use Rattle.pp_source.proofs.directives.DirectiveProcessor.part_if.Goals as goal

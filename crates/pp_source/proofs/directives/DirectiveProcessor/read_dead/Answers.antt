@@ -1,6 +1,6 @@
 use Rattle.std.proofs.Common.{None, false}
 use Rattle.pp_model.specs.Sights.{directive_of}
-use Rattle.pp_expansion.specs.OpenBlocks.{last_block}
+use Rattle.pp_expansion.specs.inner.OpenBlocks.{last_block}
 use Rattle.pp_source.proofs.NotedLemmas.{word_read}
 use Rattle.pp_source.proofs.directives.DirectiveProcessor.read_dead.Goals as goal
 

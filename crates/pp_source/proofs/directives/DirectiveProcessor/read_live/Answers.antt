@@ -1,6 +1,6 @@
 use Rattle.std.proofs.Common.{true}
 use Rattle.pp_model.specs.Sights.{directive_of}
-use Rattle.pp_expansion.specs.OpenBlocks.{last_block}
+use Rattle.pp_expansion.specs.inner.OpenBlocks.{last_block}
 use Rattle.pp_source.proofs.NotedLemmas.{word_read}
 use Rattle.pp_source.proofs.directives.DirectiveProcessor.read_live.Goals as goal
 

@@ -1,7 +1,7 @@
 use Rattle.std.proofs.Common.{◌∙◌, ap, subst}
 use Rattle.std.specs.Prelude.{Err}
 use Rattle.std.proofs.lemmas.Result.{err_from_is_err_and}
-use Rattle.pp_expansion.specs.Finishing.{Finishes}
+use Rattle.pp_expansion.specs.inner.Finishing.{Finishes}
 use Rattle.pp_source.proofs.LineReadLemmas.{items_start, items_token, items_token_less, items_end, items_pause, items_pause_less, items_fault, items_call, items_call_less, items_call_fault}
 use Rattle.pp_source.proofs.if_parser.IfParser.next_item.Goals as goal
 

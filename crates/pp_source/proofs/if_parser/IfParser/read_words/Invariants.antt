@@ -1,5 +1,5 @@
-use Rattle.pp_expansion.specs.Left.{work_of}
-use Rattle.pp_expansion.specs.Reader.{of_list}
+use Rattle.pp_expansion.specs.inner.Left.{work_of}
+use Rattle.pp_expansion.specs.inner.Reader.{of_list}
 use Rattle.pp_source.proofs.LineWordsLemmas.{WordsOn}
 use Rattle.pp_source.proofs.if_parser.IfParser.read_words.Given as goal
 

@@ -3,7 +3,7 @@ use Rattle.std.specs.Prelude.{Ok, Err}
 use Rattle.pp_expansion.specs.declared.step.StepExit.TheVariants.{Continue, Finished}
 use Rattle.pp_source.proofs.LineReadLemmas.{taken_fault}
 use Rattle.pp_source.proofs.LineTurnLemmas.{next_read}
-use Rattle.pp_expansion.proofs.MachineLemmas.{next_no_pause}
+use Rattle.pp_expansion.proofs.taking.MachineLemmas.{next_no_pause}
 use Rattle.pp_source.proofs.if_parser.IfParser.take.Goals as goal
 
 pub returns-in-Ok : goal.returns-in-Ok

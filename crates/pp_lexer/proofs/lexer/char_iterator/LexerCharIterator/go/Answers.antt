@@ -1,5 +1,5 @@
 use Rattle.std.proofs.Common.{ap, arith, length}
-use Rattle.pp_lexer.proofs.FrontsLemmas.{left_of, length-spots_from}
+use Rattle.pp_lexer.proofs.characters.FrontsLemmas.{left_of, length-spots_from}
 use Rattle.pp_lexer.proofs.lexer.char_iterator.LexerCharIterator.go.Goals as goal
 
 pub returns : goal.returns

@@ -1,5 +1,5 @@
 use Rattle.std.proofs.Common.{ap, ◌∙◌, sym}
-use Rattle.pp_lexer.proofs.FrontsLemmas.{left_of}
+use Rattle.pp_lexer.proofs.characters.FrontsLemmas.{left_of}
 use Rattle.pp_lexer.proofs.lexer.char_iterator.LexerCharIterator.left.Goals as goal
 
 pub returns : goal.returns

@@ -1,6 +1,6 @@
 use Rattle.std.proofs.Common.{ap, arith, length}
 use Rattle.pp_lexer.specs.Reading.{spots}
-use Rattle.pp_lexer.proofs.SpotsLemmas.{length-spots_of-le}
+use Rattle.pp_lexer.proofs.characters.SpotsLemmas.{length-spots_of-le}
 use Rattle.pp_lexer.proofs.lexer.char_iterator.LexerCharIterator.new.Goals as goal
 
 pub invariant_of-result : goal.invariant_of-result

@@ -1,9 +1,9 @@
 use Rattle.pp_lexer.specs.Longest.{front_len}
 use Rattle.pp_lexer.specs.Numbers.{is_decimal, is_point, decimal_tail, fraction, exponent}
-use Rattle.pp_lexer.specs.Scan.{upcoming}
+use Rattle.pp_lexer.specs.inner.Scan.{upcoming}
 use Rattle.pp_lexer.specs.Spellings.{many}
-use Rattle.pp_lexer.proofs.NumbersLemmas.{decimal_len, decimal_tail_len, decimal_tail_none}
-use Rattle.pp_lexer.proofs.ScanLemmas.{then_takes, either_then, either_else}
+use Rattle.pp_lexer.proofs.numbers.NumbersLemmas.{decimal_len, decimal_tail_len, decimal_tail_none}
+use Rattle.pp_lexer.proofs.numbers.ScanLemmas.{then_takes, either_then, either_else}
 use Rattle.pp_lexer.proofs.lexer.number.scan.take_decimal.Goals as goal
 
 pub returns-then-take_char : goal.returns-then-take_char

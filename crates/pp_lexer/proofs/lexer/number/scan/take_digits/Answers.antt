@@ -1,7 +1,7 @@
 use Rattle.std.proofs.Common.{◌≡◌, true, sym, ◌∙◌, ap}
 use Rattle.std.specs.Char.{is_digit}
-use Rattle.pp_lexer.specs.Scan.{further}
-use Rattle.pp_lexer.proofs.ScanLemmas.{digit_taken, fewer_left}
+use Rattle.pp_lexer.specs.inner.Scan.{further}
+use Rattle.pp_lexer.proofs.numbers.ScanLemmas.{digit_taken, fewer_left}
 use Rattle.pp_lexer.proofs.lexer.number.scan.take_digits.Goals as goal
 
 pub digits-smaller : goal.digits-smaller

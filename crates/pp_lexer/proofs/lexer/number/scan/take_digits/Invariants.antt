@@ -1,7 +1,7 @@
 use Rattle.std.proofs.Common.{◌≡◌, length}
 use Rattle.std.specs.Char.{is_digit}
 use Rattle.pp_lexer.specs.Longest.{front_len}
-use Rattle.pp_lexer.specs.Scan.{upcoming, further}
+use Rattle.pp_lexer.specs.inner.Scan.{upcoming, further}
 use Rattle.pp_lexer.proofs.lexer.number.scan.take_digits.Given as goal
 
 -- where the digits end stays the same

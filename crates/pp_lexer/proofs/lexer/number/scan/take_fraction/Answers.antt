@@ -1,8 +1,8 @@
 use Rattle.pp_lexer.specs.Longest.{front_len}
 use Rattle.pp_lexer.specs.Numbers.{is_decimal, exponent, fraction}
-use Rattle.pp_lexer.specs.Scan.{upcoming}
-use Rattle.pp_lexer.proofs.NumbersLemmas.{fraction_len}
-use Rattle.pp_lexer.proofs.ScanLemmas.{then_takes}
+use Rattle.pp_lexer.specs.inner.Scan.{upcoming}
+use Rattle.pp_lexer.proofs.numbers.NumbersLemmas.{fraction_len}
+use Rattle.pp_lexer.proofs.numbers.ScanLemmas.{then_takes}
 use Rattle.pp_lexer.proofs.lexer.number.scan.take_fraction.Goals as goal
 
 pub returns : goal.returns

@@ -1,9 +1,9 @@
 use Rattle.pp_lexer.specs.Longest.{front_len}
 use Rattle.pp_lexer.specs.Numbers.{is_hex, is_point, hex_tail, fraction}
-use Rattle.pp_lexer.specs.Scan.{upcoming}
+use Rattle.pp_lexer.specs.inner.Scan.{upcoming}
 use Rattle.pp_lexer.specs.Spellings.{many}
-use Rattle.pp_lexer.proofs.NumbersLemmas.{hex_len, hex_tail_len, hex_tail_none}
-use Rattle.pp_lexer.proofs.ScanLemmas.{then_takes, either_then, either_stop}
+use Rattle.pp_lexer.proofs.numbers.NumbersLemmas.{hex_len, hex_tail_len, hex_tail_none}
+use Rattle.pp_lexer.proofs.numbers.ScanLemmas.{then_takes, either_then, either_stop}
 use Rattle.pp_lexer.proofs.lexer.number.scan.take_hex.Goals as goal
 
 pub returns-then-not-take_char : goal.returns-then-not-take_char

@@ -1,10 +1,10 @@
 use Rattle.std.proofs.Common.{◌≡◌, ◌∙◌, sym, ap, true, false, refl}
 use Rattle.pp_lexer.specs.Numbers.{is_decimal, is_hex, is_point, is_zero, is_x, hex_tail, decimal_tail, fraction, is_number, begins_number}
-use Rattle.pp_lexer.specs.Scan.{upcoming}
+use Rattle.pp_lexer.specs.inner.Scan.{upcoming}
 use Rattle.pp_lexer.specs.Spellings.{many}
 use Rattle.pp_lexer.specs.Surroundings.{begins_with}
-use Rattle.pp_lexer.proofs.NumbersLemmas.{point_number_len, digit_number_len, zero_number_len, after_zero, after_zero_digits, after_zero_hex}
-use Rattle.pp_lexer.proofs.ScanLemmas.{either_then, either_else, either_same}
+use Rattle.pp_lexer.proofs.numbers.NumbersLemmas.{point_number_len, digit_number_len, zero_number_len, after_zero, after_zero_digits, after_zero_hex}
+use Rattle.pp_lexer.proofs.numbers.ScanLemmas.{either_then, either_else, either_same}
 use Rattle.pp_lexer.proofs.lexer.number.scan.take_longest.Goals as goal
 
 pub returns-then-take_char : goal.returns-then-take_char

@@ -1,5 +1,5 @@
 use Rattle.std.proofs.Common.{◌∙◌}
-use Rattle.pp_lexer.proofs.FloatLemmas.{exponent_is}
+use Rattle.pp_lexer.proofs.numbers.FloatLemmas.{exponent_is}
 use Rattle.pp_lexer.proofs.lexer.number.value.ends_in_exponent.Goals as goal
 
 pub returns-then-skip_digits : goal.returns-then-skip_digits

@@ -1,6 +1,6 @@
 use Rattle.std.proofs.Common.{◌∙◌, ap}
 use Rattle.pp_lexer.specs.NumberValue.{float_exponent}
-use Rattle.pp_lexer.proofs.FloatLemmas.{pointed_is, plain_is, point_first_is}
+use Rattle.pp_lexer.proofs.numbers.FloatLemmas.{pointed_is, plain_is, point_first_is}
 use Rattle.pp_lexer.proofs.lexer.number.value.reads_as_float.Goals as goal
 use Rattle.pp_lexer.proofs.lexer.number.value.reads_as_float.Goals.{then-skip_char, else-skip_char}
 

@@ -1,6 +1,6 @@
 use Rattle.std.proofs.Common.{◌∙◌, ◌≤◌, ◌+◌, ◌*◌, ◌^◌, arith, sym}
 use Rattle.std.specs.Char.{digit_value}
-use Rattle.pp_lexer.proofs.ValueLemmas.{whole_too_large}
+use Rattle.pp_lexer.proofs.numbers.ValueLemmas.{whole_too_large}
 use Rattle.pp_lexer.proofs.lexer.number.value.whole_value.Goals as goal
 
 pub returns-in_err-shifted : goal.returns-in_err-shifted

@@ -1,6 +1,6 @@
 use Rattle.std.proofs.Common.{◌∙◌, ap, refl, arith}
 use Rattle.std.specs.Str.Parse.{digits_value}
-use Rattle.pp_lexer.proofs.PlainNumbersLemmas.{digit_at, value_more, take_whole}
+use Rattle.pp_lexer.proofs.numbers.PlainNumbersLemmas.{digit_at, value_more, take_whole}
 use Rattle.pp_lexer.proofs.lexer.plain.number.decimal_value.Goals as goal
 
 pub loop-digit-init : goal.loop-digit-init

@@ -1,5 +1,5 @@
 use Rattle.std.proofs.Common.{◌≡◌, ◌≤◌, get_or, arith, sym}
-use Rattle.pp_lexer.proofs.PlainNumbersLemmas.{plain_integer, plain_unsigned}
+use Rattle.pp_lexer.proofs.numbers.PlainNumbersLemmas.{plain_integer, plain_unsigned}
 use Rattle.pp_lexer.proofs.lexer.plain.number.plain_integer.Goals as goal
 use Rattle.pp_lexer.proofs.lexer.plain.number.plain_integer.Goals.{else-bytes-eq48-via-then-bytes-eq48+else-digits-gt1, else-bytes-eq48-via-else-bytes-eq48}
 

@@ -1,7 +1,7 @@
 use Rattle.std.proofs.Common.{◌≡◌, ◌≤◌, ◌+◌, ◌-◌, ◌∙◌, ap, length, drop, take, true, arith, sym}
 use Rattle.std.specs.List.{list_all}
 use Rattle.pp_lexer.specs.Numbers.{is_decimal}
-use Rattle.pp_lexer.proofs.PlainNumbersLemmas.{plain_float, plain_suffixed, length_whole}
+use Rattle.pp_lexer.proofs.numbers.PlainNumbersLemmas.{plain_float, plain_suffixed, length_whole}
 use Rattle.pp_lexer.proofs.lexer.plain.number.plain_number.Goals as goal
 
 pub returns-then-ends_number : goal.returns-then-ends_number

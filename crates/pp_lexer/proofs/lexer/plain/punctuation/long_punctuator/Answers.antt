@@ -1,5 +1,5 @@
 use Rattle.std.proofs.Common.{◌∙◌, sym, arith}
-use Rattle.pp_lexer.proofs.PlainPunctuationLemmas.{pair_word, triple_word, stops_pair}
+use Rattle.pp_lexer.proofs.words.PlainPunctuationLemmas.{pair_word, triple_word, stops_pair}
 use Rattle.pp_lexer.proofs.lexer.plain.punctuation.long_punctuator.Goals as goal
 
 pub returns-then-bytes-eq2 : goal.returns-then-bytes-eq2

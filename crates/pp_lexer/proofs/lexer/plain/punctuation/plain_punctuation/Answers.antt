@@ -1,6 +1,6 @@
 use Rattle.std.proofs.Common.{◌≡◌, ◌∙◌, ◌∷◌, [], sym, arith, Some, get_or}
 use Rattle.pp_lexer.specs.Punctuators.{punct_of}
-use Rattle.pp_lexer.proofs.PlainPunctuationLemmas.{hash_word, single_is, single_word, stops_single}
+use Rattle.pp_lexer.proofs.words.PlainPunctuationLemmas.{hash_word, single_is, single_word, stops_single}
 use Rattle.pp_lexer.proofs.lexer.plain.punctuation.plain_punctuation.Goals as goal
 
 pub returns-then-first-eq35 : goal.returns-then-first-eq35

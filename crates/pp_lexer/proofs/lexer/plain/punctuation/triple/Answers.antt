@@ -1,6 +1,6 @@
 use Rattle.std.proofs.Common.{sym, arith}
 use Rattle.std.proofs.lemmas.Bool.{ne_eqb}
-use Rattle.pp_lexer.proofs.PlainPunctuationLemmas.{no_triple_first, no_triple_second, no_triple_third, shift_assigns}
+use Rattle.pp_lexer.proofs.words.PlainPunctuationLemmas.{no_triple_first, no_triple_second, no_triple_third, shift_assigns}
 use Rattle.pp_lexer.proofs.lexer.plain.punctuation.triple.Goals as goal
 
 pub returns-then-third-ne61 : goal.returns-then-third-ne61

@@ -1,7 +1,7 @@
 use Rattle.std.proofs.Common.{◌∙◌, ap, ◌==◌, string_bytes}
 use Rattle.std.proofs.lemmas.Bool.Decides.{Decides-at}
 use Rattle.std.proofs.lemmas.Str.{IsUtf8-string_bytes}
-use Rattle.pp_lexer.proofs.TextLemmas.{chars-empty}
+use Rattle.pp_lexer.proofs.values.TextLemmas.{chars-empty}
 use Rattle.pp_lexer.proofs.token.text.Text.is_empty.Goals as goal
 
 pub returns : goal.returns

@@ -1,6 +1,6 @@
 use Rattle.std.proofs.Common.{string_bytes}
 use Rattle.std.proofs.lemmas.Str.{IsUtf8-string_bytes}
-use Rattle.pp_lexer.proofs.TextLemmas.{chars-pushed}
+use Rattle.pp_lexer.proofs.values.TextLemmas.{chars-pushed}
 use Rattle.pp_lexer.proofs.token.text.Text.push.Goals as goal
 
 pub returns-clause-ok : goal.returns-clause-ok

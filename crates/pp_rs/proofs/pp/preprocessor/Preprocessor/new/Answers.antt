@@ -1,6 +1,6 @@
 use Rattle.std.proofs.Common.{refl}
 use Rattle.pp_rs.specs.Kept.{is_spent, error_place}
-use Rattle.pp_rs.proofs.StartLemmas.{start_stands, start_errors}
+use Rattle.pp_rs.proofs.runs.StartLemmas.{start_stands, start_errors}
 use Rattle.pp_rs.proofs.pp.preprocessor.Preprocessor.new.Goals as goal
 
 pub returns-clause-unspent : goal.returns-clause-unspent

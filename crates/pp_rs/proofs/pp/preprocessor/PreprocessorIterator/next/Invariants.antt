@@ -1,8 +1,8 @@
 use Rattle.std.proofs.Common.{◌≡◌, false}
 use Rattle.pp_model.specs.Emitting.{expansion_limit}
-use Rattle.pp_expansion.specs.Left.{work_of}
-use Rattle.pp_expansion.specs.Reader.{of_source}
-use Rattle.pp_rs.proofs.NextLemmas.{Reached}
+use Rattle.pp_expansion.specs.inner.Left.{work_of}
+use Rattle.pp_expansion.specs.inner.Reader.{of_source}
+use Rattle.pp_rs.proofs.runs.NextLemmas.{Reached}
 use Rattle.pp_rs.proofs.pp.preprocessor.PreprocessorIterator.next.Given as goal
 
 -- a pause keeps what comes next, and lowers what is left to do

@@ -1,7 +1,7 @@
 use Rattle.std.proofs.Common.{◌≡◌, ap, ◌∙◌, ◌+◌}
 use Rattle.pp_lexer.specs.Reading.{advanced}
-use Rattle.pp_lexer.specs.Scan.{Scan, further}
-use Rattle.pp_lexer.proofs.AdvancedLemmas.{after_first-one}
+use Rattle.pp_lexer.specs.inner.Scan.{Scan, further}
+use Rattle.pp_lexer.proofs.characters.AdvancedLemmas.{after_first-one}
 use Rattle.pp_lexer.proofs.lexer.number.scan.Scanner.take.Goals as goal
 
 pub returns : goal.returns

@@ -1,0 +1,2 @@
+pub mod DefineLemmas
+pub mod DefinitionsLemmas

@@ -1,0 +1,14 @@
+pub mod PauseLemmas
+pub mod TakingLemmas
+pub mod StepLemmas
+pub mod PieceLemmas
+pub mod PlainLemmas
+pub mod Walk
+pub mod MachineLemmas
+pub mod SearchSimulates
+pub mod TurnLeadsLemmas
+pub mod ListedLeadsLemmas
+pub mod ListLeadsLemmas
+pub mod AnswerLemmas
+pub mod SeekLemmas
+pub mod ListedLemmas

@@ -1,0 +1,15 @@
+pub mod QuietLemmas
+pub mod DirectiveLineLemmas
+pub mod LinePartsLemmas
+pub mod BodyLemmas
+pub mod DefinedBodyLemmas
+pub mod MoveSizeLemmas
+pub mod ShortenLemmas
+pub mod ShrinkLemmas
+pub mod FinishedLemmas
+pub mod IterateLemmas
+pub mod ReachLemmas
+pub mod SpendLemmas
+pub mod WorkFallsLemmas
+pub mod CallFallsLemmas
+pub mod ParameterLemmas

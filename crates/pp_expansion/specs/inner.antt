@@ -1,0 +1,26 @@
+-- What only says how far a body has come: no definition here has to be believed.
+pub mod Untold
+pub mod SourceLexed
+pub mod Plain
+pub mod Defined
+pub mod DirectiveItems
+pub mod SourceMoves
+pub mod OpenBlocks
+pub mod Source
+pub mod Reader
+pub mod Frames
+pub mod OpenNames
+pub mod OpenAround
+pub mod Turns
+pub mod Work
+pub mod LineReading
+pub mod Reach
+pub mod Machine
+pub mod Idle
+pub mod Left
+pub mod Calling
+pub mod CallTurns
+pub mod CallNesting
+pub mod Seeking
+pub mod Finishing
+pub mod ParameterReading

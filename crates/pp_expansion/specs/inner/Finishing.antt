@@ -1,0 +1,38 @@
+-- How a call goes on whose tokens were gathered: its arguments are expanded, and its frame opens (docs/RULES.md, Expansion 7 to 9).
+use Rattle.std.specs.Prelude.{◌≡◌, ◌≤◌, ◌-◌, ℕ, List, ◌∷◌, ◌++◌, All, length, Result, Ok, Err, ⊤}
+use Rattle.pp_lexer.specs.declared.token.Token.{Token}
+use Rattle.pp_model.specs.Calls.{Site, arguments_of}
+use Rattle.pp_model.specs.Emitting.{answers_at}
+use Rattle.pp_model.specs.Names.{Name}
+use Rattle.pp_expansion.specs.inner.Calling.{PendingCall}
+use Rattle.pp_expansion.specs.inner.Defined.{Defined, meaning_of}
+use Rattle.pp_expansion.specs.inner.Frames.{layer, names_of}
+use Rattle.pp_expansion.specs.inner.Left.{most_alone}
+use Rattle.pp_expansion.specs.inner.Machine.{Machine}
+use Rattle.pp_expansion.specs.declared.halt.Halt.{Halt}
+use Rattle.pp_expansion.specs.declared.halt.Halt.TheVariants as halt
+
+-- where the call stands: what is defined there, and open
+abbrev pub site_at : PendingCall → List Defined → List Name → Site
+site_at call definitions around = record { paren = call.paren; arguments = arguments_of call.tokens; visible = meaning_of definitions; open_around = around }
+
+-- its frame is open, with arguments that it comes to, which are no longer than they may be
+pub record IsOpened (levels : ℕ) (definitions : List Defined) (around : List Name) (call : PendingCall) (old new : Machine) : Type 0 where
+  pub arguments : List (List Token)
+  pub answers : answers_at levels call.definition (site_at call definitions around) (Ok arguments)
+  pub least : All (λ argument. length argument ≤ most_alone (levels - 1) definitions (length call.tokens)) arguments
+  pub opens : new ≡ record old { frames = layer call.name call.closing.line call.definition arguments ∷ old.frames }
+
+-- the frame opens, or the call has a fault; of a refusal of memory nothing is said
+abbrev pub Finishes : ℕ → List Defined → List Name → PendingCall → Machine → Result (Unit {0}) Halt → Machine → Type 0
+Finishes levels definitions hidden call old (Ok done) new = IsOpened levels definitions (names_of old.frames ++ hidden) call old new
+Finishes levels definitions hidden call old (Err (halt.Fault fault)) new = answers_at levels call.definition (site_at call definitions (names_of old.frames ++ hidden)) (Err fault) × (new ≡ old)
+Finishes levels definitions hidden call old (Err halt.OutOfMemory) new = ⊤
+
+-- an argument alone, no longer than it may be
+abbrev pub IsShort : ℕ → List Defined → ℕ → List Token → Type 0
+IsShort levels definitions n out = length out ≤ most_alone levels definitions n
+
+-- each argument, where none of them had more tokens than this
+abbrev pub AreShort : ℕ → List Defined → List (List Token) → List (List Token) → Type 0
+AreShort levels definitions arguments outs = (n : ℕ) → All (λ argument. length argument ≤ n) arguments → All (λ out. length out ≤ most_alone levels definitions n) outs

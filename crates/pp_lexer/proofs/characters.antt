@@ -1,0 +1,17 @@
+pub mod CutLemmas
+pub mod PiecesLemmas
+pub mod LinesLemmas
+pub mod ContinuationsLemmas
+pub mod CommentsLemmas
+pub mod RisingLemmas
+pub mod ReplacedLemmas
+pub mod PhaseLemmas
+pub mod SpotsLemmas
+pub mod FrontsLemmas
+pub mod AdvancedLemmas
+pub mod PlainFrontsLemmas
+pub mod SpacesLemmas
+pub mod StraightLemmas
+pub mod NewlinesLemmas
+pub mod PlainPhasesLemmas
+pub mod CharactersLemmas

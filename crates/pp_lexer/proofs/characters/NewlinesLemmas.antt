@@ -1,0 +1,122 @@
+-- Newlines at the front of a plain text.
+use Rattle.std.proofs.Common.{◌≡◌, ℕ, ◌+◌, ◌<◌, List, [], ◌∷◌, length, drop, get_or, true, false, ◌==◌, refl, sym, ◌∙◌, ap, subst, arith, inl, Some, Ok}
+use Rattle.std.specs.Str.{chars, IsUtf8}
+use Rattle.std.proofs.lemmas.Str.{IsCharBoundary-after_ascii, chars-nil}
+use Rattle.pp_lexer.specs.declared.token.Location.{Location}
+use Rattle.pp_lexer.specs.declared.lexer.char_iterator.Spot.{Spot}
+use Rattle.pp_lexer.specs.declared.lexer.item.TokenValue.TheVariants.{NewLine}
+use Rattle.pp_lexer.specs.declared.lexer.Flags.{Flags}
+use Rattle.pp_lexer.specs.Comments.{replaced}
+use Rattle.pp_lexer.specs.Continuations.{continued}
+use Rattle.pp_lexer.specs.Cursor.{Placed}
+use Rattle.pp_lexer.specs.inner.Fronts.{spots_from}
+use Rattle.pp_lexer.specs.Lines.{pieces}
+use Rattle.pp_lexer.specs.inner.Lines.{newline_piece}
+use Rattle.pp_lexer.specs.inner.Passing.{IsPlaced, IsLexed}
+use Rattle.pp_lexer.specs.inner.PlainWords.{IsPlainNewline}
+use Rattle.pp_lexer.specs.inner.Readers.{placed_from}
+use Rattle.pp_lexer.specs.Reading.{Reading, letters, spots, first_of, first_char, advanced_of, advanced}
+use Rattle.pp_lexer.specs.Words.{word_at}
+use Rattle.pp_lexer.proofs.characters.AdvancedLemmas.{advanced_zero}
+use Rattle.pp_lexer.proofs.characters.CommentsLemmas.{replaced-plain, no_slash}
+use Rattle.pp_lexer.proofs.characters.ContinuationsLemmas.{continued-plain}
+use Rattle.pp_lexer.proofs.characters.FrontsLemmas.{ascii_chars, utf8_after}
+use Rattle.pp_lexer.proofs.items.LexLemmas.{lexed_front, placed_front}
+use Rattle.pp_lexer.proofs.items.PlainLexLemmas.{no_blank_first}
+use Rattle.pp_lexer.proofs.words.WordAtLemmas.{newline_first}
+
+pieces_newline : (text : List ℕ) → IsUtf8 text → (0 < length text → (get_or text 0 0 < 128) × ((get_or text 0 0 == 13) ≡ false)) → pieces (10 ∷ chars text) ≡ newline_piece 1 ∷ pieces (chars text)
+pieces_newline [] u h = rw chars-nil refl
+pieces_newline (b ∷ text) u h =
+    let k = h (omega arith) in
+    rw (ascii_chars b text k.0 u, k.1) refl
+
+-- the newline, and what stands on the next line
+pub newline_at : (line at : ℕ) (text : List ℕ) → IsUtf8 (10 ∷ text) → (0 < length text → (get_or text 0 0 < 128) × ((get_or text 0 0 == 13) ≡ false))
+    → spots_from line at (10 ∷ text) ≡ record { c = 10; line = line; begin = at; end = at + 1 } ∷ spots_from (line + 1) (at + 1) text
+unfolding spots_from
+newline_at line at text u h =
+    let here : Placed = record { char = 10; line = line; end = at + 1 } in
+    let more = placed_from (line + 1) (at + 1) (pieces (chars text)) in
+    let small : 10 < 128 = omega arith in
+    let total : at + length (10 ∷ text) ≡ at + 1 + length text = omega arith in
+    ap (λ cs. spots at (replaced (at + length (10 ∷ text)) (continued (placed_from line at (pieces cs))))) (ascii_chars 10 text small u)
+    ∙ ap (λ ps. spots at (replaced (at + length (10 ∷ text)) (continued (placed_from line at ps)))) (pieces_newline text (utf8_after 10 text small u) h)
+    ∙ ap (λ ps. spots at (replaced (at + length (10 ∷ text)) ps)) (continued-plain here more refl)
+    ∙ ap (spots at) (replaced-plain (at + length (10 ∷ text)) here (continued more) (no_slash here (continued more) refl))
+    ∙ ap (λ n. spots at (here ∷ replaced n (continued more))) total
+
+drop_none : (xs : List ℕ) → drop 0 xs ≡ xs
+drop_none [] = refl
+drop_none (x ∷ xs) = refl
+
+-- a line feed with an ASCII character after it that is no carriage return, or with the end
+pub line_feed : (text : List ℕ) → IsUtf8 text → 0 < length text → get_or text 0 0 ≡ 10 → (1 < length text → (get_or text 1 0 < 128) × ((get_or text 1 0 == 13) ≡ false)) → IsPlainNewline text 1
+line_feed [] u some feed after = absurd (omega arith)
+line_feed (b ∷ text) u some feed after = record {
+  some = omega arith;
+  within = omega arith;
+  cut = IsCharBoundary-after_ascii (b ∷ text) 0 u some (omega (arith, feed));
+  front = λ line at.
+      let none : drop 1 (b ∷ text) ≡ text = drop_none text in
+      ap (λ c. spots_from line at (c ∷ text)) feed ∙ newline_at line at text (subst (λ c. IsUtf8 (c ∷ text)) feed u) (λ l. after (omega arith))
+      ∙ ap (λ t. record { c = 10; line = line; begin = at; end = at + 1 } ∷ spots_from (line + 1) (at + 1) t) (sym none);
+}
+
+-- the pair, and what stands on the next line
+pair_at : (line at : ℕ) (text : List ℕ) → IsUtf8 (13 ∷ 10 ∷ text)
+    → spots_from line at (13 ∷ 10 ∷ text) ≡ record { c = 10; line = line; begin = at; end = at + 1 } ∷ spots_from (line + 1) (at + 2) text
+unfolding spots_from
+pair_at line at text u =
+    let here : Placed = record { char = 10; line = line; end = at + 2 } in
+    let more = placed_from (line + 1) (at + 2) (pieces (chars text)) in
+    let small : 13 < 128 = omega arith in
+    let low : 10 < 128 = omega arith in
+    let total : at + length (13 ∷ 10 ∷ text) ≡ at + 2 + length text = omega arith in
+    ap (λ cs. spots at (replaced (at + length (13 ∷ 10 ∷ text)) (continued (placed_from line at (pieces cs)))))
+    (ascii_chars 13 (10 ∷ text) small u ∙ ap (λ cs. 13 ∷ cs) (ascii_chars 10 text low (utf8_after 13 (10 ∷ text) small u)))
+    ∙ ap (λ ps. spots at (replaced (at + length (13 ∷ 10 ∷ text)) ps)) (continued-plain here more refl)
+    ∙ ap (spots at) (replaced-plain (at + length (13 ∷ 10 ∷ text)) here (continued more) (no_slash here (continued more) refl))
+    ∙ ap (λ n. spots at (here ∷ replaced n (continued more))) total
+
+-- a carriage return and a line feed
+pub return_feed : (text : List ℕ) → IsUtf8 text → 1 < length text → get_or text 0 0 ≡ 13 → get_or text 1 0 ≡ 10 → IsPlainNewline text 2
+return_feed [] u some e f = absurd (omega arith)
+return_feed (b ∷ []) u some e f = absurd (omega arith)
+return_feed (b ∷ d ∷ text) u some e f = record {
+  some = omega arith;
+  within = omega arith;
+  cut = IsCharBoundary-after_ascii (b ∷ d ∷ text) 1 u some (omega (arith, f));
+  front = λ line at.
+      let none : drop 2 (b ∷ d ∷ text) ≡ text = drop_none text in
+      let same : b ∷ d ∷ text ≡ 13 ∷ 10 ∷ text = ap (λ x. x ∷ d ∷ text) e ∙ ap (λ x. 13 ∷ x ∷ text) f in
+      ap (spots_from line at) same ∙ pair_at line at text (subst IsUtf8 same u)
+      ∙ ap (λ t. record { c = 10; line = line; begin = at; end = at + 1 } ∷ spots_from (line + 1) (at + 2) t) (sym none);
+}
+
+-- a newline is taken, and its place noted
+pub placed_newline : (f : Flags) (r q : Reading) (line at n : ℕ) (text rest : List ℕ) (old : Location) → r.rest ≡ spots_from line at text → IsPlainNewline text n → rest ≡ drop n text
+    → q ≡ record { rest = spots_from (line + 1) (at + n) rest; last = record { c = 10; line = line; begin = at; end = at + 1 } }
+    → IsPlaced f r old (record { leading_whitespace = true; start_of_line = true; had_comments = f.had_comments }) q (record { start = at; end = at + 1; line = line })
+placed_newline f r q line at n text rest old e w g k =
+    let first : Spot = record { c = 10; line = line; begin = at; end = at + 1 } in
+    let front : r.rest ≡ first ∷ spots_from (line + 1) (at + n) rest = e ∙ w.front line at ∙ ap (λ t. first ∷ spots_from (line + 1) (at + n) t) (sym g) in
+    let here : Some first ≡ first_char r = sym (ap first_of front) in
+    let word : word_at (letters r.rest) ≡ record { value = Ok NewLine; taken = 1 } = ap (λ ss. word_at (letters ss)) front ∙ newline_first (10 ∷ letters (spots_from (line + 1) (at + n) rest)) refl in
+    let there : q ≡ advanced (word_at (letters r.rest)).taken r =
+    k ∙ sym (advanced_zero (spots_from (line + 1) (at + n) rest) first) ∙ ap (λ ss. advanced_of 1 ss r.last) (sym front) ∙ ap (λ o. advanced o.taken r) (sym word) in
+    placed_front f r r q first first (Ok NewLine) true old here (no_blank_first first (first_char r) here refl) refl (inl (ap (λ o. Ok o.value) (sym word))) there (ap (λ x. x.last) (sym k)) refl
+
+-- a newline is taken
+pub lexed_newline : (f : Flags) (r q : Reading) (line at n : ℕ) (text rest : List ℕ) → r.rest ≡ spots_from line at text → IsPlainNewline text n → rest ≡ drop n text
+    → q ≡ record { rest = spots_from (line + 1) (at + n) rest; last = record { c = 10; line = line; begin = at; end = at + 1 } }
+    → IsLexed f r (Ok (Some (Ok (record { value = NewLine; location = record { start = at; end = at + 1; line = line }; leading_whitespace = f.leading_whitespace; start_of_line = f.start_of_line }))))
+    (record { leading_whitespace = true; start_of_line = true; had_comments = f.had_comments }) q
+lexed_newline f r q line at n text rest e w g k =
+    let first : Spot = record { c = 10; line = line; begin = at; end = at + 1 } in
+    let front : r.rest ≡ first ∷ spots_from (line + 1) (at + n) rest = e ∙ w.front line at ∙ ap (λ t. first ∷ spots_from (line + 1) (at + n) t) (sym g) in
+    let here : Some first ≡ first_char r = sym (ap first_of front) in
+    let word : word_at (letters r.rest) ≡ record { value = Ok NewLine; taken = 1 } = ap (λ ss. word_at (letters ss)) front ∙ newline_first (10 ∷ letters (spots_from (line + 1) (at + n) rest)) refl in
+    let there : q ≡ advanced (word_at (letters r.rest)).taken r =
+    k ∙ sym (advanced_zero (spots_from (line + 1) (at + n) rest) first) ∙ ap (λ ss. advanced_of 1 ss r.last) (sym front) ∙ ap (λ o. advanced o.taken r) (sym word) in
+    lexed_front f r r q first first (Ok NewLine) _ true here (no_blank_first first (first_char r) here refl) refl (inl (ap (λ o. Ok o.value) (sym word))) there (ap (λ x. x.last) (sym k)) refl refl

@@ -1,0 +1,10 @@
+pub mod SurroundingsLemmas
+pub mod SegmentsLemmas
+pub mod PassingLemmas
+pub mod LexLemmas
+pub mod PlainLexLemmas
+pub mod ItemsLemmas
+pub mod ItemPlacesLemmas
+pub mod PlacesLemmas
+pub mod TokenLinesLemmas
+pub mod CountLemmas

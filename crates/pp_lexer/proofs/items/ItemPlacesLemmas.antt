@@ -1,0 +1,44 @@
+-- Each item of a text has one place, which is that of a token's location.
+use Rattle.std.proofs.Common.{◌≡◌, List, [], ◌∷◌, ◌++◌, Bool, true, false, refl, sym, subst, Ok, Err}
+use Rattle.pp_lexer.specs.declared.token.Location.{Location}
+use Rattle.pp_lexer.specs.declared.lexer.char_iterator.Spot.{Spot}
+use Rattle.pp_lexer.specs.Segments.{Kind, blank, comment, item, Segment, segments}
+use Rattle.pp_lexer.specs.Items.{Item, start_of_line, item_at, final_newline, items_of, places_at, places_of}
+use Rattle.pp_lexer.specs.ItemLaws.{StandAt}
+use Rattle.pp_lexer.specs.inner.Passing.{places_from}
+use Rattle.pp_lexer.proofs.items.ItemsLemmas.{items_from, items_at_start, places_at_start, flags_after, last_before, flags_step}
+
+stand-append : (items more : List Item) (places others : List Location) → StandAt items places → StandAt more others → StandAt (items ++ more) (places ++ others)
+stand-append [] more [] others h k = k
+stand-append [] more (p ∷ places) others h k = absurd h
+stand-append (i ∷ items) more [] others h k = absurd h
+stand-append (i ∷ items) more (p ∷ places) others h k = (h.0, stand-append items more places others h.1 k)
+
+segment_stands : (k : Kind) (g : Segment) (before : List Segment) → StandAt (item_at before g k) (places_at g k)
+segment_stands blank g before = tt
+segment_stands comment g before = tt
+segment_stands (item (Ok v)) g before = (refl, tt)
+segment_stands (item (Err e)) g before = (tt, tt)
+
+end_stands : (before : List Segment) (s : Spot) → StandAt (final_newline before) (places_from (flags_after before) (last_before before s) [])
+end_stands [] s = tt
+end_stands (g ∷ gs) s = by (start_of_line (g ∷ gs)) refl
+  where
+    by : (b : Bool) → start_of_line (g ∷ gs) ≡ b → StandAt (final_newline (g ∷ gs)) (places_from (flags_after (g ∷ gs)) g.last [])
+    by true e = rw e tt
+    by false e = rw e (refl, tt)
+
+items_stand : (gs before : List Segment) (s : Spot) → StandAt (items_from before gs) (places_from (flags_after before) (last_before before s) gs)
+unfolding items_from
+items_stand [] before s = end_stands before s
+items_stand (g ∷ gs) before s =
+    stand-append (item_at before g g.kind) (items_from (g ∷ before) gs) (places_at g g.kind) _ (segment_stands g.kind g before)
+    (subst (λ f. StandAt (items_from (g ∷ before) gs) (places_from f g.last gs)) (flags_step g.kind g.first g.last before) (items_stand gs (g ∷ before) s))
+
+nowhere_spot : Spot
+nowhere_spot = record { c = 0; line = 0; begin = 0; end = 0 }
+
+pub places_of_items : (ss : List Spot) → StandAt (items_of ss) (places_of ss)
+places_of_items ss =
+    subst (λ items. StandAt items (places_of ss)) (sym (items_at_start ss))
+    (subst (StandAt (items_from [] (segments ss))) (sym (places_at_start ss nowhere_spot)) (items_stand (segments ss) [] nowhere_spot))

@@ -1,0 +1,105 @@
+-- How a lexer in the midst of a text passes a blank, and what stands at the front.
+use Rattle.std.proofs.Common.{◌≡◌, ℕ, zero, suc, ◌<◌, List, [], ◌∷◌, ◌++◌, take, drop, Bool, true, false, ◌||◌, refl, sym, ◌∙◌, ap, arith, cond, Some, option_map}
+use Rattle.std.specs.List.{list_any}
+use Rattle.pp_lexer.specs.declared.lexer.char_iterator.Spot.{Spot}
+use Rattle.pp_lexer.specs.declared.lexer.Flags.{Flags}
+use Rattle.pp_lexer.specs.Reading.{Reading, letters, first_of, first_char, past, after_first, advanced_of}
+use Rattle.pp_lexer.specs.Words.{word_at}
+use Rattle.pp_lexer.specs.Segments.{blank, comment, item, is_mark, last_of, kind_of, taken_by, segments}
+use Rattle.pp_lexer.specs.Words.{is_blank}
+use Rattle.pp_lexer.specs.Items.{is_comment}
+use Rattle.pp_lexer.specs.Items.{places_at}
+use Rattle.pp_lexer.specs.inner.Passing.{passed, item_seen, seen_from, seen_of, comments_at_end, places_from, places_left}
+use Rattle.pp_lexer.proofs.items.SegmentsLemmas.{segments_first, advanced-last}
+
+-- the flags after a blank
+abbrev pub blanked : Flags → ℕ → Flags
+blanked f c = record { leading_whitespace = true; start_of_line = f.start_of_line; had_comments = f.had_comments || is_mark c }
+
+kind_blank : (s : Spot) (ss : List Spot) → is_blank s.c ≡ true → kind_of s ss ≡ cond (is_mark s.c) comment blank
+kind_blank s ss e = rw e refl
+
+kind_front : (s : Spot) (ss : List Spot) → is_blank s.c ≡ false → kind_of s ss ≡ item (word_at (letters (s ∷ ss))).value
+kind_front s ss e = rw e refl
+
+passed_blank : (f : Flags) (c : ℕ) → passed f (cond (is_mark c) comment blank) ≡ blanked f c
+passed_blank f c = by f.had_comments (is_mark c)
+  where
+    by : (h b : Bool) → passed (record f { had_comments = h }) (cond b comment blank) ≡ record { leading_whitespace = true; start_of_line = f.start_of_line; had_comments = h || b }
+    by true true = refl
+    by true false = refl
+    by false true = refl
+    by false false = refl
+
+none_seen : (f : Flags) (first last : Spot) (b : Bool) → item_seen f (record { kind = cond b comment blank; first = first; last = last }) (cond b comment blank) ≡ []
+none_seen f first last true = refl
+none_seen f first last false = refl
+
+comment_is : (b : Bool) → is_comment (cond b comment blank) ≡ b
+comment_is true = refl
+comment_is false = refl
+
+-- a blank alone
+blank_first : (s : Spot) (ss : List Spot) → is_blank s.c ≡ true → segments (s ∷ ss) ≡ record { kind = cond (is_mark s.c) comment blank; first = s; last = s } ∷ segments ss
+blank_first s ss e =
+    let t : taken_by s ss ≡ 1 = rw e refl in
+    segments_first s ss ∙ rw (t, kind_blank s ss e) refl
+
+pub blank_seen : (f : Flags) (last s : Spot) (ss : List Spot) → is_blank s.c ≡ true
+    → seen_from f last (segments (s ∷ ss)) ≡ seen_from (blanked f s.c) s (segments ss)
+blank_seen f last s ss e =
+    ap (seen_from f last) (blank_first s ss e)
+    ∙ ap (λ xs. xs ++ seen_from (passed f (cond (is_mark s.c) comment blank)) s (segments ss)) (none_seen f s s (is_mark s.c))
+    ∙ ap (λ g. seen_from g s (segments ss)) (passed_blank f s.c)
+
+none_placed : (first last : Spot) (b : Bool) → places_at (record { kind = cond b comment blank; first = first; last = last }) (cond b comment blank) ≡ []
+none_placed first last true = refl
+none_placed first last false = refl
+
+pub blank_places : (f : Flags) (last s : Spot) (ss : List Spot) → is_blank s.c ≡ true
+    → places_from f last (segments (s ∷ ss)) ≡ places_from (blanked f s.c) s (segments ss)
+blank_places f last s ss e =
+    ap (places_from f last) (blank_first s ss e)
+    ∙ ap (λ xs. xs ++ places_from (passed f (cond (is_mark s.c) comment blank)) s (segments ss)) (none_placed s s (is_mark s.c))
+    ∙ ap (λ g. places_from g s (segments ss)) (passed_blank f s.c)
+
+pub blank_at_end : (f : Flags) (s : Spot) (ss : List Spot) → is_blank s.c ≡ true
+    → (f.had_comments || list_any (λ g. is_comment g.kind) (segments (s ∷ ss))) ≡ ((f.had_comments || is_mark s.c) || list_any (λ g. is_comment g.kind) (segments ss))
+blank_at_end f s ss e =
+    ap (λ gs. f.had_comments || list_any (λ g. is_comment g.kind) gs) (blank_first s ss e)
+    ∙ ap (λ b. f.had_comments || (b || list_any (λ g. is_comment g.kind) (segments ss))) (comment_is (is_mark s.c))
+    ∙ joined f.had_comments (is_mark s.c) (list_any (λ g. is_comment g.kind) (segments ss))
+  where
+    joined : (h m t : Bool) → (h || (m || t)) ≡ ((h || m) || t)
+    joined true m t = refl
+    joined false m t = refl
+
+-- a blank that was taken
+pub record IsBlanked (f g : Flags) (r q : Reading) : Type 0 where
+  pub same : seen_of g q ≡ seen_of f r
+  pub at_end : comments_at_end g q ≡ comments_at_end f r
+  pub places : places_left g q ≡ places_left f r
+
+blanked_at : (f : Flags) (last : Spot) (ss : List Spot) (c : ℕ) (q : Reading) → Some c ≡ option_map (λ s. s.c) (first_of ss) → true ≡ is_blank c → q ≡ past ss last
+    → IsBlanked f (blanked f c) (record { rest = ss; last = last }) q
+blanked_at f last [] c q e b h = cc
+blanked_at f last (s ∷ ss) c q e b h =
+    let k : c ≡ s.c = cc in
+    let k' : is_blank s.c ≡ true = sym (b ∙ ap is_blank k) in
+    rw (h, k) (record { same = sym (blank_seen f last s ss k'); at_end = sym (blank_at_end f s ss k'); places = sym (blank_places f last s ss k') })
+
+pub blank_passed : (f : Flags) (r p q : Reading) (c : ℕ) → Some c ≡ option_map (λ s. s.c) (first_char r) → true ≡ is_blank c → p ≡ r → q ≡ after_first p → IsBlanked f (blanked f c) r q
+blank_passed f r p q c e b h k = blanked_at f r.last r.rest c q e b (k ∙ ap after_first h)
+
+-- what stands at the front, where it is no blank
+pub front_first : (s : Spot) (ss : List Spot) → is_blank s.c ≡ false
+    → segments (s ∷ ss) ≡ record { kind = item (word_at (letters (s ∷ ss))).value; first = s; last = last_of s (take (word_at (letters (s ∷ ss))).taken (s ∷ ss)) }
+    ∷ segments (drop (word_at (letters (s ∷ ss))).taken (s ∷ ss))
+front_first s ss e =
+    let t : taken_by s ss ≡ (word_at (letters (s ∷ ss))).taken = rw e refl in
+    segments_first s ss ∙ rw (t, kind_front s ss e) refl
+
+-- the first character counts as the last one before it
+pub last_same : (n : ℕ) (last s : Spot) (ss : List Spot) → 0 < n → last_of s (take n (s ∷ ss)) ≡ (advanced_of n (s ∷ ss) last).last
+last_same zero last s ss h = absurd (omega arith)
+last_same (suc n) last s ss h = sym (advanced-last n ss s)

@@ -1,0 +1,106 @@
+-- The tokens of characters that stand in order lie where these do.
+use Rattle.std.proofs.Common.{◌≡◌, ℕ, zero, suc, ◌+◌, ◌≤◌, ◌<◌, List, [], ◌∷◌, ◌++◌, length, take, drop, Bool, true, false, refl, sym, arith, Ok, Err, subst}
+use Rattle.std.specs.Prelude.{All}
+use Rattle.std.specs.Char.{len_utf8}
+use Rattle.std.proofs.lemmas.List.Elements.{All-cons}
+use Rattle.pp_lexer.specs.declared.lexer.char_iterator.Spot.{Spot}
+use Rattle.pp_lexer.specs.Cursor.{Placed}
+use Rattle.pp_lexer.specs.Reading.{spots}
+use Rattle.pp_lexer.specs.Segments.{Kind, blank, comment, item, Segment, last_of, taken_by, segments_within, segments}
+use Rattle.pp_lexer.specs.Items.{Item, item_at, start_of_line, final_newline, items_of}
+use Rattle.pp_lexer.specs.ItemLaws.{IsWithin}
+use Rattle.pp_lexer.specs.PhaseLaws.{StretchesFollow}
+use Rattle.pp_lexer.proofs.items.SegmentsLemmas.{taken_some}
+use Rattle.pp_lexer.proofs.items.ItemsLemmas.{items_from, items_at_start}
+
+-- the characters stand one after the other, from this byte on
+Ordered : ℕ → ℕ → List Spot → Type 0
+Ordered at total [] = Unit {0}
+Ordered at total (s ∷ ss) = (at ≤ s.begin) × (s.begin ≤ s.end) × (s.end ≤ total) × Ordered s.end total ss
+
+ordered_before : (a b total : ℕ) (ss : List Spot) → b ≤ a → Ordered a total ss → Ordered b total ss
+unfolding Ordered
+ordered_before a b total [] h o = tt
+ordered_before a b total (s ∷ ss) h o = (omega (arith, o.0), o.1, o.2, o.3)
+
+-- stretches that follow one another end in the source
+begin_within : (at total : ℕ) (ps : List Placed) → StretchesFollow at total ps → at ≤ total
+begin_within at total [] h = h
+begin_within at total (p ∷ ps) h = omega (arith, h.0, begin_within p.end total ps h.1)
+
+ordered_spots : (at total : ℕ) (ps : List Placed) → StretchesFollow at total ps → Ordered at total (spots at ps)
+unfolding Ordered
+ordered_spots at total [] h = tt
+ordered_spots at total (p ∷ ps) h =
+    (omega arith, omega arith, omega (arith, h.0, begin_within p.end total ps h.1), ordered_before p.end (at + len_utf8 p.char) total (spots p.end ps) h.0 (ordered_spots p.end total ps h.1))
+
+ordered_drop : (n at total : ℕ) (ss : List Spot) → Ordered at total ss → Ordered at total (drop n ss)
+unfolding Ordered
+ordered_drop zero at total ss o = o
+ordered_drop (suc n) at total [] o = tt
+ordered_drop (suc n) at total (s ∷ ss) o = ordered_before s.end at total (drop n ss) (omega (arith, o.0, o.1)) (ordered_drop n s.end total ss o.3)
+
+last_ordered : (n total : ℕ) (s : Spot) (ss : List Spot) → s.begin ≤ s.end → s.end ≤ total → Ordered s.end total ss
+    → (s.begin ≤ (last_of s (take n ss)).end) × ((last_of s (take n ss)).end ≤ total)
+unfolding Ordered
+last_ordered zero total s ss h k o = (h, k)
+last_ordered (suc n) total s [] h k o = (h, k)
+last_ordered (suc n) total s (t ∷ ss) h k o =
+    let l = last_ordered n total t ss o.1 o.2 o.3 in
+    (omega (arith, h, o.0, l.0), l.1)
+
+-- the segment begins before it ends, and ends in the source
+abbrev pub Lies : ℕ → Segment → Type 0
+Lies total g = (g.first.begin ≤ g.last.end) × (g.last.end ≤ total)
+
+-- each element of the list has the property
+unfoldable pub Each : {X : Type 0} → (X → Type 0) → List X → Type 0
+Each P [] = Unit {0}
+Each P (x ∷ xs) = P x × Each P xs
+
+first_lies : (at total : ℕ) (s : Spot) (ss : List Spot) (n : ℕ) → 0 < n → Ordered at total (s ∷ ss) → Lies total (record { kind = blank; first = s; last = last_of s (take n (s ∷ ss)) })
+unfolding Ordered
+first_lies at total s ss zero h o = absurd (omega arith)
+first_lies at total s ss (suc n) h o = last_ordered n total s ss o.1 o.2 o.3
+
+segments_lie : (n at total : ℕ) (ss : List Spot) → Ordered at total ss → Each (Lies total) (segments_within n ss)
+unfolding Ordered Each
+segments_lie zero at total ss o = tt
+segments_lie (suc n) at total [] o = tt
+segments_lie (suc n) at total (s ∷ ss) o =
+    (first_lies at total s ss (taken_by s ss) (taken_some s ss) o, segments_lie n at total (drop (taken_by s ss) (s ∷ ss)) (ordered_drop (taken_by s ss) at total (s ∷ ss) o))
+
+item_lies : (total : ℕ) (before : List Segment) (g : Segment) (k : Kind) (is : List Item) → Lies total g → Each (λ i. IsWithin total i.item) is → Each (λ i. IsWithin total i.item) (item_at before g k ++ is)
+unfolding Each
+item_lies total before g blank is h e = e
+item_lies total before g comment is h e = e
+item_lies total before g (item (Ok v)) is h e = (h, e)
+item_lies total before g (item (Err x)) is h e = (tt, e)
+
+newline_lies : (total : ℕ) (before : List Segment) → Each (Lies total) before → Each (λ i. IsWithin total i.item) (final_newline before)
+unfolding Each
+newline_lies total [] h = tt
+newline_lies total (g ∷ gs) h = by (start_of_line (g ∷ gs)) refl
+  where
+    by : (b : Bool) → start_of_line (g ∷ gs) ≡ b → Each (λ i. IsWithin total i.item) (final_newline (g ∷ gs))
+    by true e = rw e tt
+    by false e = rw e ((omega arith, h.0.1), tt)
+
+items_lie : (total : ℕ) (gs before : List Segment) → Each (Lies total) gs → Each (Lies total) before → Each (λ i. IsWithin total i.item) (items_from before gs)
+unfolding Each items_from
+items_lie total [] before h b = newline_lies total before b
+items_lie total (g ∷ gs) before h b = item_lies total before g g.kind (items_from (g ∷ before) gs) h.0 (items_lie total gs (g ∷ before) h.1 (h.0, b))
+
+-- then it holds at each index
+pub each_all : {X : Type 0} (P : X → Type 0) (xs : List X) → Each P xs → All P xs
+unfolding Each
+each_all P [] h = λ k d l. absurd (omega arith)
+each_all P (x ∷ xs) h = All-cons P x xs h.0 (each_all P xs h.1)
+
+-- the tokens of characters whose stretches follow one another lie in the source
+pub items_within : (at total : ℕ) (ps : List Placed) → StretchesFollow at total ps → All (λ i. IsWithin total i.item) (items_of (spots at ps))
+unfolding Each segments
+items_within at total ps h =
+    each_all (λ i. IsWithin total i.item) (items_of (spots at ps))
+    (subst (Each (λ i. IsWithin total i.item)) (sym (items_at_start (spots at ps)))
+    (items_lie total (segments (spots at ps)) [] (segments_lie (length (spots at ps)) at total (spots at ps) (ordered_spots at total ps h)) tt))

@@ -1,0 +1,137 @@
+-- What a lexer gives at a plain word, and how it passes spaces.
+use Rattle.std.proofs.Common.{◌≡◌, ℕ, zero, suc, ◌+◌, ◌-◌, ◌<◌, ◌≤◌, List, [], ◌∷◌, ◌++◌, length, take, drop, get_or, true, false, ◌||◌, refl, sym, ◌∙◌, ap, subst, arith, inl, inr, Option, Some, None, Result, Ok, Err, IsErr, MatchOption}
+use Rattle.std.specs.Bool.{⊤}
+use Rattle.std.specs.List.{list_all, list_any}
+use Rattle.std.specs.Str.{IsUtf8}
+use Rattle.std.specs.declared.alloc.AllocError.{AllocError}
+use Rattle.pp_lexer.specs.declared.token.Location.{Location}
+use Rattle.pp_lexer.specs.declared.lexer.char_iterator.Spot.{Spot}
+use Rattle.pp_lexer.specs.declared.lexer.item.TokenValue.{TokenValue}
+use Rattle.pp_lexer.specs.declared.lexer.Flags.{Flags}
+use Rattle.pp_lexer.specs.inner.Fronts.{spots_from, run}
+use Rattle.pp_lexer.specs.Items.{Lexeme, is_comment}
+use Rattle.pp_lexer.specs.Lexed.{first_item}
+use Rattle.pp_lexer.specs.inner.Passing.{seen_from, seen_of, comments_at_end, places_from, places_left, IsPlaced, IsLexed}
+use Rattle.pp_lexer.specs.LexerToken.{holds_memory}
+use Rattle.pp_lexer.specs.inner.PlainWords.{is_space, IsPlainWord, IsPlainLexed}
+use Rattle.pp_lexer.specs.Reading.{Reading, letters, first_char, advanced_of, advanced}
+use Rattle.pp_lexer.specs.Segments.{segments}
+use Rattle.pp_lexer.specs.Words.{is_blank, word_at}
+use Rattle.pp_lexer.specs.Outcome.{takes_memory}
+use Rattle.std.proofs.lemmas.List.{length-take-le}
+use Rattle.pp_lexer.proofs.characters.FrontsLemmas.{plain_front}
+use Rattle.pp_lexer.proofs.items.LexLemmas.{lexed_front, lexed_refused, placed_front}
+use Rattle.pp_lexer.proofs.characters.PlainFrontsLemmas.{all_plain, split_at, advanced_run, front_plain, front_first, after_front}
+use Rattle.pp_lexer.proofs.characters.SpacesLemmas.{space_plain, spaced, spaces_seen, spaces_places, spaces_at_end}
+
+-- the first character of a text is no blank
+pub no_blank_first : (first : Spot) (o : Option Spot) → Some first ≡ o → is_blank first.c ≡ false → MatchOption o ⊤ (λ s. is_blank s.c ≡ false)
+no_blank_first first None e h = tt
+no_blank_first first (Some s) e h = let k : first ≡ s = cc in ap (λ x. is_blank x.c) (sym k) ∙ h
+
+-- where a reader went, by the bytes that were read
+pub gone : (q : Reading) (line at n : ℕ) (text bytes rest : List ℕ)
+    → q ≡ record { rest = spots_from line (at + n) rest; last = record { c = get_or bytes (n - 1) 0; line = line; begin = at + n - 1; end = at + n } } → bytes ≡ text → rest ≡ drop n text
+    → q ≡ record { rest = spots_from line (at + n) (drop n text); last = record { c = get_or text (n - 1) 0; line = line; begin = at + n - 1; end = at + n } }
+gone q line at n text bytes rest e f g =
+    e ∙ ap (λ t. record { rest = spots_from line (at + n) t; last = record { c = get_or bytes (n - 1) 0; line = line; begin = at + n - 1; end = at + n } }) g
+    ∙ ap (λ t. record { rest = spots_from line (at + n) (drop n text); last = record { c = get_or t (n - 1) 0; line = line; begin = at + n - 1; end = at + n } }) f
+
+-- after spaces
+record PassesSpaces (f : Flags) (line at n : ℕ) (text : List ℕ) (last : Spot) : Type 0 where
+  seen : seen_from f last (segments (spots_from line at text))
+      ≡ seen_from (spaced f) (advanced_of n (spots_from line at text) last).last (segments (advanced_of n (spots_from line at text) last).rest)
+  at_end : (f.had_comments || list_any (λ g. is_comment g.kind) (segments (spots_from line at text)))
+      ≡ (f.had_comments || list_any (λ g. is_comment g.kind) (segments (advanced_of n (spots_from line at text) last).rest))
+  places : places_from f last (segments (spots_from line at text))
+      ≡ places_from (spaced f) (advanced_of n (spots_from line at text) last).last (segments (advanced_of n (spots_from line at text) last).rest)
+
+spaces_passed : (f : Flags) (line at n : ℕ) (text : List ℕ) (last : Spot) → IsUtf8 text → 0 < n → n ≤ length text → list_all is_space (take n text) ≡ true → PassesSpaces f line at n text last
+spaces_passed f line at zero text last u some le h = absurd (omega arith)
+spaces_passed f line at (suc n) [] last u some le h = absurd (omega arith)
+spaces_passed f line at (suc n) (c ∷ text) last u some le h =
+    let w = take n text in
+    let whole : c ∷ text ≡ (c ∷ w) ++ drop n text = ap (λ t. c ∷ t) (split_at n text) in
+    let more = spots_from line (at + length (c ∷ w)) (drop n text) in
+    let front : spots_from line at (c ∷ text) ≡ run line at (c ∷ w) ++ more =
+    ap (spots_from line at) whole ∙ plain_front line at (c ∷ w) (drop n text) (all_plain is_space space_plain (c ∷ w) h) (subst IsUtf8 whole u) in
+    let size : suc n ≡ length (c ∷ w) = omega (arith, length-take-le n text (omega arith)) in
+    let final : Spot = record { c = get_or (c ∷ w) (length w) 0; line = line; begin = at + length w; end = at + length w + 1 } in
+    let there : advanced_of (suc n) (spots_from line at (c ∷ text)) last ≡ record { rest = more; last = final } =
+    ap (λ ss. advanced_of (suc n) ss last) front ∙ ap (λ k. advanced_of k (run line at (c ∷ w) ++ more) last) size ∙ advanced_run line at c w more last in
+    record {
+      seen = ap (λ ss. seen_from f last (segments ss)) front ∙ spaces_seen f line at c w more last h ∙ sym (ap (λ x. seen_from (spaced f) x.last (segments x.rest)) there);
+      at_end = ap (λ ss. f.had_comments || list_any (λ g. is_comment g.kind) (segments ss)) front ∙ spaces_at_end f line at (c ∷ w) more h
+          ∙ sym (ap (λ x. f.had_comments || list_any (λ g. is_comment g.kind) (segments x.rest)) there);
+      places = ap (λ ss. places_from f last (segments ss)) front ∙ spaces_places f line at c w more last h ∙ sym (ap (λ x. places_from (spaced f) x.last (segments x.rest)) there);
+    }
+
+module _ (f : Flags) (r : Reading) (line at : ℕ) (text : List ℕ) (e : r.rest ≡ spots_from line at text) where
+  module _ (value : TokenValue) (n : ℕ) (w : IsPlainWord text value n) where
+    first : Spot
+    first = record { c = get_or text 0 0; line = line; begin = at; end = at + 1 }
+
+    here : Some first ≡ first_char r
+    unfolding first
+    here = front_first n line at text r.rest w.some w.within w.front e
+
+    there : (q : Reading)
+        → q ≡ record { rest = spots_from line (at + n) (drop n text); last = record { c = get_or text (n - 1) 0; line = line; begin = at + n - 1; end = at + n } } → q ≡ advanced (word_at (letters r.rest)).taken r
+    there q k =
+        let word : word_at (letters r.rest) ≡ record { value = Ok value; taken = n } = ap (λ ss. word_at (letters ss)) e ∙ w.word line at in
+        k ∙ sym (after_front n line at text r.last w.some w.within w.front) ∙ ap (λ ss. advanced_of n ss r.last) (sym e) ∙ ap (λ o. advanced o.taken r) (sym word)
+
+    -- a plain word is taken
+    pub lexed_plain : (q : Reading)
+        → q ≡ record { rest = spots_from line (at + n) (drop n text); last = record { c = get_or text (n - 1) 0; line = line; begin = at + n - 1; end = at + n } }
+        → IsLexed f r (Ok (Some (Ok (record { value = value; location = record { start = at; end = at + n; line = line }; leading_whitespace = f.leading_whitespace; start_of_line = f.start_of_line }))))
+        (record { leading_whitespace = false; start_of_line = false; had_comments = f.had_comments }) q
+    unfolding first
+    lexed_plain q k =
+        let last : Spot = record { c = get_or text (n - 1) 0; line = line; begin = at + n - 1; end = at + n } in
+        let word : word_at (letters r.rest) ≡ record { value = Ok value; taken = n } = ap (λ ss. word_at (letters ss)) e ∙ w.word line at in
+        lexed_front f r r q first last (Ok value) _ false here (no_blank_first first (first_char r) here w.no_blank) refl (inl (ap (λ o. Ok o.value) (sym word))) (there q k) (ap (λ x. x.last) (sym k)) refl (sym w.no_newline)
+
+    -- and its place noted
+    pub placed_plain : (q : Reading) (old : Location)
+        → q ≡ record { rest = spots_from line (at + n) (drop n text); last = record { c = get_or text (n - 1) 0; line = line; begin = at + n - 1; end = at + n } }
+        → IsPlaced f r old (record { leading_whitespace = false; start_of_line = false; had_comments = f.had_comments }) q (record { start = at; end = at + n; line = line })
+    unfolding first
+    placed_plain q old k =
+        let last : Spot = record { c = get_or text (n - 1) 0; line = line; begin = at + n - 1; end = at + n } in
+        let word : word_at (letters r.rest) ≡ record { value = Ok value; taken = n } = ap (λ ss. word_at (letters ss)) e ∙ w.word line at in
+        placed_front f r r q first last (Ok value) false old here (no_blank_first first (first_char r) here w.no_blank) refl (inl (ap (λ o. Ok o.value) (sym word))) (there q k) (ap (λ x. x.last) (sym k)) (sym w.no_newline)
+
+    -- memory was refused
+    pub refused_plain : (err : AllocError) (answer : Result (Option Lexeme) AllocError) → IsErr answer → holds_memory value ≡ true → IsLexed f r answer f r
+    unfolding first
+    refused_plain err answer h m =
+        lexed_refused f r r r first err answer here (no_blank_first first (first_char r) here w.no_blank) refl h
+        (inr (refl, ap (λ ss. takes_memory (word_at (letters ss)).value) e ∙ ap (λ o. takes_memory o.value) (w.word line at) ∙ m))
+
+  module _ (u : IsUtf8 text) (q : Reading) (n : ℕ) (more : 0 < n) (le : n ≤ length text) (passes : list_all is_space (take n text) ≡ true)
+      (k : q ≡ record { rest = spots_from line (at + n) (drop n text); last = record { c = get_or text (n - 1) 0; line = line; begin = at + n - 1; end = at + n } }) where
+    moved : q ≡ advanced_of n (spots_from line at text) r.last
+    moved = k ∙ sym (after_front n line at text r.last more le (front_plain n text u le (all_plain is_space space_plain (take n text) passes)))
+
+    pub spaces_same : seen_of (spaced f) q ≡ seen_of f r
+    spaces_same =
+        ap (seen_of (spaced f)) moved ∙ sym (spaces_passed f line at n text r.last u more le passes).seen ∙ ap (λ ss. seen_from f r.last (segments ss)) (sym e)
+
+    pub spaces_placed : places_left (spaced f) q ≡ places_left f r
+    spaces_placed =
+        ap (places_left (spaced f)) moved ∙ sym (spaces_passed f line at n text r.last u more le passes).places ∙ ap (λ ss. places_from f r.last (segments ss)) (sym e)
+
+    pub spaces_comments : comments_at_end (spaced f) q ≡ comments_at_end f r
+    spaces_comments =
+        ap (comments_at_end (spaced f)) moved ∙ sym (spaces_passed f line at n text r.last u more le passes).at_end
+        ∙ ap (λ ss. f.had_comments || list_any (λ g. is_comment g.kind) (segments ss)) (sym e)
+
+-- an error stays one
+pub lexed_err : (f g : Flags) (r q : Reading) (err : AllocError) (answer : Result (Option Lexeme) AllocError) → IsLexed f r (Err err) g q → IsErr answer → IsLexed f r answer g q
+lexed_err f g r q err answer (inl x) h = inl (record { value = h; needed = x.needed; comments = x.comments })
+lexed_err f g r q err answer (inr x) h = let e : Err err ≡ Ok (first_item (seen_of f r)) = x.value in cc
+
+pub plain_refused : (f : Flags) (r : Reading) (answer : Result (Option Lexeme) AllocError) → IsErr answer → ((err : AllocError) → IsLexed f r (Err err) f r) → IsPlainLexed f r answer f r
+plain_refused f r (Ok o) h k = cc
+plain_refused f r (Err err) h k = k err

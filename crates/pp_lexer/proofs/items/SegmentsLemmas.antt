@@ -1,0 +1,51 @@
+-- The first segment of a text, and those after it.
+use Rattle.std.proofs.Common.{◌≡◌, ℕ, zero, suc, ◌-◌, ◌<◌, ◌≤◌, List, [], ◌∷◌, length, take, drop, Bool, true, false, refl, ap, arith, length-drop}
+use Rattle.pp_lexer.specs.declared.lexer.char_iterator.Spot.{Spot}
+use Rattle.pp_lexer.specs.Reading.{letters, advanced_of}
+use Rattle.pp_lexer.specs.Segments.{last_of, taken_by, segment_at, segments_within, segments}
+use Rattle.pp_lexer.specs.Words.{is_blank}
+use Rattle.pp_lexer.proofs.words.WordAtLemmas.{word_at-some}
+
+pub taken_some : (s : Spot) (ss : List Spot) → 0 < taken_by s ss
+taken_some s ss = by (is_blank s.c) refl
+  where
+    by : (b : Bool) → is_blank s.c ≡ b → 0 < taken_by s ss
+    by true e = rw e (omega arith)
+    by false e = rw e (word_at-some s.c (letters ss))
+
+-- more turns than characters make no difference
+segments_enough : (m n : ℕ) (ss : List Spot) → length ss ≤ m → length ss ≤ n → segments_within m ss ≡ segments_within n ss
+segments_enough zero zero ss h k = refl
+segments_enough zero (suc n) [] h k = refl
+segments_enough zero (suc n) (s ∷ ss) h k = absurd (omega arith)
+segments_enough (suc m) zero [] h k = refl
+segments_enough (suc m) zero (s ∷ ss) h k = absurd (omega arith)
+segments_enough (suc m) (suc n) [] h k = refl
+segments_enough (suc m) (suc n) (s ∷ ss) h k =
+    let t : 0 < taken_by s ss = taken_some s ss in
+    let d : length (drop (taken_by s ss) (s ∷ ss)) ≡ length (s ∷ ss) - taken_by s ss = length-drop (taken_by s ss) (s ∷ ss) in
+    ap (λ gs. segment_at s ss ∷ gs) (segments_enough m n (drop (taken_by s ss) (s ∷ ss)) (omega arith) (omega arith))
+
+pub segments_none : segments [] ≡ []
+unfolding segments
+segments_none = refl
+
+pub segments_first : (s : Spot) (ss : List Spot) → segments (s ∷ ss) ≡ segment_at s ss ∷ segments (drop (taken_by s ss) (s ∷ ss))
+unfolding segments
+segments_first s ss =
+    let t : 0 < taken_by s ss = taken_some s ss in
+    let d : length (drop (taken_by s ss) (s ∷ ss)) ≡ length (s ∷ ss) - taken_by s ss = length-drop (taken_by s ss) (s ∷ ss) in
+    ap (λ gs. segment_at s ss ∷ gs) (segments_enough (length ss) (length (drop (taken_by s ss) (s ∷ ss))) (drop (taken_by s ss) (s ∷ ss)) (omega arith) (omega arith))
+
+-- a reader that is further on
+pub advanced-rest : (n : ℕ) (ss : List Spot) (last : Spot) → (advanced_of n ss last).rest ≡ drop n ss
+advanced-rest zero [] last = refl
+advanced-rest (suc n) [] last = refl
+advanced-rest zero (s ∷ ss) last = refl
+advanced-rest (suc n) (s ∷ ss) last = advanced-rest n ss s
+
+pub advanced-last : (n : ℕ) (ss : List Spot) (last : Spot) → (advanced_of n ss last).last ≡ last_of last (take n ss)
+advanced-last zero [] last = refl
+advanced-last (suc n) [] last = refl
+advanced-last zero (s ∷ ss) last = refl
+advanced-last (suc n) (s ∷ ss) last = advanced-last n ss s

@@ -1,0 +1,127 @@
+-- The decimal digits of a number are read as that number.
+use Rattle.std.proofs.Common.{◌≡◌, ℕ, zero, suc, ◌+◌, ◌^◌, ◌<◌, List, [], ◌∷◌, ◌++◌, length, get_or, drop, Bool, true, false, not, ◌&&◌, append-nil, append_assoc, length-append, add-zero, refl, sym, ◌∙◌, ap, subst, arith, Ok, Some, None, nat_lt, pos, if◌then◌else◌}
+use Rattle.std.specs.Char.{digit_value}
+use Rattle.std.specs.Fmt.{decimal}
+use Rattle.std.specs.List.{list_all, list_any}
+use Rattle.std.specs.Str.Parse.{AllDigits, digits_value_after}
+use Rattle.std.proofs.lemmas.Bool.{and_right, and_parts, lt-ltb, ne_eqb}
+use Rattle.std.proofs.lemmas.Fmt.{decimal_is_IsNumeral, decimal_digit, first_decimal}
+use Rattle.pp_lexer.specs.declared.token.Integer.{Integer as IntegerLiteral}
+use Rattle.pp_lexer.specs.declared.lexer.item.TokenValue.TheVariants.{Integer}
+use Rattle.pp_lexer.specs.Numbers.{is_zero, is_x, is_decimal, decimal_tail, is_number}
+use Rattle.pp_lexer.specs.NumberValue.{is_l, is_s, is_u, begins_hex, begins_octal, whole, integer_value, integer_outcome, width_refusal, number_outcome}
+use Rattle.pp_lexer.specs.inner.NumberValue.{is_float_mark, integer_of}
+use Rattle.pp_lexer.specs.Spelling.{integer_literal}
+use Rattle.pp_lexer.specs.Spellings.{many, after_first}
+use Rattle.pp_lexer.specs.Surroundings.{begins_with}
+use Rattle.pp_lexer.specs.Words.{word_at}
+use Rattle.pp_lexer.proofs.numbers.NumbersLemmas.{either_apart, e_apart, point_apart}
+use Rattle.pp_lexer.proofs.numbers.NumberSetsLemmas.{decimal_number, number_lacks}
+use Rattle.pp_lexer.proofs.words.SetsLemmas.{both, all_many}
+use Rattle.pp_lexer.proofs.spelling.SpelledWordLemmas.{IsBreak, break_begins, number_ends, spelled_number}
+
+-- the digits of a number below 2^64, without a zero at their front unless it is all
+pub record IsDecimalText (n : ℕ) (w : List ℕ) : Type 0 where
+  pub small : n < 2 ^ 64
+  pub some : 0 < length w
+  pub digits : list_all is_decimal w ≡ true
+  pub value : digits_value_after 10 0 w ≡ n
+  pub no_octal : begins_octal w ≡ false
+
+all_decimal : (w : List ℕ) → AllDigits 10 w → list_all is_decimal w ≡ true
+all_decimal [] h = refl
+all_decimal (c ∷ w) h = both (is_decimal c) (list_all is_decimal w) (lt-ltb (digit_value c) 10 h.0) (all_decimal w h.1)
+
+no_octal_above : (w : List ℕ) → 48 < get_or w 0 0 → begins_octal w ≡ false
+no_octal_above [] h = refl
+no_octal_above (c ∷ w) h = ap (λ b. b && begins_with is_decimal w) (ne_eqb c 48 (λ e. omega arith))
+
+no_octal_decimal : (n : ℕ) → n < 2 ^ 64 → begins_octal (decimal n) ≡ false
+no_octal_decimal zero h = ap begins_octal (decimal_digit 0 (omega arith))
+no_octal_decimal (suc n) h = no_octal_above (decimal (suc n)) (first_decimal (suc n) (omega arith) h)
+
+-- what `decimal` writes
+pub decimal_text : (n : ℕ) → n < 2 ^ 64 → IsDecimalText n (decimal n)
+decimal_text n h =
+    let k = decimal_is_IsNumeral n h in
+    record { small = h; some = k.0.0; digits = all_decimal (decimal n) k.0.1; value = k.1; no_octal = no_octal_decimal n h }
+
+-- what digits are not
+
+no_mark : (hex : Bool) (c : ℕ) → is_decimal c ≡ true → is_float_mark hex c ≡ false
+no_mark hex c d = rw (point_apart c d, e_apart c d) (and_right (not hex) false refl)
+
+no_marks : (hex : Bool) (w : List ℕ) → list_all is_decimal w ≡ true → list_any (is_float_mark hex) w ≡ false
+no_marks hex [] h = refl
+no_marks hex (c ∷ w) h = let b = and_parts (is_decimal c) (list_all is_decimal w) h in rw (no_mark hex c b.0) (no_marks hex w b.1)
+
+no_x : (w : List ℕ) → list_all is_decimal w ≡ true → begins_with is_x (after_first w) ≡ false
+no_x [] h = refl
+no_x (c ∷ []) h = refl
+no_x (c ∷ d ∷ w) h =
+    let b = and_parts (is_decimal c) (is_decimal d && list_all is_decimal w) h in
+    either_apart 120 88 10 refl refl d (and_parts (is_decimal d) (list_all is_decimal w) b.1).0
+
+no_hex : (w : List ℕ) → list_all is_decimal w ≡ true → begins_hex w ≡ false
+no_hex w h = and_right (begins_with is_zero w) (begins_with is_x (after_first w)) (no_x w h)
+
+digits_number : (w : List ℕ) → 0 < length w → list_all is_decimal w ≡ true → is_number w ≡ true
+digits_number [] l h = absurd (omega arith)
+digits_number (c ∷ w) l h =
+    let b = and_parts (is_decimal c) (list_all is_decimal w) h in
+    decimal_number (c ∷ w) (both (is_decimal c) (many is_decimal decimal_tail w) b.0 (all_many is_decimal decimal_tail refl w b.1))
+
+module _ (n : ℕ) (w : List ℕ) (t : IsDecimalText n w) where
+  digits_whole : whole 10 w ≡ Some n
+  digits_whole = by w t.some t.digits t.value
+    where
+      by : (w : List ℕ) → 0 < length w → list_all is_decimal w ≡ true → digits_value_after 10 0 w ≡ n → whole 10 w ≡ Some n
+      by [] l d v = absurd (omega arith)
+      by (c ∷ w) l d v =
+          let s : nat_lt (digits_value_after 10 0 (c ∷ w)) (2 ^ 64) ≡ true = lt-ltb _ _ (omega (arith, v, t.small)) in
+          ap (λ b. if b then Some (digits_value_after 10 0 (c ∷ w)) else None) (both (list_all is_decimal (c ∷ w)) _ d s) ∙ ap Some v
+
+  pub digits_value : (signed : Bool) → integer_value signed w ≡ Ok (Integer (record { value = n; signed = signed; width = pos 32 }))
+  digits_value signed = by (begins_hex w) (begins_octal w) (no_hex w t.digits) t.no_octal
+    where
+      by : (x o : Bool) → x ≡ false → o ≡ false → integer_of signed (whole (if x then 16 else if o then 8 else 10) (if x then drop 2 w else w)) ≡ Ok (Integer (record { value = n; signed = signed; width = pos 32 }))
+      by true o e f = cc
+      by false true e f = cc
+      by false false e f = ap (integer_of signed) digits_whole
+
+  pub digits_outcome : (cs : List ℕ) → number_outcome w cs ≡ integer_outcome w cs
+  digits_outcome cs = rw (no_marks (begins_hex w) w t.digits) refl
+
+no_refusal : (is_short : ℕ → Bool) (cs : List ℕ) → is_short 32 ≡ false → IsBreak cs → width_refusal is_short cs ≡ None
+no_refusal is_short cs h b = rw (break_begins is_l refl cs b, break_begins is_short h cs b) refl
+
+signed_integer : (n : ℕ) (cs : List ℕ) → n < 2 ^ 64 → IsBreak cs
+    → word_at (decimal n ++ cs) ≡ record { value = Ok (Integer (record { value = n; signed = true; width = pos 32 })); taken = length (decimal n) }
+signed_integer n cs h b =
+    let t : IsDecimalText n (decimal n) = decimal_text n h in
+    let w : List ℕ = decimal n in
+    spelled_number w cs (digits_number w t.some t.digits) (number_ends cs b) ∙ digits_outcome n w t cs
+    ∙ rw (break_begins is_u refl cs b, no_refusal is_s cs refl b, digits_value n w t true, add-zero (length w)) refl
+
+unsigned_integer : (n : ℕ) (cs : List ℕ) → n < 2 ^ 64 → IsBreak cs
+    → word_at (decimal n ++ 117 ∷ cs) ≡ record { value = Ok (Integer (record { value = n; signed = false; width = pos 32 })); taken = length (decimal n) + 1 }
+unsigned_integer n cs h b =
+    let t : IsDecimalText n (decimal n) = decimal_text n h in
+    let w : List ℕ = decimal n in
+    spelled_number w (117 ∷ cs) (digits_number w t.some t.digits) (number_lacks 117 refl refl refl refl refl refl refl) ∙ digits_outcome n w t (117 ∷ cs)
+    ∙ rw (no_refusal is_s cs refl b, digits_value n w t false) refl
+
+-- an integer is read back with its mark
+pub spelled_integer : (i : IntegerLiteral) (cs : List ℕ) → i.value < 2 ^ 64 → i.width ≡ pos 32 → IsBreak cs
+    → word_at (integer_literal i ++ cs) ≡ record { value = Ok (Integer i); taken = length (integer_literal i) }
+spelled_integer i cs h e b = by i.signed refl
+  where
+    by : (signed : Bool) → i.signed ≡ signed → word_at (integer_literal i ++ cs) ≡ record { value = Ok (Integer i); taken = length (integer_literal i) }
+    by true s =
+        let same : ◌≡◌ {A = IntegerLiteral} (record { value = i.value; signed = true; width = pos 32 }) i = λ k. record { value = i.value; signed = sym s k; width = sym e k } in
+        subst (λ (x : IntegerLiteral). word_at (integer_literal x ++ cs) ≡ record { value = Ok (Integer x); taken = length (integer_literal x) }) same
+        (rw (append-nil (decimal i.value)) (signed_integer i.value cs h b))
+    by false s =
+        let same : ◌≡◌ {A = IntegerLiteral} (record { value = i.value; signed = false; width = pos 32 }) i = λ k. record { value = i.value; signed = sym s k; width = sym e k } in
+        subst (λ (x : IntegerLiteral). word_at (integer_literal x ++ cs) ≡ record { value = Ok (Integer x); taken = length (integer_literal x) }) same
+        (rw (append_assoc (decimal i.value) (117 ∷ []) cs, length-append (decimal i.value) (117 ∷ [])) (unsigned_integer i.value cs h b))

@@ -1,0 +1,6 @@
+pub mod SpelledWordLemmas
+pub mod FloatSpellingLemmas
+pub mod SpelledTextLemmas
+pub mod RespellingLemmas
+pub mod NumberSpelledLemmas
+pub mod SpelledValuesLemmas

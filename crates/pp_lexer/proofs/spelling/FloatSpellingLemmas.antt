@@ -1,0 +1,70 @@
+-- A float's text is read as itself.
+use Rattle.std.proofs.Common.{◌≡◌, ℕ, List, [], ◌∷◌, ◌++◌, length, Bool, true, not, ◌&&◌, ◌==◌, add-zero, refl, sym, ◌∙◌, ap, inl, inr, map, filter, Ok, Err, None, pos, if◌then◌else◌}
+use Rattle.std.specs.List.{list_all}
+use Rattle.std.proofs.lemmas.Bool.{and_parts, or_cases, eqb-true, eq-eqb}
+use Rattle.pp_lexer.specs.declared.token.Float.{Float as FloatLiteral}
+use Rattle.pp_lexer.specs.declared.token.PreprocessorError.TheVariants.{FloatParsingError}
+use Rattle.pp_lexer.specs.declared.lexer.item.TokenValue.TheVariants.{Float}
+use Rattle.pp_lexer.specs.Numbers.{is_x, is_point, is_sign, is_decimal}
+use Rattle.pp_lexer.specs.NumberValue.{is_l, is_h, is_f, small_e, float_text, is_float_text, float_value, float_outcome, is_float, number_outcome, width_refusal}
+use Rattle.pp_lexer.specs.inner.NumberValue.{is_small_e}
+use Rattle.pp_lexer.specs.Words.{word_at}
+use Rattle.pp_lexer.proofs.numbers.NumbersLemmas.{either_apart, e_apart}
+use Rattle.pp_lexer.proofs.numbers.NumberSetsLemmas.{made_float_text, float_text_number}
+use Rattle.pp_lexer.proofs.words.SetsLemmas.{Implies, both}
+use Rattle.pp_lexer.proofs.spelling.SpelledWordLemmas.{IsBreak, break_begins, number_ends, spelled_number}
+
+-- a character that stays in a float's text as it is
+abbrev is_kept : ℕ → Bool
+is_kept c = not (is_x c) && (small_e c == c)
+
+decimal_kept : Implies is_decimal is_kept
+decimal_kept c d =
+    let same : small_e c ≡ c = ap (λ b. if b then 101 else c) (e_apart c d) in
+    both (not (is_x c)) (small_e c == c) (ap not (either_apart 120 88 10 refl refl c d)) (eq-eqb (small_e c) c same)
+
+point_kept : Implies is_point is_kept
+point_kept c e = ap is_kept (eqb-true c 46 e)
+
+mark_kept : Implies is_small_e is_kept
+mark_kept c e = ap is_kept (eqb-true c 101 e)
+
+sign_kept : Implies is_sign is_kept
+sign_kept c e =
+    elim (or_cases (c == 43) (c == 45) e) [
+      | inl x ↦ ap is_kept (eqb-true c 43 x)
+      | inr x ↦ ap is_kept (eqb-true c 45 x)
+    ]
+
+all_kept : (w : List ℕ) → list_all is_kept w ≡ true → float_text w ≡ w
+all_kept [] h = refl
+all_kept (c ∷ w) h =
+    let b = and_parts (is_kept c) (list_all is_kept w) h in
+    let k = and_parts (not (is_x c)) (small_e c == c) b.0 in
+    ap (λ t. map small_e (if t then c ∷ filter (λ c. not (is_x c)) w else filter (λ c. not (is_x c)) w)) k.0
+    ∙ ap (λ x. x ∷ float_text w) (eqb-true (small_e c) c k.1) ∙ ap (λ xs. c ∷ xs) (all_kept w b.1)
+
+-- nothing of a float's text is changed
+pub float_text_same : (w : List ℕ) → is_float_text w ≡ true → float_text w ≡ w
+float_text_same w h = all_kept w (made_float_text is_kept decimal_kept point_kept mark_kept sign_kept w h)
+
+pub value_same : (w : List ℕ) → is_float_text w ≡ true → float_value w ≡ Ok (Float (record { text = w; width = pos 32 }))
+value_same w h =
+    ap (λ x. if is_float_text x then Ok (Float (record { text = x; width = pos 32 })) else Err FloatParsingError) (float_text_same w h)
+    ∙ ap (λ b. if b then Ok (Float (record { text = w; width = pos 32 })) else Err FloatParsingError) h
+
+no_refusal : (cs : List ℕ) → IsBreak cs → width_refusal is_h cs ≡ None
+no_refusal cs b = rw (break_begins is_l refl cs b, break_begins is_h refl cs b) refl
+
+float_word : (w cs : List ℕ) → is_float_text w ≡ true → is_float w ≡ true → IsBreak cs
+    → word_at (w ++ cs) ≡ record { value = Ok (Float (record { text = w; width = pos 32 })); taken = length w }
+float_word w cs h f b =
+    let here : number_outcome w cs ≡ float_outcome w cs = rw f refl in
+    spelled_number w cs (float_text_number w h) (number_ends cs b) ∙ here ∙ rw (no_refusal cs b, value_same w h, break_begins is_f refl cs b, add-zero (length w)) refl
+
+-- a float is read as itself
+pub spelled_float : (f : FloatLiteral) (cs : List ℕ) → is_float_text f.text ≡ true → is_float f.text ≡ true → f.width ≡ pos 32 → IsBreak cs
+    → word_at (f.text ++ cs) ≡ record { value = Ok (Float f); taken = length f.text }
+spelled_float f cs h k e b =
+    let same : ◌≡◌ {A = FloatLiteral} (record { text = f.text; width = pos 32 }) f = λ k. record { text = f.text; width = sym e k } in
+    float_word f.text cs h k b ∙ (λ i. record { value = Ok (Float (same i)); taken = length f.text })

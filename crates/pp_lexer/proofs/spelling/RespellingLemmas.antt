@@ -1,0 +1,148 @@
+-- The spellings of values, with spaces between them, are read back as these values.
+use Rattle.std.proofs.Common.{◌≡◌, ℕ, zero, suc, List, [], ◌∷◌, ◌++◌, map, length, drop, Bool, true, false, ◌&&◌, ◌||◌, append-nil, refl, sym, ◌∙◌, ap, Ok, Err, Result, if◌then◌else◌}
+use Rattle.std.specs.Prelude.{All}
+use Rattle.std.specs.Str.{encode_utf8_all}
+use Rattle.std.proofs.lemmas.List.{drop_at}
+use Rattle.std.proofs.lemmas.List.Elements.{All-head, All-tail}
+use Rattle.std.proofs.lemmas.Simd.{map-map}
+use Rattle.pp_lexer.specs.declared.token.PreprocessorError.{PreprocessorError}
+use Rattle.pp_lexer.specs.declared.token.PreprocessorError.TheVariants.{UnexpectedCharacter}
+use Rattle.pp_lexer.specs.declared.token.TokenValue.{TokenValue}
+use Rattle.pp_lexer.specs.declared.token.TokenValue.TheVariants.{Ident, Integer, Float, Punct, Version, Extension, Pragma}
+use Rattle.pp_lexer.specs.declared.lexer.item.TokenValue.{TokenValue as LexerTokenValue}
+use Rattle.pp_lexer.specs.declared.lexer.item.TokenValue.TheVariants.{NewLine}
+use Rattle.pp_lexer.specs.declared.lexer.char_iterator.Spot.{Spot}
+use Rattle.pp_lexer.specs.inner.PlainWords.{is_newline_value}
+use Rattle.pp_lexer.specs.Items.{Item, is_newline, is_blank_or_comment, start_of_line, item_at, items_of}
+use Rattle.pp_lexer.specs.Lexed.{Seen, seen}
+use Rattle.pp_lexer.specs.Outcome.{Outcome}
+use Rattle.pp_lexer.specs.Reading.{letters}
+use Rattle.pp_lexer.specs.Respelling.{IsSpellable, lexer_value, item_value, read_values, ending}
+use Rattle.pp_lexer.specs.Segments.{Kind, blank, comment, item, Segment, is_mark, kind_of, taken_by, segment_at, segments}
+use Rattle.pp_lexer.specs.Spelling.{spelling, spelled_text}
+use Rattle.pp_lexer.specs.Spots.{spots_of}
+use Rattle.pp_lexer.specs.Words.{is_blank, is_word, word_at}
+use Rattle.pp_lexer.proofs.numbers.DecimalLemmas.{spelled_integer}
+use Rattle.pp_lexer.proofs.spelling.FloatSpellingLemmas.{spelled_float}
+use Rattle.pp_lexer.proofs.items.ItemsLemmas.{items_from, items_at_start}
+use Rattle.pp_lexer.proofs.words.LongestLemmas.{longest_empty}
+use Rattle.pp_lexer.proofs.characters.PlainPhasesLemmas.{plain_letters}
+use Rattle.pp_lexer.proofs.items.SegmentsLemmas.{segments_none, segments_first}
+use Rattle.pp_lexer.proofs.spelling.SpelledTextLemmas.{text_clean}
+use Rattle.pp_lexer.proofs.spelling.SpelledWordLemmas.{IsBreak, spelled_identifier, spelled_punctuator}
+use Rattle.pp_lexer.proofs.words.WordAtLemmas.{no_word}
+use Rattle.pp_lexer.proofs.words.WordsLemmas.{longest_blank}
+
+-- the outcome of a value's spelling
+abbrev outcome_of : TokenValue → Outcome
+outcome_of v = record { value = Ok (lexer_value v); taken = length (spelling v) }
+
+-- a spelling with a space or the end after it is read as its value
+pub spelled_word : (v : TokenValue) (cs : List ℕ) → IsSpellable v → IsBreak cs → word_at (spelling v ++ cs) ≡ outcome_of v
+spelled_word (Ident name) cs h b = spelled_identifier name cs h.0 b
+spelled_word (Integer i) cs h b = spelled_integer i cs h.0 h.1 b
+spelled_word (Float f) cs h b = spelled_float f cs h.0 h.1 h.2 b
+spelled_word (Punct p) cs h b = spelled_punctuator p cs b
+spelled_word (Version v) cs h b = absurd h
+spelled_word (Extension e) cs h b = absurd h
+spelled_word (Pragma p) cs h b = absurd h
+
+-- the characters of what is left
+pub letters-drop : (n : ℕ) (ss : List Spot) → letters (drop n ss) ≡ drop n (letters ss)
+letters-drop zero ss = refl
+letters-drop (suc n) [] = refl
+letters-drop (suc n) (s ∷ ss) = letters-drop n ss
+
+no_letters : (ss : List Spot) → letters ss ≡ [] → ss ≡ []
+no_letters [] e = refl
+no_letters (s ∷ ss) e = cc
+
+-- the first segment of a text that begins with a spelling
+record IsFirst (s : Spot) (ss : List Spot) (v : TokenValue) (cs : List ℕ) : Type 0 where
+  kind : kind_of s ss ≡ item (Ok (lexer_value v))
+  after : letters (drop (taken_by s ss) (s ∷ ss)) ≡ cs
+
+first_value : (s : Spot) (ss : List Spot) (v : TokenValue) (cs : List ℕ) → IsSpellable v → IsBreak cs → letters (s ∷ ss) ≡ spelling v ++ cs → IsFirst s ss v cs
+first_value s ss v cs h b e = by (is_blank s.c) refl
+  where
+    read : word_at (letters (s ∷ ss)) ≡ outcome_of v
+    read = ap word_at e ∙ spelled_word v cs h b
+
+    by : (t : Bool) → is_blank s.c ≡ t → IsFirst s ss v cs
+    by true f =
+        let none : word_at (letters (s ∷ ss)) ≡ record { value = Err UnexpectedCharacter; taken = 3 } = no_word (letters (s ∷ ss)) (longest_blank s.c (letters ss) f) in
+        let fault : ◌≡◌ {A = Result LexerTokenValue PreprocessorError} (Ok (lexer_value v)) (Err UnexpectedCharacter) = ap (λ o. o.value) (sym read ∙ none) in
+        cc
+    by false f =
+        let taken : taken_by s ss ≡ length (spelling v) = ap (λ t. if t then 1 else (word_at (letters (s ∷ ss))).taken) f ∙ ap (λ o. o.taken) read in
+        record {
+          kind = ap (λ t. if t then (if is_mark s.c then comment else blank) else item (word_at (letters (s ∷ ss))).value) f ∙ ap (λ o. item o.value) read;
+          after = ap (λ n. letters (drop n (s ∷ ss))) taken ∙ letters-drop (length (spelling v)) (s ∷ ss) ∙ ap (drop (length (spelling v))) e ∙ drop_at (spelling v) cs (length (spelling v)) refl;
+        }
+
+nothing_read : (v : TokenValue) (cs : List ℕ) → IsSpellable v → IsBreak cs → [] ≡ spelling v ++ cs → ⊥
+nothing_read v cs h b e =
+    let none : word_at [] ≡ record { value = Err UnexpectedCharacter; taken = 3 } = no_word [] (longest_empty is_word) in
+    let fault : ◌≡◌ {A = Result LexerTokenValue PreprocessorError} (Ok (lexer_value v)) (Err UnexpectedCharacter) = ap (λ o. o.value) (sym (ap word_at e ∙ spelled_word v cs h b) ∙ none) in
+    cc
+
+-- the values of items
+abbrev pub values_in : List Item → List (Result LexerTokenValue PreprocessorError)
+values_in is = map (λ i. item_value i.item) is
+
+-- the items of a text, by its first segment
+module _ (before : List Segment) (s : Spot) (ss : List Spot) where
+  items_first : (k : Kind) → kind_of s ss ≡ k → items_from before (segments (s ∷ ss)) ≡ item_at before (segment_at s ss) k ++ items_from (segment_at s ss ∷ before) (segments (drop (taken_by s ss) (s ∷ ss)))
+  unfolding items_from
+  items_first k e =
+      ap (items_from before) (segments_first s ss)
+      ∙ ap (λ x. item_at before (segment_at s ss) x ++ items_from (segment_at s ss ∷ before) (segments (drop (taken_by s ss) (s ∷ ss)))) e
+
+last_newline : (g : Segment) (before : List Segment) (v : LexerTokenValue) → g.kind ≡ item (Ok v) → is_newline_value v ≡ false → values_in (items_from (g ∷ before) (segments [])) ≡ Ok NewLine ∷ []
+unfolding items_from
+last_newline g before v e n =
+    let inside : start_of_line (g ∷ before) ≡ false = ap (λ k. is_newline k || (is_blank_or_comment k && start_of_line before)) e ∙ ap (λ b. b || false) n in
+    ap (λ gs. values_in (items_from (g ∷ before) gs)) segments_none ∙ rw inside refl
+
+no_newline : (v : TokenValue) → is_newline_value (lexer_value v) ≡ false
+no_newline (Ident name) = refl
+no_newline _ = refl
+
+-- a space is passed
+space_passed : (before : List Segment) (ss : List Spot) (cs : List ℕ) → letters ss ≡ 32 ∷ cs → (rest : List Spot) × (g : Segment) × (letters rest ≡ cs) × (items_from before (segments ss) ≡ items_from (g ∷ before) (segments rest))
+space_passed before [] cs e = cc
+space_passed before (s ∷ ss) cs e =
+    let first : s.c ≡ 32 = cc in
+    let here : kind_of s ss ≡ blank = ap (λ c. if is_blank c then (if is_mark c then comment else blank) else item (word_at (letters (s ∷ ss))).value) first in
+    let one : taken_by s ss ≡ 1 = ap (λ c. if is_blank c then 1 else (word_at (letters (s ∷ ss))).taken) first in
+    (ss, segment_at s ss, cc, items_first before s ss blank here ∙ ap (λ n. items_from (segment_at s ss ∷ before) (segments (drop n (s ∷ ss)))) one)
+
+-- the values of a text after other segments
+read_from : (values : List TokenValue) (v : TokenValue) (before : List Segment) (ss : List Spot) → IsSpellable v → All IsSpellable values → letters ss ≡ spelled_text (v ∷ values)
+    → values_in (items_from before (segments ss)) ≡ map Ok (map lexer_value (v ∷ values) ++ NewLine ∷ [])
+read_from [] v before [] h k e = absurd (nothing_read v [] h tt (e ∙ sym (append-nil (spelling v))))
+read_from [] v before (s ∷ ss) h k e =
+    let f = first_value s ss v [] h tt (e ∙ sym (append-nil (spelling v))) in
+    let g : Segment = segment_at s ss in
+    ap values_in (items_first before s ss (item (Ok (lexer_value v))) f.kind)
+    ∙ ap (λ xs. Ok (lexer_value v) ∷ values_in (items_from (g ∷ before) (segments xs))) (no_letters (drop (taken_by s ss) (s ∷ ss)) f.after)
+    ∙ ap (λ xs. Ok (lexer_value v) ∷ xs) (last_newline g before (lexer_value v) f.kind (no_newline v))
+read_from (u ∷ values) v before [] h k e = absurd (nothing_read v (32 ∷ spelled_text (u ∷ values)) h refl e)
+read_from (u ∷ values) v before (s ∷ ss) h k e =
+    let f = first_value s ss v (32 ∷ spelled_text (u ∷ values)) h refl e in
+    let p = space_passed (segment_at s ss ∷ before) (drop (taken_by s ss) (s ∷ ss)) (spelled_text (u ∷ values)) f.after in
+    ap values_in (items_first before s ss (item (Ok (lexer_value v))) f.kind)
+    ∙ ap (λ xs. Ok (lexer_value v) ∷ values_in xs) p.3
+    ∙ ap (λ xs. Ok (lexer_value v) ∷ xs) (read_from values u (p.1 ∷ segment_at s ss ∷ before) p.0 (All-head IsSpellable u values k) (All-tail IsSpellable u values k) p.2)
+
+read_all : (values : List TokenValue) (ss : List Spot) → All IsSpellable values → letters ss ≡ spelled_text values → values_in (items_of ss) ≡ map Ok (map lexer_value values ++ ending values)
+unfolding items_from
+read_all [] ss h e = ap (λ xs. values_in (items_of xs)) (no_letters ss e) ∙ ap values_in (items_at_start [] ∙ ap (items_from []) segments_none)
+read_all (v ∷ values) ss h e = ap values_in (items_at_start ss) ∙ read_from values v [] ss (All-head IsSpellable v values h) (All-tail IsSpellable v values h) e
+
+-- values that can be spelled are read back from their spellings
+pub read_back : (values : List TokenValue) → All IsSpellable values → read_values (encode_utf8_all (spelled_text values)) ≡ map Ok (map lexer_value values ++ ending values)
+read_back values h =
+    let text : List ℕ = encode_utf8_all (spelled_text values) in
+    let clean = text_clean values h in
+    map-map (λ (x : Seen). item_value x.item) seen (items_of (spots_of text)) ∙ read_all values (spots_of text) h (plain_letters (spelled_text values) clean.scalars clean.plain)

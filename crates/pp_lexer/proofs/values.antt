@@ -1,0 +1,4 @@
+pub mod TextLemmas
+pub mod DerivedEq
+pub mod EqualityLemmas
+pub mod PreorderLemmas

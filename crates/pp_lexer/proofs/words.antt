@@ -1,0 +1,12 @@
+pub mod LongestLemmas
+pub mod UnionLemmas
+pub mod IdentifiersLemmas
+pub mod PunctuatorsLemmas
+pub mod TakenPunctLemmas
+pub mod PunctuationLemmas
+pub mod WordsLemmas
+pub mod WordAtLemmas
+pub mod PlainWordsLemmas
+pub mod PlainPunctuationLemmas
+pub mod SetsLemmas
+pub mod BoundedLemmas

@@ -1,0 +1,77 @@
+-- What stands where neither an identifier nor a number begins.
+use Rattle.std.proofs.Common.{◌≡◌, ℕ, zero, suc, ◌<◌, ◌≤◌, List, [], ◌∷◌, length, take, true, false, ◌==◌, refl, sym, ◌∙◌, ap, arith, Option, Some, None, option_map, is_some, Ok, Err}
+use Rattle.std.proofs.lemmas.Bool.{ne_eqb, eqb-true, eqb-false, false≢true}
+use Rattle.pp_lexer.specs.Surroundings.{begins_with}
+use Rattle.pp_lexer.specs.declared.token.Punct.{Punct as Punctuator}
+use Rattle.pp_lexer.specs.declared.token.PreprocessorError.TheVariants.{UnexpectedCharacter}
+use Rattle.pp_lexer.specs.declared.lexer.item.TokenValue.TheVariants.{Hash, Punct}
+use Rattle.pp_lexer.specs.Longest.{longest}
+use Rattle.pp_lexer.specs.Punctuators.{punct_of, is_punctuator, is_hash, is_punctuation, punctuation_value, punctuation_outcome, punctuation_at}
+use Rattle.pp_lexer.proofs.words.LongestLemmas.{longest_is, longest_in, longest_same, longest_empty}
+use Rattle.pp_lexer.proofs.words.PunctuatorsLemmas.{none_here}
+
+-- no punctuator begins with a `#`
+hash_apart : (w : List ℕ) (k : ℕ) → is_punctuator (take (suc k) (35 ∷ w)) ≡ false
+unfolding is_punctuator punct_of
+hash_apart w = none_here (35 ∷ w) refl
+
+pub hash_longest : (cs : List ℕ) → longest is_punctuation (35 ∷ cs) ≡ 1
+unfolding is_punctuation
+hash_longest cs = longest_is is_punctuation (35 ∷ cs) 1 (omega arith) refl (omega arith) (none cs)
+  where
+    none : (cs : List ℕ) (k : ℕ) → 1 < k → k ≤ length (35 ∷ cs) → is_punctuation (take k (35 ∷ cs)) ≡ false
+    none cs zero l u = absurd (omega arith)
+    none [] (suc zero) l u = absurd (omega arith)
+    none [] (suc (suc k)) l u = absurd (omega arith)
+    none (d ∷ cs) (suc zero) l u = absurd (omega arith)
+    none (d ∷ cs) (suc (suc k)) l u = hash_apart (d ∷ cs) (suc k)
+
+pub at_hash : (cs : List ℕ) → begins_with (λ c. c == 35) cs ≡ true → punctuation_at cs ≡ record { value = Ok Hash; taken = 1 }
+unfolding punctuation_at
+at_hash [] h = absurd (false≢true h)
+at_hash (c ∷ cs) h =
+    let k : c ≡ 35 = eqb-true c 35 h in
+    ap (λ x. punctuation_outcome (longest is_punctuation (x ∷ cs)) (punctuation_value (take (longest is_punctuation (x ∷ cs)) (x ∷ cs)))) k
+    ∙ ap (λ n. punctuation_outcome n (punctuation_value (take n (35 ∷ cs)))) (hash_longest cs)
+
+no_hash : (c : ℕ) (w : List ℕ) → (c == 35) ≡ false → is_hash (c ∷ w) ≡ false
+no_hash c w h = rw (ne_eqb 35 c (λ e. eqb-false c 35 h (sym e))) refl
+
+no_hash_front : (cs : List ℕ) (n : ℕ) → begins_with (λ c. c == 35) cs ≡ false → is_hash (take n cs) ≡ false
+no_hash_front [] zero h = refl
+no_hash_front [] (suc n) h = refl
+no_hash_front (c ∷ cs) zero h = refl
+no_hash_front (c ∷ cs) (suc n) h = no_hash c (take n cs) h
+
+-- elsewhere the longest punctuator decides
+pub punct_longest : (cs : List ℕ) → begins_with (λ c. c == 35) cs ≡ false → longest is_punctuation cs ≡ longest is_punctuator cs
+unfolding is_punctuation
+punct_longest [] h = longest_empty is_punctuation ∙ sym (longest_empty is_punctuator)
+punct_longest (c ∷ cs) h = longest_same is_punctuation is_punctuator c cs (λ w. rw (no_hash c w h) refl)
+
+at_found : (cs : List ℕ) (o : Option Punctuator) → begins_with (λ c. c == 35) cs ≡ false → o ≡ punct_of (take (longest is_punctuator cs) cs)
+    → punctuation_at cs ≡ punctuation_outcome (longest is_punctuator cs) (option_map Punct o)
+unfolding punctuation_at
+at_found cs o h f =
+    let n : longest is_punctuation cs ≡ longest is_punctuator cs = punct_longest cs h in
+    let v : punctuation_value (take (longest is_punctuator cs) cs) ≡ option_map Punct (punct_of (take (longest is_punctuator cs) cs)) = rw (no_hash_front cs (longest is_punctuator cs) h) refl in
+    ap (λ k. punctuation_outcome k (punctuation_value (take k cs))) n ∙ ap (punctuation_outcome (longest is_punctuator cs)) (v ∙ ap (option_map Punct) (sym f))
+
+pub at_punct : (cs : List ℕ) (p : Punctuator) → begins_with (λ c. c == 35) cs ≡ false → Some p ≡ punct_of (take (longest is_punctuator cs) cs)
+    → punctuation_at cs ≡ record { value = Ok (Punct p); taken = longest is_punctuator cs }
+at_punct cs p h f = at_found cs (Some p) h f
+
+pub at_nothing : (cs : List ℕ) → begins_with (λ c. c == 35) cs ≡ false → None ≡ punct_of (take (longest is_punctuator cs) cs)
+    → punctuation_at cs ≡ record { value = Err UnexpectedCharacter; taken = 3 }
+at_nothing cs h f = at_found cs None h f
+
+-- where no punctuator is found, none is passed
+pub none_passed : (cs : List ℕ) → None ≡ punct_of (take (longest is_punctuator cs) cs) → longest is_punctuator cs ≡ 0
+unfolding is_punctuator
+none_passed cs f = by (longest is_punctuator cs) refl
+  where
+    by : (n : ℕ) → longest is_punctuator cs ≡ n → longest is_punctuator cs ≡ 0
+    by zero e = e
+    by (suc n) e =
+        let t : is_punctuator (take (longest is_punctuator cs) cs) ≡ true = longest_in is_punctuator cs (omega arith) in
+        absurd (false≢true (ap is_some f ∙ t))

@@ -1,0 +1,146 @@
+-- Words, spaces and newlines at the front of a plain text, by their bytes.
+use Rattle.std.specs.Prelude.{◌≡◌, ℕ, ◌+◌, ◌-◌, ◌<◌, ◌≤◌, Bool, true, false, ◌||◌, ◌&&◌, ◌==◌, List, [], ◌∷◌, ◌++◌, length, take, drop, slice_index, is_some, if◌then◌else◌, Option, Some, None, Result, Ok, Err, MatchResult, MatchOption, pos}
+use Rattle.std.specs.Char.{is_ascii_alphabetic, is_ascii_alphanumeric}
+use Rattle.std.specs.Str.{IsAscii, IsCharBoundary}
+use Rattle.std.specs.declared.alloc.AllocError.{AllocError}
+use Rattle.pp_lexer.specs.declared.token.Punct.{Punct as Punctuator}
+use Rattle.pp_lexer.specs.declared.token.Punct.TheVariants.{AddAssign, SubAssign, MulAssign, DivAssign, ModAssign, AndAssign, XorAssign, OrAssign, Increment, Decrement, LogicalAnd, LogicalOr, LogicalXor, LessEqual, GreaterEqual, EqualEqual, NotEqual, LeftShift, RightShift, LeftBrace, RightBrace, LeftParen, RightParen, LeftBracket, RightBracket, LeftAngle, RightAngle, Semicolon, Comma, Colon, Dot, Equal, Bang, Minus, Tilde, Plus, Star, Slash, Percent, Pipe, Caret, Ampersand, Question}
+use Rattle.pp_lexer.specs.declared.lexer.item.TokenValue.{TokenValue}
+use Rattle.pp_lexer.specs.declared.lexer.item.TokenValue.TheVariants.{Hash, Ident, Integer, Float, Punct}
+use Rattle.pp_lexer.specs.declared.lexer.plain.Form.{Form}
+use Rattle.pp_lexer.specs.declared.lexer.plain.Form.TheVariants.{Identifier, Integer as IntegerForm, Unsigned as UnsignedForm, Float as FloatForm, SuffixedFloat as SuffixedForm, Punct as PunctForm, Hash as HashForm}
+use Rattle.pp_lexer.specs.declared.lexer.plain.Word.{Word}
+use Rattle.pp_lexer.specs.declared.lexer.Flags.{Flags}
+use Rattle.pp_lexer.specs.inner.Fronts.{spots_from, run}
+use Rattle.pp_lexer.specs.Items.{Lexeme, is_newline}
+use Rattle.pp_lexer.specs.Segments.{item}
+use Rattle.pp_lexer.specs.Numbers.{is_decimal, is_point}
+use Rattle.pp_lexer.specs.inner.Passing.{IsLexed}
+use Rattle.pp_lexer.specs.Punctuators.{punct_of}
+use Rattle.pp_lexer.specs.Reading.{Reading, letters}
+use Rattle.pp_lexer.specs.Words.{is_blank, word_at}
+
+-- a blank that is no comment
+abbrev pub is_space : ℕ → Bool
+is_space c = (c == 32) || ((c == 9) || ((c == 11) || (c == 12)))
+
+-- an ASCII character with which an identifier begins, or goes on
+abbrev pub begins : ℕ → Bool
+begins c = is_ascii_alphabetic c || (c == 95)
+
+abbrev pub continues : ℕ → Bool
+continues c = is_ascii_alphanumeric c || (c == 95)
+
+-- an ASCII character with which a number may go on, or its suffix begin, after a digit or a point
+abbrev pub continues_number : ℕ → Bool
+continues_number c = continues c || is_point c
+
+-- a comment begins with these two
+abbrev pub begins_comment : ℕ → ℕ → Bool
+begins_comment c d = (c == 47) && ((d == 47) || (d == 42))
+
+-- the character makes a longer punctuator of this one, or a number of a point, or a comment of a slash
+abbrev pub continues_punct : ℕ → ℕ → Bool
+continues_punct c d = is_some (punct_of (c ∷ d ∷ [])) || ((is_point c && is_decimal d) || begins_comment c d)
+
+-- the character makes a punctuator of three of these two
+abbrev pub continues_pair : ℕ → ℕ → ℕ → Bool
+continues_pair c d e = is_some (punct_of (c ∷ d ∷ e ∷ []))
+
+-- the punctuator of one character
+abbrev pub single : ℕ → Option Punctuator
+single c =
+    if c == 123 then Some LeftBrace else if c == 125 then Some RightBrace
+    else if c == 40 then Some LeftParen else if c == 41 then Some RightParen
+    else if c == 91 then Some LeftBracket else if c == 93 then Some RightBracket
+    else if c == 60 then Some LeftAngle else if c == 62 then Some RightAngle
+    else if c == 59 then Some Semicolon else if c == 44 then Some Comma
+    else if c == 58 then Some Colon else if c == 46 then Some Dot
+    else if c == 61 then Some Equal else if c == 33 then Some Bang
+    else if c == 45 then Some Minus else if c == 126 then Some Tilde
+    else if c == 43 then Some Plus else if c == 42 then Some Star
+    else if c == 47 then Some Slash else if c == 37 then Some Percent
+    else if c == 124 then Some Pipe else if c == 94 then Some Caret
+    else if c == 38 then Some Ampersand else if c == 63 then Some Question
+    else None
+
+-- the punctuator of a character and an equals sign
+abbrev pub before_equals : ℕ → Option Punctuator
+before_equals c =
+    if c == 43 then Some AddAssign else if c == 45 then Some SubAssign
+    else if c == 42 then Some MulAssign else if c == 47 then Some DivAssign
+    else if c == 37 then Some ModAssign else if c == 38 then Some AndAssign
+    else if c == 94 then Some XorAssign else if c == 124 then Some OrAssign
+    else if c == 60 then Some LessEqual else if c == 62 then Some GreaterEqual
+    else if c == 61 then Some EqualEqual else if c == 33 then Some NotEqual
+    else None
+
+-- the punctuator of a character twice, where that is no equals sign
+abbrev pub doubled : ℕ → Option Punctuator
+doubled c =
+    if c == 43 then Some Increment else if c == 45 then Some Decrement
+    else if c == 38 then Some LogicalAnd else if c == 124 then Some LogicalOr
+    else if c == 94 then Some LogicalXor
+    else if c == 60 then Some LeftShift else if c == 62 then Some RightShift
+    else None
+
+-- the text ends there, or goes on with an ASCII byte that is no backslash and fails
+abbrev pub Stops : (ℕ → Bool) → List ℕ → ℕ → Type 0
+Stops P text at = at < length text → (slice_index text at < 128) × ((slice_index text at == 92) ≡ false) × (P (slice_index text at) ≡ false)
+
+-- one of the two letters stands there, and the number ends after it
+pub record IsSuffixed (small capital : ℕ) (text : List ℕ) (at : ℕ) : Type 0 where
+  pub within : at < length text
+  pub letter : ((slice_index text at == small) || (slice_index text at == capital)) ≡ true
+  pub stops : Stops continues_number text (at + 1)
+
+-- a spelling without its last character
+abbrev pub without_suffix : List ℕ → List ℕ
+without_suffix w = take (length w - 1) w
+
+-- the value of a word of this form that is spelled so
+abbrev pub value_of : Form → List ℕ → TokenValue
+value_of Identifier w = Ident w
+value_of (IntegerForm n) w = Integer (record { value = n; signed = true; width = pos 32 })
+value_of (UnsignedForm n) w = Integer (record { value = n; signed = false; width = pos 32 })
+value_of FloatForm w = Float (record { text = w; width = pos 32 })
+value_of SuffixedForm w = Float (record { text = without_suffix w; width = pos 32 })
+value_of (PunctForm p) w = Punct p
+value_of HashForm w = Hash
+
+-- so many bytes at the front are characters of one line, wherever the text stands in a source
+abbrev pub IsFront : List ℕ → ℕ → Type 0
+IsFront text n = (line at : ℕ) → spots_from line at text ≡ run line at (take n text) ++ spots_from line (at + n) (drop n text)
+
+abbrev pub is_newline_value : TokenValue → Bool
+is_newline_value value = is_newline (item (Ok value))
+
+-- such a word stands at the front of the text, and takes that many bytes, wherever the text stands in a source
+pub record IsPlainWord (text : List ℕ) (value : TokenValue) (taken : ℕ) : Type 0 where
+  pub some : 0 < taken
+  pub within : taken ≤ length text
+  pub cut : IsCharBoundary text taken
+  pub ascii : IsAscii (take taken text)
+  pub front : IsFront text taken
+  pub no_blank : is_blank (slice_index text 0) ≡ false
+  pub no_newline : is_newline_value value ≡ false
+  pub word : (line at : ℕ) → word_at (letters (spots_from line at text)) ≡ record { value = Ok value; taken = taken }
+
+abbrev pub IsFirstWord : List ℕ → Word → Type 0
+IsFirstWord text w = IsPlainWord text (value_of w.form (take w.taken text)) w.taken
+
+-- a newline stands at the front of the text, and takes that many bytes, wherever the text stands in a source
+pub record IsPlainNewline (text : List ℕ) (taken : ℕ) : Type 0 where
+  pub some : 0 < taken
+  pub within : taken ≤ length text
+  pub cut : IsCharBoundary text taken
+  pub front : (line at : ℕ) → spots_from line at text ≡ record { c = 10; line = line; begin = at; end = at + 1 } ∷ spots_from (line + 1) (at + taken) (drop taken text)
+
+-- the next item is given, or memory was refused, or all is as it was
+abbrev pub IsPlainLexed : Flags → Reading → Result (Option Lexeme) AllocError → Flags → Reading → Type 0
+IsPlainLexed f r answer g q =
+    MatchResult answer (λ o. MatchOption o ((g ≡ f) × (q ≡ r)) (λ item. IsLexed f r (Ok (Some item)) g q)) (λ e. IsLexed f r (Err e) g q)
+
+-- a newline is given, or all is as it was
+abbrev pub IsNewlineLexed : Flags → Reading → Option Lexeme → Flags → Reading → Type 0
+IsNewlineLexed f r answer g q = MatchOption answer ((g ≡ f) × (q ≡ r)) (λ item. IsLexed f r (Ok (Some item)) g q)

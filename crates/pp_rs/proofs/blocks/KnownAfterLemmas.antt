@@ -1,0 +1,114 @@
+-- What is known of the blocks that a reader has met stays known after an item, and after the line of a directive.
+use Rattle.std.proofs.Common.{◌≡◌, ◌∙◌, ◌+◌, ◌-◌, Bool, true, false, ◌||◌, not, List, [], ◌∷◌, ◌++◌, length, take, drop, refl, ap, subst, Option, Some, None, arith}
+use Rattle.std.specs.List.{cons_option}
+use Rattle.std.proofs.lemmas.List.{drop-drop}
+use Rattle.pp_lexer.specs.Lexed.{Seen}
+use Rattle.pp_lexer.specs.declared.token.Location.{Location}
+use Rattle.pp_model.specs.Calls.{Fault}
+use Rattle.pp_model.specs.Lines.{line_length}
+use Rattle.pp_model.specs.Sights.{sight_of}
+use Rattle.pp_model.specs.Blocks.{part_of, line_at, block_lines, Block, blocks_at, is_live, are_surroundings_live, has_taken_branch, has_else}
+use Rattle.pp_model.specs.inner.Blocks.{line_with}
+use Rattle.pp_model.specs.SourceReader.{SourceReader}
+use Rattle.pp_model.specs.Acts.{moved, after_word, after_line, decided, block_here}
+use Rattle.pp_model.specs.declared.block.Part.{Part}
+use Rattle.pp_model.specs.declared.block.Part.TheVariants as part
+use Rattle.pp_model.specs.declared.directive.Directive.{Directive}
+use Rattle.pp_model.specs.declared.sight.Sight.{Sight}
+use Rattle.pp_model.specs.declared.sight.Sight.TheVariants as sight
+use Rattle.pp_source.specs.inner.Lined.{AreLined}
+use Rattle.pp_rs.proofs.blocks.BranchesReadLemmas.{BranchesRead, read_quiet, read_unread, read_opened, read_closed, read_else, read_skipped, read_elif}
+use Rattle.pp_expansion.proofs.work.DirectiveLineLemmas.{begins_directive, quiet_word}
+use Rattle.pp_rs.proofs.blocks.LastLemmas.{last_split}
+use Rattle.pp_source.proofs.LinedLemmas.{lined_after}
+use Rattle.pp_rs.proofs.blocks.LinesBeforeLemmas.{AddsLines, directive_adds}
+use Rattle.pp_expansion.proofs.work.QuietLemmas.{is_one_item, quiet_item, quiet_one, begins_no_word}
+use Rattle.pp_rs.proofs.source.SkippedLemmas.{quiet_after_word}
+
+-- it is known at this reader
+abbrev pub HasRead : SourceReader → Type 0
+HasRead r = BranchesRead r.items r.position r.truths
+
+module _ (r : SourceReader) (b : HasRead r) where
+  -- one item that adds no line of a block
+  pub one_keeps : (shown : Sight) → sight_of (drop r.position r.items) ≡ shown → is_one_item shown ≡ true → HasRead (moved 1 r)
+  one_keeps shown e one = read_quiet r.items r.position r.truths b 1 (λ after. quiet_one r.position (drop r.position r.items) after (ap is_one_item e ∙ one))
+
+  -- two items, which are the number sign and the word
+  two_keeps : (hash name : Seen) (rest : List Seen) → drop r.position r.items ≡ hash ∷ name ∷ rest → ((later : List Seen) → block_lines r.position (hash ∷ name ∷ later) ≡ block_lines (r.position + 2) later) → HasRead (moved 2 r)
+  two_keeps hash name rest front quiet = read_quiet r.items r.position r.truths b 2 (λ after. ap (λ items. block_lines r.position (take 2 items ++ after)) front ∙ quiet after)
+
+  lined_here : AreLined (drop r.position r.items)
+  lined_here = lined_after r.position r.items b.lined
+
+  -- a number sign without a word, which dead text has
+  pub no_word_keeps : (fault : Fault) → sight_of (drop r.position r.items) ≡ sight.NoWord fault → HasRead (moved 2 r)
+  no_word_keeps fault e =
+      let found = begins_no_word (drop r.position r.items) fault e in
+      let there : AreLined (found.hash ∷ found.name ∷ found.after) = subst AreLined found.front lined_here in
+      two_keeps found.hash found.name found.after found.front (λ later.
+      ap (λ shown. cons_option (line_at r.position shown) (block_lines (r.position + 1) (found.name ∷ later))) (found.seen later)
+      ∙ quiet_item (r.position + 1) found.name later (there.0 found.goes_on) ∙ ap (λ n. block_lines n later) (omega arith))
+
+  -- the line of a directive
+  module _ (directive : Directive) (word : Location) (e : sight_of (drop r.position r.items) ≡ sight.Directive directive word) where
+    -- of which only the word is passed
+    pub unknown_keeps : part_of directive ≡ None → HasRead (moved 2 r)
+    unknown_keeps its =
+        let begun = begins_directive (drop r.position r.items) directive word e in
+        two_keeps begun.hash begun.name begun.after begun.front (λ later. quiet_word r.position (drop r.position r.items) later directive word begun its)
+
+    line_adds : (its : Option Part) → part_of directive ≡ its → AddsLines r.position (2 + line_length (after_word r)) (drop r.position r.items) (cons_option (line_with r.position word its) [])
+    line_adds its is =
+        subst (λ (found : Option Part). AddsLines r.position (2 + line_length (after_word r)) (drop r.position r.items) (cons_option (line_with r.position word found) [])) is
+        (subst (λ (after : List Seen). AddsLines r.position (2 + line_length after) (drop r.position r.items) (cons_option (line_with r.position word (part_of directive)) [])) (drop-drop 2 r.position r.items)
+        (directive_adds r.position (drop r.position r.items) directive word e (λ position after. quiet_after_word position (drop r.position r.items) after directive word e lined_here)))
+
+    -- which is no line of a block
+    pub line_keeps : part_of directive ≡ None → HasRead (after_line r)
+    line_keeps its = read_quiet r.items r.position r.truths b (2 + line_length (after_word r)) (line_adds None its)
+
+    -- which opens a block in live text
+    pub opening_keeps : part_of directive ≡ Some part.Opens → is_live r.items r.truths r.position ≡ true → (holds : Bool) → HasRead (decided r holds)
+    opening_keeps its live holds =
+        read_opened r.items (record { position = r.position; word = word; part = part.Opens }) r.truths b (2 + line_length (after_word r)) (line_adds (Some part.Opens) its) holds (omega arith) refl live
+
+    -- which opens one in dead text
+    pub unread_keeps : part_of directive ≡ Some part.Opens → is_live r.items r.truths r.position ≡ false → HasRead (after_line r)
+    unread_keeps its dead =
+        read_unread r.items (record { position = r.position; word = word; part = part.Opens }) r.truths b (2 + line_length (after_word r)) (line_adds (Some part.Opens) its) refl dead
+
+    -- which parts or closes the innermost block:
+    module _ (block : Block) (found : block_here r ≡ Some block) where
+      split : blocks_at r.items r.position ≡ take (length (blocks_at r.items r.position) - 1) (blocks_at r.items r.position) ++ block ∷ []
+      split = last_split (blocks_at r.items r.position) block found
+
+      -- an `#endif`
+      pub closing_keeps : part_of directive ≡ Some part.Closes → HasRead (after_line r)
+      closing_keeps its =
+          read_closed r.items (record { position = r.position; word = word; part = part.Closes }) r.truths b (2 + line_length (after_word r)) (line_adds (Some part.Closes) its)
+          (take (length (blocks_at r.items r.position) - 1) (blocks_at r.items r.position)) block split refl
+
+      -- an `#else`
+      pub parting_keeps : part_of directive ≡ Some part.Else → has_else block ≡ false → HasRead (after_line r)
+      parting_keeps its none =
+          read_else r.items (record { position = r.position; word = word; part = part.Else }) r.truths b (2 + line_length (after_word r)) (line_adds (Some part.Else) its)
+          (take (length (blocks_at r.items r.position) - 1) (blocks_at r.items r.position)) block split none refl
+
+      -- an `#elif` that is skipped
+      pub skipping_keeps : part_of directive ≡ Some part.Elif → has_else block ≡ false → not (are_surroundings_live r.items r.truths block) || has_taken_branch r.truths block ≡ true → HasRead (after_line r)
+      skipping_keeps its none skips =
+          read_skipped r.items (record { position = r.position; word = word; part = part.Elif }) r.truths b (2 + line_length (after_word r)) (line_adds (Some part.Elif) its)
+          (take (length (blocks_at r.items r.position) - 1) (blocks_at r.items r.position)) block split none refl skips
+
+      -- an `#elif` whose condition is read
+      pub choosing_keeps : part_of directive ≡ Some part.Elif → has_else block ≡ false → not (are_surroundings_live r.items r.truths block) || has_taken_branch r.truths block ≡ false → (holds : Bool) → HasRead (decided r holds)
+      choosing_keeps its none reads holds =
+          let n = reads_branch (are_surroundings_live r.items r.truths block) (has_taken_branch r.truths block) reads in
+          read_elif r.items (record { position = r.position; word = word; part = part.Elif }) r.truths b (2 + line_length (after_word r)) (line_adds (Some part.Elif) its)
+          (take (length (blocks_at r.items r.position) - 1) (blocks_at r.items r.position)) block split none holds (omega arith) refl n.0 n.1
+        where
+          reads_branch : (live taken : Bool) → not live || taken ≡ false → (live ≡ true) × (taken ≡ false)
+          reads_branch true false h = (refl, refl)
+          reads_branch true true h = cc
+          reads_branch false taken h = cc

@@ -1,0 +1,50 @@
+-- In each state of a run of a text at most one mark of each block is chosen, and just one where the block's `#endif` was read.
+use Rattle.std.proofs.Common.{◌∙◌, ℕ, zero, suc, ◌≤◌, ◌||◌, List, [], ◌∷◌, ap, subst, arith}
+use Rattle.std.specs.List.{AllByRecursion as Each}
+use Rattle.std.proofs.Math.Bool.{or-true}
+use Rattle.pp_lexer.specs.Lexed.{Seen}
+use Rattle.pp_model.specs.Blocks.{Truths, Block, blocks_at, has_taken_branch}
+use Rattle.pp_model.specs.Calls.{Answers}
+use Rattle.pp_model.specs.Run.{items_of}
+use Rattle.pp_model.specs.SourceReader.{SourceReader, start_of}
+use Rattle.pp_model.proofs.BlockLemmas.{one_branch}
+use Rattle.pp_rs.specs.LiveBranch.{AtMostOneIsChosen, HasLiveBranches, RunHasLiveBranches}
+use Rattle.pp_rs.proofs.blocks.BlockPositionLemmas.{each_weaker, each_after}
+use Rattle.pp_rs.proofs.blocks.BranchActsLemmas.{step_keeps_branches}
+use Rattle.pp_rs.proofs.blocks.BranchedLemmas.{IsBranched}
+use Rattle.pp_rs.proofs.blocks.KnownAfterLemmas.{HasRead}
+use Rattle.pp_rs.proofs.blocks.LastLemmas.{last_split}
+use Rattle.pp_source.proofs.LinedLemmas.{items_lined}
+use Rattle.pp_rs.proofs.blocks.LinesBeforeLemmas.{no_lines_before}
+use Rattle.pp_rs.proofs.source.ReaderInvariantLemmas.{reached_keeps}
+
+at_most_one : (source : List Seen) (truths : Truths) (block : Block) → IsBranched source truths block → AtMostOneIsChosen truths block
+at_most_one source truths block b mark other one two = one_branch truths block mark other b.else_last one.stands two.stands one.chosen two.chosen
+
+-- what is known at a reader says it
+live_branches : (r : SourceReader) → HasRead r → HasLiveBranches r
+live_branches r known = record {
+  at_most_one = λ position within. each_weaker (IsBranched r.items r.truths) (AtMostOneIsChosen r.truths) (at_most_one r.items r.truths) (blocks_at r.items position) (known.read position within);
+  one = λ position block after ends with_else live.
+      let all = subst (λ (blocks : List Block). Each (IsBranched r.items r.truths) blocks) (last_split (blocks_at r.items position) block ends.open_there) (known.read position (omega (arith, after))) in
+      let this : IsBranched r.items r.truths block = (each_after (IsBranched r.items r.truths) _ (block ∷ []) all).0 in
+      (this.covered live (ap (λ other. has_taken_branch r.truths block || other) with_else ∙ or-true (has_taken_branch r.truths block)), at_most_one r.items r.truths block this);
+}
+
+known_at_start : (text : List ℕ) → HasRead (start_of (items_of text))
+known_at_start text = record {
+  lined = items_lined text;
+  lines = no_lines_before (items_of text);
+  before = tt;
+  read = none_open;
+}
+  where
+    none_open : (place : ℕ) → place ≤ 0 → Each (IsBranched (items_of text) []) (blocks_at (items_of text) place)
+    none_open zero within = tt
+    none_open (suc place) within = absurd (omega (arith, within))
+
+module _ (A : Answers) where
+  -- in each state of a run of a text
+  pub run_has_live_branches : RunHasLiveBranches A
+  run_has_live_branches text e reached =
+      live_branches e.reader (reached_keeps A HasRead (record { by_step = step_keeps_branches A; by_definition = λ name tokens r known. known }) (items_of text) e reached (known_at_start text))

@@ -1,0 +1,16 @@
+pub mod SpellingLemmas
+pub mod UntoldTurnLemmas
+pub mod Leads
+pub mod LeftLemmas
+pub mod UnspentLemmas
+pub mod NextLemmas
+pub mod StartLemmas
+pub mod RepliesLemmas
+pub mod AddingLemmas
+pub mod ComesLemmas
+pub mod AfreshLemmas
+pub mod CollectingLemmas
+pub mod SourceLeadsLemmas
+pub mod ReadyLemmas
+pub mod SourceTurnLemmas
+pub mod IdleLemmas

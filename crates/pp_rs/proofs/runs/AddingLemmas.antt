@@ -1,0 +1,119 @@
+-- What a definition that is added makes of a preprocessor.
+use Rattle.std.proofs.Common.{◌≡◌, ◌∙◌, ℕ, ◌+◌, Bool, true, false, if◌then◌else◌, List, [], ◌∷◌, length, Option, Some, None, Ok, Err, IsSome, refl, ap, sym, subst}
+use Rattle.std.specs.Str.{chars}
+use Rattle.pp_lexer.specs.PreprocessorError.{out_of_memory}
+use Rattle.pp_lexer.specs.declared.token.Token.{Token}
+use Rattle.pp_model.specs.Names.{Name, is_same_name}
+use Rattle.pp_model.specs.Definitions.{Definitions, object_like, changed}
+use Rattle.pp_model.specs.Reading.{Expander}
+use Rattle.pp_model.specs.Run.{items_of, content_tokens, with_added}
+use Rattle.pp_model.specs.inner.Run.{adding}
+use Rattle.pp_model.specs.SourceReader.{SourceReader}
+use Rattle.pp_model.specs.Emitting.{expansion_limit}
+use Rattle.pp_rs.specs.Adding.{IsAdded, refused, faulty, added}
+use Rattle.pp_expansion.specs.inner.Defined.{Defined, IsChanged, meaning_of}
+use Rattle.pp_rs.specs.inner.Fit.{EndIsLast, IsFit, IsTold}
+use Rattle.pp_expansion.specs.inner.Frames.{Layer, names_of}
+use Rattle.pp_expansion.specs.Item.{Fault, Step}
+use Rattle.pp_rs.specs.Kept.{Preprocessing, Stands, is_spent, most_items, errors_left, error_place}
+use Rattle.pp_expansion.specs.inner.Left.{AreDefinedAbove, work_of}
+use Rattle.pp_expansion.specs.inner.Machine.{Machine}
+use Rattle.pp_expansion.specs.inner.Reader.{of_source}
+use Rattle.pp_source.specs.inner.SettingContent.{IsSetIn}
+use Rattle.pp_expansion.specs.inner.Source.{Source, untold_of}
+use Rattle.pp_expansion.specs.inner.Untold.{untold_with}
+use Rattle.pp_rs.specs.inner.Stands.{StandsForReader, StandsForHeld, StandsFor}
+use Rattle.pp_expansion.specs.declared.step.StepExit.TheVariants.{Error, Continue, Finished}
+use Rattle.pp_rs.proofs.runs.LeftLemmas.{no_more_work}
+
+module _ (name : Name) (tokens : List Token) (old new : Source) (h : IsSetIn name tokens old new) where
+  reader_added : (definitions : List Defined) → IsChanged name (Some (object_like tokens)) old.definitions definitions → (r : SourceReader) → StandsForReader old r → StandsForReader (record old { definitions = definitions }) (adding name tokens r)
+  reader_added definitions c r s = record {
+    rest = s.rest;
+    within = s.within;
+    definitions = ap (λ (m : Definitions). changed m name (Some (object_like tokens))) s.definitions ∙ sym c.meaning;
+    line_offset = s.line_offset;
+    lined = s.lined;
+    lines = s.lines;
+    blocks = s.blocks;
+    truths = s.truths;
+    unfinished = s.unfinished;
+    unspent = s.unspent;
+    remembers_text = s.remembers_text;
+    remembers_directive = s.remembers_directive;
+    directives = s.directives;
+    off_line = s.off_line;
+  }
+
+  held_added : (o : Option (Step Token)) (r : SourceReader) → StandsForHeld o old r → StandsForHeld o new (adding name tokens r)
+  held_added None r s = subst (λ (source : Source). StandsForReader source (adding name tokens r)) (sym h.others) (reader_added new.definitions h.definitions r s)
+  held_added (Some (Ok token)) r s = subst (λ (source : Source). StandsForReader source (adding name tokens r)) (sym h.others) (reader_added new.definitions h.definitions r s)
+  held_added (Some (Err Finished)) r s = subst (λ (source : Source). StandsForReader source (adding name tokens r)) (sym h.others) (reader_added new.definitions h.definitions r s)
+  held_added (Some (Err Continue)) r s = s
+  held_added (Some (Err (Error fault))) r s = tt
+
+  -- each state is now one in which the definition was added
+  pub stands_added : (m : Machine) (e : Expander SourceReader) → StandsFor m old e → StandsFor m new (with_added name tokens e)
+  stands_added m e s = record {
+    held = s.held;
+    list = s.list;
+    reader = held_added m.held e.reader s.reader;
+    hidden = s.hidden;
+  }
+
+  -- what was defined still is
+  defined_added : (x : Name) → IsSome (meaning_of old.definitions x) → IsSome (meaning_of new.definitions x)
+  defined_added x some = subst (λ (d : Definitions). IsSome (d x)) (sym h.definitions.meaning) (go (is_same_name x name))
+    where
+      go : (b : Bool) → IsSome (if b then Some (object_like tokens) else meaning_of old.definitions x)
+      go true = refl
+      go false = some
+
+  above_added : (names : List Name) → AreDefinedAbove old.definitions names → AreDefinedAbove new.definitions names
+  above_added [] d = tt
+  above_added (x ∷ []) d = tt
+  above_added (x ∷ y ∷ names) d = (defined_added x d.0, above_added (y ∷ names) d.1)
+
+  -- the expander may go on
+  last_added : (o : Option (Step Token)) (frames : List Layer) → EndIsLast o frames (of_source old) → EndIsLast o frames (of_source new)
+  last_added o frames last = subst (λ (source : Source). EndIsLast o frames (of_source source)) (sym h.others) (same o last)
+    where
+      same : (o : Option (Step Token)) → EndIsLast o frames (of_source old) → EndIsLast o frames (of_source (record old { definitions = new.definitions }))
+      same None last = tt
+      same (Some (Ok token)) last = tt
+      same (Some (Err Continue)) last = tt
+      same (Some (Err Finished)) last = last
+      same (Some (Err (Error fault))) last = tt
+
+  pub fit_added : (m : Machine) → IsFit m old → IsFit m new
+  fit_added m fit = record {
+    unspent = ap (λ (source : Source). source.spent) h.others ∙ fit.unspent;
+    sound = record { apart = fit.sound.apart; defined = above_added (names_of m.frames) fit.sound.defined };
+    last = last_added m.held m.frames fit.last;
+  }
+
+  pub told_added : (m : Machine) → IsTold m old → IsTold m new
+  told_added m told = subst (λ (source : Source). IsTold m source) (sym h.others) told
+
+  -- where nothing was left, nothing is
+  pub none_left_added : (m : Machine) (spent : Bool) → (if spent then 0 else work_of expansion_limit m (of_source old)) ≡ 0 → (if spent then 0 else work_of expansion_limit m (of_source new)) ≡ 0
+  none_left_added m true e = refl
+  none_left_added m false e = no_more_work expansion_limit m old new (ap (λ (s : Source). length s.rest + length s.blocks) h.others) e
+
+-- what a call answers, by what was made of the source
+module _ (old : Preprocessing) (name content : List ℕ) (new : Source) where
+  pub added_now : (tokens : List Token) → content_tokens (items_of content) ≡ Ok tokens → IsSetIn (chars name) tokens old.source new → IsAdded old name content (Ok tt) (record old { source = new })
+  unfolding Stands is_spent most_items errors_left error_place
+  added_now tokens e h = added tokens e refl (record {
+    stands = λ state stands. stands_added (chars name) tokens old.source new h old.machine state stands;
+    spent = refl;
+    ended = λ none. none_left_added (chars name) tokens old.source new h old.machine old.spent none;
+    errors = ap (λ (s : Source). untold_with old.machine.held (untold_of s)) h.others;
+    place = refl;
+  })
+
+  pub faulty_now : (fault : Fault) → content_tokens (items_of content) ≡ Err fault → new ≡ old.source → IsAdded old name content (Err fault) (record old { source = new })
+  faulty_now fault e same = faulty fault e refl (ap (λ (source : Source). record old { source = source }) same)
+
+  pub refused_now : new ≡ old.source → IsAdded old name content (Err out_of_memory) (record old { source = new })
+  refused_now same = refused refl (ap (λ (source : Source). record old { source = source }) same)

@@ -1,0 +1,98 @@
+-- What comes of a text of which it is known that it gives these tokens.
+use Rattle.std.proofs.Common.{◌≡◌, ◌∙◌, List, [], ◌∷◌, ◌++◌, append_nil, map, refl, ap, sym, subst, Option, Some, None, Result, Ok, Err, Bool, true, false, IsTrue, ◌↔◌}
+use Rattle.pp_lexer.specs.Spelling.{values_of}
+use Rattle.pp_lexer.specs.declared.token.Token.{Token}
+use Rattle.pp_lexer.specs.declared.token.TokenValue.{TokenValue}
+use Rattle.pp_model.specs.RespellLaws.{calls_for, replies_with, GivesValues}
+use Rattle.pp_model.specs.Run.{Runs, done, given, failed, items_of, start}
+use Rattle.pp_model.specs.declared.call.Reply.TheVariants as reply
+use Rattle.pp_model.specs.declared.outcome.Outcome.{Outcome}
+use Rattle.pp_model.specs.declared.outcome.Outcome.TheVariants as outcome
+use Rattle.pp_expansion.specs.Item.{Fault, Item}
+use Rattle.pp_rs.specs.Collecting.{tokens_before_error, first_error, error_or_end, AreItemsFrom}
+use Rattle.pp_rs.specs.Comes.{State, Comes, Gives, nothing, first, IsRunFrom}
+use Rattle.pp_rs.specs.inner.ItemValues.{value_of_item}
+use Rattle.pp_rs.proofs.runs.ComesLemmas.{one_comes}
+
+-- from the state these tokens come, and then the end
+abbrev RunsThrough : State → List Token → Type 0
+RunsThrough e tokens = Runs Comes e (calls_for tokens) (replies_with tokens)
+
+end_comes : (e : State) → RunsThrough e [] → (f : State) × Comes e outcome.End f
+end_comes e (given o e1 f calls rest replies comes plain more is) = let same : o ≡ outcome.End = cc in (f, subst (λ x. Comes e x f) same comes)
+end_comes e (failed fault e1 f calls replies comes is) = cc
+
+record Follows (e : State) (token : Token) (tokens : List Token) : Type 0 where
+  after : State
+  comes : Comes e (outcome.Token token) after
+  later : RunsThrough after tokens
+
+token_comes : (e : State) (token : Token) (tokens : List Token) → RunsThrough e (token ∷ tokens) → Follows e token tokens
+token_comes e token tokens (given o e1 f calls rest replies comes plain more is) =
+    let same : o ≡ outcome.Token token = cc in
+    let left : rest ≡ replies_with tokens = cc in
+    record { after = f; comes = subst (λ x. Comes e x f) same comes; later = subst (λ rs. Runs Comes f (calls_for tokens) rs) left more }
+token_comes e token tokens (failed fault e1 f calls replies comes is) = cc
+
+-- what comes first of such a run, and what is left of it
+record Left (all given : List Token) (f : State) : Type 0 where
+  rest : List Token
+  is : all ≡ given ++ rest
+  run : RunsThrough f rest
+
+left_of : (all given : List Token) (e f : State) → Gives e given f → RunsThrough e all → Left all given f
+left_of all given e f (nothing ts e1 f1 none same) run = rw (none, same) (record { rest = all; is = refl; run = run })
+left_of [] given e f (first token rest ts e1 next f1 comes more is) run =
+    let end = end_comes e run in
+    absurd (let bad = (one_comes _ _ e end.0 next end.1 comes).0 in cc)
+left_of (t ∷ all) given e f (first token rest ts e1 next f1 comes more is) run =
+    let h = token_comes e t all run in
+    let same = one_comes _ _ e h.after next h.comes comes in
+    let this : t ≡ token = cc in
+    let later = left_of all rest next f more (subst (λ s. RunsThrough s all) same.1 h.later) in
+    record { rest = later.rest; is = rw (this, is) (ap (λ ts. token ∷ ts) later.is); run = later.run }
+
+-- such a run gives these tokens alone, and then the end
+pub record IsWhole (all : List Token) (items : List Item) : Type 0 where
+  pub tokens : all ≡ tokens_before_error items
+  pub ends : first_error items ≡ None
+
+whole_at : (rest : List Token) (error : Option Fault) (f g : State) → RunsThrough f rest → Comes f (error_or_end error) g → (rest ≡ []) × (error ≡ None)
+whole_at [] None f g run comes = (refl, refl)
+whole_at [] (Some fault) f g run comes = let end = end_comes f run in absurd (let bad = (one_comes _ _ f end.0 g end.1 comes).0 in cc)
+whole_at (t ∷ rest) None f g run comes = let h = token_comes f t rest run in absurd (let bad = (one_comes _ _ f h.after g h.comes comes).0 in cc)
+whole_at (t ∷ rest) (Some fault) f g run comes = let h = token_comes f t rest run in absurd (let bad = (one_comes _ _ f h.after g h.comes comes).0 in cc)
+
+pub items_are_whole : (all : List Token) (items : List Item) (e : State) → RunsThrough e all → AreItemsFrom e items → IsWhole all items
+items_are_whole all items e run from =
+    let left = left_of all (tokens_before_error items) e from.before from.gives run in
+    let end = whole_at left.rest (first_error items) from.before from.after left.run from.ends in
+    record { tokens = left.is ∙ ap (λ ts. tokens_before_error items ++ ts) end.0 ∙ append_nil _; ends = end.1 }
+
+-- items without an error are their tokens
+pub values_are : (items : List Item) → first_error items ≡ None → map value_of_item items ≡ map Ok (values_of (tokens_before_error items))
+values_are [] e = refl
+values_are (Ok token ∷ items) e = ap (λ vs. Ok token.value ∷ vs) (values_are items e)
+values_are (Err fault ∷ items) e = cc
+
+-- and items with these values have no error
+pub record AreTokens (items : List Item) (values : List TokenValue) : Type 0 where
+  pub ends : first_error items ≡ None
+  pub values : values_of (tokens_before_error items) ≡ values
+
+pub tokens_are : (items : List Item) (values : List TokenValue) → map value_of_item items ≡ map Ok values → AreTokens items values
+tokens_are [] [] e = record { ends = refl; values = refl }
+tokens_are [] (v ∷ values) e = cc
+tokens_are (Ok token ∷ items) [] e = cc
+tokens_are (Ok token ∷ items) (v ∷ values) e =
+    let here : token.value ≡ v = cc in
+    let there : map value_of_item items ≡ map Ok values = cc in
+    let later = tokens_are items values there in
+    record { ends = later.ends; values = rw here (ap (λ vs. v ∷ vs) later.values) }
+tokens_are (Err fault ∷ items) [] e = cc
+tokens_are (Err fault ∷ items) (v ∷ values) e = cc
+
+-- tokens that come one after another, and then the end, are a run
+pub run_of : (tokens : List Token) (e f g : State) → Gives e tokens f → Comes f outcome.End g → RunsThrough e tokens
+run_of tokens e f g (nothing ts e1 f1 none same) ends = rw none (given outcome.End e g [] [] _ (subst (λ s. Comes s outcome.End g) same ends) refl (done g [] refl) refl)
+run_of tokens e f g (first token rest ts e1 next f1 comes more is) ends = rw is (given (outcome.Token token) e next (calls_for rest) (replies_with rest) _ comes refl (run_of rest next f g more ends) refl)

@@ -1,0 +1,137 @@
+-- A turn that isn't the end had something left to read.
+use Rattle.std.proofs.Common.{◌≡◌, ◌≢◌, ◌⊎◌, ◌∙◌, inl, inr, ℕ, ◌<◌, length, arith, true, false, Bool, List, [], ◌∷◌, refl, ap, sym, subst, Option, Some, None}
+use Rattle.std.specs.Prelude.{Err, ◌-◌, ℤ}
+use Rattle.std.specs.Fn.{iterate}
+use Rattle.pp_lexer.specs.Lexed.{Seen}
+use Rattle.pp_lexer.specs.declared.token.Location.{Location}
+use Rattle.pp_lexer.specs.declared.token.Token.{Token}
+use Rattle.pp_expansion.specs.inner.CallTurns.{TakesSomething}
+use Rattle.pp_expansion.specs.inner.Defined.{Defined}
+use Rattle.pp_expansion.specs.inner.Frames.{Layer}
+use Rattle.pp_expansion.specs.Item.{Step}
+use Rattle.pp_expansion.specs.inner.Left.{work_of, regions, regions_of, most_open, most_bodies, holding_step}
+use Rattle.pp_expansion.specs.inner.Machine.{Machine, StepsTaking, held, moved, taken_as}
+use Rattle.pp_expansion.specs.declared.blocks.OpenBlock.{OpenBlock}
+use Rattle.pp_expansion.specs.inner.Reach.{grown, through, total, work_in, frame_steps}
+use Rattle.pp_expansion.specs.inner.Reader.{Reader, of_source, of_list, Reads}
+use Rattle.pp_expansion.specs.inner.Source.{Source, StepsSource}
+use Rattle.pp_expansion.specs.inner.Turns.{Moves}
+use Rattle.pp_expansion.specs.inner.Work.{is_end, most_reads}
+use Rattle.pp_expansion.specs.declared.step.StepExit.TheVariants.{Finished}
+use Rattle.pp_expansion.proofs.open_frames.AdvanceLemmas.{some_steps_left}
+use Rattle.pp_expansion.proofs.work.ReachLemmas.{through_up}
+use Rattle.pp_expansion.proofs.work.SpendLemmas.{total_one_more}
+
+-- something is held that isn't the end
+abbrev pub HoldsMore : Option (Step Token) → Type 0
+HoldsMore None = ⊥
+HoldsMore (Some step) = is_end step ≡ false
+
+-- something is held, or a macro is open, or an item is left to read, or an open block to be told
+abbrev pub SomethingLeft : Machine → Source → Type 0
+SomethingLeft machine source = HoldsMore machine.held ⊎ (machine.frames ≢ []) ⊎ (source.rest ≢ []) ⊎ (source.blocks ≢ [])
+
+-- a source with nothing left is at its end
+empty_source : (places : List Location) (error_place : Option Location) (definitions : List Defined) (line_offset : ℤ) (has_text has_directive : Bool) (new : Source) (step : Step Token) → StepsSource (record { rest = []; places = places; error_place = error_place; definitions = definitions; blocks = []; line_offset = line_offset; spent = false; has_text = has_text; has_directive = has_directive }) step new → step ≡ Err Finished
+empty_source places error_place definitions line_offset has_text has_directive new step (inl h) = absurd (h.some_left refl)
+empty_source places error_place definitions line_offset has_text has_directive new step (inr h) = h.0
+
+read_before : (rest : List Seen) (places : List Location) (error_place : Option Location) (definitions : List Defined) (blocks : List OpenBlock) (line_offset : ℤ) (has_text has_directive : Bool) (s : Reader) (step : Step Token)
+    → Reads (of_source (record { rest = rest; places = places; error_place = error_place; definitions = definitions; blocks = blocks; line_offset = line_offset; spent = false; has_text = has_text; has_directive = has_directive })) step s → (step ≡ Err Finished → ⊥) → (rest ≢ []) ⊎ (blocks ≢ [])
+read_before (x ∷ rest) places error_place definitions blocks line_offset has_text has_directive s step h goes = inl (λ e. cc)
+read_before [] places error_place definitions (block ∷ blocks) line_offset has_text has_directive s step h goes = inr (λ e. cc)
+read_before [] places error_place definitions [] line_offset has_text has_directive (of_source new) step h goes = absurd (goes (empty_source places error_place definitions line_offset has_text has_directive new step h.0))
+read_before [] places error_place definitions [] line_offset has_text has_directive (of_list new) step h goes = absurd h
+
+left_in_source : (old : Source) (s : Reader) (step : Step Token) → old.spent ≡ false → Reads (of_source old) step s → (step ≡ Err Finished → ⊥) → (old.rest ≢ []) ⊎ (old.blocks ≢ [])
+left_in_source old s step unspent h goes =
+    read_before old.rest old.places old.error_place old.definitions old.blocks old.line_offset old.has_text old.has_directive s step (subst (λ (b : Bool). Reads (of_source (record { rest = old.rest; places = old.places; error_place = old.error_place; definitions = old.definitions; blocks = old.blocks; line_offset = old.line_offset; spent = b; has_text = old.has_text; has_directive = old.has_directive })) step s) unspent h) goes
+
+reads_more : (frames : List Layer) (old : Source) → (old.rest ≢ []) ⊎ (old.blocks ≢ []) → (frames ≢ []) ⊎ (old.rest ≢ []) ⊎ (old.blocks ≢ [])
+reads_more frames old (inl h) = inr (inl h)
+reads_more frames old (inr h) = inr (inr h)
+
+moved_left : (frames after : List Layer) (old : Source) (s : Reader) (step : Step Token) → old.spent ≡ false → Moves frames (of_source old) step after s → (step ≡ Err Finished → ⊥) → (frames ≢ []) ⊎ (old.rest ≢ []) ⊎ (old.blocks ≢ [])
+moved_left (f ∷ fs) after old s step unspent moves goes = inl (λ e. cc)
+moved_left [] after old s step unspent moves goes = reads_more [] old (left_in_source old s step unspent moves.1 goes)
+
+taking_left : (m n : Machine) (old : Source) (s : Reader) (step : Step Token) → old.spent ≡ false → StepsTaking m (of_source old) step n s → is_end step ≡ false → SomethingLeft m old
+taking_left m n old s step unspent (held step1 m1 n1 r1 s1 is at same) goes = inl (subst HoldsMore (sym is) goes)
+taking_left m n old s step unspent (moved move step1 m1 n1 r1 s1 free moves is none) goes =
+    more (moved_left m.frames n.frames old s move unspent moves (λ e. absurd (ends e)))
+  where
+    ends : move ≡ Err Finished → ⊥
+    ends e = let bad : is_end step ≡ true = ap is_end (is ∙ ap (λ (x : Step Token). taken_as x n.frames s) e) in cc
+
+    more : (m.frames ≢ []) ⊎ (old.rest ≢ []) ⊎ (old.blocks ≢ []) → SomethingLeft m old
+    more (inl h) = inr (inl h)
+    more (inr (inl h)) = inr (inr (inl h))
+    more (inr (inr h)) = inr (inr (inr h))
+
+-- where something was taken, something was left
+pub some_left : (m : Machine) (old : Source) → old.spent ≡ false → TakesSomething m (of_source old) → SomethingLeft m old
+some_left m old unspent h = taking_left m h.after old h.reader h.step unspent h.takes h.goes
+
+some_there : {A : Type 0} (items : List A) → items ≢ [] → 0 < length items
+some_there [] left = absurd (left refl)
+some_there (x ∷ items) left = omega arith
+
+frames_some : (frames : List Layer) (reads : ℕ) → (frames ≢ []) ⊎ (0 < reads) → 0 < total (regions_of frames reads)
+frames_some [] reads (inl left) = absurd (left refl)
+frames_some [] reads (inr left) = omega arith
+frames_some (f ∷ fs) reads left = omega (arith, some_steps_left f)
+
+holding_some : (o : Option (Step Token)) (xs : List ℕ) → HoldsMore o → 0 < total (holding_step o xs)
+holding_some None xs h = absurd h
+holding_some (Some step) xs h = rw h (omega (arith, total_one_more xs))
+
+holding_more : (o : Option (Step Token)) (xs : List ℕ) → 0 < total xs → 0 < total (holding_step o xs)
+holding_more None xs h = h
+holding_more (Some step) xs h = go (is_end step) refl
+  where
+    go : (b : Bool) → is_end step ≡ b → 0 < total (holding_step (Some step) xs)
+    go true e = rw e h
+    go false e = rw e (omega (arith, total_one_more xs))
+
+regions_some : (m : Machine) (source : Source) → SomethingLeft m source → 0 < total (regions m (of_source source))
+regions_some m source (inl h) = holding_some m.held (regions_of m.frames (most_reads source)) h
+regions_some m source (inr (inl h)) = holding_more m.held (regions_of m.frames (most_reads source)) (frames_some m.frames (most_reads source) (inl h))
+regions_some m source (inr (inr (inl h))) = holding_more m.held (regions_of m.frames (most_reads source)) (frames_some m.frames (most_reads source) (inr (omega (arith, some_there source.rest h))))
+regions_some m source (inr (inr (inr h))) = holding_more m.held (regions_of m.frames (most_reads source)) (frames_some m.frames (most_reads source) (inr (omega (arith, some_there source.blocks h))))
+
+-- where something is left, there is something to do
+pub left_is_work : (levels : ℕ) (m : Machine) (source : Source) → SomethingLeft m source → 0 < work_of levels m (of_source source)
+left_is_work levels m source left =
+    let r = of_source source in
+    let xs = regions m r in
+    let up = through_up (frame_steps (most_bodies r) (most_open r) levels) (most_open r) xs (total xs) in
+    omega (arith, up, regions_some m source left)
+
+-- where nothing is left, there is nothing to do
+pub no_work : (levels : ℕ) (m : Machine) (source : Source) → m.held ≡ None → m.frames ≡ [] → source.rest ≡ [] → source.blocks ≡ [] → work_of levels m (of_source source) ≡ 0
+no_work levels m source free closed e f =
+    let r = of_source source in
+    let reads : most_reads source ≡ 0 = omega (arith, ap length e, ap length f) in
+    let xs : regions m r ≡ 0 ∷ [] = ap (λ (o : Option (Step Token)). holding_step o (regions_of m.frames (most_reads source))) free ∙ ap (λ (fs : List Layer). regions_of fs (most_reads source)) closed ∙ ap (λ (k : ℕ). k ∷ []) reads in
+    ap (work_in (frame_steps (most_bodies r) (most_open r) levels) (most_open r)) xs
+
+-- no step is more work
+through_none : (frame : ℕ → ℕ) (names : ℕ) (xs : List ℕ) → total xs ≡ 0 → through frame names xs 0 ≡ 0
+through_none frame names [] e = refl
+through_none frame names (s ∷ rest) e =
+    let none : s ≡ 0 = omega arith in
+    let none_after : total rest ≡ 0 = omega arith in
+    subst (λ (k : ℕ). through frame names rest (iterate (grown frame (names - length rest)) k 0) ≡ 0) (sym none) (through_none frame names rest none_after)
+
+no_steps : (frame : ℕ → ℕ) (names : ℕ) (xs : List ℕ) → total xs ≡ 0 → work_in frame names xs ≡ 0
+no_steps frame names xs e = subst (λ (k : ℕ). through frame names xs k ≡ 0) (sym e) (through_none frame names xs e)
+
+-- where there is nothing to do, there is nothing to do either in a source of which as much is left
+pub no_more_work : (levels : ℕ) (m : Machine) (old new : Source) → most_reads new ≡ most_reads old → work_of levels m (of_source old) ≡ 0 → work_of levels m (of_source new) ≡ 0
+no_more_work levels m old new same e =
+    let r = of_source old in
+    let s = of_source new in
+    let up = through_up (frame_steps (most_bodies r) (most_open r) levels) (most_open r) (regions m r) (total (regions m r)) in
+    let none : total (regions m r) ≡ 0 = omega (arith, up, e) in
+    let regions_same : regions m s ≡ regions m r = ap (λ (k : ℕ). holding_step m.held (regions_of m.frames k)) same in
+    no_steps (frame_steps (most_bodies s) (most_open s) levels) (most_open s) (regions m s) (ap total regions_same ∙ none)

@@ -1,0 +1,225 @@
+-- What the loop of `next` has reached, and what its answers are to the state that it began in.
+use Rattle.std.proofs.Common.{◌≡◌, ◌∙◌, ◌<◌, ◌≤◌, ◌⊎◌, inl, inr, Bool, true, false, if◌then◌else◌, List, [], ◌∷◌, refl, sym, ap, subst, Option, Some, None, arith}
+use Rattle.std.specs.Prelude.{Ok, Err, MatchBool, unwrap_or}
+use Rattle.pp_lexer.specs.PreprocessorError.{out_of_memory}
+use Rattle.pp_lexer.specs.declared.token.Location.{Location}
+use Rattle.pp_lexer.specs.declared.token.Token.{Token}
+use Rattle.pp_model.specs.Emitting.{answers_at, expansion_limit}
+use Rattle.pp_model.specs.Calls.{Fault}
+use Rattle.pp_model.specs.Reading.{Expander}
+use Rattle.pp_model.specs.SourceReader.{SourceReader}
+use Rattle.pp_rs.specs.inner.Fit.{EndIsLast, IsFit, IsTold}
+use Rattle.pp_expansion.specs.Held.{HoldsOrdinary}
+use Rattle.pp_expansion.specs.Item.{Item, Step, is_out_of_memory, wants_memory}
+use Rattle.pp_expansion.specs.inner.Left.{work_of}
+use Rattle.pp_expansion.specs.LexerErrors.{ErrorAt}
+use Rattle.pp_expansion.specs.inner.Machine.{Machine}
+use Rattle.pp_expansion.specs.inner.Reader.{of_source}
+use Rattle.pp_expansion.specs.inner.Source.{Source, untold_of}
+use Rattle.pp_rs.specs.inner.SourceTurns.{TurnsSource, StepsOver}
+use Rattle.pp_rs.specs.inner.Stands.{StandsFor}
+use Rattle.pp_rs.specs.Kept.{Preprocessing, Stands, is_spent, most_items, errors_left, error_place}
+use Rattle.pp_rs.specs.Preprocessing.{IsLessLeft, IsErrorAt, of_lexer, of_its_own, IsRefusedItem, IsGivenItem, IsNextItem}
+use Rattle.pp_expansion.specs.inner.Untold.{with_read, IsToldBut}
+use Rattle.pp_expansion.specs.declared.step.StepExit.TheVariants.{Error, Continue, Finished}
+use Rattle.pp_rs.proofs.runs.Leads.{LeadsFrom, Leads, leads_then}
+use Rattle.pp_rs.proofs.runs.LeftLemmas.{SomethingLeft, some_left, left_is_work, no_work}
+use Rattle.pp_rs.proofs.runs.UntoldTurnLemmas.{errors_of, ErrorsLeft, turn_errors}
+use Rattle.pp_rs.proofs.runs.SourceTurnLemmas.{turned_source, source_fits, source_lowers, source_ends, source_some, source_turn_leads}
+
+-- a state from which the same comes next as from the first
+pub record Reached (machine : Machine) (source : Source) (machine_now : Machine) (source_now : Source) : Type 0 where
+  pub fit : IsFit machine_now source_now
+  pub leads : Leads (answers_at expansion_limit) machine source (Err Continue) machine_now source_now
+  pub left : SomethingLeft machine_now source_now → SomethingLeft machine source
+  pub less : work_of expansion_limit machine_now (of_source source_now) ≤ work_of expansion_limit machine (of_source source)
+  pub told : IsTold machine_now source_now
+  pub errors : errors_of machine_now source_now ≡ errors_of machine source
+
+-- the state that it begins in
+pub reached_first : (machine now : Machine) (source source_now : Source) → now ≡ machine → source_now ≡ source → IsFit now source_now × IsTold now source_now → Reached machine source now source_now
+reached_first machine now source source_now e f fit = rw (e, f) (record {
+  fit = rw (e, f) at fit.0;
+  leads = record { from = λ s stands. (s, stands, λ o g emits. emits) };
+  left = λ left. left;
+  less = omega arith;
+  told = rw (e, f) at fit.1;
+  errors = refl;
+})
+
+module _ (machine now after : Machine) (source source_now source_after : Source) (r : Reached machine source now source_now) where
+  abbrev pub Over : Step Token → Type 0
+  Over step = StepsOver expansion_limit now source_now step after source_after
+
+  turned : (step : Step Token) → Over step → wants_memory step ≡ false → TurnsSource expansion_limit now source_now step after source_after
+  turned step h told = turned_source expansion_limit now after source_now source_after step h told
+
+  falls : (step : Step Token) → Over step → wants_memory step ≡ false → (step ≡ Err Finished → ⊥) → work_of expansion_limit after (of_source source_after) < work_of expansion_limit now (of_source source_now)
+  falls step h told goes = source_lowers expansion_limit now source_now source_after r.fit step after (turned step h told) told goes
+
+  fits : (step : Step Token) → Over step → wants_memory step ≡ false → IsFit after source_after
+  fits step h told = source_fits expansion_limit now source_now source_after r.fit step after (turned step h told) told
+
+  -- where a turn isn't the end, something was left at first
+  left_now : (step : Step Token) → Over step → (step ≡ Err Finished → ⊥) → SomethingLeft machine source
+  left_now step (inl h) goes = r.left (some_left now source_now r.fit.unspent (source_some expansion_limit now after source_now source_after step h goes))
+  left_now step (inr h) goes = r.left (some_left now source_now r.fit.unspent h.some)
+
+  leads_last : (step : Step Token) → Over step → wants_memory step ≡ false → Leads (answers_at expansion_limit) machine source step after source_after
+  leads_last step h told =
+      leads_then (answers_at expansion_limit) machine now after source source_now source_after step r.leads (source_turn_leads expansion_limit now after source_now source_after step r.fit (turned step h told) told)
+
+  -- what a turn leaves of the errors of the lexer
+  errors_last : (step : Step Token) → Over step → wants_memory step ≡ false → ErrorsLeft step (errors_of machine source) after source_after
+  errors_last step h told =
+      subst (λ (es : List ErrorAt). ErrorsLeft step es after source_after) r.errors (turn_errors expansion_limit now after source_now source_after step (turned step h told) told r.told)
+
+  -- a pause
+  pub reached_more : Over (Err Continue) → Reached machine source after source_after
+  reached_more h =
+      let less = falls (Err Continue) h refl (λ e. cc) in
+      record {
+        fit = fits (Err Continue) h refl;
+        leads = leads_last (Err Continue) h refl;
+        left = λ left. left_now (Err Continue) h (λ e. cc);
+        less = omega (arith, less, r.less);
+        told = (errors_last (Err Continue) h refl).0;
+        errors = (errors_last (Err Continue) h refl).1;
+      }
+
+  pub falls_more : Over (Err Continue) → work_of expansion_limit after (of_source source_after) < work_of expansion_limit now (of_source source_now)
+  falls_more h = falls (Err Continue) h refl (λ e. cc)
+
+  -- what holds after a token, after the end and after a fault, whose place was taken
+  pub token_fits : (token : Token) → Over (Ok token) → IsFit after source_after × IsTold after source_after
+  token_fits token h = (fits (Ok token) h refl, (errors_last (Ok token) h refl).0)
+
+  pub end_fits : Over (Err Finished) → IsFit after source_after × IsTold after source_after
+  end_fits h = (fits (Err Finished) h refl, (errors_last (Err Finished) h refl).0)
+
+  pub fault_fits : (fault : Fault) (told_source : Source) → told_source ≡ record source_after { error_place = None } → Over (Err (Error fault)) → is_out_of_memory fault.0 ≡ false → IsFit after told_source × IsTold after told_source
+  fault_fits fault told_source is h told =
+      let fit = fits (Err (Error fault)) h told in
+      let free = (errors_last (Err (Error fault)) h told).0 in
+      rw is (
+        record { unspent = fit.unspent; sound = fit.sound; last = subst (λ (o : Option (Step Token)). EndIsLast o after.frames (of_source (record source_after { error_place = None }))) (sym free) tt },
+        subst (λ (o : Option (Step Token)). IsToldBut o (untold_of (record source_after { error_place = None }))) (sym free) refl,
+      )
+
+  -- the answers from a state that isn't spent
+  module _ (old : Preprocessing) (fresh : old.spent ≡ false) (starts : old.machine ≡ machine) (begins : old.source ≡ source) where
+    stands_first : (e : Expander SourceReader) → Stands old e → StandsFor machine source e
+    unfolding Stands
+    stands_first e stands = subst (λ (s : Source). StandsFor machine s e) begins (subst (λ (m : Machine). StandsFor m old.source e) starts stands)
+
+    most_first : most_items old ≡ work_of expansion_limit machine (of_source source)
+    unfolding most_items
+    most_first = rw (fresh, starts, begins) refl
+
+    as_next : (answer : Option Item) (new : Preprocessing) → IsRefusedItem answer new ⊎ IsGivenItem old answer new → IsLessLeft answer old new → IsNextItem old answer new
+    unfolding is_spent
+    as_next answer new h less = record {
+      gives = subst (λ (b : Bool). MatchBool b ((answer ≡ None) × (new ≡ old)) (IsRefusedItem answer new ⊎ IsGivenItem old answer new)) (sym fresh) h;
+      less_left = less;
+    }
+
+    -- less is left after a token or a fault
+    less_last : (step : Step Token) (place : Location) → Over step → wants_memory step ≡ false → (step ≡ Err Finished → ⊥) → most_items (record { machine = after; source = source_after; spent = false; place = place }) < most_items old
+    unfolding most_items
+    less_last step place turn told goes =
+        let lower = falls step turn told goes in
+        omega (arith, lower, r.less, most_first)
+
+    errors_first : errors_left old ≡ errors_of machine source
+    unfolding errors_left
+    errors_first = rw (starts, begins) refl
+
+    pub next_token : (token : Token) (spent : Bool) (place : Location) → spent ≡ false → place ≡ old.place → Over (Ok token) → HoldsOrdinary token.value
+        → IsNextItem old (Some (Ok token)) (record { machine = after; source = source_after; spent = spent; place = place })
+    unfolding Stands is_spent errors_left error_place
+    next_token token true place fresh_now same turn holds = cc
+    next_token token false place fresh_now same turn holds =
+        as_next (Some (Ok token)) (record { machine = after; source = source_after; spent = false; place = place }) (inr (record {
+          item = λ e stands.
+              let leads : LeadsFrom (answers_at expansion_limit) e (Ok token) after source_after = (leads_last (Ok token) turn refl).from e (stands_first e stands) in
+              record { after = leads.0; emits = leads.1; goes_on = leads.2 };
+          no_refusal = refl;
+          holds = holds;
+          tells = ((errors_last (Ok token) turn refl).1 ∙ sym errors_first, same);
+          spent = refl;
+        })) (less_last (Ok token) place turn refl (λ e. cc))
+
+    end_last : (place : Location) → Over (Err Finished) → most_items (record { machine = after; source = source_after; spent = false; place = place }) ≡ 0
+    unfolding most_items
+    end_last place turn =
+        let e = source_ends expansion_limit now source_now source_after r.fit after (turned (Err Finished) turn refl) in
+        no_work expansion_limit after source_after e.0 e.1 e.2 e.3
+
+    -- at the end each error was told
+    none_untold : Over (Err Finished) → errors_of after source_after ≡ []
+    none_untold turn =
+        let e = source_ends expansion_limit now source_now source_after r.fit after (turned (Err Finished) turn refl) in
+        rw (e.0, e.2) refl
+
+    pub next_end : (spent : Bool) (place : Location) → spent ≡ false → place ≡ old.place → Over (Err Finished) → IsNextItem old None (record { machine = after; source = source_after; spent = spent; place = place })
+    unfolding Stands is_spent errors_left error_place
+    next_end true place fresh_now same turn = cc
+    next_end false place fresh_now same turn =
+        as_next None (record { machine = after; source = source_after; spent = false; place = place }) (inr (record {
+          item = λ e stands.
+              let leads : LeadsFrom (answers_at expansion_limit) e (Err Finished) after source_after = (leads_last (Err Finished) turn refl).from e (stands_first e stands) in
+              record { after = leads.0; emits = leads.1; goes_on = leads.2 };
+          no_refusal = refl;
+          holds = tt;
+          tells = (errors_first ∙ sym (errors_last (Err Finished) turn refl).1 ∙ none_untold turn, none_untold turn, same);
+          spent = refl;
+        })) (end_last place turn)
+
+    -- a fault is told where it stands: the place that was taken is that of an error of the lexer
+    module _ (fault : Fault) (told_source : Source) (place : Location) (is : told_source ≡ record source_after { error_place = None }) where
+      error_told : (taken : Option Location) (left : List ErrorAt) → errors_of machine source ≡ with_read fault taken left → place ≡ unwrap_or taken fault.1 → errors_left (record { machine = after; source = told_source; spent = false; place = place }) ≡ left
+          → IsErrorAt fault old (record { machine = after; source = told_source; spent = false; place = place })
+      unfolding error_place
+      error_told (Some there) left e at same = of_lexer (errors_first ∙ e ∙ ap (λ (es : List ErrorAt). record { item = fault; place = there } ∷ es) (sym same) ∙ ap (λ (p : Location). record { item = fault; place = p } ∷ errors_left (record { machine = after; source = told_source; spent = false; place = place })) (sym at))
+      error_told None left e at same = of_its_own at (same ∙ sym e ∙ sym errors_first)
+
+      errors_now : Over (Err (Error fault)) → is_out_of_memory fault.0 ≡ false → errors_left (record { machine = after; source = told_source; spent = false; place = place }) ≡ (untold_of source_after).later
+      unfolding errors_left
+      errors_now turn told = rw (is, (errors_last (Err (Error fault)) turn told).0) refl
+
+      less_now : Over (Err (Error fault)) → is_out_of_memory fault.0 ≡ false → most_items (record { machine = after; source = told_source; spent = false; place = place }) < most_items old
+      unfolding most_items
+      less_now turn told = rw is (less_last (Err (Error fault)) place turn told (λ e. cc))
+
+      next_fault : Over (Err (Error fault)) → is_out_of_memory fault.0 ≡ false → place ≡ unwrap_or source_after.error_place fault.1
+          → IsNextItem old (Some (Err fault)) (record { machine = after; source = told_source; spent = false; place = place })
+      unfolding is_spent
+      next_fault turn told at =
+          as_next (Some (Err fault)) (record { machine = after; source = told_source; spent = false; place = place }) (inr (record {
+            item = λ e stands.
+                let leads : LeadsFrom (answers_at expansion_limit) e (Err (Error fault)) after source_after = (leads_last (Err (Error fault)) turn told).from e (stands_first e stands) in
+                record { after = leads.0; emits = leads.1; goes_on = tt };
+            no_refusal = told;
+            holds = tt;
+            tells = error_told source_after.error_place (untold_of source_after).later (errors_last (Err (Error fault)) turn told).1 at (errors_now turn told);
+            spent = refl;
+          })) (less_now turn told)
+
+      next_refusal : Over (Err (Error fault)) → IsNextItem old (Some (Err out_of_memory)) (record { machine = after; source = told_source; spent = true; place = place })
+      unfolding is_spent most_items
+      next_refusal turn =
+          let left : SomethingLeft machine source = left_now (Err (Error fault)) turn (λ e. cc) in
+          as_next (Some (Err out_of_memory)) (record { machine = after; source = told_source; spent = true; place = place }) (inl (record { item = refl; spent = refl })) (omega (arith, left_is_work expansion_limit machine source left, most_first))
+
+      pub next_error : (want : Bool) → is_out_of_memory fault.0 ≡ want → Over (Err (Error fault)) → place ≡ unwrap_or source_after.error_place (if want then out_of_memory else fault).1
+          → IsNextItem old (Some (Err (if want then out_of_memory else fault))) (record { machine = after; source = told_source; spent = want; place = place })
+      next_error true e turn at = next_refusal turn
+      next_error false e turn at = next_fault turn e at
+
+-- once memory was refused
+pub next_none : (old : Preprocessing) → old.spent ≡ true → IsNextItem old None old
+unfolding is_spent most_items
+next_none old spent = record {
+  gives = subst (λ (b : Bool). MatchBool b (◌≡◌ {A = Option Item} None None × (old ≡ old)) (IsRefusedItem None old ⊎ IsGivenItem old None old)) (sym spent) (refl, refl);
+  less_left = rw spent refl;
+}

@@ -1,0 +1,51 @@
+-- A reader is spent only after a refusal of memory.
+use Rattle.std.proofs.Common.{◌≡◌, ◌∙◌, inl, inr, true, false, ap, ℕ, Bool, ◌⊎◌, List, Option, Some, None}
+use Rattle.std.specs.Prelude.{Err, MatchBool}
+use Rattle.pp_lexer.specs.declared.token.Location.{Location}
+use Rattle.pp_lexer.specs.declared.token.Token.{Token}
+use Rattle.pp_model.specs.Definitions.{Definition}
+use Rattle.pp_model.specs.declared.definition.Named.{Named}
+use Rattle.pp_expansion.specs.Item.{Step, wants_memory}
+use Rattle.pp_expansion.specs.inner.Defined.{meaning_of}
+use Rattle.pp_expansion.specs.inner.Source.{Source, DefinesOver, HasEffect, IsRefusedStep, Makes, Decides, holds, faulty, Renumbers, numbers, unnumbered}
+use Rattle.pp_expansion.specs.declared.blocks.OpenBlock.{OpenBlock}
+use Rattle.pp_expansion.specs.inner.SourceMoves.{Effect, gives, gives_item, fails, ends, passes, defines, undefines, opens_where, opens_if, opens_unread, parts, parts_if, closes, unfinished, renumbers, Note, move_of}
+use Rattle.pp_expansion.specs.declared.step.StepExit.TheVariants.{Finished}
+
+module _ (old new : Source) (step : Step Token) (unspent : old.spent ≡ false) where
+  defines_unspent : (named : Named) (before : Option Definition) (taken : ℕ) (note : Note) → DefinesOver named before taken note old step new → new.spent ≡ false
+  defines_unspent named None taken note h = h.1.spent
+  defines_unspent named (Some before) taken note (inl h) = h.2.spent
+  defines_unspent named (Some before) taken note (inr h) = h.2.spent
+
+  decides_unspent : (word : Location) (tokens : List Token) (blocks : Bool → List OpenBlock) (taken : ℕ) (note : Note) → Decides word tokens blocks taken note old step new → new.spent ≡ false
+  decides_unspent word tokens blocks taken note (holds value condition h) = h.1.spent
+  decides_unspent word tokens blocks taken note (faulty fault condition failed left) = left.spent
+
+  renumbers_unspent : (word : Location) (tokens : List Token) (taken : ℕ) (note : Note) → Renumbers word tokens taken note old step new → new.spent ≡ false
+  renumbers_unspent word tokens taken note (numbers n number h) = h.1.spent
+  renumbers_unspent word tokens taken note (unnumbered fault number failed left) = left.spent
+
+  effect_unspent : (effect : Effect) (taken : ℕ) (note : Note) → HasEffect effect taken note old step new → new.spent ≡ false
+  effect_unspent (gives token) taken note h = h.1.spent
+  effect_unspent (gives_item item word) taken note h = h.1.spent
+  effect_unspent (fails fault) taken note h = h.1.spent
+  effect_unspent ends taken note h = ap (λ (s : Source). s.spent) h.1 ∙ unspent
+  effect_unspent passes taken note h = h.1.spent
+  effect_unspent (defines named) taken note h = defines_unspent named (meaning_of old.definitions named.name) taken note h
+  effect_unspent (undefines name) taken note h = h.1.spent
+  effect_unspent (opens_where wanted word name) taken note h = h.1.spent
+  effect_unspent (opens_if word tokens) taken note h = decides_unspent word tokens _ taken note h
+  effect_unspent (opens_unread word) taken note h = h.1.spent
+  effect_unspent (parts block) taken note h = h.1.spent
+  effect_unspent (parts_if block word tokens) taken note h = decides_unspent word tokens _ taken note h
+  effect_unspent closes taken note h = h.1.spent
+  effect_unspent (unfinished word) taken note h = h.1.spent
+  effect_unspent (renumbers word tokens) taken note h = renumbers_unspent word tokens taken note h
+
+  pub steps_unspent : (spent : Bool) → old.spent ≡ spent → wants_memory step ≡ false → MatchBool spent ((step ≡ Err Finished) × (new ≡ old)) (IsRefusedStep old step ⊎ Makes (move_of old.blocks old.rest) old step new) → new.spent ≡ false
+  steps_unspent true e told h = cc
+  steps_unspent false e told (inl h) =
+      let bad : true ≡ false = rw h.fault at told in
+      cc
+  steps_unspent false e told (inr h) = effect_unspent (move_of old.blocks old.rest).effect (move_of old.blocks old.rest).taken (move_of old.blocks old.rest).note h

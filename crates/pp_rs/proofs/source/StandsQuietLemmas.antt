@@ -1,0 +1,63 @@
+-- After items that add no line of a block the source stands for its reader.
+use Rattle.std.proofs.Common.{◌≡◌, ◌∙◌, ℕ, ◌+◌, ◌≤◌, Bool, true, false, ◌&&◌, List, [], ◌∷◌, ◌++◌, length, take, refl, ap, sym, subst, arith}
+use Rattle.pp_lexer.specs.Lexed.{Seen}
+use Rattle.pp_model.specs.Definitions.{Definitions}
+use Rattle.pp_model.specs.Sights.{sight_of, is_text}
+use Rattle.pp_model.specs.Blocks.{block_lines, Block, blocks_at}
+use Rattle.pp_model.specs.SourceReader.{SourceReader}
+use Rattle.pp_model.specs.Acts.{moved}
+use Rattle.pp_model.specs.declared.sight.Sight.{Sight}
+use Rattle.pp_expansion.specs.inner.Defined.{meaning_of}
+use Rattle.pp_expansion.specs.inner.OpenBlocks.{last_block, is_live_in, StandForBlocks}
+use Rattle.pp_expansion.specs.declared.blocks.OpenBlock.{OpenBlock}
+use Rattle.pp_expansion.specs.inner.SourceMoves as moves
+use Rattle.pp_expansion.specs.inner.SourceMoves.{notes_text, notes_directive}
+use Rattle.pp_expansion.specs.inner.Source.{Source, IsAfter}
+use Rattle.pp_rs.specs.inner.Stands.{StandsForReader}
+use Rattle.pp_rs.proofs.source.DirectiveBeforeLemmas.{begins_with_hash, AddsDirective}
+use Rattle.pp_rs.proofs.blocks.LinesBeforeLemmas.{AddsLines}
+use Rattle.pp_expansion.proofs.work.QuietLemmas.{is_one_item, quiet_one, one_there, one_in_front}
+use Rattle.pp_rs.proofs.blocks.RememberedLemmas.{IsRemembered, one_remembered, two_remembered}
+use Rattle.pp_rs.proofs.source.StandsAfterLemmas.{live_now, remembered_here, stands_further, blocks_stay}
+use Rattle.pp_rs.proofs.blocks.TruthLemmas.{before_later}
+
+module _ {old : Source} {r : SourceReader} (s : StandsForReader old r) (new : Source) where
+  -- where no definition changes, each name stands for what it stood for
+  pub same_meaning : new.definitions ≡ old.definitions → r.definitions ≡ meaning_of new.definitions
+  same_meaning same = s.definitions ∙ ap meaning_of (sym same)
+
+module _ {old : Source} {r : SourceReader} (s : StandsForReader old r) {new : Source} where
+  -- after so many items among which no line of a block stands
+  pub stands_quiet : (n : ℕ) {note : moves.Note} (definitions : Definitions) → n ≤ length old.rest → IsAfter n note old.blocks old new
+      → definitions ≡ meaning_of new.definitions → AddsLines r.position n old.rest [] → IsRemembered new r.items r.truths (r.position + n)
+      → StandsForReader new (record r { position = r.position + n; definitions = definitions })
+  stands_quiet n definitions within b means adds remembered =
+      stands_further old r s n definitions r.truths [] new within b.rest b.spent b.line_offset means adds
+      (subst (λ (kept : List OpenBlock). StandForBlocks r.items r.truths kept (blocks_at r.items (r.position + n))) (sym b.blocks)
+      (subst (λ (blocks : List Block). StandForBlocks r.items r.truths old.blocks blocks) (sym (blocks_stay old r s n adds)) s.blocks))
+      (before_later r.position (r.position + n) r.truths (omega arith) s.truths) remembered
+
+  -- the same where no definition changes
+  stands_same : (n : ℕ) {note : moves.Note} → n ≤ length old.rest → IsAfter n note old.blocks old new → new.definitions ≡ old.definitions → AddsLines r.position n old.rest []
+      → IsRemembered new r.items r.truths (r.position + n) → StandsForReader new (moved n r)
+  stands_same n within b same adds remembered = stands_quiet n r.definitions within b (same_meaning s new same) adds remembered
+
+  -- after one item, a newline, a token of the text or a number sign that begins no line
+  pub stands_one : {live : Bool} (alive : is_live_in (last_block old.blocks) ≡ live) {shown : Sight} (e : sight_of old.rest ≡ shown) {note : moves.Note}
+      → is_one_item shown ≡ true → notes_text note ≡ (live && is_text shown) → notes_directive note ≡ false → IsAfter 1 note old.blocks old new → new.definitions ≡ old.definitions
+      → StandsForReader new (moved 1 r)
+  stands_one {live} alive e {note} one text none b same =
+      let h : is_one_item (sight_of old.rest) ≡ true = ap is_one_item e ∙ one in
+      let f = one_in_front old.rest h in
+      let noted : notes_text note ≡ (live && is_text (sight_of old.rest)) = text ∙ ap (λ x. live && is_text x) (sym e) in
+      stands_same 1 (one_there old.rest h) b same (λ after. quiet_one r.position old.rest after h)
+      (one_remembered old new r.items r.truths r.position s.rest (remembered_here old r s) live alive (live_now old r s ∙ alive) f.first f.later f.front f.quiet note noted none b)
+
+  -- after the number sign of a directive in dead text and what stands after it, where they add no line of a block
+  pub stands_two : (dead : is_live_in (last_block old.blocks) ≡ false) {shown : Sight} (e : sight_of old.rest ≡ shown) {note : moves.Note} (a b : Seen) (rest : List Seen)
+      → begins_with_hash shown ≡ true → notes_text note ≡ false → AddsDirective 2 old.rest (notes_directive note) → old.rest ≡ a ∷ b ∷ rest
+      → ((later : List Seen) → block_lines r.position (a ∷ b ∷ later) ≡ block_lines (r.position + 2) later) → IsAfter 2 note old.blocks old new → new.definitions ≡ old.definitions
+      → StandsForReader new (moved 2 r)
+  stands_two dead {shown} e {note} a b rest begins text adds front quiet after same =
+      stands_same 2 (omega (arith, ap length front)) after same (λ later. ap (λ items. block_lines r.position (take 2 items ++ later)) front ∙ quiet later)
+      (two_remembered old new r.items r.truths r.position s.rest (remembered_here old r s) dead shown e begins a b rest front note text (notes_directive note) refl adds after)

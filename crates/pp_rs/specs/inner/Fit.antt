@@ -1,0 +1,35 @@
+-- What holds of an expander over a source between any two calls, unless memory was refused.
+use Rattle.std.specs.Prelude.{◌≡◌, false, List, [], Option, Some, Err, ⊤}
+use Rattle.pp_lexer.specs.declared.token.Token.{Token}
+use Rattle.pp_expansion.specs.inner.Frames.{Layer}
+use Rattle.pp_expansion.specs.Item.{Step}
+use Rattle.pp_expansion.specs.inner.Left.{IsSound}
+use Rattle.pp_expansion.specs.inner.Machine.{Machine}
+use Rattle.pp_expansion.specs.inner.Reader.{Reader, of_source, of_list}
+use Rattle.pp_expansion.specs.inner.Source.{Source, untold_of}
+use Rattle.pp_expansion.specs.inner.Untold.{IsToldBut}
+use Rattle.pp_expansion.specs.declared.step.StepExit.TheVariants.{Finished}
+
+-- a source with no item left, and no open block
+abbrev pub NothingIn : Reader → Type 0
+NothingIn (of_source source) = (source.rest ≡ []) × (source.blocks ≡ [])
+NothingIn (of_list list) = ⊤
+
+-- a source that was not refused memory
+abbrev pub IsReady : Reader → Type 0
+IsReady (of_source source) = source.spent ≡ false
+IsReady (of_list list) = ⊤
+
+-- where the end is held, nothing is left
+abbrev pub EndIsLast : Option (Step Token) → List Layer → Reader → Type 0
+EndIsLast (Some (Err Finished)) frames r = (frames ≡ []) × NothingIn r
+EndIsLast _ frames r = ⊤
+
+pub record IsFit (machine : Machine) (source : Source) : Type 0 where
+  pub unspent : source.spent ≡ false
+  pub sound : IsSound machine (of_source source)
+  pub last : EndIsLast machine.held machine.frames (of_source source)
+
+-- each error of the lexer that was read was told, but for one that is held
+abbrev pub IsTold : Machine → Source → Type 0
+IsTold machine source = IsToldBut machine.held (untold_of source)

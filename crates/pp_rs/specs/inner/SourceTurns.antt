@@ -1,0 +1,44 @@
+-- One turn of the expander over a source, after which a call is finished at once (docs/RULES.md, Expansion 1 to 10).
+use Rattle.std.specs.Prelude.{◌≡◌, ◌⊎◌, ℕ, List, [], ◌++◌, Ok, Err}
+use Rattle.pp_lexer.specs.PreprocessorError.{out_of_memory}
+use Rattle.pp_lexer.specs.declared.token.Token.{Token}
+use Rattle.pp_model.specs.Calls.{Fault}
+use Rattle.pp_model.specs.Emitting.{answers_at}
+use Rattle.pp_expansion.specs.inner.Calling.{PendingCall}
+use Rattle.pp_expansion.specs.inner.CallTurns.{TurnsTo, TakesSomething}
+use Rattle.pp_expansion.specs.inner.Defined.{Defined}
+use Rattle.pp_expansion.specs.inner.Finishing.{site_at, IsOpened}
+use Rattle.pp_expansion.specs.inner.Frames.{names_of}
+use Rattle.pp_expansion.specs.Item.{Step}
+use Rattle.pp_expansion.specs.inner.Machine.{Machine}
+use Rattle.pp_expansion.specs.inner.Reader.{of_source}
+use Rattle.pp_expansion.specs.inner.Source.{Source}
+use Rattle.pp_expansion.specs.declared.calls.Taken.{Taken}
+use Rattle.pp_expansion.specs.declared.calls.Taken.TheVariants as taken
+use Rattle.pp_expansion.specs.declared.step.StepExit.TheVariants.{Error, Continue}
+
+-- after a call its frame is open, which pauses, or its fault is given
+pub data FollowsCall (levels : ℕ) (definitions : List Defined) (call : PendingCall) (old : Machine) (step : Step Token) (new : Machine) : Type 0 where
+  opened : step ≡ Err Continue → IsOpened levels definitions (names_of old.frames ++ []) call old new → FollowsCall levels definitions call old step new
+  refused : (fault : Fault) → step ≡ Err (Error fault) → answers_at levels call.definition (site_at call definitions (names_of old.frames ++ [])) (Err fault) → new ≡ old → FollowsCall levels definitions call old step new
+
+-- what follows of a turn
+abbrev pub FollowsTurn : ℕ → List Defined → Step Taken → Machine → Step Token → Machine → Type 0
+FollowsTurn levels definitions (Ok (taken.Token token)) old step new = (step ≡ Ok token) × (new ≡ old)
+FollowsTurn levels definitions (Ok (taken.Call call)) old step new = FollowsCall levels definitions call old step new
+FollowsTurn levels definitions (Err exit) old step new = (step ≡ Err exit) × (new ≡ old)
+
+pub record TurnsSource (levels : ℕ) (old : Machine) (source : Source) (step : Step Token) (new : Machine) (after : Source) : Type 0 where
+  pub taken : Step Taken
+  pub between : Machine
+  pub turns : TurnsTo old (of_source source) taken between (of_source after)
+  pub follows : FollowsTurn levels after.definitions taken between step new
+
+-- memory was refused, where something was taken
+pub record IsRefusedOver (old : Machine) (source : Source) (step : Step Token) : Type 0 where
+  pub some : TakesSomething old (of_source source)
+  pub fault : step ≡ Err (Error out_of_memory)
+
+-- a turn, unless memory is refused
+abbrev pub StepsOver : ℕ → Machine → Source → Step Token → Machine → Source → Type 0
+StepsOver levels old source step new after = TurnsSource levels old source step new after ⊎ IsRefusedOver old source step

@@ -1,0 +1,47 @@
+-- The state of a run that a preprocessor stands for. It keeps less: neither what was read, nor the list into which its frames are spliced.
+use Rattle.std.specs.Prelude.{◌≡◌, ◌≢◌, ◌≤◌, true, false, ◌||◌, List, [], ◌++◌, length, take, drop, Option, Some, Err, option_map, ⊤}
+use Rattle.pp_lexer.specs.Lexed.{Seen}
+use Rattle.pp_lexer.specs.declared.token.Token.{Token}
+use Rattle.pp_model.specs.Reading.{Expander}
+use Rattle.pp_model.specs.Blocks.{block_lines, blocks_at}
+use Rattle.pp_model.specs.SourceReader.{SourceReader, has_directive, is_on_directive_line, has_live_text_before}
+use Rattle.pp_expansion.specs.inner.Defined.{meaning_of}
+use Rattle.pp_expansion.specs.inner.Frames.{flat}
+use Rattle.pp_expansion.specs.Item.{Step}
+use Rattle.pp_source.specs.inner.Lined.{AreLined}
+use Rattle.pp_expansion.specs.inner.Machine.{Machine, outcome_of_step}
+use Rattle.pp_expansion.specs.inner.OpenBlocks.{last_block, is_live_in, StandForBlocks, AreBefore}
+use Rattle.pp_expansion.specs.inner.Source.{Source}
+use Rattle.pp_expansion.specs.declared.step.StepExit.TheVariants.{Error, Continue}
+
+-- A reader of a source: what is left to read stands after its position, the lines of blocks are those before it and those after it, and
+-- the blocks that are kept are those that are open there. It remembers whether a live token of the text was read, and a directive. No
+-- number sign of a directive stands directly before its position; in live text the position isn't on a directive's line, but at the end.
+pub record StandsForReader (source : Source) (reader : SourceReader) : Type 0 where
+  pub rest : source.rest ≡ drop reader.position reader.items
+  pub within : reader.position ≤ length reader.items
+  pub definitions : reader.definitions ≡ meaning_of source.definitions
+  pub line_offset : reader.line_offset ≡ source.line_offset
+  pub lined : AreLined reader.items
+  pub lines : (after : List Seen) → block_lines 0 (take reader.position reader.items ++ after) ≡ block_lines 0 (take reader.position reader.items) ++ block_lines reader.position after
+  pub blocks : StandForBlocks reader.items reader.truths source.blocks (blocks_at reader.items reader.position)
+  pub truths : AreBefore reader.position reader.truths
+  pub unfinished : reader.unfinished ≡ length (blocks_at reader.items (length reader.items))
+  pub unspent : source.spent ≡ false
+  pub remembers_text : source.has_text ≡ has_live_text_before reader.items reader.truths reader.position
+  pub remembers_directive : source.has_directive ≡ has_directive (take reader.position reader.items)
+  pub directives : (after : List Seen) → has_directive (take reader.position reader.items ++ after) ≡ (has_directive (take reader.position reader.items) || has_directive after)
+  pub off_line : is_live_in (last_block source.blocks) ≡ true → source.rest ≢ [] → is_on_directive_line reader.items reader.position ≡ false
+
+-- what is held comes next; after a fault that is held nothing is said of the reader, and a pause is never held
+abbrev pub StandsForHeld : Option (Step Token) → Source → SourceReader → Type 0
+StandsForHeld (Some (Err (Error fault))) source reader = ⊤
+StandsForHeld (Some (Err Continue)) source reader = ⊥
+StandsForHeld _ source reader = StandsForReader source reader
+
+-- an expander over it: the frames are its splice list
+pub record StandsFor (machine : Machine) (source : Source) (state : Expander SourceReader) : Type 0 where
+  pub held : state.held ≡ option_map outcome_of_step machine.held
+  pub list : state.list ≡ flat machine.frames
+  pub reader : StandsForHeld machine.held source state.reader
+  pub hidden : state.hidden ≡ []
