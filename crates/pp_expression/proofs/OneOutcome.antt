@@ -64,7 +64,7 @@ same_value line a b x y =
     let of_left : ℕ → Value = λ left. record { value = b.value; left = left } in
     ap of_value same.0 ∙ ap of_left left
 
--- An evaluation of a line gives one outcome.
+-- An evaluation of a line passes one outcome.
 pub one_outcome : (line : Line) (a b : Result Value Found) → Evaluates line a → Evaluates line b → a ≡ b
 one_outcome line (Ok a) (Ok b) x y = ap Ok (same_value line a b x y)
 one_outcome line (Err a) (Err b) x y = ap Err (one_fault 0 line a b (omega arith) x y)

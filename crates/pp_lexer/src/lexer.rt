@@ -330,7 +330,7 @@ fn lex(
 /// [`PreprocessorError::OutOfMemory`], which can come only in place of an identifier or of a float. After an
 /// `OutOfMemory` it gives `None` for good, and after each other error it goes on.
 ///
-/// From the Rust crate's `Lexer`, but that an error for want of memory stands in place of an abort. GLSL ES 3.20 has words
+/// From the Rust crate's `Lexer`, but that an error for refused memory stands in place of an abort. GLSL ES 3.20 has words
 /// in sections 3.4 to 3.8.
 #[derive(Drop)]
 pub struct Lexer<'a> {

@@ -29,7 +29,7 @@ pub struct Location {
     pub line: u32,
 }
 
-/// The place of what stands nowhere in the source: the Lexer's errors, and want of memory.
+/// The place of what stands nowhere in the source: the Lexer's errors, and `OutOfMemory`.
 pub const NOWHERE: Location = Location {
     start: 0,
     end: 0,

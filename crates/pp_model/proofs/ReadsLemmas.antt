@@ -94,7 +94,7 @@ module _ (A : Answers) (single : OneAnswer A) where
   pub one_step : OneStep A
   one_step r x y s t a b = one_outcome (act r).step (act r).after r x y s t (step_comes_to A r x s a) (step_comes_to A r y t b)
 
-  -- so reading gives one outcome next
+  -- so reading passes one outcome next
   pub source_reads_one : OneReads (source_reading A)
   source_reads_one r x y s t (here x1 r1 s1 a) (here y1 r2 t1 b) =
       let same = one_step r (Some x) (Some y) s t a b in

@@ -15,11 +15,11 @@ use Rattle.pp_model.specs.declared.step.Step.TheVariants as step
 use Rattle.pp_model.proofs.ReadsLemmas.{gives_that}
 use Rattle.pp_model.proofs.ActsLemmas.{HoldsOfDead, HoldsOfLive, dead_directive_holds, live_directive_holds}
 
--- the block whose fault is told next at the source's end
+-- the block whose fault is reported next at the source's end
 abbrev pub told_next : SourceReader → Option Block
 told_next r = innermost (take r.unfinished (blocks_at r.items (length r.items)))
 
--- nothing of the source is left, and each block that stays open was told
+-- nothing of the source is left, and each block that stays open was reported
 pub record IsAtEnd (r : SourceReader) : Type 0 where
   pub nothing_left : sight_of (drop r.position r.items) ≡ sight.End
   pub all_told : told_next r ≡ None

@@ -12,7 +12,7 @@ use Rattle.pp_model.specs.LineWords.{Operand, Words, LineWords}
 use Rattle.pp_model.specs.declared.outcome.Outcome.{Outcome}
 use Rattle.pp_model.specs.declared.word.LineKind.{LineKind}
 
--- A reader gives one outcome, and one reader is after it.
+-- A reader passes one outcome, and one reader is after it.
 abbrev pub OneReads : {R : Type 0} → Reading R → Type 0
 OneReads {R} I = (r : R) (x y : Outcome) (s t : R) → I.Reads r x s → I.Reads r y t → (x ≡ y) × (s ≡ t)
 

@@ -43,7 +43,7 @@ line_of words = record { symbols = map symbol_of words.words; ending = option_ma
 abbrev pub word_from_end : ℕ → Words → Option Word
 word_from_end left words = slice_get words.words (length words.words - left)
 
--- the fault of a word that can't stand where it does; a `defined` is told as the identifier that it begins with
+-- the fault of a word that can't stand where it does; a `defined` is reported as the identifier that it begins with
 abbrev pub unwanted_word : Word → Fault
 unwanted_word (Plain token) = unexpected token
 unwanted_word (Defined location answer) = (UnexpectedToken (Ident defined_name), location)
@@ -53,7 +53,7 @@ abbrev pub operand_fault : Word → Option Fault
 operand_fault (Defined location (Err fault)) = Some fault
 operand_fault _ = None
 
--- the line ends too early, which is told at the directive's word
+-- the line ends too early, which is reported at the directive's word
 abbrev pub ended_early : Location → Fault
 ended_early directive = (UnexpectedEndOfInput, directive)
 
@@ -66,7 +66,7 @@ told directive words kind.Unexpected left = unwrap_or (option_map unwanted_word 
 told directive words kind.Unread left = unwrap_or words.ending (ended_early directive)
 told directive words kind.Operand left = unwrap_or (option_and_then operand_fault (word_from_end left words)) (ended_early directive)
 
--- an expression alone on its line, of whose value something is told: nothing may stand after it
+-- an expression alone on its line, of whose value something is reported: nothing may stand after it
 abbrev pub alone_on_line : {A : Type 0} → Location → Words → (ℤ → A) → Result Value Found → Result A Fault
 alone_on_line directive words result (Ok v) = option_map_or (λ word. Err (unwanted_word word)) (word_from_end v.left words) (Ok (result v.value))
 alone_on_line directive words result (Err found) = Err (told directive words found.kind found.left)

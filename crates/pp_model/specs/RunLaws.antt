@@ -34,11 +34,11 @@ OneCondition A = (directive : Location) (tokens : List Token) (definitions : Def
 abbrev pub OneNumber : Type 0
 OneNumber = (directive : Location) (words : Words) (x y : Result ℕ Fault) → Numbers directive words x → Numbers directive words y → x ≡ y
 
--- A `#line` gives one number, or one fault.
+-- A `#line` passes one number, or one fault.
 abbrev pub OneLineNumber : Answers → Type 0
 OneLineNumber A = (directive : Location) (tokens : List Token) (definitions : Definitions) (x y : Result ℕ Fault) → IsLineNumber A directive tokens definitions x → IsLineNumber A directive tokens definitions y → x ≡ y
 
--- One token or line of a source gives one outcome, or nothing, and one reader is after it.
+-- One token or line of a source passes one outcome, or nothing, and one reader is after it.
 abbrev pub OneStep : Answers → Type 0
 OneStep A = (r : SourceReader) (x y : Option Outcome) (s t : SourceReader) → Steps A r x s → Steps A r y t → (x ≡ y) × (s ≡ t)
 

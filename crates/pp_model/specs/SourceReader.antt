@@ -8,7 +8,7 @@ use Rattle.pp_model.specs.Sights.{sight_of, is_directive, is_text, is_directive_
 use Rattle.pp_model.specs.Blocks.{Truths, blocks_at, is_live}
 
 -- The source's items and the position among them, what is defined, what `#line` adds to a line, the conditions that were read, and how
--- many blocks that stay open at the end are still to be told.
+-- many blocks that stay open at the end are still to be reported.
 pub record SourceReader : Type 0 where
   pub items : List Seen
   pub position : ℕ

@@ -14,7 +14,7 @@ ghost use Rattle.pp_model.specs.RunLaws.{OneEvaluation, OneCondition, OneLineNum
 ghost use Rattle.pp_model.specs.RunStates.{RunKeepsMarksApart, RunShowsNoLineName, EndStays, RunEndsForGood};
 ghost use Rattle.std.specs.Prelude.{ℕ};
 
-/// A list of tokens gives one outcome next.
+/// A list of tokens passes one outcome next.
 pub fn one_reading()
     ensures argument { OneReads argument_reading }
     ensures line { OneReads line_reading }
@@ -89,7 +89,7 @@ pub fn one_line_value()
     ensures line_number { (level : ℕ) → OneLineNumber (answers_at level) }
 {}
 
-/// One token or line of a source comes to one outcome, or to nothing, and reading the source gives one outcome next.
+/// One token or line of a source comes to one outcome, or to nothing, and reading the source passes one outcome next.
 pub fn one_source_reading()
     ensures step { (level : ℕ) → OneStep (answers_at level) }
     ensures reading { (level : ℕ) → OneReads (source_reading (answers_at level)) }

@@ -47,7 +47,7 @@ pub struct SourceReader<'a> {
     pub line_offset: i64,
     /// The conditions that were read, the latest first.
     pub truths: Vec<Truth>,
-    /// How many blocks that stay open at the end are still to be told.
+    /// How many blocks that stay open at the end are still to be reported.
     pub unfinished: usize,
 }
 

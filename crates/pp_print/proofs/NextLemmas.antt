@@ -14,7 +14,7 @@ unspent true A B e h = cc
 unspent false A B e h = h
 
 module _ (old new : Preprocessing) (ready : is_spent old ≡ false) where
-  -- a token is given, and is no want of memory
+  -- a token is given, and is no refusal of memory
   given_token : (t : Token) → IsNextItem old (Some (Ok t)) new → IsGivenItem old (Some (Ok t)) new
   given_token t h = elim (unspent (is_spent old) _ _ ready h.gives) [ inl refused ↦ let e = refused.item in cc | inr given ↦ given ]
 
@@ -25,7 +25,7 @@ module _ (old new : Preprocessing) (ready : is_spent old ≡ false) where
   pub token_keeps_ready : (t : Token) → IsNextItem old (Some (Ok t)) new → is_spent new ≡ false
   token_keeps_ready t h = (given_token t h).spent
 
-  -- an error came next, unless it is want of memory
+  -- an error came next, unless memory was refused
   pub next_error : (fault : Fault) → IsNextItem old (Some (Err fault)) new → fault.0 ≢ OutOfMemory → (state : State) → Stands old state → (after : State) × Comes state (outcome.Fault fault) after
   next_error fault h wanted state stands = elim (unspent (is_spent old) _ _ ready h.gives) [ inl refused ↦ absurd (wanted (let e = refused.item in cc)) | inr given ↦ let item = given.item state stands in (item.after, item.emits) ]
 

@@ -43,7 +43,7 @@ IsBeforeOutput BadWord = ⊤
 IsBeforeOutput WriteFailed = ⊥
 IsBeforeOutput OutOfMemory = ⊥
 
--- a run is stopped by an error of the source, and never by want of memory
+-- a run is stopped by an error of the source, and never by a refusal of memory
 abbrev pub IsStoppedBySource : RunEnd → Type 0
 IsStoppedBySource Done = ⊤
 IsStoppedBySource (Stopped error location) = error ≢ WantOfMemory

@@ -35,13 +35,13 @@ abbrev pub IsLessLeft : Option Item → Preprocessing → Preprocessing → Type
 IsLessLeft (Some item) old new = most_items new < most_items old
 IsLessLeft None old new = most_items new ≡ 0
 
--- Where an error stands that is given: an error of the lexer where the first of them stands that were not told yet, and it is told now; any
+-- Where an error stands that is given: an error of the lexer where the first of them stands that were not told yet, and it is reported now; any
 -- other at its own place.
 pub data IsErrorAt (fault : Fault) (old new : Preprocessing) : Type 0 where
   of_lexer : errors_left old ≡ record { item = fault; place = error_place new } ∷ errors_left new → IsErrorAt fault old new
   of_its_own : error_place new ≡ fault.1 → errors_left new ≡ errors_left old → IsErrorAt fault old new
 
--- a token tells no error, and at the end each was told
+-- a token tells no error, and at the end each was reported
 abbrev pub TellsError : Option Item → Preprocessing → Preprocessing → Type 0
 TellsError (Some (Err fault)) old new = IsErrorAt fault old new
 TellsError (Some (Ok token)) old new = (errors_left new ≡ errors_left old) × (error_place new ≡ error_place old)

@@ -91,7 +91,7 @@ pub fn respell()
     pp_model::laws::respell()
 }
 
-/// A token or line of a source comes to one outcome, or to nothing, and reading the source gives one outcome next.
+/// A token or line of a source comes to one outcome, or to nothing, and reading the source passes one outcome next.
 pub fn one_reading()
     ensures step { (level : ℕ) → OneStep (answers_at level) }
     ensures reading { (level : ℕ) → OneReads (source_reading (answers_at level)) }

@@ -106,7 +106,7 @@ impl<'a> DirectiveProcessor<'a> {
         u32::try_from(shown).ok()
     }
 
-    /// Where the error of the lexer stands that was read and not told yet, which is told now.
+    /// Where the error of the lexer stands that was read and not told yet, which is reported now.
     pub fn take_error_place(&mut self) -> Option<Location>
         ensures place { result ≡ self.old.error_place }
         ensures others { self.new ≡ record self.old { error_place = None } }
@@ -499,7 +499,7 @@ impl<'a> DirectiveProcessor<'a> {
     /// directives act: `#define`, `#undef`, `#if`, `#ifdef`, `#ifndef`, `#elif`, `#else`, `#endif` and `#line`. In live text `#version`, `#extension` and `#pragma` are tokens at their
     /// word, which hold the tokens of their line; `#error` is `ErrorDirective` at its word, and a
     /// number sign that begins no line is `UnexpectedHash` at its place. The lexer's errors are
-    /// given as they are. At the end `UnfinishedBlock` is told of each block that is open, the
+    /// given as they are. At the end `UnfinishedBlock` is reported of each block that is open, the
     /// innermost first.
     #[inline(always)]
     pub fn step(&mut self) -> Step<Token>

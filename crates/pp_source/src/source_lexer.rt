@@ -15,7 +15,7 @@ use std::alloc::Global;
 use std::marker::Model;
 
 /// The lexer of a source. Once memory was refused it is spent. It remembers where an error stands that was read, until
-/// that is told.
+/// that is reported.
 #[derive(Drop)]
 pub struct SourceLexer<'a> {
     lexer: Lexer<'a>,
@@ -65,7 +65,7 @@ impl<'a> SourceLexer<'a> {
         self.lexer.had_comments()
     }
 
-    /// Where the error stands that was read and not told yet, which is told now.
+    /// Where the error stands that was read and not told yet, which is reported now.
     pub fn take_error_place(&mut self) -> Option<Location>
         ensures place { result ≡ self.old.error_place }
         ensures others { self.new ≡ record self.old { error_place = None } }

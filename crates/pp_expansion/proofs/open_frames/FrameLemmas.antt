@@ -1,4 +1,4 @@
--- What a frame gives, as its step tells it.
+-- What a frame gives, as its step says.
 use Rattle.std.proofs.Common.{◌≡◌, ◌∙◌, ℕ, ◌+◌, ◌<◌, ◌⊎◌, List, [], ◌∷◌, length, get_or, ◌≤◌, arith, true, false, drop, refl, sym, ap, Option, Some, None, slice_get, MatchOption, Ok, Err, inl, inr}
 use Rattle.std.specs.Prelude.{is_none, leb}
 use Rattle.std.proofs.lemmas.Bool.Decides.{leb_tells}

@@ -6,7 +6,7 @@ use Rattle.pp_expansion.specs.Item.{Step, wants_memory}
 use Rattle.pp_expansion.specs.inner.Work.{is_end, goes_on}
 use Rattle.pp_expansion.specs.declared.step.StepExit.TheVariants.{Error, Finished}
 
--- a refusal of memory wants memory
+-- a refusal of memory asked for memory
 pub refused_wants : (step : Step Token) → step ≡ Err (Error out_of_memory) → wants_memory step ≡ true
 refused_wants step e = ap wants_memory e
 

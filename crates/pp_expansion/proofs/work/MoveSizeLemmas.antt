@@ -27,7 +27,7 @@ effect_adds (parts block) = 1
 effect_adds (parts_if block word tokens) = 1
 effect_adds _ = 0
 
--- whether it tells, at the end, a block that is open
+-- whether it reports, at the end, a block that is open
 abbrev pub tells_block : Effect → Bool
 tells_block (unfinished word) = true
 tells_block _ = false

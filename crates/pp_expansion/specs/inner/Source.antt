@@ -52,7 +52,7 @@ pub record IsAfterFault (old new : Source) : Type 0 where
   pub definitions : new.definitions ≡ old.definitions
   pub spent : new.spent ≡ false
 
--- the innermost block was told at the end
+-- the innermost block was reported at the end
 pub record IsAfterBlock (old new : Source) : Type 0 where
   pub rest : new.rest ≡ old.rest
   pub definitions : new.definitions ≡ old.definitions

@@ -136,7 +136,7 @@ directive_move live block directive word after = if live then live_move block di
 abbrev pub taking_more : ℕ → Move → Move
 taking_more count move = record move { taken = count + move.taken; note = directive_line }
 
--- the end, where each block that is open is told first, the innermost before the others
+-- the end, where each block that is open is reported first, the innermost before the others
 abbrev pub end_effect : Option OpenBlock → Effect
 end_effect None = ends
 end_effect (Some block) = unfinished block.word

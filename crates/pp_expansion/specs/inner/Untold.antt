@@ -44,7 +44,7 @@ abbrev pub StepTells : {A : Type 0} → Step A → Untold → Untold → Type 0
 StepTells (Ok value) old new = new ≡ old
 StepTells (Err exit) old new = ExitTells exit old new
 
--- the errors that are still to be told, where this is held: it may be one that was read
+-- the errors that are still to be reported, where this is held: it may be one that was read
 abbrev pub untold_with : Option (Step Token) → Untold → List ErrorAt
 untold_with (Some (Err (Error fault))) u = with_read fault u.read u.later
 untold_with _ u = u.later

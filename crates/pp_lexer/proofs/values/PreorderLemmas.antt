@@ -1,4 +1,4 @@
--- The tokens can be told from their entries.
+-- The tokens can be known by their entries.
 use Rattle.std.proofs.Common.{◌≡◌, ℕ, ◌+◌, ◌-◌, ◌==◌, List, [], ◌∷◌, ◌++◌, map, false, refl, sym, ◌∙◌, ap, arith, cond, count_by, length}
 use Rattle.std.proofs.lemmas.List.Sums.{sum_by-cons}
 use Rattle.std.proofs.lemmas.Bool.{ne_eqb, eqb-true}
@@ -51,7 +51,7 @@ unfolding siblings
 siblings-inner [] ts = siblings-preorder ts
 siblings-inner (e ∷ es) ts = rw (deeper-is_outermost e) (siblings-inner es ts)
 
--- a value is told from its leaf and the entries inside it
+-- a value is known by its leaf and the entries inside it
 value_same : (v w : TokenValue) → leaf_of v ≡ leaf_of w → inner v ≡ inner w → v ≡ w
 value_same (Ident s) (Ident t) e f = cc
 value_same (Integer s) (Integer t) e f = cc

@@ -1,4 +1,4 @@
-//! The error's name, and the error of want of memory.
+//! The error's name, and the error `OutOfMemory`.
 
 ghost use Rattle.std.specs.Prelude.{◌≡◌};
 ghost use Rattle.pp_lexer.specs.PreprocessorError.{name_of, out_of_memory};

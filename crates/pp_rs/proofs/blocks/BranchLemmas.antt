@@ -84,7 +84,7 @@ module _ (truths : Truths) (line : BlockLine) where
   pub fails_else : is_else line.part ≡ true → fails_at truths line ≡ true
   fails_else is = ap (λ other. other || is_known_false (truth_at truths line.position)) is
 
--- a condition that is read after the block tells nothing new of it
+-- a condition that is read after the block says nothing new of it
 pub settled_before : (live : Bool) (position : ℕ) (holds : Bool) (truths : Truths) (block : Block) → LiesBefore position block → IsSettled live truths block → IsSettled live (with_truth position holds truths) block
 settled_before live position holds truths block before settled =
     all_fail_before position holds truths block before ∙ settled ∙ ap (λ taken. live && not taken) (sym (taken_branch_before position holds truths block before))

@@ -41,7 +41,7 @@ same_lexeme : (item : Lexeme) (comments : Bool) (next : Seen) (later other : Lis
 same_lexeme (Ok token) comments next later other = refl
 same_lexeme (Err fault) comments next later other = refl
 
--- what stands in front is told by two items
+-- what stands in front is known by two items
 pub same_sight : (s next : Seen) (later other : List Seen) → sight_of (s ∷ next ∷ later) ≡ sight_of (s ∷ next ∷ other)
 same_sight s next later other = same_lexeme s.item s.had_comments next later other
 

@@ -68,7 +68,7 @@ module _ (new old : Truths) where
       ap (λ truth. is_known_true truth || list_any (λ m. is_known_true (truth_at new m.position)) later) all.0
       ∙ ap (λ taken. is_known_true (truth_at old mark.position) || taken) (same_taken_mark later all.1)
 
-  -- and tell the same of whether one was taken
+  -- and say the same of whether one was taken
   pub same_taken_branch : (block : Block) → Each (SaySame new old) (marks block) → has_taken_branch new block ≡ has_taken_branch old block
   same_taken_branch block all = same_taken_mark (marks block) all
 

@@ -27,7 +27,7 @@ abbrev pub HoldsMore : Option (Step Token) → Type 0
 HoldsMore None = ⊥
 HoldsMore (Some step) = is_end step ≡ false
 
--- something is held, or a macro is open, or an item is left to read, or an open block to be told
+-- something is held, or a macro is open, or an item is left to read, or an open block to be reported
 abbrev pub SomethingLeft : Machine → Source → Type 0
 SomethingLeft machine source = HoldsMore machine.held ⊎ (machine.frames ≢ []) ⊎ (source.rest ≢ []) ⊎ (source.blocks ≢ [])
 

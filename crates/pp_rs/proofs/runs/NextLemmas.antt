@@ -155,7 +155,7 @@ module _ (machine now after : Machine) (source source_now source_after : Source)
         let e = source_ends expansion_limit now source_now source_after r.fit after (turned (Err Finished) turn refl) in
         no_work expansion_limit after source_after e.0 e.1 e.2 e.3
 
-    -- at the end each error was told
+    -- at the end each error was reported
     none_untold : Over (Err Finished) → errors_of after source_after ≡ []
     none_untold turn =
         let e = source_ends expansion_limit now source_now source_after r.fit after (turned (Err Finished) turn refl) in
@@ -175,7 +175,7 @@ module _ (machine now after : Machine) (source source_now source_after : Source)
           spent = refl;
         })) (end_last place turn)
 
-    -- a fault is told where it stands: the place that was taken is that of an error of the lexer
+    -- a fault is reported where it stands: the place that was taken is that of an error of the lexer
     module _ (fault : Fault) (told_source : Source) (place : Location) (is : told_source ≡ record source_after { error_place = None }) where
       error_told : (taken : Option Location) (left : List ErrorAt) → errors_of machine source ≡ with_read fault taken left → place ≡ unwrap_or taken fault.1 → errors_left (record { machine = after; source = told_source; spent = false; place = place }) ≡ left
           → IsErrorAt fault old (record { machine = after; source = told_source; spent = false; place = place })

@@ -28,7 +28,7 @@ module _ (old new : Preprocessing) (ready : is_spent old ≡ false) where
   added_answered name content (added tokens has given h) =
       goes_on refl (h.spent ∙ ready) (λ state stands. let after = with_added (chars name) tokens state in (after, adds name content tokens _ _ state after has refl refl refl, h.stands state stands))
 
-  -- one that was refused, for another reason than want of memory
+  -- one that was refused, for another reason than a refusal of memory
   pub refused_answered : (name content : List ℕ) (fault : Fault) → is_out_of_memory fault.0 ≡ false → IsAdded old name content (Err fault) new → IsAnswered old (add_define name content) (reply.Refused fault) new
   refused_answered name content fault told (refused given same) =
       let wanted : fault ≡ out_of_memory = cc in

@@ -38,7 +38,7 @@ start_stands text = record {
   hidden = refl;
 }
 
--- all errors of its text are still to be told
+-- all errors of its text are still to be reported
 pub start_errors : (text : List ℕ) → errors_left (start_of text) ≡ lexer_errors text
 unfolding errors_left
 start_errors text = refl

@@ -87,7 +87,7 @@ taken_leaves : (move : Step Token) (fs : List Layer) (s : Reader) (old new : Unt
 taken_leaves (Ok token) fs s old new h none = quiet (fault_of (taken_as (Ok token) fs s)) old new h none
 taken_leaves (Err exit) fs s old new h none = exit_leaves exit old new h none
 
--- what was held is told
+-- what was held is reported
 held_leaves : (step : Step Token) (u : Untold) → IsToldBut (Some step) u → Leaves (fault_of step) (untold_with (Some step) u) u
 held_leaves (Ok token) u h = (refl, h)
 held_leaves (Err Continue) u h = (refl, h)

@@ -1,4 +1,4 @@
--- The end of a source, where each block that is still open is told first, is one of its reader.
+-- The end of a source, where each block that is still open is reported first, is one of its reader.
 use Rattle.std.proofs.Common.{◌≡◌, ◌∙◌, Bool, true, false, length, take, drop, refl, ap, sym, Option, Some, None, arith, length-drop}
 use Rattle.std.specs.Prelude.{Err}
 use Rattle.std.proofs.lemmas.List.{take_all}
@@ -26,7 +26,7 @@ ends_here true r = refl
 ends_here false r = refl
 
 module _ {old : Source} {r : SourceReader} (s : StandsForReader old r) (e : sight_of old.rest ≡ sight.End) where
-  -- the blocks that are still to be told are those that are open there
+  -- the blocks that are still to be reported are those that are open there
   end_blocks : take r.unfinished (blocks_at r.items (length r.items)) ≡ blocks_at r.items r.position
   end_blocks =
       let n : length (drop r.position r.items) ≡ 0 = ap length (sym s.rest ∙ none_left old.rest e) in

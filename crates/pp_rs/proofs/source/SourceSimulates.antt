@@ -27,6 +27,6 @@ step_simulates old new r move false s is told (inl h) =
     cc
 step_simulates old new r move false s is told (inr h) = sight_simulates (is_live_in (last_block old.blocks)) old new r move s refl h
 
--- each step of a source, but for want of memory, is one of the reader that it stands for
+-- each step of a source, but for a refusal of memory, is one of the reader that it stands for
 pub source_simulates : SourceSimulates
 source_simulates old new r move stands steps told = step_simulates old new r move old.spent stands refl told steps

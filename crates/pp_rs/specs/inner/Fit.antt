@@ -30,6 +30,6 @@ pub record IsFit (machine : Machine) (source : Source) : Type 0 where
   pub sound : IsSound machine (of_source source)
   pub last : EndIsLast machine.held machine.frames (of_source source)
 
--- each error of the lexer that was read was told, but for one that is held
+-- each error of the lexer that was read was reported, but for one that is held
 abbrev pub IsTold : Machine → Source → Type 0
 IsTold machine source = IsToldBut machine.held (untold_of source)

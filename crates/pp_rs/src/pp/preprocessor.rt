@@ -47,7 +47,7 @@ impl<'a> Model for Preprocessor<'a> {
     ghost invariant = { λ p. p.spent ≡ false → IsFit p.caller p.source × IsTold p.caller p.source };
 }
 
-// The error, where want of memory has the one place that it is told with.
+// The error, where `OutOfMemory` has its one place.
 fn place_refusal(error: (PreprocessorError, Location)) -> (PreprocessorError, Location)
     ensures { result ≡ if is_out_of_memory error.0 then out_of_memory else error }
 {
