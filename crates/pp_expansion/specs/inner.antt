@@ -1,5 +1,5 @@
 -- What only says how far a body has come: no definition here has to be believed.
-pub mod Untold
+pub mod Unreported
 pub mod SourceLexed
 pub mod Plain
 pub mod Defined

@@ -8,10 +8,10 @@ use Rattle.pp_lexer.specs.declared.token.PreprocessorError.TheVariants.{LineOver
 use Rattle.pp_model.specs.Calls.{Fault}
 use Rattle.pp_model.specs.LineWords.{Words}
 use Rattle.pp_model.specs.LineValues.{line_of, as_line_number, words_after, Numbers, faulty, out_of_range, alone, with_source}
-use Rattle.pp_model.specs.inner.LineValues.{IsFollowed, told_fault}
+use Rattle.pp_model.specs.inner.LineValues.{IsFollowed, reported_fault}
 
-pub numbers_faulty : (directive : Location) (words : Words) (e : Result Value Found) (found : Found) (fault : Fault) → Evaluates (line_of words) e → e ≡ Err found → fault ≡ told_fault directive words found → Numbers directive words (Err fault)
-numbers_faulty directive words e found fault evaluated is told = faulty found (Err fault) (rw is at evaluated) (ap Err told)
+pub numbers_faulty : (directive : Location) (words : Words) (e : Result Value Found) (found : Found) (fault : Fault) → Evaluates (line_of words) e → e ≡ Err found → fault ≡ reported_fault directive words found → Numbers directive words (Err fault)
+numbers_faulty directive words e found fault evaluated is reported = faulty found (Err fault) (rw is at evaluated) (ap Err reported)
 
 pub numbers_out : (directive : Location) (words : Words) (e : Result Value Found) (v : Value) (n : Option ℕ) → Evaluates (line_of words) e → e ≡ Ok v → n ≡ as_line_number v.value → n ≡ None → Numbers directive words (Err (LineOverflow, directive))
 numbers_out directive words e v n evaluated is number none = out_of_range v (Err (LineOverflow, directive)) (rw is at evaluated) (sym number ∙ none) refl

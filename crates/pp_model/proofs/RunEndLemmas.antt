@@ -27,13 +27,13 @@ goes_not_on (first ∷ former) later answer h = cc
 -- a definition that is added leaves the end
 over_with_added : (name : _) (tokens : _) (e : Expander SourceReader) → IsOver e → IsOver (with_added name tokens e)
 over_with_added name tokens e over =
-    record { none_held = over.none_held; none_listed = over.none_listed; at_end = record { nothing_left = over.at_end.nothing_left; all_told = over.at_end.all_told } }
+    record { none_held = over.none_held; none_listed = over.none_listed; at_end = record { nothing_left = over.at_end.nothing_left; all_reported = over.at_end.all_reported } }
 
 module _ (A : Answers) where
   last_end_with_added : (name : _) (tokens : _) (e : Expander SourceReader) → HoldsLastEnd e → HoldsLastEnd (with_added name tokens e)
   last_end_with_added name tokens e last h =
       let there = last h in
-      (there.0, record { nothing_left = there.1.nothing_left; all_told = there.1.all_told })
+      (there.0, record { nothing_left = there.1.nothing_left; all_reported = there.1.all_reported })
 
   -- in each state of a run an end that is held is the last,
   leads_to_last_end : (e f : Expander SourceReader) → LeadsTo A e f → HoldsLastEnd e → HoldsLastEnd f

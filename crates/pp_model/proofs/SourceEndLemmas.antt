@@ -16,13 +16,13 @@ use Rattle.pp_model.proofs.ReadsLemmas.{gives_that}
 use Rattle.pp_model.proofs.ActsLemmas.{HoldsOfDead, HoldsOfLive, dead_directive_holds, live_directive_holds}
 
 -- the block whose fault is reported next at the source's end
-abbrev pub told_next : SourceReader → Option Block
-told_next r = innermost (take r.unfinished (blocks_at r.items (length r.items)))
+abbrev pub reported_next : SourceReader → Option Block
+reported_next r = innermost (take r.unfinished (blocks_at r.items (length r.items)))
 
 -- nothing of the source is left, and each block that stays open was reported
 pub record IsAtEnd (r : SourceReader) : Type 0 where
   pub nothing_left : sight_of (drop r.position r.items) ≡ sight.End
-  pub all_told : told_next r ≡ None
+  pub all_reported : reported_next r ≡ None
 
 -- what stands there, live or dead
 abbrev acts : Bool → Sight → SourceReader → Acted
@@ -56,19 +56,19 @@ live_goes_on r = record {
 no_end : (a : Acted) → GoesOn a → a.step ≡ step.Given outcome.End → ⊥
 no_end a h k = let bad : true ≡ false = sym (ap is_end k) ∙ h in cc
 
-told_none : (block : Option Block) (r : SourceReader) → (ended_by block r).step ≡ step.Given outcome.End → block ≡ None
-told_none (Some block) r h = cc
-told_none None r h = refl
+reported_none : (block : Option Block) (r : SourceReader) → (ended_by block r).step ≡ step.Given outcome.End → block ≡ None
+reported_none (Some block) r h = cc
+reported_none None r h = refl
 
-ends_there : (live : Bool) (s : Sight) (r : SourceReader) → (acts live s r).step ≡ step.Given outcome.End → (s ≡ sight.End) × (told_next r ≡ None)
-ends_there true sight.End r h = (refl, told_none (told_next r) r h)
+ends_there : (live : Bool) (s : Sight) (r : SourceReader) → (acts live s r).step ≡ step.Given outcome.End → (s ≡ sight.End) × (reported_next r ≡ None)
+ends_there true sight.End r h = (refl, reported_none (reported_next r) r h)
 ends_there true sight.NewLine r h = cc
 ends_there true (sight.Fault fault) r h = cc
 ends_there true (sight.Token token) r h = cc
 ends_there true (sight.Hash location) r h = cc
 ends_there true (sight.NoWord fault) r h = cc
 ends_there true (sight.Directive directive word) r h = absurd (no_end (live_directive directive word r) (live_directive_holds GoesOn r (live_goes_on r) directive word) h)
-ends_there false sight.End r h = (refl, told_none (told_next r) r h)
+ends_there false sight.End r h = (refl, reported_none (reported_next r) r h)
 ends_there false sight.NewLine r h = cc
 ends_there false (sight.Fault fault) r h = cc
 ends_there false (sight.Token token) r h = cc
@@ -80,19 +80,19 @@ ends_there false (sight.Directive directive word) r h = absurd (no_end (dead_dir
 only_at_end : (r : SourceReader) → (act r).step ≡ step.Given outcome.End → IsAtEnd r
 only_at_end r h =
     let there = ends_there (is_live r.items r.truths r.position) (sight_of (drop r.position r.items)) r h in
-    record { nothing_left = there.0; all_told = there.1 }
+    record { nothing_left = there.0; all_reported = there.1 }
 
-told_end : (block : Option Block) (r : SourceReader) → block ≡ None → ended_by block r ≡ at_end r
-told_end (Some block) r h = cc
-told_end None r h = refl
+reported_end : (block : Option Block) (r : SourceReader) → block ≡ None → ended_by block r ≡ at_end r
+reported_end (Some block) r h = cc
+reported_end None r h = refl
 
-acts_at_end : (live : Bool) (s : Sight) (r : SourceReader) → s ≡ sight.End → told_next r ≡ None → acts live s r ≡ at_end r
-acts_at_end true s r h k = subst (λ z. acts true z r ≡ at_end r) (sym h) (told_end (told_next r) r k)
-acts_at_end false s r h k = subst (λ z. acts false z r ≡ at_end r) (sym h) (told_end (told_next r) r k)
+acts_at_end : (live : Bool) (s : Sight) (r : SourceReader) → s ≡ sight.End → reported_next r ≡ None → acts live s r ≡ at_end r
+acts_at_end true s r h k = subst (λ z. acts true z r ≡ at_end r) (sym h) (reported_end (reported_next r) r k)
+acts_at_end false s r h k = subst (λ z. acts false z r ≡ at_end r) (sym h) (reported_end (reported_next r) r k)
 
 -- and there nothing else is
 end_acts : (r : SourceReader) → IsAtEnd r → act r ≡ at_end r
-end_acts r end = acts_at_end (is_live r.items r.truths r.position) (sight_of (drop r.position r.items)) r end.nothing_left end.all_told
+end_acts r end = acts_at_end (is_live r.items r.truths r.position) (sight_of (drop r.position r.items)) r end.nothing_left end.all_reported
 
 module _ (A : Answers) where
   -- a step that gives the end stands there

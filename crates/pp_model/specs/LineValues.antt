@@ -58,18 +58,18 @@ abbrev pub ended_early : Location → Fault
 ended_early directive = (UnexpectedEndOfInput, directive)
 
 -- The first fault of an expression, with its place: faults of arithmetic and of the end stand at the directive's word.
-abbrev pub told : Location → Words → ExpressionFault → ℕ → Fault
-told directive words kind.IntegerOverflow left = (IntegerOverflow, directive)
-told directive words kind.DivisionByZero left = (DivisionByZero, directive)
-told directive words kind.UnexpectedEndOfInput left = ended_early directive
-told directive words kind.Unexpected left = unwrap_or (option_map unwanted_word (word_from_end left words)) (ended_early directive)
-told directive words kind.Unread left = unwrap_or words.ending (ended_early directive)
-told directive words kind.Operand left = unwrap_or (option_and_then operand_fault (word_from_end left words)) (ended_early directive)
+abbrev pub reported : Location → Words → ExpressionFault → ℕ → Fault
+reported directive words kind.IntegerOverflow left = (IntegerOverflow, directive)
+reported directive words kind.DivisionByZero left = (DivisionByZero, directive)
+reported directive words kind.UnexpectedEndOfInput left = ended_early directive
+reported directive words kind.Unexpected left = unwrap_or (option_map unwanted_word (word_from_end left words)) (ended_early directive)
+reported directive words kind.Unread left = unwrap_or words.ending (ended_early directive)
+reported directive words kind.Operand left = unwrap_or (option_and_then operand_fault (word_from_end left words)) (ended_early directive)
 
 -- an expression alone on its line, of whose value something is reported: nothing may stand after it
 abbrev pub alone_on_line : {A : Type 0} → Location → Words → (ℤ → A) → Result Value Found → Result A Fault
 alone_on_line directive words result (Ok v) = option_map_or (λ word. Err (unwanted_word word)) (word_from_end v.left words) (Ok (result v.value))
-alone_on_line directive words result (Err found) = Err (told directive words found.kind found.left)
+alone_on_line directive words result (Err found) = Err (reported directive words found.kind found.left)
 
 -- The condition of an `#if` or `#elif`: it holds where its value isn't 0.
 pub record IsCondition (A : Answers) (directive : Location) (tokens : List Token) (definitions : Definitions) (result : Result Bool Fault) : Type 0 where
@@ -90,7 +90,7 @@ words_after left words = record words { words = drop (length words.words - left)
 
 -- What the words of a `#line` come to. A second expression after the line number is only read.
 pub data Numbers (directive : Location) (words : Words) : Result ℕ Fault → Type 0 where
-  faulty : (found : Found) (result : Result ℕ Fault) → Evaluates (line_of words) (Err found) → result ≡ Err (told directive words found.kind found.left) → Numbers directive words result
+  faulty : (found : Found) (result : Result ℕ Fault) → Evaluates (line_of words) (Err found) → result ≡ Err (reported directive words found.kind found.left) → Numbers directive words result
   out_of_range : (v : Value) (result : Result ℕ Fault) → Evaluates (line_of words) (Ok v) → as_line_number v.value ≡ None → result ≡ Err (LineOverflow, directive) → Numbers directive words result
   alone : (v : Value) (n : ℕ) (result : Result ℕ Fault) → Evaluates (line_of words) (Ok v) → as_line_number v.value ≡ Some n → v.left ≡ 0 → result ≡ Ok n → Numbers directive words result
   with_source : (v : Value) (n : ℕ) (result : Result ℕ Fault) → Evaluates (line_of words) (Ok v) → as_line_number v.value ≡ Some n → v.left ≢ 0 → (second : Result Value Found) → Evaluates (line_of (words_after v.left words)) second → result ≡ alone_on_line directive (words_after v.left words) (λ value. n) second → Numbers directive words result

@@ -18,8 +18,8 @@ use Rattle.pp_plain.specs.declared.stop.Halt.{Halt}
 use Rattle.pp_plain.specs.declared.stop.Halt.TheVariants as halt
 
 pub refused_reply : (A : Answers) (name content : List ℕ) (body : Result (List Token) Halt) (h : Halt) (e : Expander SourceReader) (r : Reply) → Meets body (content_tokens (items_of content)) → body ≡ Err h → RefusedBy h r → Replying A e (add_define name content) r e
-refused_reply A name content body (halt.Fault fault) e r meets is told = by.refused name content fault e e r (subst (λ b. Meets b (content_tokens (items_of content))) is meets) told refl
-refused_reply A name content body (halt.Stop stop) e r meets is told = absurd told
+refused_reply A name content body (halt.Fault fault) e r meets is reported = by.refused name content fault e e r (subst (λ b. Meets b (content_tokens (items_of content))) is meets) reported refl
+refused_reply A name content body (halt.Stop stop) e r meets is reported = absurd reported
 
 pub added_reply : (A : Answers) (name content : List ℕ) (body : Result (List Token) Halt) (tokens : List Token) (e f : Expander SourceReader) → Meets body (content_tokens (items_of content)) → body ≡ Ok tokens → f ≡ run.with_added (chars name) tokens e → Replying A e (add_define name content) reply.Added f
 added_reply A name content body tokens e f meets is after = by.added name content tokens e f reply.Added (subst (λ b. Meets b (content_tokens (items_of content))) is meets) refl after

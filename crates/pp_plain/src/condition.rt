@@ -97,8 +97,8 @@ fn fault_of_operand(alloc: Global, directive: Location, word: &Word) -> Result<F
 }
 
 // The first fault of an expression, with its place.
-fn told(alloc: Global, directive: Location, words: &Words, found: Found) -> Result<Fault, Stop>
-    ensures { IfOk result (λ fault. fault ≡ parts.told_fault directive words.now found) }
+fn reported(alloc: Global, directive: Location, words: &Words, found: Found) -> Result<Fault, Stop>
+    ensures { IfOk result (λ fault. fault ≡ parts.reported_fault directive words.now found) }
 {
     let early = (PreprocessorError::UnexpectedEndOfInput, directive);
     match found.kind {
@@ -144,7 +144,7 @@ fn holds_alone(
             ends_line(alloc, words, value.left)?;
             Ok(value.value != 0)
         }
-        Err(found) => Err(Halt::Fault(told(alloc, directive, words, found)?)),
+        Err(found) => Err(Halt::Fault(reported(alloc, directive, words, found)?)),
     }
 }
 
@@ -163,7 +163,7 @@ fn number_alone(
             ends_line(alloc, words, value.left)?;
             Ok(number)
         }
-        Err(found) => Err(Halt::Fault(told(alloc, directive, words, found)?)),
+        Err(found) => Err(Halt::Fault(reported(alloc, directive, words, found)?)),
     }
 }
 
@@ -224,7 +224,7 @@ fn numbers(alloc: Global, directive: Location, words: Words) -> Result<u32, Halt
 {
     let value = match evaluation(alloc, &words)? {
         Ok(value) => value,
-        Err(found) => return Err(Halt::Fault(told(alloc, directive, &words, found)?)),
+        Err(found) => return Err(Halt::Fault(reported(alloc, directive, &words, found)?)),
     };
     let number = match as_line_number(value) {
         Some(number) => number,

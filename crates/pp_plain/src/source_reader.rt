@@ -417,7 +417,7 @@ impl<'a> SourceReader<'a> {
         }
     }
 
-    // Tells the next of the blocks that stay open at the end, or the end.
+    // Reports the next of the blocks that stay open at the end, or the end.
     fn tell_end(&mut self, alloc: Global) -> Result<Step, Halt>
         ensures acts { ActsAs result (spec.ended (reader_of self.old)) (reader_of self.new) }
         ensures line { HasLineIfOk result self.new }

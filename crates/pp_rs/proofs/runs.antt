@@ -1,5 +1,5 @@
 pub mod SpellingLemmas
-pub mod UntoldTurnLemmas
+pub mod UnreportedTurnLemmas
 pub mod Leads
 pub mod LeftLemmas
 pub mod UnspentLemmas

@@ -1,5 +1,5 @@
 -- What a preprocessor keeps: the states of a run that it stands for, whether memory was refused, how much is left, which errors of the lexer
--- were not told yet, and where the error stands that was given last. Nothing here has to be believed. Contracts of public calls say what
+-- were not reported yet, and where the error stands that was given last. Nothing here has to be believed. Contracts of public calls say what
 -- holds of `Stands`, `is_spent`, `most_items`, `errors_left` and `error_place`, whatever these are, and proofs of callers can't look into
 -- them.
 use Rattle.std.specs.Prelude.{Bool, if◌then◌else◌, ℕ, List}
@@ -11,9 +11,9 @@ use Rattle.pp_expansion.specs.inner.Left.{work_of}
 use Rattle.pp_expansion.specs.LexerErrors.{ErrorAt}
 use Rattle.pp_expansion.specs.inner.Machine.{Machine}
 use Rattle.pp_expansion.specs.inner.Reader.{of_source}
-use Rattle.pp_expansion.specs.inner.Source.{Source, untold_of}
+use Rattle.pp_expansion.specs.inner.Source.{Source, unreported_of}
 use Rattle.pp_rs.specs.inner.Stands.{StandsFor}
-use Rattle.pp_expansion.specs.inner.Untold.{untold_with}
+use Rattle.pp_expansion.specs.inner.Unreported.{unreported_with}
 
 -- the macros that are open with what is held, the source after them, whether memory was refused, and where the last error stands
 pub record Preprocessing : Type 0 where
@@ -34,9 +34,9 @@ is_spent p = p.spent
 unfoldable pub most_items : Preprocessing → ℕ
 most_items p = if p.spent then 0 else work_of expansion_limit p.machine (of_source p.source)
 
--- the errors of the lexer that were not told yet, each with where it stands
+-- the errors of the lexer that were not reported yet, each with where it stands
 unfoldable pub errors_left : Preprocessing → List ErrorAt
-errors_left p = untold_with p.machine.held (untold_of p.source)
+errors_left p = unreported_with p.machine.held (unreported_of p.source)
 
 -- where the error stands that was given last
 unfoldable pub error_place : Preprocessing → Location

@@ -35,17 +35,17 @@ abbrev pub IsLessLeft : Option Item → Preprocessing → Preprocessing → Type
 IsLessLeft (Some item) old new = most_items new < most_items old
 IsLessLeft None old new = most_items new ≡ 0
 
--- Where an error stands that is given: an error of the lexer where the first of them stands that were not told yet, and it is reported now; any
+-- Where an error stands that is given: an error of the lexer where the first of them stands that were not reported yet, and it is reported now; any
 -- other at its own place.
 pub data IsErrorAt (fault : Fault) (old new : Preprocessing) : Type 0 where
   of_lexer : errors_left old ≡ record { item = fault; place = error_place new } ∷ errors_left new → IsErrorAt fault old new
   of_its_own : error_place new ≡ fault.1 → errors_left new ≡ errors_left old → IsErrorAt fault old new
 
--- a token tells no error, and at the end each was reported
-abbrev pub TellsError : Option Item → Preprocessing → Preprocessing → Type 0
-TellsError (Some (Err fault)) old new = IsErrorAt fault old new
-TellsError (Some (Ok token)) old new = (errors_left new ≡ errors_left old) × (error_place new ≡ error_place old)
-TellsError None old new = (errors_left old ≡ []) × (errors_left new ≡ []) × (error_place new ≡ error_place old)
+-- a token reports no error, and at the end each was reported
+abbrev pub ReportsError : Option Item → Preprocessing → Preprocessing → Type 0
+ReportsError (Some (Err fault)) old new = IsErrorAt fault old new
+ReportsError (Some (Ok token)) old new = (errors_left new ≡ errors_left old) × (error_place new ≡ error_place old)
+ReportsError None old new = (errors_left old ≡ []) × (errors_left new ≡ []) × (error_place new ≡ error_place old)
 
 -- memory for an item to come was refused
 pub record IsRefusedItem (answer : Option Item) (new : Preprocessing) : Type 0 where
@@ -57,7 +57,7 @@ pub record IsGivenItem (old : Preprocessing) (answer : Option Item) (new : Prepr
   pub item : (state : State) → Stands old state → Emitted answer state new
   pub no_refusal : is_refusal answer ≡ false
   pub holds : AnswerHoldsOrdinary answer
-  pub tells : TellsError answer old new
+  pub reports : ReportsError answer old new
   pub spent : is_spent new ≡ false
 
 -- One call of `next`: once memory was refused, it gives nothing for good and changes nothing. Each item lowers what is left, so a refusal

@@ -1,6 +1,6 @@
 pub mod LinedLemmas
 pub mod EndedLemmas
-pub mod UntoldLemmas
+pub mod UnreportedLemmas
 pub mod HeldLemmas
 pub mod LineReadingLemmas
 pub mod ContentLemmas

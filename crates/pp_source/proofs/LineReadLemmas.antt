@@ -54,7 +54,7 @@ module _ (levels : ℕ) (definitions : List Defined) (m : Machine) (l : Listing)
 pub taken_fault : (levels : ℕ) (definitions : List Defined) (m : Machine) (l : Listing) → IsOnLine definitions m l → (n : Machine) (k : Listing) (fault : Fault) (h : Halt) → TakesNext m (of_list l) (Err (Error fault)) n (of_list k) → h ≡ halt_of fault → ReadsTaken levels definitions m l (Err h) n k
 taken_fault levels definitions m l on n k fault h next is =
     reads_fault levels definitions m l (λ (item : Result (Option Token) Fault) (f : Expander Listed). Takes line_reading (expander_of m l) (outcome_of_item item) f) h n k fault is
-    (λ told. let read = next_read levels definitions m n l k on (Err (Error fault)) next told in (expander_of n k, read.0))
+    (λ reported. let read = next_read levels definitions m n l k on (Err (Error fault)) next reported in (expander_of n k, read.0))
 
 -- What the search for the next item has reached: the items from here on are those from the beginning on.
 pub record ItemsOn (levels : ℕ) (definitions : List Defined) (m : Machine) (l : Listing) (n : Machine) (k : Listing) : Type 0 where
@@ -67,7 +67,7 @@ items_start levels definitions m l on = record { goes_on = λ o g emits. emits; 
 
 module _ (levels : ℕ) (definitions : List Defined) (m : Machine) (l : Listing) (n : Machine) (k : Listing) (on : ItemsOn levels definitions m l n k) (p : Machine) (q : Listing) where
   itself : (step : Step Taken) → TurnsOrRefuses n (of_list k) step p (of_list q) → wants_taken step ≡ false → TurnsTo n (of_list k) step p (of_list q)
-  itself step turns told = turned n p (of_list k) (of_list q) step turns told
+  itself step turns reported = turned n p (of_list k) (of_list q) step turns reported
 
   pub items_token : (token : Token) → TurnsOrRefuses n (of_list k) (Ok (taken.Token token)) p (of_list q) → ReadsItem levels definitions m l (Ok (Some token)) p q
   items_token token turns =
@@ -101,7 +101,7 @@ module _ (levels : ℕ) (definitions : List Defined) (m : Machine) (l : Listing)
   pub items_fault : (fault : Fault) (h : Halt) → TurnsOrRefuses n (of_list k) (Err (Error fault)) p (of_list q) → h ≡ halt_of fault → ReadsItem levels definitions m l (Err h) p q
   items_fault fault h turns is =
       reads_fault levels definitions m l (λ (item : Result (Option Token) Fault) (f : Expander Listed). Emits line_reading (answers_at levels) (expander_of m l) (outcome_of_item item) f) h p q fault is
-      (λ told. let read = fault_read levels definitions n p k q on.stands fault (itself (Err (Error fault)) turns told) told in (read.0, on.goes_on (outcome.Fault fault) read.0 read.1))
+      (λ reported. let read = fault_read levels definitions n p k q on.stands fault (itself (Err (Error fault)) turns reported) reported in (read.0, on.goes_on (outcome.Fault fault) read.0 read.1))
 
   module _ (c : PendingCall) (turns : TurnsOrRefuses n (of_list k) (Ok (taken.Call c)) p (of_list q)) where
     call : TurnsTo n (of_list k) (Ok (taken.Call c)) p (of_list q)

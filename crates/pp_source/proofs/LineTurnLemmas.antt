@@ -75,16 +75,16 @@ frame_quiet fs None = tt
 frame_quiet fs (Some a) = pause_quiet a.gives
 
 moves_quiet : (frames gs : List Layer) (r s : Reader) (move : Step Token) → IsList r → Moves frames r move gs s → wants_memory move ≡ false → IsQuiet move s
-moves_quiet [] gs (of_list old) (of_list new) move list (e, inl h) told = record { quiet = rw h.0 (listed_quiet old.tokens); list = tt }
-moves_quiet [] gs (of_list old) (of_list new) move list (e, inr h) told = absurd (let bad : true ≡ false = rw h at told in cc)
-moves_quiet [] gs (of_list old) (of_source new) move list (e, h) told = absurd h
-moves_quiet [] gs (of_source old) s move list h told = absurd list
-moves_quiet (f ∷ fs) gs r s move list (same, inl h) told = record { quiet = rw h.0 (frame_quiet fs (advance f)); list = rw same list }
-moves_quiet (f ∷ fs) gs r s move list (same, inr h) told = absurd (let bad : true ≡ false = rw h at told in cc)
+moves_quiet [] gs (of_list old) (of_list new) move list (e, inl h) reported = record { quiet = rw h.0 (listed_quiet old.tokens); list = tt }
+moves_quiet [] gs (of_list old) (of_list new) move list (e, inr h) reported = absurd (let bad : true ≡ false = rw h at reported in cc)
+moves_quiet [] gs (of_list old) (of_source new) move list (e, h) reported = absurd h
+moves_quiet [] gs (of_source old) s move list h reported = absurd list
+moves_quiet (f ∷ fs) gs r s move list (same, inl h) reported = record { quiet = rw h.0 (frame_quiet fs (advance f)); list = rw same list }
+moves_quiet (f ∷ fs) gs r s move list (same, inr h) reported = absurd (let bad : true ≡ false = rw h at reported in cc)
 
-move_told : (move : Step Token) (fs : List Layer) (s : Reader) → wants_memory (taken_as move fs s) ≡ false → wants_memory move ≡ false
-move_told (Ok token) fs s h = refl
-move_told (Err exit) fs s h = h
+move_reported : (move : Step Token) (fs : List Layer) (s : Reader) → wants_memory (taken_as move fs s) ≡ false → wants_memory move ≡ false
+move_reported (Ok token) fs s h = refl
+move_reported (Err exit) fs s h = h
 
 held_quiet : (step : Step Token) → IsHeld (Some step) → IsNoFault step
 held_quiet (Ok token) h = tt
@@ -106,16 +106,16 @@ step_frees m n r s step (held step1 m1 n1 r1 s1 is at same) = ap (λ (k : Machin
 step_frees m n r s step (moved move step1 m1 n1 r1 s1 free moves is freed) = freed
 
 step_quiet : (m n : Machine) (r s : Reader) (step : Step Token) → IsList r → IsHeld m.held → StepsTaking m r step n s → wants_memory step ≡ false → IsQuiet step s
-step_quiet m n r s step list holds (held step1 m1 n1 r1 s1 is at same) told = record { quiet = held_quiet step (subst IsHeld is holds); list = rw same list }
-step_quiet m n r s step list holds (moved move step1 m1 n1 r1 s1 free moves is freed) told =
-    let h = moves_quiet m.frames n.frames r s move list moves (move_told move n.frames s (rw is at told)) in
+step_quiet m n r s step list holds (held step1 m1 n1 r1 s1 is at same) reported = record { quiet = held_quiet step (subst IsHeld is holds); list = rw same list }
+step_quiet m n r s step list holds (moved move step1 m1 n1 r1 s1 free moves is freed) reported =
+    let h = moves_quiet m.frames n.frames r s move list moves (move_reported move n.frames s (rw is at reported)) in
     record { quiet = rw is (taken_quiet move n.frames s h.list h.quiet); list = h.list }
 
 next_quiet : (m n : Machine) (r s : Reader) (step : Step Token) → IsList r → IsHeld m.held → TakesNext m r step n s → wants_memory step ≡ false → IsQuiet step s
-next_quiet m n r s step list holds (now step1 m1 n1 r1 s1 steps goes) told = step_quiet m n r s step list holds steps told
-next_quiet m n r s step list holds (later step1 m1 between n1 r1 s1 t1 steps next) told =
+next_quiet m n r s step list holds (now step1 m1 n1 r1 s1 steps goes) reported = step_quiet m n r s step list holds steps reported
+next_quiet m n r s step list holds (later step1 m1 between n1 r1 s1 t1 steps next) reported =
     let h = step_quiet m between r s1 (Err Continue) list holds steps refl in
-    next_quiet between n s1 s step h.list (free_held between.held (step_frees m between r s1 (Err Continue) steps)) next told
+    next_quiet between n s1 s step h.list (free_held between.held (step_frees m between r s1 (Err Continue) steps)) next reported
 
 -- what is held after a turn; after a call it is said elsewhere
 abbrev HoldsAfter : Step Taken → Machine → Type 0
@@ -139,9 +139,9 @@ not_refused (Err Finished) h = refl
 not_refused (Err (Error fault)) h = h
 
 sought_holds : (token : Token) (name : Name) (definition : Definition) (c : Sought) (step : Step Taken) (n p q : Machine) (s t : Reader) → IsList s → n.held ≡ None → Seeks n s c p t → Finds token name definition c step p q → HoldsAfter step q
-sought_holds token name definition c step n p q s t list free (alone next n1 p1 s1 t1 c1 taken_next none told is) found =
+sought_holds token name definition c step n p q s t list free (alone next n1 p1 s1 t1 c1 taken_next none reported is) found =
     let found' : Finds token name definition (no_call next) step p q = subst (λ (x : Sought). Finds token name definition x step p q) is found in
-    let quiet = next_quiet n p s t next list (free_held n.held free) taken_next (not_refused next told) in
+    let quiet = next_quiet n p s t next list (free_held n.held free) taken_next (not_refused next reported) in
     rw (found'.0, found'.1) (quiet_held next quiet.quiet (next_no_pause n p s t next taken_next))
 sought_holds token name definition c step n p q s t list free (called next paren n1 between p1 s1 u t1 g c1 taken_next at gathers is) found =
     go g (subst (λ (x : Sought). Finds token name definition x step p q) is found)
@@ -208,7 +208,7 @@ GoesOn levels m l n k = (o : Outcome) (g : Expander Listed) → Emits line_readi
 
 module _ (levels : ℕ) (definitions : List Defined) (m n : Machine) (l k : Listing) (on : IsOnLine definitions m l) where
   leads : (step : Step Taken) → TurnsTo m (of_list l) step n (of_list k) → wants_taken step ≡ false → LeadsTo line_reading (IsListed true definitions []) [] (list_simulates true definitions []) (list_shows true definitions []) (list_sees true definitions []) (answers_at levels) step (expander_of m l) n (of_list k)
-  leads step turns told = listed_leads true definitions [] (answers_at levels) m n l k step (expander_of m l) (stands_here definitions m l on) turns told
+  leads step turns reported = listed_leads true definitions [] (answers_at levels) m n l k step (expander_of m l) (stands_here definitions m l on) turns reported
 
   -- a token
   pub token_read : (token : Token) → TurnsTo m (of_list l) (Ok (taken.Token token)) n (of_list k) → Emits line_reading (answers_at levels) (expander_of m l) (outcome.Token token) (expander_of n k) × IsOnLine definitions n k × IsWorkLess levels m l n k
@@ -240,7 +240,7 @@ module _ (levels : ℕ) (definitions : List Defined) (m n : Machine) (l k : List
 
   -- a fault
   pub fault_read : (fault : Fault) → TurnsTo m (of_list l) (Err (Error fault)) n (of_list k) → is_out_of_memory fault.0 ≡ false → (f : Expander Listed) × Emits line_reading (answers_at levels) (expander_of m l) (outcome.Fault fault) f
-  fault_read fault turns told = leads (Err (Error fault)) turns told
+  fault_read fault turns reported = leads (Err (Error fault)) turns reported
 
   module _ (c : PendingCall) (turns : TurnsTo m (of_list l) (Ok (taken.Call c)) n (of_list k)) where
     pending : IsPending levels m (of_list l) c n (of_list k)
@@ -271,15 +271,15 @@ module _ (levels : ℕ) (definitions : List Defined) (m n : Machine) (l k : List
 
   -- what is taken next
   pub next_read : (step : Step Token) → TakesNext m (of_list l) step n (of_list k) → wants_memory step ≡ false → Takes line_reading (expander_of m l) (outcome_of_step step) (expander_of n k) × ReadsOn levels definitions m l n k
-  next_read step next told =
+  next_read step next reported =
       let r = of_list l in
       let s = of_list k in
       let level = frame_steps_level (most_bodies r) (most_open r) levels in
-      let h = next_simulates line_reading (IsListed true definitions []) [] (list_simulates true definitions []) (list_shows true definitions []) m n r s step (expander_of m l) (stands_here definitions m l on) next told in
-      let quiet = next_quiet m n r s step tt on.holds next told in
-      let sound : IsSound n s = next_sound None step m n r s next told on.sound in
-      let free : n.held ≡ None = (next_spends (frame_of levels r) (most_open r) level step m n r s next told).free in
-      let left = next_left (frame_of levels r) (most_open r) level step m n r s next told in
+      let h = next_simulates line_reading (IsListed true definitions []) [] (list_simulates true definitions []) (list_shows true definitions []) m n r s step (expander_of m l) (stands_here definitions m l on) next reported in
+      let quiet = next_quiet m n r s step tt on.holds next reported in
+      let sound : IsSound n s = next_sound None step m n r s next reported on.sound in
+      let free : n.held ≡ None = (next_spends (frame_of levels r) (most_open r) level step m n r s next reported).free in
+      let left = next_left (frame_of levels r) (most_open r) level step m n r s next reported in
       let holding : Machine = record n { held = Some step } in
       let at = here definitions holding k (record h.0 { held = Some (outcome_of_step step) }) h.2 (quiet_held step quiet.quiet (next_no_pause m n r s step next)) sound in
       let same : h.0 ≡ expander_of n k =

@@ -18,10 +18,10 @@ ghost use Rattle.pp_expansion.specs.Item.{as_step};
 ghost use Rattle.pp_source.specs.inner.ReadNames.{named};
 ghost use Rattle.pp_expansion.specs.inner.OpenBlocks.{last_block, is_live_in, block_skipped};
 ghost use Rattle.pp_source.specs.inner.SettingContent.{SetsContent};
-ghost use Rattle.pp_expansion.specs.inner.Source.{StepsSource, untold_of};
+ghost use Rattle.pp_expansion.specs.inner.Source.{StepsSource, unreported_of};
 ghost use Rattle.pp_source.specs.inner.SourceActs.{Acts, ActsAs, Gives, live_word_move, dead_word_move, word_move, defining};
 ghost use Rattle.pp_expansion.specs.inner.SourceMoves as moves;
-ghost use Rattle.pp_expansion.specs.inner.Untold.{Tells, ExitTells, StepTells};
+ghost use Rattle.pp_expansion.specs.inner.Unreported.{Reports, ExitReports, StepReports};
 
 use crate::content::content_tokens;
 use crate::convert::convert_lexer_token_to_step;
@@ -106,7 +106,7 @@ impl<'a> DirectiveProcessor<'a> {
         u32::try_from(shown).ok()
     }
 
-    /// Where the error of the lexer stands that was read and not told yet, which is reported now.
+    /// Where the error of the lexer stands that was read and not reported yet, which is reported now.
     pub fn take_error_place(&mut self) -> Option<Location>
         ensures place { result ≡ self.old.error_place }
         ensures others { self.new ≡ record self.old { error_place = None } }
@@ -138,7 +138,7 @@ impl<'a> DirectiveProcessor<'a> {
     fn add(&mut self, line: DefineLine) -> Result<(), Halt>
         requires { self.old.spent ≡ false }
         ensures acts { Acts (defining (named line)) self.old result self.new }
-        ensures errors { Tells result (untold_of self.old) (untold_of self.new) }
+        ensures errors { Reports result (unreported_of self.old) (unreported_of self.new) }
     {
         if let Some(before) = self.definitions.find(line.name.as_str()) {
             if before.is_same(&line.define) {
@@ -156,7 +156,7 @@ impl<'a> DirectiveProcessor<'a> {
     fn define(&mut self, word: Location) -> Result<(), Halt>
         requires { self.old.spent ≡ false }
         ensures acts { Acts (moves.directive_move true (last_block self.old.blocks) d.Define word self.old.rest) self.old result self.new }
-        ensures errors { Tells result (untold_of self.old) (untold_of self.new) }
+        ensures errors { Reports result (unreported_of self.old) (unreported_of self.new) }
     {
         let line = define_line(self.alloc, word, &mut self.lexer)?;
         self.add(line)
@@ -166,7 +166,7 @@ impl<'a> DirectiveProcessor<'a> {
     fn undef(&mut self, word: Location) -> Result<(), Halt>
         requires { self.old.spent ≡ false }
         ensures acts { Acts (moves.line_move (only_name word self.old.rest) moves.undefines (line_length self.old.rest)) self.old result self.new }
-        ensures errors { Tells result (untold_of self.old) (untold_of self.new) }
+        ensures errors { Reports result (unreported_of self.old) (unreported_of self.new) }
     {
         let name = only_name(word, &mut self.lexer)?;
         self.definitions.remove(name.as_str());
@@ -177,7 +177,7 @@ impl<'a> DirectiveProcessor<'a> {
     fn open_where(&mut self, wanted: bool, word: Location) -> Result<(), Halt>
         requires { self.old.spent ≡ false }
         ensures acts { Acts (moves.line_move (only_name word self.old.rest) (moves.opens_where wanted word) (line_length self.old.rest)) self.old result self.new }
-        ensures errors { Tells result (untold_of self.old) (untold_of self.new) }
+        ensures errors { Reports result (unreported_of self.old) (unreported_of self.new) }
     {
         let name = only_name(word, &mut self.lexer)?;
         let is_defined = self.definitions.find(name.as_str()).is_some();
@@ -191,7 +191,7 @@ impl<'a> DirectiveProcessor<'a> {
     fn open_if(&mut self, word: Location) -> Result<(), Halt>
         requires { self.old.spent ≡ false }
         ensures acts { Acts (moves.line_move (line_tokens self.old.rest) (moves.opens_if word) (line_length self.old.rest)) self.old result self.new }
-        ensures errors { Tells result (untold_of self.old) (untold_of self.new) }
+        ensures errors { Reports result (unreported_of self.old) (unreported_of self.new) }
     {
         let tokens = rest_of_line(self.alloc, &mut self.lexer)?;
         let holds = condition(self.alloc, word, tokens, &self.definitions)?;
@@ -203,7 +203,7 @@ impl<'a> DirectiveProcessor<'a> {
     fn open_unread(&mut self, word: Location) -> Result<(), Halt>
         requires { self.old.spent ≡ false }
         ensures acts { Acts (moves.skip_move (moves.opens_unread word) self.old.rest) self.old result self.new }
-        ensures errors { Tells result (untold_of self.old) (untold_of self.new) }
+        ensures errors { Reports result (unreported_of self.old) (unreported_of self.new) }
     {
         self.blocks.push(OpenBlock::unread(word))?;
         skip_line(&mut self.lexer)
@@ -214,7 +214,7 @@ impl<'a> DirectiveProcessor<'a> {
         requires unspent { self.old.spent ≡ false }
         requires innermost { last_block self.old.blocks ≡ Some block }
         ensures acts { Acts (moves.skip_move (moves.parts (block_skipped block)) self.old.rest) self.old result self.new }
-        ensures errors { Tells result (untold_of self.old) (untold_of self.new) }
+        ensures errors { Reports result (unreported_of self.old) (unreported_of self.new) }
     {
         skip_line(&mut self.lexer)?;
         self.blocks.replace_last(block.skipped());
@@ -226,7 +226,7 @@ impl<'a> DirectiveProcessor<'a> {
         requires unspent { self.old.spent ≡ false }
         requires innermost { last_block self.old.blocks ≡ Some block }
         ensures acts { Acts (moves.line_move (line_tokens self.old.rest) (moves.parts_if block word) (line_length self.old.rest)) self.old result self.new }
-        ensures errors { Tells result (untold_of self.old) (untold_of self.new) }
+        ensures errors { Reports result (unreported_of self.old) (unreported_of self.new) }
     {
         let tokens = rest_of_line(self.alloc, &mut self.lexer)?;
         let holds = condition(self.alloc, word, tokens, &self.definitions)?;
@@ -238,7 +238,7 @@ impl<'a> DirectiveProcessor<'a> {
     fn elif_line(&mut self, word: Location) -> Result<(), Halt>
         requires { self.old.spent ≡ false }
         ensures acts { Acts (moves.elif_move (last_block self.old.blocks) word self.old.rest) self.old result self.new }
-        ensures errors { Tells result (untold_of self.old) (untold_of self.new) }
+        ensures errors { Reports result (unreported_of self.old) (unreported_of self.new) }
     {
         let Some(block) = self.blocks.last() else {
             return Err(Halt::Fault((PreprocessorError::ElifOutsideOfBlock, word)));
@@ -256,7 +256,7 @@ impl<'a> DirectiveProcessor<'a> {
     fn else_line(&mut self, word: Location) -> Result<(), Halt>
         requires { self.old.spent ≡ false }
         ensures acts { Acts (moves.else_move (last_block self.old.blocks) word self.old.rest) self.old result self.new }
-        ensures errors { Tells result (untold_of self.old) (untold_of self.new) }
+        ensures errors { Reports result (unreported_of self.old) (unreported_of self.new) }
     {
         ended_line(word, &mut self.lexer)?;
         let Some(block) = self.blocks.last() else {
@@ -273,7 +273,7 @@ impl<'a> DirectiveProcessor<'a> {
     fn endif_line(&mut self, word: Location) -> Result<(), Halt>
         requires { self.old.spent ≡ false }
         ensures acts { Acts (moves.endif_move (last_block self.old.blocks) word self.old.rest) self.old result self.new }
-        ensures errors { Tells result (untold_of self.old) (untold_of self.new) }
+        ensures errors { Reports result (unreported_of self.old) (unreported_of self.new) }
     {
         let Some(block) = self.blocks.pop() else {
             return Err(Halt::Fault((PreprocessorError::EndifOutsideOfBlock, word)));
@@ -292,7 +292,7 @@ impl<'a> DirectiveProcessor<'a> {
     fn number_lines(&mut self, word: Location) -> Result<(), Halt>
         requires { self.old.spent ≡ false }
         ensures acts { Acts (moves.line_move (line_tokens self.old.rest) (moves.renumbers word) (line_length self.old.rest)) self.old result self.new }
-        ensures errors { Tells result (untold_of self.old) (untold_of self.new) }
+        ensures errors { Reports result (unreported_of self.old) (unreported_of self.new) }
     {
         let tokens = rest_of_line(self.alloc, &mut self.lexer)?;
         let number = line_number(self.alloc, word, tokens, &self.definitions)?;
@@ -304,7 +304,7 @@ impl<'a> DirectiveProcessor<'a> {
     fn skip(&mut self) -> Result<(), Halt>
         requires { self.old.spent ≡ false }
         ensures acts { Acts (moves.skip_move moves.passes self.old.rest) self.old result self.new }
-        ensures errors { Tells result (untold_of self.old) (untold_of self.new) }
+        ensures errors { Reports result (unreported_of self.old) (unreported_of self.new) }
     {
         skip_line(&mut self.lexer)
     }
@@ -315,7 +315,7 @@ impl<'a> DirectiveProcessor<'a> {
         requires left { self.old.rest ≢ [] }
         ensures acts { ActsAs (λ token. Ok token) (moves.live_move (last_block self.old.blocks) d.Version word self.old.rest) self.old result self.new }
         ensures holds { IfOk result (λ token. HoldsOrdinary token.value) }
-        ensures errors { Tells result (untold_of self.old) (untold_of self.new) }
+        ensures errors { Reports result (unreported_of self.old) (unreported_of self.new) }
     {
         let tokens = line_tokens(self.alloc, &mut self.lexer)?;
         let value = TokenValue::Version(Version {
@@ -335,7 +335,7 @@ impl<'a> DirectiveProcessor<'a> {
         requires left { self.old.rest ≢ [] }
         ensures acts { ActsAs (λ token. Ok token) (moves.live_move (last_block self.old.blocks) d.Extension word self.old.rest) self.old result self.new }
         ensures holds { IfOk result (λ token. HoldsOrdinary token.value) }
-        ensures errors { Tells result (untold_of self.old) (untold_of self.new) }
+        ensures errors { Reports result (unreported_of self.old) (unreported_of self.new) }
     {
         let tokens = line_tokens(self.alloc, &mut self.lexer)?;
         let value = TokenValue::Extension(Extension {
@@ -354,7 +354,7 @@ impl<'a> DirectiveProcessor<'a> {
         requires left { self.old.rest ≢ [] }
         ensures acts { ActsAs (λ token. Ok token) (moves.live_move (last_block self.old.blocks) d.Pragma word self.old.rest) self.old result self.new }
         ensures holds { IfOk result (λ token. HoldsOrdinary token.value) }
-        ensures errors { Tells result (untold_of self.old) (untold_of self.new) }
+        ensures errors { Reports result (unreported_of self.old) (unreported_of self.new) }
     {
         let tokens = line_tokens(self.alloc, &mut self.lexer)?;
         Ok(Token {
@@ -368,7 +368,7 @@ impl<'a> DirectiveProcessor<'a> {
         requires unspent { self.old.spent ≡ false }
         requires silent { is_item directive ≡ false }
         ensures acts { Acts (moves.directive_move true (last_block self.old.blocks) directive word self.old.rest) self.old result self.new }
-        ensures errors { Tells result (untold_of self.old) (untold_of self.new) }
+        ensures errors { Reports result (unreported_of self.old) (unreported_of self.new) }
     {
         match directive {
             Directive::Define => self.define(word),
@@ -391,7 +391,7 @@ impl<'a> DirectiveProcessor<'a> {
         requires left { self.old.rest ≢ [] }
         ensures gives { Gives (moves.directive_move true (last_block self.old.blocks) directive word self.old.rest) self.old result self.new }
         ensures holds { IfOk result (λ given. IfSome given (λ token. HoldsOrdinary token.value)) }
-        ensures errors { Tells result (untold_of self.old) (untold_of self.new) }
+        ensures errors { Reports result (unreported_of self.old) (unreported_of self.new) }
     {
         match directive {
             Directive::Version => Ok(Some(self.version(word)?)),
@@ -408,7 +408,7 @@ impl<'a> DirectiveProcessor<'a> {
     fn act_dead(&mut self, directive: Directive, word: Location) -> Result<(), Halt>
         requires { self.old.spent ≡ false }
         ensures acts { Acts (moves.directive_move false (last_block self.old.blocks) directive word self.old.rest) self.old result self.new }
-        ensures errors { Tells result (untold_of self.old) (untold_of self.new) }
+        ensures errors { Reports result (unreported_of self.old) (unreported_of self.new) }
     {
         match directive {
             Directive::If | Directive::Ifdef | Directive::Ifndef => self.open_unread(word),
@@ -425,7 +425,7 @@ impl<'a> DirectiveProcessor<'a> {
         requires { self.old.spent ≡ false }
         ensures gives { Gives (live_word_move (last_block self.old.blocks) (first_name hash self.old.rest) (drop 1 self.old.rest)) self.old result self.new }
         ensures holds { IfOk result (λ given. IfSome given (λ token. HoldsOrdinary token.value)) }
-        ensures errors { Tells result (untold_of self.old) (untold_of self.new) }
+        ensures errors { Reports result (unreported_of self.old) (unreported_of self.new) }
     {
         let word = first_name(hash, &mut self.lexer)?;
         let given = self.give_live(directive_of(&word.name), word.location)?;
@@ -437,7 +437,7 @@ impl<'a> DirectiveProcessor<'a> {
     fn read_dead(&mut self, hash: Location) -> Result<(), Halt>
         requires { self.old.spent ≡ false }
         ensures acts { Acts (dead_word_move (last_block self.old.blocks) (first_token hash self.old.rest) (drop 1 self.old.rest)) self.old result self.new }
-        ensures errors { Tells result (untold_of self.old) (untold_of self.new) }
+        ensures errors { Reports result (unreported_of self.old) (unreported_of self.new) }
     {
         let token = first_token(hash, &mut self.lexer)?;
         let word = token.location;
@@ -456,7 +456,7 @@ impl<'a> DirectiveProcessor<'a> {
         requires { self.old.spent ≡ false }
         ensures gives { Gives (word_move (is_live_in (last_block self.old.blocks)) (last_block self.old.blocks) hash self.old.rest) self.old result self.new }
         ensures holds { IfOk result (λ given. IfSome given (λ token. HoldsOrdinary token.value)) }
-        ensures errors { Tells result (untold_of self.old) (untold_of self.new) }
+        ensures errors { Reports result (unreported_of self.old) (unreported_of self.new) }
     {
         if self.is_live() {
             return self.read_live(hash);
@@ -471,18 +471,18 @@ impl<'a> DirectiveProcessor<'a> {
         ensures is { result ≡ as_step (conversion token) }
         ensures holds { IfOk result (λ token. HoldsOrdinary token.value) }
         ensures remembers { self.new ≡ record self.old { has_text = is_ok result || self.old.has_text } }
-        ensures errors { StepTells result (untold_of self.old) (untold_of self.new) }
+        ensures errors { StepReports result (unreported_of self.old) (unreported_of self.new) }
     {
         let token = convert_lexer_token_to_step(token)?;
         self.has_text = true;
         Ok(token)
     }
 
-    // Tells the innermost of the blocks that are open at the end of the source, or the end.
+    // Reports the innermost of the blocks that are open at the end of the source, or the end.
     fn end(&mut self) -> StepExit
         requires { self.old.spent ≡ false → self.old.rest ≡ [] }
         ensures reads { StepsSource self.old (Err result) self.new }
-        ensures errors { ExitTells result (untold_of self.old) (untold_of self.new) }
+        ensures errors { ExitReports result (unreported_of self.old) (unreported_of self.new) }
     {
         if self.lexer.is_spent() {
             return StepExit::Finished;
@@ -505,7 +505,7 @@ impl<'a> DirectiveProcessor<'a> {
     pub fn step(&mut self) -> Step<Token>
         ensures reads { StepsSource self.old result self.new }
         ensures holds { IfOk result (λ token. HoldsOrdinary token.value) }
-        ensures errors { StepTells result (untold_of self.old) (untold_of self.new) }
+        ensures errors { StepReports result (unreported_of self.old) (unreported_of self.new) }
     {
         let Some(token) = self.lexer.next_token()? else {
             return Err(self.end());

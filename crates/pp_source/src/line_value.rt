@@ -6,7 +6,7 @@ ghost use Rattle.pp_expression.specs.Arithmetic.{is_zero};
 ghost use Rattle.pp_expression.specs.FirstFault.{Evaluates};
 ghost use Rattle.pp_model.specs.Emitting.{answers_at, expansion_limit};
 ghost use Rattle.pp_model.specs.LineValues.{IsCondition, IsLineNumber, Numbers, alone_on_line, as_line_number, ended_early, line_of, symbol_of, unwanted_word, word_from_end, words_after};
-ghost use Rattle.pp_model.specs.inner.LineValues.{IsFollowed, fault_of_operand, told_fault, unless_followed};
+ghost use Rattle.pp_model.specs.inner.LineValues.{IsFollowed, fault_of_operand, reported_fault, unless_followed};
 ghost use Rattle.pp_expansion.specs.inner.Defined.{meaning_of};
 ghost use Rattle.pp_expansion.specs.Held.{AllHoldOrdinary};
 ghost use Rattle.pp_expansion.specs.inner.Machine.{Satisfies};
@@ -115,13 +115,13 @@ fn fault_of_operand(alloc: Global, directive: Location, word: &Word) -> Result<F
 }
 
 // The first fault of an expression, with its place.
-fn told(
+fn reported(
     alloc: Global,
     directive: Location,
     words: &Words,
     found: Found,
 ) -> Result<Fault, AllocError>
-    ensures { IfOk result (λ fault. fault ≡ told_fault directive words.now found) }
+    ensures { IfOk result (λ fault. fault ≡ reported_fault directive words.now found) }
 {
     let early = (PreprocessorError::UnexpectedEndOfInput, directive);
     match found.kind {
@@ -167,7 +167,7 @@ fn holds_alone(
             ends_line(alloc, words, value.left)?;
             Ok(value.value != 0)
         }
-        Err(found) => Err(Halt::Fault(told(alloc, directive, words, found)?)),
+        Err(found) => Err(Halt::Fault(reported(alloc, directive, words, found)?)),
     }
 }
 
@@ -186,7 +186,7 @@ fn number_alone(
             ends_line(alloc, words, value.left)?;
             Ok(number)
         }
-        Err(found) => Err(Halt::Fault(told(alloc, directive, words, found)?)),
+        Err(found) => Err(Halt::Fault(reported(alloc, directive, words, found)?)),
     }
 }
 
@@ -241,7 +241,7 @@ fn numbers(alloc: Global, directive: Location, words: Words) -> Result<u32, Halt
 {
     let value = match evaluation(alloc, &words)? {
         Ok(value) => value,
-        Err(found) => return Err(Halt::Fault(told(alloc, directive, &words, found)?)),
+        Err(found) => return Err(Halt::Fault(reported(alloc, directive, &words, found)?)),
     };
     let number = match as_line_number(value) {
         Some(number) => number,

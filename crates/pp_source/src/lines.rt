@@ -11,8 +11,8 @@ ghost use Rattle.pp_expansion.specs.Held.{is_ordinary_leaf};
 ghost use Rattle.pp_expansion.specs.inner.LineReading as spec;
 ghost use Rattle.pp_source.specs.inner.ReadNames.{named, placed};
 ghost use Rattle.pp_expansion.specs.inner.ParameterReading.{function_at};
-ghost use Rattle.pp_expansion.specs.inner.SourceLexed.{untold_at};
-ghost use Rattle.pp_expansion.specs.inner.Untold.{Tells};
+ghost use Rattle.pp_expansion.specs.inner.SourceLexed.{unreported_at};
+ghost use Rattle.pp_expansion.specs.inner.Unreported.{Reports};
 
 use crate::convert::convert_lexer_token;
 use crate::parameters::parameters;
@@ -28,7 +28,7 @@ pub fn first_token(word: Location, lexer: &mut SourceLexer<'_>) -> Result<lexer:
     requires { lexer.old.spent ≡ false }
     ensures is { spec.Meets (λ t. t) result (first_token word lexer.old.rest) }
     ensures takes { spec.TakesItems 1 lexer.old result lexer.new }
-    ensures errors { Tells result (untold_at lexer.old) (untold_at lexer.new) }
+    ensures errors { Reports result (unreported_at lexer.old) (unreported_at lexer.new) }
     ensures left { IfOk result (λ token. spec.LeavesSome (Some token) lexer.new.rest) }
 {
     match lexer.next_token()? {
@@ -73,7 +73,7 @@ pub fn first_name(word: Location, lexer: &mut SourceLexer<'_>) -> Result<PlacedN
     requires { lexer.old.spent ≡ false }
     ensures is { spec.Meets placed result (first_name word lexer.old.rest) }
     ensures takes { spec.TakesItems 1 lexer.old result lexer.new }
-    ensures errors { Tells result (untold_at lexer.old) (untold_at lexer.new) }
+    ensures errors { Reports result (unreported_at lexer.old) (unreported_at lexer.new) }
     ensures left { IfOk result (λ name. lexer.new.rest ≢ []) }
 {
     let token = first_token(word, lexer)?;
@@ -89,7 +89,7 @@ pub fn ended_line(word: Location, lexer: &mut SourceLexer<'_>) -> Result<(), Hal
     requires { lexer.old.spent ≡ false }
     ensures is { spec.Meets (λ t. t) result (ended_line word lexer.old.rest) }
     ensures takes { spec.TakesItems 1 lexer.old result lexer.new }
-    ensures errors { Tells result (untold_at lexer.old) (untold_at lexer.new) }
+    ensures errors { Reports result (unreported_at lexer.old) (unreported_at lexer.new) }
 {
     let token = first_token(word, lexer)?;
     match token.value {
@@ -103,7 +103,7 @@ pub fn only_name(word: Location, lexer: &mut SourceLexer<'_>) -> Result<Text, Ha
     requires { lexer.old.spent ≡ false }
     ensures is { spec.Meets (λ t. t) result (only_name word lexer.old.rest) }
     ensures takes { spec.TakesItems (line_length lexer.old.rest) lexer.old result lexer.new }
-    ensures errors { Tells result (untold_at lexer.old) (untold_at lexer.new) }
+    ensures errors { Reports result (unreported_at lexer.old) (unreported_at lexer.new) }
 {
     let first = first_name(word, lexer)?;
     ended_line(word, lexer)?;
@@ -115,7 +115,7 @@ fn pass_token(lexer: &mut SourceLexer<'_>) -> Result<bool, Halt>
     requires { lexer.old.spent ≡ false }
     ensures is { spec.Meets (λ t. t) result (spec.line_goes_on lexer.old.rest) }
     ensures takes { spec.TakesItems 1 lexer.old result lexer.new }
-    ensures errors { Tells result (untold_at lexer.old) (untold_at lexer.new) }
+    ensures errors { Reports result (unreported_at lexer.old) (unreported_at lexer.new) }
     ensures fault { spec.FaultTakesSome result lexer.old lexer.new }
 {
     match lexer.next_token()? {
@@ -129,7 +129,7 @@ pub fn skip_line(lexer: &mut SourceLexer<'_>) -> Result<(), Halt>
     requires { lexer.old.spent ≡ false }
     ensures is { spec.Meets (λ t. t) result (spec.skipped_line lexer.old.rest) }
     ensures takes { spec.TakesItems (line_length lexer.old.rest) lexer.old result lexer.new }
-    ensures errors { Tells result (untold_at lexer.old) (untold_at lexer.new) }
+    ensures errors { Reports result (unreported_at lexer.old) (unreported_at lexer.new) }
     ensures fault { spec.FaultTakesSome result lexer.old lexer.new }
 {
     'line: while pass_token(lexer)? {}
@@ -141,7 +141,7 @@ pub fn endif_end(live_around: bool, word: Location, lexer: &mut SourceLexer<'_>)
     requires { lexer.old.spent ≡ false }
     ensures is { spec.Meets (λ t. t) result (spec.endif_end live_around word lexer.old.rest) }
     ensures takes { spec.TakesItems (line_length lexer.old.rest) lexer.old result lexer.new }
-    ensures errors { Tells result (untold_at lexer.old) (untold_at lexer.new) }
+    ensures errors { Reports result (unreported_at lexer.old) (unreported_at lexer.new) }
 {
     if live_around {
         ended_line(word, lexer)
@@ -169,7 +169,7 @@ pub fn next_line_token(lexer: &mut SourceLexer<'_>) -> Result<Option<Token>, Hal
     requires { lexer.old.spent ≡ false }
     ensures is { spec.Meets (λ t. t) result (spec.next_line_token lexer.old.rest) }
     ensures takes { spec.TakesItems 1 lexer.old result lexer.new }
-    ensures errors { Tells result (untold_at lexer.old) (untold_at lexer.new) }
+    ensures errors { Reports result (unreported_at lexer.old) (unreported_at lexer.new) }
     ensures ordinary { spec.IsOrdinaryIfOk result }
     ensures comments { IfOk result (λ next. lexer.new.had_comments ≡ comments_before lexer.old.rest lexer.old.at_end) }
     ensures left { IfOk result (λ next. IfSome next (λ t. lexer.new.rest ≢ [])) }
@@ -195,7 +195,7 @@ pub fn line_tokens_from(
     requires left { IfSome first (λ t. lexer.old.rest ≢ []) }
     ensures is { spec.Meets (λ tokens. tokens.items) result (spec.tokens_after first lexer.old.rest) }
     ensures takes { spec.TakesItems (spec.length_after first lexer.old.rest) lexer.old result lexer.new }
-    ensures errors { Tells result (untold_at lexer.old) (untold_at lexer.new) }
+    ensures errors { Reports result (unreported_at lexer.old) (unreported_at lexer.new) }
     ensures comments { IfOk result (λ tokens. lexer.new.had_comments ≡ spec.comments_after first lexer.old.rest lexer.old.had_comments) }
     ensures ordinary { IfOk result (λ tokens. All (λ t. IsTrue (is_ordinary t.value)) tokens.items) }
 {
@@ -213,7 +213,7 @@ pub fn rest_of_line(alloc: Global, lexer: &mut SourceLexer<'_>) -> Result<Vec<To
     requires { lexer.old.spent ≡ false }
     ensures is { spec.Meets (λ tokens. tokens.items) result (line_tokens lexer.old.rest) }
     ensures takes { spec.TakesItems (line_length lexer.old.rest) lexer.old result lexer.new }
-    ensures errors { Tells result (untold_at lexer.old) (untold_at lexer.new) }
+    ensures errors { Reports result (unreported_at lexer.old) (unreported_at lexer.new) }
     ensures comments { IfOk result (λ tokens. lexer.old.rest ≢ [] → lexer.new.had_comments ≡ comments_before_end lexer.old.rest) }
     ensures ordinary { IfOk result (λ tokens. All (λ t. IsTrue (is_ordinary t.value)) tokens.items) }
 {
@@ -227,7 +227,7 @@ pub fn line_tokens(alloc: Global, lexer: &mut SourceLexer<'_>) -> Result<Tokens,
     requires left { lexer.old.rest ≢ [] }
     ensures is { spec.Meets (λ t. t) result (line_entries lexer.old.rest) }
     ensures takes { spec.TakesItems (line_length lexer.old.rest) lexer.old result lexer.new }
-    ensures errors { Tells result (untold_at lexer.old) (untold_at lexer.new) }
+    ensures errors { Reports result (unreported_at lexer.old) (unreported_at lexer.new) }
     ensures comments { IfOk result (λ tokens. lexer.new.had_comments ≡ comments_before_end lexer.old.rest) }
     ensures ordinary { IfOk result (λ tokens. All (λ entry. IsTrue (is_ordinary_leaf entry.leaf)) tokens) }
 {
@@ -253,7 +253,7 @@ fn function_after(
     requires { lexer.old.spent ≡ false }
     ensures is { spec.Meets (λ d. d) result (function_at word lexer.old.rest) }
     ensures takes { spec.TakesItems (line_length lexer.old.rest) lexer.old result lexer.new }
-    ensures errors { Tells result (untold_at lexer.old) (untold_at lexer.new) }
+    ensures errors { Reports result (unreported_at lexer.old) (unreported_at lexer.new) }
 {
     let names = parameters(alloc, word, lexer)?;
     let body = rest_of_line(alloc, lexer)?;
@@ -265,7 +265,7 @@ fn definition(alloc: Global, word: Location, lexer: &mut SourceLexer<'_>) -> Res
     requires { lexer.old.spent ≡ false }
     ensures is { spec.Meets (λ d. d) result (definition_at word lexer.old.rest) }
     ensures takes { spec.TakesItems (line_length lexer.old.rest) lexer.old result lexer.new }
-    ensures errors { Tells result (untold_at lexer.old) (untold_at lexer.new) }
+    ensures errors { Reports result (unreported_at lexer.old) (unreported_at lexer.new) }
 {
     match lexer.next_token()? {
         Some(token) if is_attached_paren(&token) => function_after(alloc, word, lexer),
@@ -286,7 +286,7 @@ pub fn define_line(
     requires { lexer.old.spent ≡ false }
     ensures is { spec.Meets named result (defined_on word lexer.old.rest) }
     ensures takes { spec.TakesItems (line_length lexer.old.rest) lexer.old result lexer.new }
-    ensures errors { Tells result (untold_at lexer.old) (untold_at lexer.new) }
+    ensures errors { Reports result (unreported_at lexer.old) (unreported_at lexer.new) }
 {
     let PlacedName { name, location } = first_name(word, lexer)?;
     let define = definition(alloc, word, lexer)?;

@@ -5,8 +5,8 @@ ghost use Rattle.pp_model.specs.DefineLines.{parameters};
 ghost use Rattle.pp_model.specs.Names.{is_in};
 ghost use Rattle.pp_expansion.specs.inner.LineReading as spec;
 ghost use Rattle.pp_expansion.specs.inner.ParameterReading.{ends_parameters, one_parameter, first_parameter, alone, GoesOn};
-ghost use Rattle.pp_expansion.specs.inner.SourceLexed.{untold_at};
-ghost use Rattle.pp_expansion.specs.inner.Untold.{Tells};
+ghost use Rattle.pp_expansion.specs.inner.SourceLexed.{unreported_at};
+ghost use Rattle.pp_expansion.specs.inner.Unreported.{Reports};
 
 use crate::lines::{first_token, refused_token};
 use crate::source_lexer::SourceLexer;
@@ -27,7 +27,7 @@ fn one_parameter(names: &[Text], word: Location, lexer: &mut SourceLexer<'_>) ->
     requires { lexer.old.spent ≡ false }
     ensures is { spec.Meets (λ name. names.now ++ name ∷ []) result (one_parameter word names.now lexer.old.rest) }
     ensures takes { spec.TakesItems 1 lexer.old result lexer.new }
-    ensures errors { Tells result (untold_at lexer.old) (untold_at lexer.new) }
+    ensures errors { Reports result (unreported_at lexer.old) (unreported_at lexer.new) }
 {
     let token = first_token(word, lexer)?;
     let location = token.location;
@@ -48,7 +48,7 @@ fn first_parameter(word: Location, lexer: &mut SourceLexer<'_>) -> Result<Option
     requires { lexer.old.spent ≡ false }
     ensures is { spec.Meets alone result (first_parameter word lexer.old.rest) }
     ensures takes { spec.TakesItems 1 lexer.old result lexer.new }
-    ensures errors { Tells result (untold_at lexer.old) (untold_at lexer.new) }
+    ensures errors { Reports result (unreported_at lexer.old) (unreported_at lexer.new) }
 {
     let token = first_token(word, lexer)?;
     match token.value {
@@ -63,7 +63,7 @@ fn ends_parameters(word: Location, lexer: &mut SourceLexer<'_>) -> Result<bool, 
     requires { lexer.old.spent ≡ false }
     ensures is { spec.Meets (λ b. b) result (ends_parameters word lexer.old.rest) }
     ensures takes { spec.TakesItems 1 lexer.old result lexer.new }
-    ensures errors { Tells result (untold_at lexer.old) (untold_at lexer.new) }
+    ensures errors { Reports result (unreported_at lexer.old) (unreported_at lexer.new) }
 {
     let token = first_token(word, lexer)?;
     match token.value {
@@ -82,7 +82,7 @@ pub fn parameters(
     requires { lexer.old.spent ≡ false }
     ensures is { spec.Meets (λ names. record { names = names.items; after = lexer.new.rest }) result (parameters word lexer.old.rest) }
     ensures goes { GoesOn result lexer.old lexer.new }
-    ensures errors { Tells result (untold_at lexer.old) (untold_at lexer.new) }
+    ensures errors { Reports result (unreported_at lexer.old) (unreported_at lexer.new) }
 {
     let mut names = Vec::new(alloc);
     let Some(first) = first_parameter(word, lexer)? else {

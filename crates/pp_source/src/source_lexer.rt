@@ -4,8 +4,8 @@ ghost use Rattle.std.specs.Prelude.{◌≡◌, ◌-◌, ◌^◌, ◌<◌, length
 ghost use Rattle.pp_lexer.specs.Lexed.{start_of, comments_before};
 ghost use Rattle.pp_lexer.specs.Spots.{spots_of};
 ghost use Rattle.pp_expansion.specs.inner.LineReading as spec;
-ghost use Rattle.pp_expansion.specs.inner.SourceLexed.{beginning, untold_at, EndStays};
-ghost use Rattle.pp_expansion.specs.inner.Untold.{Tells};
+ghost use Rattle.pp_expansion.specs.inner.SourceLexed.{beginning, unreported_at, EndStays};
+ghost use Rattle.pp_expansion.specs.inner.Unreported.{Reports};
 
 use pp_expansion::halt::Halt;
 use pp_expansion::step::is_out_of_memory;
@@ -65,7 +65,7 @@ impl<'a> SourceLexer<'a> {
         self.lexer.had_comments()
     }
 
-    /// Where the error stands that was read and not told yet, which is reported now.
+    /// Where the error stands that was read and not reported yet, which is reported now.
     pub fn take_error_place(&mut self) -> Option<Location>
         ensures place { result ≡ self.old.error_place }
         ensures others { self.new ≡ record self.old { error_place = None } }
@@ -83,7 +83,7 @@ impl<'a> SourceLexer<'a> {
         ensures comments { IfOk result (λ token. self.old.spent ≡ false → self.new.had_comments ≡ comments_before self.old.rest self.old.at_end) }
         ensures left { IfOk result (λ token. spec.LeavesSome token self.new.rest) }
         ensures ended { EndStays result self.old self.new }
-        ensures errors { Tells result (untold_at self.old) (untold_at self.new) }
+        ensures errors { Reports result (unreported_at self.old) (unreported_at self.new) }
         ensures refused { spec.RefusedWithin result self.old.rest }
         ensures spent { self.old.spent ≡ true → (result ≡ Ok None) × (self.new ≡ self.old) }
     {

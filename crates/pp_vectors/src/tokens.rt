@@ -139,7 +139,7 @@ fn errors_have_names(rt: HostRuntime) {
 }
 
 #[test]
-fn want_of_memory_stands_nowhere(rt: HostRuntime) {
+fn refused_memory_stands_nowhere(rt: HostRuntime) {
     let nowhere = Location {
         start: 0,
         end: 0,

@@ -23,20 +23,20 @@ pub drop-none : {X : Type 0} (xs : List X) (k : ℕ) → slice_get xs k ≡ None
 drop-none xs k e = elim (slice_get_cases xs k).1 [ inl w ↦ cc | inr w ↦ drop_all k xs w.0 ]
 
 -- what a frame answers is its step, unless memory is refused; a frame at its end pauses
-abbrev pub TellsStep : Option Advance → Step Token → Layer → Type 0
-TellsStep advanced step new = (step ≡ Err (Error out_of_memory)) ⊎ MatchOption advanced (step ≡ Err Continue) (λ a. (step ≡ as_pause a.gives) × (new ≡ a.after))
+abbrev pub ReportsStep : Option Advance → Step Token → Layer → Type 0
+ReportsStep advanced step new = (step ≡ Err (Error out_of_memory)) ⊎ MatchOption advanced (step ≡ Err Continue) (λ a. (step ≡ as_pause a.gives) × (new ≡ a.after))
 
 -- a copy of the token is given
-pub advances_to : (advanced : Option Advance) (token : Token) (step : Step Token) (new : Layer) → advanced ≡ Some (record { gives = Some token; after = new }) → (step ≡ Err (Error out_of_memory)) ⊎ (step ≡ Ok token) → TellsStep advanced step new
+pub advances_to : (advanced : Option Advance) (token : Token) (step : Step Token) (new : Layer) → advanced ≡ Some (record { gives = Some token; after = new }) → (step ≡ Err (Error out_of_memory)) ⊎ (step ≡ Ok token) → ReportsStep advanced step new
 advances_to advanced token step new e (inl refused) = inl refused
 advances_to advanced token step new e (inr given) = inr (rw e (given, refl))
 
 -- nothing is given
-pub pauses : (advanced : Option Advance) (new : Layer) → advanced ≡ Some (record { gives = None; after = new }) → TellsStep advanced (Err Continue) new
+pub pauses : (advanced : Option Advance) (new : Layer) → advanced ≡ Some (record { gives = None; after = new }) → ReportsStep advanced (Err Continue) new
 pauses advanced new e = inr (rw e (refl, refl))
 
 -- the frame is at its end
-pub finishes : (advanced : Option Advance) (new : Layer) → advanced ≡ None → TellsStep advanced (Err Continue) new
+pub finishes : (advanced : Option Advance) (new : Layer) → advanced ≡ None → ReportsStep advanced (Err Continue) new
 finishes advanced new e = inr (rw e refl)
 
 -- a frame that reads no argument is at its end where its body has no token left

@@ -13,7 +13,7 @@ use Rattle.pp_expansion.specs.inner.Reader.{Reader}
 use Rattle.pp_expansion.specs.inner.Turns.{Moves, frame_move}
 use Rattle.pp_expansion.specs.declared.step.StepExit.TheVariants.{Error, Continue}
 use Rattle.pp_expansion.specs.inner.OpenNames.{Position, AreNamesOf, IsOpenedAt, IsClosedAt}
-use Rattle.pp_expansion.proofs.open_frames.FrameLemmas.{TellsStep}
+use Rattle.pp_expansion.proofs.open_frames.FrameLemmas.{ReportsStep}
 use Rattle.pp_expansion.proofs.open_frames.OpenNamesLemmas.{names_open, names_close}
 
 or_left_comm : (a b c : Bool) → (a || (b || c)) ≡ (b || (a || c))
@@ -74,13 +74,13 @@ reverse_set_last xs v some =
     rw (e, get_or-set_same, take-set) at h
 
 -- a step of the innermost frame, which stays open
-frame_moves : (advanced : Option Advance) (fs : List Layer) (v : Layer) (step : Step Token) → is_none advanced ≡ false → TellsStep advanced step v → ((step ≡ (frame_move fs advanced).gives) × (v ∷ fs ≡ (frame_move fs advanced).after)) ⊎ (step ≡ Err (Error out_of_memory))
+frame_moves : (advanced : Option Advance) (fs : List Layer) (v : Layer) (step : Step Token) → is_none advanced ≡ false → ReportsStep advanced step v → ((step ≡ (frame_move fs advanced).gives) × (v ∷ fs ≡ (frame_move fs advanced).after)) ⊎ (step ≡ Err (Error out_of_memory))
 frame_moves advanced fs v step goes (inl refused) = inr refused
 frame_moves (Some a) fs v step goes (inr (given, after)) = inl (given, ap (λ w. w ∷ fs) after)
 frame_moves None fs v step goes (inr none) = cc
 
 -- a step of the last of them is a step of the frames
-pub last_moves : (fs : List Layer) (f v : Layer) (step : Step Token) (reader : Reader) (n : ℕ) → n ≡ length fs → 0 < n → f ≡ get_or fs (n - 1) f → is_none (advance f) ≡ false → TellsStep (advance f) step v → Moves (reverse fs) reader step (reverse (set fs (n - 1) v)) reader
+pub last_moves : (fs : List Layer) (f v : Layer) (step : Step Token) (reader : Reader) (n : ℕ) → n ≡ length fs → 0 < n → f ≡ get_or fs (n - 1) f → is_none (advance f) ≡ false → ReportsStep (advance f) step v → Moves (reverse fs) reader step (reverse (set fs (n - 1) v)) reader
 last_moves fs f v step reader n e some last goes advances =
     let more = rw e at some in
     let is = rw e at last in

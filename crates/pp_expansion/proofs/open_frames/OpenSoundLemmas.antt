@@ -91,21 +91,21 @@ frame_sound pending definitions f fs None h sound = pop_sound definitions pendin
 frame_sound pending definitions f fs (Some a) h sound = rw h.name sound
 
 moves_sound : (pending : Option Name) (move : Step Token) (fs gs : List Layer) (r s : Reader) → Moves fs r move gs s → wants_memory move ≡ false → AreOpenSoundly (definitions_of r) (with_pending pending (names_of fs)) → AreOpenSoundly (definitions_of s) (with_pending pending (names_of gs))
-moves_sound pending move [] gs r s h told sound = rw h.0 (lone_sound (definitions_of s) pending)
-moves_sound pending move (f ∷ fs) gs r s (same, inl h) told sound = rw (same, h.1) (frame_sound pending (definitions_of r) f fs (advance f) (advance_lowers f) sound)
-moves_sound pending move (f ∷ fs) gs r s (same, inr h) told sound = absurd (let bad : true ≡ false = rw h at told in cc)
+moves_sound pending move [] gs r s h reported sound = rw h.0 (lone_sound (definitions_of s) pending)
+moves_sound pending move (f ∷ fs) gs r s (same, inl h) reported sound = rw (same, h.1) (frame_sound pending (definitions_of r) f fs (advance f) (advance_lowers f) sound)
+moves_sound pending move (f ∷ fs) gs r s (same, inr h) reported sound = absurd (let bad : true ≡ false = rw h at reported in cc)
 
-taken_told : (move : Step Token) (fs : List Layer) (r : Reader) → wants_memory (taken_as move fs r) ≡ false → wants_memory move ≡ false
-taken_told (Ok token) fs r h = refl
-taken_told (Err exit) fs r h = h
+taken_reported : (move : Step Token) (fs : List Layer) (r : Reader) → wants_memory (taken_as move fs r) ≡ false → wants_memory move ≡ false
+taken_reported (Ok token) fs r h = refl
+taken_reported (Err exit) fs r h = h
 
 pub step_sound : (pending : Option Name) (step : Step Token) (m n : Machine) (r s : Reader) → StepsTaking m r step n s → wants_memory step ≡ false → IsSoundWith pending m r → IsSoundWith pending n s
-step_sound pending step m n r s (held step1 m1 n1 r1 s1 is at same) told sound = rw (at, same) sound
-step_sound pending step m n r s (moved move step1 m1 n1 r1 s1 free moves is none) told sound = moves_sound pending move m.frames n.frames r s moves (taken_told move n.frames s (rw is at told)) sound
+step_sound pending step m n r s (held step1 m1 n1 r1 s1 is at same) reported sound = rw (at, same) sound
+step_sound pending step m n r s (moved move step1 m1 n1 r1 s1 free moves is none) reported sound = moves_sound pending move m.frames n.frames r s moves (taken_reported move n.frames s (rw is at reported)) sound
 
 pub next_sound : (pending : Option Name) (step : Step Token) (m n : Machine) (r s : Reader) → TakesNext m r step n s → wants_memory step ≡ false → IsSoundWith pending m r → IsSoundWith pending n s
-next_sound pending step m n r s (now step1 m1 n1 r1 s1 steps goes) told sound = step_sound pending step m n r s steps told sound
-next_sound pending step m n r s (later step1 m1 between n1 r1 s1 t1 steps next) told sound = next_sound pending step between n s1 s next told (step_sound pending (Err Continue) m between r s1 steps refl sound)
+next_sound pending step m n r s (now step1 m1 n1 r1 s1 steps goes) reported sound = step_sound pending step m n r s steps reported sound
+next_sound pending step m n r s (later step1 m1 between n1 r1 s1 t1 steps next) reported sound = next_sound pending step between n s1 s next reported (step_sound pending (Err Continue) m between r s1 steps refl sound)
 
 pub gather_sound : (pending : Option Name) (k : ℕ) (last : Location) (m n : Machine) (r s : Reader) (g : Result Gathered Fault) → GathersNext k last m r g n s → IsSoundWith pending m r → IsSoundWith pending n s
 gather_sound pending k last m n r s g (closed k1 last1 token m1 n1 r1 s1 g1 next out is) sound = next_sound pending (Ok token) m n r s next refl sound
@@ -113,7 +113,7 @@ gather_sound pending k last m n r s g (inside k1 l last1 token m1 between n1 r1 
     gather_sound pending l token.location between n s1 s rest more (next_sound pending (Ok token) m between r s1 next refl sound)
 gather_sound pending k last m n r s g (overfull k1 last1 token m1 n1 r1 s1 g1 next out is) sound = next_sound pending (Ok token) m n r s next refl sound
 gather_sound pending k last m n r s g (ended k1 last1 m1 n1 r1 s1 g1 next is) sound = next_sound pending (Err Finished) m n r s next refl sound
-gather_sound pending k last m n r s g (failed k1 last1 fault m1 n1 r1 s1 g1 next told is) sound = next_sound pending (Err (Error fault)) m n r s next told sound
+gather_sound pending k last m n r s g (failed k1 last1 fault m1 n1 r1 s1 g1 next reported is) sound = next_sound pending (Err (Error fault)) m n r s next reported sound
 
 -- a macro that opens where it may: it is open nowhere, and defined
 pub opened_sound : (definitions : List Defined) (x : Name) (names : List Name) → AreOpenSoundly definitions names → is_in x names ≡ false → IsSome (meaning_of definitions x) → AreOpenSoundly definitions (x ∷ names)

@@ -98,8 +98,8 @@ module _ (levels : ℕ) (definitions : List Defined) (hidden : List Name) (token
 
   -- a fault
   pub reached_fault : (fault : Fault) → TurnsTo m (of_list l) (Err (Error fault)) n (of_list k) → is_out_of_memory fault.0 ≡ false → Alone levels tokens (meaning_of definitions) hidden (Err fault)
-  reached_fault fault turns told =
-      let h = listed_leads false definitions hidden (answers_at levels) m n l k (Err (Error fault)) r.state r.stands turns told in
+  reached_fault fault turns reported =
+      let h = listed_leads false definitions hidden (answers_at levels) m n l k (Err (Error fault)) r.state r.stands turns reported in
       r.goes_on (Err fault) (failed fault r.state h.0 (Err fault) h.1 refl)
 
   pending : (c : PendingCall) → TurnsTo m (of_list l) (Ok (taken.Call c)) n (of_list k) → IsPending levels m (of_list l) c n (of_list k)

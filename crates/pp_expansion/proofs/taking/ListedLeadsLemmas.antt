@@ -49,10 +49,10 @@ module _ (is_line : Bool) (definitions : List Defined) (hidden : List Name) wher
       rw gives (y, (sym (ap first_listed tokens), refl), after old new x (token ∷ rest) tokens is names plain same at)
 
   pub list_simulates : (r s : Reader) (x : Listed) (step : Step Token) → IsListed r x → Reads r step s → wants_memory step ≡ false → ReadsTo (listed_reading is_line) IsListed hidden step x s
-  list_simulates (of_list old) (of_list new) x step listed (inl h) told = listed_simulates old.tokens old new x step refl listed h.0 h.1
-  list_simulates (of_list old) (of_list new) x step listed (inr h) told = absurd (let bad : true ≡ false = rw h at told in cc)
-  list_simulates (of_list old) (of_source new) x step listed h told = absurd h
-  list_simulates (of_source old) s x step listed h told = absurd listed
+  list_simulates (of_list old) (of_list new) x step listed (inl h) reported = listed_simulates old.tokens old new x step refl listed h.0 h.1
+  list_simulates (of_list old) (of_list new) x step listed (inr h) reported = absurd (let bad : true ≡ false = rw h at reported in cc)
+  list_simulates (of_list old) (of_source new) x step listed h reported = absurd h
+  list_simulates (of_source old) s x step listed h reported = absurd listed
 
   pub list_shows : (s : Reader) (y : Listed) (line : ℕ) → IsListed s y → (listed_reading is_line).shown_line y line ≡ shown_line s line
   list_shows (of_source source) y line h = absurd h
@@ -66,7 +66,7 @@ module _ (is_line : Bool) (definitions : List Defined) (hidden : List Name) wher
   StandsListed m l e = StandsIn (listed_reading is_line) IsListed hidden m (of_list l) e
 
   pub listed_leads : (A : Answers) (m n : Machine) (l k : Listing) (step : Step Taken) (e : Expander Listed) → StandsListed m l e → TurnsTo m (of_list l) step n (of_list k) → wants_taken step ≡ false → LeadsTo (listed_reading is_line) IsListed hidden list_simulates list_shows list_sees A step e n (of_list k)
-  listed_leads A m n l k step e stands turns told = turn_leads (listed_reading is_line) IsListed hidden list_simulates list_shows list_sees A m n (of_list l) (of_list k) step e stands turns told
+  listed_leads A m n l k step e stands turns reported = turn_leads (listed_reading is_line) IsListed hidden list_simulates list_shows list_sees A m n (of_list l) (of_list k) step e stands turns reported
 
   pub stands_listed : (n : Machine) (k : Listing) (f : Expander Listed) → StandsListed n k f → n.held ≡ None → IsListed (of_list k) f.reader
   stands_listed n k f stands free = subst (λ (o : Option (Step Token)). StandsHeld (listed_reading is_line) IsListed hidden o (of_list k) f.reader) free stands.reader
@@ -92,5 +92,5 @@ module _ (is_line : Bool) (definitions : List Defined) (hidden : List Name) wher
 
 -- a turn that was not refused memory
 pub turned : (m n : Machine) (r s : Reader) (step : Step Taken) → TurnsOrRefuses m r step n s → wants_taken step ≡ false → TurnsTo m r step n s
-turned m n r s step (inl h) told = h
-turned m n r s step (inr h) told = absurd (let bad : true ≡ false = rw h.fault at told in cc)
+turned m n r s step (inl h) reported = h
+turned m n r s step (inr h) reported = absurd (let bad : true ≡ false = rw h.fault at reported in cc)

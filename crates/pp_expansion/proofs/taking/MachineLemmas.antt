@@ -96,7 +96,7 @@ Gathering paren m r tokens k last n s = (rest : Result Gathered Fault) (p : Mach
 
 module _ (paren : Location) (m : Machine) (r : Reader) (tokens : List Token) (k : ℕ) (last : Location) (n : Machine) (s : Reader) (so_far : Gathering paren m r tokens k last n s) (p : Machine) (t : Reader) where
   pub gathers_fault : (fault : Fault) → TakesNext n s (Err (Error fault)) p t → is_out_of_memory fault.0 ≡ false → GathersNext 0 paren m r (Err fault) p t
-  gathers_fault fault next told = so_far (Err fault) p t (failed k last fault n p s t (Err fault) next told refl)
+  gathers_fault fault next reported = so_far (Err fault) p t (failed k last fault n p s t (Err fault) next reported refl)
 
   pub gathers_end : TakesNext n s (Err Finished) p t → GathersNext 0 paren m r (Err (UnexpectedEndOfInput, last)) p t
   gathers_end next = so_far (Err (UnexpectedEndOfInput, last)) p t (ended k last n p s t (Err (UnexpectedEndOfInput, last)) next refl)

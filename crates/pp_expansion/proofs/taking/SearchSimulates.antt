@@ -116,26 +116,26 @@ module _ {R : Type 0} (I : Reading R) (StandsR : Reader → R → Type 0) (hidde
         let empty : after_marks e.list ≡ [] = ap after_marks stands.list ∙ ap (λ fs. after_marks (flat fs)) start in
         (record e { list = []; reader = y }, taking.read (outcome.Fault fault) (outcome.Fault fault) y e (record e { list = []; reader = y }) none empty reads refl refl, stands.names, stands.names, sym (ap flat end), none, freed)
 
-    taken_told : (move : Step Token) (fs : List Layer) (r : Reader) → wants_memory (taken_as move fs r) ≡ false → wants_memory move ≡ false
-    taken_told (Ok token) fs r h = refl
-    taken_told (Err exit) fs r h = h
+    taken_reported : (move : Step Token) (fs : List Layer) (r : Reader) → wants_memory (taken_as move fs r) ≡ false → wants_memory move ≡ false
+    taken_reported (Ok token) fs r h = refl
+    taken_reported (Err exit) fs r h = h
 
     moved_simulates : (frames : List Layer) (m n : Machine) (r s : Reader) (move : Step Token) (e : Expander R) → StandsIn m r e → m.held ≡ None → n.held ≡ None → m.frames ≡ frames → StandsR r e.reader → Moves frames r move n.frames s → wants_memory move ≡ false → StepsTo (taken_as move n.frames s) e n s
-    moved_simulates [] m n r s move e stands free freed start reader moves told = read_steps m n r s move e stands free freed start moves.0 (simulates r s e.reader move reader moves.1 told)
-    moved_simulates (f ∷ fs) m n r s move e stands free freed start reader (same, inr refused) told = absurd (let bad : true ≡ false = rw refused at told in cc)
-    moved_simulates (f ∷ fs) m n r s move e stands free freed start reader (same, inl (is, becomes)) told =
+    moved_simulates [] m n r s move e stands free freed start reader moves reported = read_steps m n r s move e stands free freed start moves.0 (simulates r s e.reader move reader moves.1 reported)
+    moved_simulates (f ∷ fs) m n r s move e stands free freed start reader (same, inr refused) reported = absurd (let bad : true ≡ false = rw refused at reported in cc)
+    moved_simulates (f ∷ fs) m n r s move e stands free freed start reader (same, inl (is, becomes)) reported =
         let steps : StepsList move (flat m.frames) (flat n.frames) = rw (start, is, becomes) (frame_steps f fs) in
         rw same (list_steps m n r move e stands free freed reader steps)
 
     pub step_simulates : (m n : Machine) (r s : Reader) (step : Step Token) (e : Expander R) → StandsIn m r e → StepsTaking m r step n s → wants_memory step ≡ false → StepsTo step e n s
-    step_simulates m n r s step e stands (held step1 m1 n1 r1 s1 is at same) told =
+    step_simulates m n r s step e stands (held step1 m1 n1 r1 s1 is at same) reported =
         let reader : StandsHeld (Some step) r e.reader = subst (λ (o : Option (Step Token)). StandsHeld o r e.reader) is stands.reader in
         let e_holds : e.held ≡ Some (outcome_of_step step) = stands.holds ∙ ap (option_map outcome_of_step) is in
         let frames : n.frames ≡ m.frames = ap (λ (k : Machine). k.frames) at in
         held_steps step n s e e_holds (stands.list ∙ sym (ap flat frames)) (rw same reader) stands.names (ap (λ (k : Machine). k.held) at)
-    step_simulates m n r s step e stands (moved move step1 m1 n1 r1 s1 free moves is freed) told =
+    step_simulates m n r s step e stands (moved move step1 m1 n1 r1 s1 free moves is freed) reported =
         let reader : StandsR r e.reader = rw free at stands.reader in
-        rw is (moved_simulates m.frames m n r s move e stands free freed refl reader moves (taken_told move n.frames s (rw is at told)))
+        rw is (moved_simulates m.frames m n r s move e stands free freed refl reader moves (taken_reported move n.frames s (rw is at reported)))
 
     -- what is taken next is taken by the definitions
     abbrev pub NextTo : Step Token → Expander R → Machine → Reader → Type 0
@@ -153,10 +153,10 @@ module _ {R : Type 0} (I : Reading R) (StandsR : Reader → R → Type 0) (hidde
     step_frees m n r s step (moved move step1 m1 n1 r1 s1 free moves is freed) = freed
 
     pub next_simulates : (m n : Machine) (r s : Reader) (step : Step Token) (e : Expander R) → StandsIn m r e → TakesNext m r step n s → wants_memory step ≡ false → NextTo step e n s
-    next_simulates m n r s step e stands (now step1 m1 n1 r1 s1 steps goes) told = held_back step e n s goes (step_frees m n r s step steps) (step_simulates m n r s step e stands steps told)
-    next_simulates m n r s step e stands (later step1 m1 between n1 r1 s1 t1 steps next) told =
+    next_simulates m n r s step e stands (now step1 m1 n1 r1 s1 steps goes) reported = held_back step e n s goes (step_frees m n r s step steps) (step_simulates m n r s step e stands steps reported)
+    next_simulates m n r s step e stands (later step1 m1 between n1 r1 s1 t1 steps next) reported =
         let first = step_simulates m between r s1 (Err Continue) e stands steps refl in
-        let freed = next_simulates between n s1 s step first.0 first.1 next told in
+        let freed = next_simulates between n s1 s step first.0 first.1 next reported in
         (freed.0, first.2 (outcome_of_step step) freed.0 freed.1, freed.2, freed.3)
 
     next_frees : (m n : Machine) (r s : Reader) (step : Step Token) → TakesNext m r step n s → n.held ≡ None
@@ -192,6 +192,6 @@ module _ {R : Type 0} (I : Reading R) (StandsR : Reader → R → Type 0) (hidde
     gather_simulates k last m n r s g e stands (ended k1 last1 m1 n1 r1 s1 g1 next is) =
         let h = next_simulates m n r s (Err Finished) e stands next refl in
         rw is (h.0, calls.ended k last e h.0 (Err (UnexpectedEndOfInput, last)) h.1 refl)
-    gather_simulates k last m n r s g e stands (failed k1 last1 fault m1 n1 r1 s1 g1 next told is) =
-        let h = next_simulates m n r s (Err (Error fault)) e stands next told in
+    gather_simulates k last m n r s g e stands (failed k1 last1 fault m1 n1 r1 s1 g1 next reported is) =
+        let h = next_simulates m n r s (Err (Error fault)) e stands next reported in
         rw is (h.0, calls.failed k last fault e h.0 (Err fault) h.1 refl)

@@ -31,7 +31,7 @@ use Rattle.pp_expansion.specs.declared.halt.Halt.{Halt}
 use Rattle.pp_expansion.specs.declared.halt.Halt.TheVariants as halt
 
 pub finds_nothing : (m n p : Machine) (r s : Reader) (next : Step Token) → TakesNext m r next n s → is_refusal next ≡ false → paren_of next ≡ None → p ≡ record n { held = Some next } → FindsNothing m r p s
-finds_nothing m n p r s next takes told none is = record { next = next; before = n; seeks = alone next m n r s (no_call next) takes none told refl; holds = is }
+finds_nothing m n p r s next takes reported none is = record { next = next; before = n; seeks = alone next m n r s (no_call next) takes none reported refl; holds = is }
 
 pub finds_whole : (m n p : Machine) (r s t : Reader) (next : Step Token) (paren : Location) (g : Gathered) → TakesNext m r next n s → paren_of next ≡ Some paren → GathersNext 0 paren n s (Ok g) p t → Seeks m r (gathered paren g) p t
 finds_whole m n p r s t next paren g takes at gathers = called next paren m n p r s t (Ok g) (gathered paren g) takes at gathers refl

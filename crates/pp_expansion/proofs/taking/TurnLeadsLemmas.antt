@@ -85,14 +85,14 @@ module _ {R : Type 0} (I : Reading R) (StandsR : Reader → R → Type 0) (hidde
       (h.0, h.1, h.2, subst (λ (o : Option (Step Token)). StandsHeld I StandsR hidden o s h.0.reader) (step_frees I StandsR hidden simulates shows m n r s (Ok token) steps) h.2.reader)
 
   exit_leads : (exit : StepExit) (m n : Machine) (r s : Reader) (e : Expander R) → StandsIn I StandsR hidden m r e → StepsTaking m r (Err exit) n s → wants_memory (Err exit) ≡ false → LeadsTo (Err exit) e n s
-  exit_leads Continue m n r s e stands steps told =
+  exit_leads Continue m n r s e stands steps reported =
       let h = step_simulates I StandsR hidden simulates shows m n r s (Err Continue) e stands steps refl in
       (h.0, h.1, pause_emits I A e h.0 h.2)
-  exit_leads Finished m n r s e stands steps told =
+  exit_leads Finished m n r s e stands steps reported =
       let h = step_simulates I StandsR hidden simulates shows m n r s (Err Finished) e stands steps refl in
       (h.0, emitting.itself outcome.End e h.0 h.1 refl, h.2)
-  exit_leads (Error fault) m n r s e stands steps told =
-      let h = step_simulates I StandsR hidden simulates shows m n r s (Err (Error fault)) e stands steps told in
+  exit_leads (Error fault) m n r s e stands steps reported =
+      let h = step_simulates I StandsR hidden simulates shows m n r s (Err (Error fault)) e stands steps reported in
       (h.0, emitting.itself (outcome.Fault fault) e h.0 h.1 refl)
 
   no_paren : (next : Step Token) → paren_of next ≡ None → paren_at (outcome_of_step next) ≡ None
@@ -130,9 +130,9 @@ module _ {R : Type 0} (I : Reading R) (StandsR : Reader → R → Type 0) (hidde
   -- what is sought after a name
   seek_leads : (token : Token) (name : Name) (definition : Definition) (c : Sought) (step : Step Taken) (n p q : Machine) (s t : Reader) (e f : Expander R) → Takes I e (outcome.Token token) f → StandsIn I StandsR hidden n s f
       → opening I f (outcome.Token token) ≡ Some (record { token = token; name = name; definition = definition }) → definition.function_like ≡ true → Seeks n s c p t → Finds token name definition c step p q → LeadsTo step e q t
-  seek_leads token name definition c step n p q s t e f takes stands opens function (alone next n1 p1 s1 t1 c1 taken_next none told is) found =
+  seek_leads token name definition c step n p q s t e f takes stands opens function (alone next n1 p1 s1 t1 c1 taken_next none reported is) found =
       let m : Opening = record { token = token; name = name; definition = definition } in
-      let h = next_simulates I StandsR hidden simulates shows n p s t next f stands taken_next (not_refused next told) in
+      let h = next_simulates I StandsR hidden simulates shows n p s t next f stands taken_next (not_refused next reported) in
       let found' : Finds token name definition (no_call next) step p q = subst (λ (x : Sought). Finds token name definition x step p q) is found in
       rw (found'.0, found'.1) (holding (outcome_of_step next) h.0, emitting.name_alone (outcome.Token token) (outcome_of_step next) (outcome.Token token) m e f h.0 (holding (outcome_of_step next) h.0) takes opens function (calls.alone (outcome_of_step next) f h.0 (calls.no_call (outcome_of_step next)) h.1 (no_paren next none) refl) refl refl, h.2)
   seek_leads token name definition c step n p q s t e f takes stands opens function (called next paren n1 between p1 s1 u t1 g c1 taken_next at gathers is) found =
@@ -153,20 +153,20 @@ module _ {R : Type 0} (I : Reading R) (StandsR : Reader → R → Type 0) (hidde
   as_opens : (n : Machine) (s : Reader) (f : Expander R) (token : Token) (m : Option (Name × Definition)) → StandsIn I StandsR hidden n s f → StandsR s f.reader → opens n.frames s token ≡ m → opening I f (outcome.Token token) ≡ as_opening token m
   as_opens n s f token m stands reader is = opens_same n s f token stands.list stands.names reader ∙ ap (as_opening token) is
 
-  exit_told : (exit : StepExit) → wants_taken (Err exit) ≡ false → wants_memory (Err exit) ≡ false
-  exit_told (Error fault) h = h
-  exit_told Continue h = refl
-  exit_told Finished h = refl
+  exit_reported : (exit : StepExit) → wants_taken (Err exit) ≡ false → wants_memory (Err exit) ≡ false
+  exit_reported (Error fault) h = h
+  exit_reported Continue h = refl
+  exit_reported Finished h = refl
 
   -- One turn: a token, a fault or the end is the next item, a pause keeps it, and a call goes on by its answer.
   pub turn_leads : (m n : Machine) (r s : Reader) (step : Step Taken) (e : Expander R) → StandsIn I StandsR hidden m r e → TurnsTo m r step n s → wants_taken step ≡ false → LeadsTo step e n s
-  turn_leads m n r s step e stands (passes exit step1 m1 n1 r1 s1 steps is) told = rw is (exit_leads exit m n r s e stands steps (exit_told exit (rw is at told)))
-  turn_leads m n r s step e stands (gives token step1 m1 n1 r1 s1 steps none is) told =
+  turn_leads m n r s step e stands (passes exit step1 m1 n1 r1 s1 steps is) reported = rw is (exit_leads exit m n r s e stands steps (exit_reported exit (rw is at reported)))
+  turn_leads m n r s step e stands (gives token step1 m1 n1 r1 s1 steps none is) reported =
       let h = token_stands m n r s token e stands steps in
       rw is (h.0, emitting.itself (outcome.Token token) e h.0 h.1 (as_opens n s h.0 token None h.2 h.3 none), h.2)
-  turn_leads m p r s step e stands (object token name definition step1 m1 n p1 r1 s1 steps some plain is at) told =
+  turn_leads m p r s step e stands (object token name definition step1 m1 n p1 r1 s1 steps some plain is at) reported =
       let h = token_stands m n r s token e stands steps in
       rw is (object_leads token name definition n p s e h.0 h.1 h.2 (step_frees I StandsR hidden simulates shows m n r s (Ok token) steps) (as_opens n s h.0 token (Some (name, definition)) h.2 h.3 some) plain at)
-  turn_leads m q r t step e stands (seeks token name definition c step1 m1 n p q1 r1 s t1 steps some function sought found) told =
+  turn_leads m q r t step e stands (seeks token name definition c step1 m1 n p q1 r1 s t1 steps some function sought found) reported =
       let h = token_stands m n r s token e stands steps in
       seek_leads token name definition c step n p q s t e h.0 h.1 h.2 (as_opens n s h.0 token (Some (name, definition)) h.2 h.3 some) function sought found

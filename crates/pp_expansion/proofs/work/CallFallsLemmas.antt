@@ -104,13 +104,13 @@ module _ (levels : ℕ) (m : Machine) (r : Reader) (sound : IsSound m r) where
   less_by n s tight falls kept = record { falls = falls_work levels m n r s tight falls; tight = tight; sound = kept }
 
   exit_falls : (exit : StepExit) (n : Machine) (s : Reader) → StepsTaking m r (Err exit) n s → wants_memory (Err exit) ≡ false → FallsBy levels m r (Err exit) n s
-  exit_falls Continue n s steps told =
+  exit_falls Continue n s steps reported =
       let h = step_spends (frame_of levels r) (most_open r) rises (Err Continue) m n r s steps refl in
       less_by n s h.tightens h.spends (step_sound None (Err Continue) m n r s steps refl sound)
-  exit_falls Finished n s steps told = step_sound None (Err Finished) m n r s steps refl sound
-  exit_falls (Error fault) n s steps told =
-      let h = step_spends (frame_of levels r) (most_open r) rises (Err (Error fault)) m n r s steps told in
-      less_by n s h.tightens (no_more_falls (frame_of levels r) (most_open r) rises (regions m r) (one_more (regions n s)) (regions n s) h.spends (one_more_falls (frame_of levels r) (most_open r) rises (regions n s))) (step_sound None (Err (Error fault)) m n r s steps told sound)
+  exit_falls Finished n s steps reported = step_sound None (Err Finished) m n r s steps refl sound
+  exit_falls (Error fault) n s steps reported =
+      let h = step_spends (frame_of levels r) (most_open r) rises (Err (Error fault)) m n r s steps reported in
+      less_by n s h.tightens (no_more_falls (frame_of levels r) (most_open r) rises (regions m r) (one_more (regions n s)) (regions n s) h.spends (one_more_falls (frame_of levels r) (most_open r) rises (regions n s))) (step_sound None (Err (Error fault)) m n r s steps reported sound)
 
   -- a token that is taken, with what may be done with it
   record IsTokenTaken (n : Machine) (s : Reader) : Type 0 where
@@ -140,8 +140,8 @@ module _ (levels : ℕ) (m : Machine) (r : Reader) (sound : IsSound m r) where
 
   -- what is sought after a name
   seek_falls : (token : Token) (name : Name) (definition : Definition) (c : Sought) (step : Step Taken) (n p q : Machine) (s t : Reader) → IsTokenTaken n s → IsFound n s (name, definition) → Seeks n s c p t → Finds token name definition c step p q → FallsBy levels m r step q t
-  seek_falls token name definition c step n p q s t h found (alone next n1 p1 s1 t1 c1 taken_next none told is) finds =
-      let quiet : wants_memory next ≡ false = not_refused next told in
+  seek_falls token name definition c step n p q s t h found (alone next n1 p1 s1 t1 c1 taken_next none reported is) finds =
+      let quiet : wants_memory next ≡ false = not_refused next reported in
       let k = next_spends (frame_of levels r) (most_open r) rises next n p s t taken_next quiet in
       let found' : Finds token name definition (no_call next) step p q = subst (λ (x : Sought). Finds token name definition x step p q) is finds in
       let kept : IsSound p t = next_sound None next n p s t taken_next quiet h.kept in
@@ -182,20 +182,20 @@ module _ (levels : ℕ) (m : Machine) (r : Reader) (sound : IsSound m r) where
             sound = gather_sound (Some name) 0 paren between p u t (Ok g) gathers (next_sound (Some name) next n between s u taken_next (first next at) (found_sound n s name definition found h.kept));
           })
 
-  exit_told : (exit : StepExit) → wants_taken (Err exit) ≡ false → wants_memory (Err exit) ≡ false
-  exit_told (Error fault) h = h
-  exit_told Continue h = refl
-  exit_told Finished h = refl
+  exit_reported : (exit : StepExit) → wants_taken (Err exit) ≡ false → wants_memory (Err exit) ≡ false
+  exit_reported (Error fault) h = h
+  exit_reported Continue h = refl
+  exit_reported Finished h = refl
 
   -- each turn lowers what is left; after a call there is room for its frame
   pub turn_falls : (step : Step Taken) (n : Machine) (s : Reader) → TurnsTo m r step n s → wants_taken step ≡ false → FallsBy levels m r step n s
-  turn_falls step n s (passes exit step1 m1 n1 r1 s1 steps is) told = rw is (exit_falls exit n s steps (exit_told exit (rw is at told)))
-  turn_falls step n s (gives token step1 m1 n1 r1 s1 steps none is) told =
+  turn_falls step n s (passes exit step1 m1 n1 r1 s1 steps is) reported = rw is (exit_falls exit n s steps (exit_reported exit (rw is at reported)))
+  turn_falls step n s (gives token step1 m1 n1 r1 s1 steps none is) reported =
       let h = token_taken token n s steps in
       rw is (less_by n s h.tight (token_falls n s h) h.kept)
-  turn_falls step p s (object token name definition step1 m1 n p1 r1 s1 steps some plain is at) told =
+  turn_falls step p s (object token name definition step1 m1 n p1 r1 s1 steps some plain is at) reported =
       rw (is, at) (object_falls name token.location.line definition n s (token_taken token n s steps) (opens_found n s token name definition some))
-  turn_falls step q t (seeks token name definition c step1 m1 n p q1 r1 s t1 steps some function sought found) told =
+  turn_falls step q t (seeks token name definition c step1 m1 n p q1 r1 s t1 steps some function sought found) reported =
       seek_falls token name definition c step n p q s t (token_taken token n s steps) (opens_found n s token name definition some) sought found
 
 -- the frame of a call that is pending opens, and less is left than before the turn that began the call

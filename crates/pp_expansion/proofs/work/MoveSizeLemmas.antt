@@ -28,13 +28,13 @@ effect_adds (parts_if block word tokens) = 1
 effect_adds _ = 0
 
 -- whether it reports, at the end, a block that is open
-abbrev pub tells_block : Effect → Bool
-tells_block (unfinished word) = true
-tells_block _ = false
+abbrev pub reports_block : Effect → Bool
+reports_block (unfinished word) = true
+reports_block _ = false
 
 -- an effect of a directive, which takes its number sign and its word and so many items more
 pub record IsSmall (effect : Effect) (taken : ℕ) : Type 0 where
-  pub untold : tells_block effect ≡ false
+  pub unreported : reports_block effect ≡ false
   pub adds : effect_adds effect ≤ 1 + taken
 
 pub record IsWithin (move : Move) (count : ℕ) : Type 0 where
@@ -42,7 +42,7 @@ pub record IsWithin (move : Move) (count : ℕ) : Type 0 where
   pub taken : move.taken ≤ count
 
 failing_within : (fault : Fault) (count : ℕ) → IsWithin (failing fault) count
-failing_within fault count = record { small = record { untold = refl; adds = omega arith }; taken = omega arith }
+failing_within fault count = record { small = record { unreported = refl; adds = omega arith }; taken = omega arith }
 
 module _ (word : Location) (after : List Seen) where
   line_within : {A : Type 0} (r : Result A Fault) (effect : A → Effect) → ((value : A) → r ≡ Ok value → IsSmall (effect value) (line_length after)) → IsWithin (line_move r effect (line_length after)) (length after)
@@ -59,15 +59,15 @@ module _ (word : Location) (after : List Seen) where
   define_small : (named : Named) → defined_on word after ≡ Ok named → IsSmall (defines named) (line_length after)
   define_small named e =
       let low : length named.definition.body ≤ line_length after = subst (λ (r : Result Named Fault). IfOk r (λ n. length n.definition.body ≤ line_length after)) e (defined_least word after) in
-      record { untold = refl; adds = omega (arith, low) }
+      record { unreported = refl; adds = omega (arith, low) }
 
   else_small : (block : Option OpenBlock) → IsSmall (else_effect block word) (line_length after)
-  else_small None = record { untold = refl; adds = omega arith }
+  else_small None = record { unreported = refl; adds = omega arith }
   else_small (Some block) = go block.with_else
     where
       go : (b : Bool) → IsSmall (if b then fails (MoreThanOneElse, word) else parts (block_parted block)) (line_length after)
-      go true = record { untold = refl; adds = omega arith }
-      go false = record { untold = refl; adds = omega arith }
+      go true = record { unreported = refl; adds = omega arith }
+      go false = record { unreported = refl; adds = omega arith }
 
   else_within : (block : Option OpenBlock) → IsWithin (else_move block word after) (length after)
   else_within block = line_within (ended_line word after) (λ end. else_effect block word) (λ value e. else_small block)
@@ -78,34 +78,34 @@ module _ (word : Location) (after : List Seen) where
     where
       go : (b c : Bool) → IsWithin (if b then failing (ElifAfterElse, word) else if c then skip_move (parts (block_skipped block)) after else line_move (line_tokens after) (parts_if block word) (line_length after)) (length after)
       go true c = failing_within _ (length after)
-      go false true = skip_within (parts (block_skipped block)) (record { untold = refl; adds = omega arith })
-      go false false = line_within (line_tokens after) (parts_if block word) (λ value is. record { untold = refl; adds = omega arith })
+      go false true = skip_within (parts (block_skipped block)) (record { unreported = refl; adds = omega arith })
+      go false false = line_within (line_tokens after) (parts_if block word) (λ value is. record { unreported = refl; adds = omega arith })
 
   endif_within : (block : Option OpenBlock) → IsWithin (endif_move block word after) (length after)
   endif_within None = failing_within _ (length after)
   endif_within (Some block) = go block.live_around
     where
       small : IsSmall closes (line_length after)
-      small = record { untold = refl; adds = omega arith }
+      small = record { unreported = refl; adds = omega arith }
 
       go : (b : Bool) → IsWithin (if b then line_move (ended_line word after) (λ end. closes) (line_length after) else skip_move closes after) (length after)
       go true = line_within (ended_line word after) (λ end. closes) (λ value e. small)
       go false = skip_within closes small
 
   item_within : (item : List Entry → DirectiveItem) → IsWithin (item_move item word after) (length after)
-  item_within item = line_within (line_entries after) (λ tokens. gives_item (item tokens) word) (λ value is. record { untold = refl; adds = omega arith })
+  item_within item = line_within (line_entries after) (λ tokens. gives_item (item tokens) word) (λ value is. record { unreported = refl; adds = omega arith })
 
   module _ (block : Option OpenBlock) where
     live_within : (directive : Directive) → IsWithin (live_move block directive word after) (length after)
     live_within d.Define = line_within (defined_on word after) defines define_small
-    live_within d.Undef = line_within (only_name word after) undefines (λ value is. record { untold = refl; adds = omega arith })
-    live_within d.If = line_within (line_tokens after) (opens_if word) (λ value is. record { untold = refl; adds = omega arith })
-    live_within d.Ifdef = line_within (only_name word after) (opens_where true word) (λ value is. record { untold = refl; adds = omega arith })
-    live_within d.Ifndef = line_within (only_name word after) (opens_where false word) (λ value is. record { untold = refl; adds = omega arith })
+    live_within d.Undef = line_within (only_name word after) undefines (λ value is. record { unreported = refl; adds = omega arith })
+    live_within d.If = line_within (line_tokens after) (opens_if word) (λ value is. record { unreported = refl; adds = omega arith })
+    live_within d.Ifdef = line_within (only_name word after) (opens_where true word) (λ value is. record { unreported = refl; adds = omega arith })
+    live_within d.Ifndef = line_within (only_name word after) (opens_where false word) (λ value is. record { unreported = refl; adds = omega arith })
     live_within d.Elif = elif_within block
     live_within d.Else = else_within block
     live_within d.Endif = endif_within block
-    live_within d.Line = line_within (line_tokens after) (renumbers word) (λ value is. record { untold = refl; adds = omega arith })
+    live_within d.Line = line_within (line_tokens after) (renumbers word) (λ value is. record { unreported = refl; adds = omega arith })
     live_within d.Version = item_within (λ tokens. version tokens (comments_before_end after))
     live_within d.Extension = item_within extension
     live_within d.Pragma = item_within pragma
@@ -113,7 +113,7 @@ module _ (word : Location) (after : List Seen) where
     live_within d.Unknown = failing_within _ (length after)
 
     unread_within : IsWithin (skip_move (opens_unread word) after) (length after)
-    unread_within = skip_within (opens_unread word) (record { untold = refl; adds = omega arith })
+    unread_within = skip_within (opens_unread word) (record { unreported = refl; adds = omega arith })
 
     dead_within : (directive : Directive) → IsWithin (dead_move block directive word after) (length after)
     dead_within d.If = unread_within
@@ -122,8 +122,8 @@ module _ (word : Location) (after : List Seen) where
     dead_within d.Elif = elif_within block
     dead_within d.Else = else_within block
     dead_within d.Endif = endif_within block
-    dead_within d.Unknown = record { small = record { untold = refl; adds = omega arith }; taken = omega arith }
-    dead_within _ = skip_within passes (record { untold = refl; adds = omega arith })
+    dead_within d.Unknown = record { small = record { unreported = refl; adds = omega arith }; taken = omega arith }
+    dead_within _ = skip_within passes (record { unreported = refl; adds = omega arith })
 
     pub directive_within : (live : Bool) (directive : Directive) → IsWithin (directive_move live block directive word after) (length after)
     directive_within true directive = live_within directive

@@ -11,7 +11,7 @@ use Rattle.pp_expansion.specs.inner.OpenBlocks.{last_block, is_live_in}
 use Rattle.pp_expansion.specs.declared.blocks.OpenBlock.{OpenBlock}
 use Rattle.pp_expansion.specs.inner.SourceMoves.{Effect, fails, ends, unnoted, Move, directive_move, taking_more, end_effect, live_move_at, dead_move_at, move_at, move_of}
 use Rattle.pp_expansion.proofs.work.DirectiveLineLemmas.{begins_directive}
-use Rattle.pp_expansion.proofs.work.MoveSizeLemmas.{effect_adds, tells_block, IsWithin, directive_within}
+use Rattle.pp_expansion.proofs.work.MoveSizeLemmas.{effect_adds, reports_block, IsWithin, directive_within}
 
 -- an effect after which nothing failed, and which is not the end
 abbrev pub moves_on : Effect → Bool
@@ -21,7 +21,7 @@ moves_on _ = true
 
 -- so many items, open blocks and tokens that were defined are there after a move at most
 abbrev pub left_after : Move → ℕ → ℕ → ℕ
-left_after move items blocks = if tells_block move.effect then items + (blocks - 1) else items - move.taken + blocks + effect_adds move.effect
+left_after move items blocks = if reports_block move.effect then items + (blocks - 1) else items - move.taken + blocks + effect_adds move.effect
 
 -- what is taken is more than is added
 abbrev pub Shortens : Move → ℕ → ℕ → Type 0
@@ -34,7 +34,7 @@ two_items rest directive word e =
 
 module _ (blocks : List OpenBlock) (rest : List Seen) where
   within_shortens : (move : Move) → IsWithin move (length (drop 2 rest)) → 2 ≤ length rest → left_after (taking_more 2 move) (length rest) (length blocks) < length rest + length blocks
-  within_shortens move within two = rw within.small.untold (omega (arith, within.small.adds, within.taken, length-drop 2 rest))
+  within_shortens move within two = rw within.small.unreported (omega (arith, within.small.adds, within.taken, length-drop 2 rest))
 
   directive_shortens : (live : Bool) (directive : Directive) (word : Location) → sight_of rest ≡ sight.Directive directive word → Shortens (move_at live (last_block blocks) (sight.Directive directive word) rest) (length rest) (length blocks)
   directive_shortens true directive word is e = within_shortens (directive_move true (last_block blocks) directive word (drop 2 rest)) (directive_within word (drop 2 rest) (last_block blocks) true directive) (two_items rest directive word is)

@@ -99,10 +99,10 @@ pub record IsRead (step : Step Token) (r s : Reader) : Type 0 where
   pub tightens : Tightens r s
 
 source_read : (step : Step Token) (old new : Source) → StepsSource old step new → wants_memory step ≡ false → IsRead step (of_source old) (of_source new)
-source_read (Ok token) old new h told = let k = source_shrinks old new (Ok token) h refl in record { spends = k.shorter; tightens = shrinks_tightens old new k }
-source_read (Err Continue) old new h told = let k = source_shrinks old new (Err Continue) h refl in record { spends = k.shorter; tightens = shrinks_tightens old new k }
-source_read (Err Finished) old new h told = rw (source_end_stays old new h) (record { spends = refl; tightens = tightens_not (of_source old) })
-source_read (Err (Error fault)) old new h told = let k = source_shrinks old new (Err (Error fault)) h (rw told refl) in record { spends = k.shorter; tightens = shrinks_tightens old new k }
+source_read (Ok token) old new h reported = let k = source_shrinks old new (Ok token) h refl in record { spends = k.shorter; tightens = shrinks_tightens old new k }
+source_read (Err Continue) old new h reported = let k = source_shrinks old new (Err Continue) h refl in record { spends = k.shorter; tightens = shrinks_tightens old new k }
+source_read (Err Finished) old new h reported = rw (source_end_stays old new h) (record { spends = refl; tightens = tightens_not (of_source old) })
+source_read (Err (Error fault)) old new h reported = let k = source_shrinks old new (Err (Error fault)) h (rw reported refl) in record { spends = k.shorter; tightens = shrinks_tightens old new k }
 
 list_read : (tokens : List Token) (step : Step Token) (old new : Listing) → old.tokens ≡ tokens → step ≡ listed_step tokens → new ≡ record old { tokens = after_listed tokens } → IsRead step (of_list old) (of_list new)
 list_read [] step old new e is at =
@@ -114,11 +114,11 @@ list_read (token ∷ tokens) step old new e is at =
     rw is (record { spends = less; tightens = record { names = omega (arith, ap length same); bodies = omega (arith, ap body_tokens same) } })
 
 pub reader_read : (step : Step Token) (r s : Reader) → Reads r step s → wants_memory step ≡ false → IsRead step r s
-reader_read step (of_source old) (of_source new) h told = source_read step old new h.0 told
-reader_read step (of_list old) (of_list new) (inl h) told = list_read old.tokens step old new refl h.0 h.1
-reader_read step (of_list old) (of_list new) (inr h) told = absurd (let bad : true ≡ false = rw h at told in cc)
-reader_read step (of_source old) (of_list new) h told = absurd h
-reader_read step (of_list old) (of_source new) h told = absurd h
+reader_read step (of_source old) (of_source new) h reported = source_read step old new h.0 reported
+reader_read step (of_list old) (of_list new) (inl h) reported = list_read old.tokens step old new refl h.0 h.1
+reader_read step (of_list old) (of_list new) (inr h) reported = absurd (let bad : true ≡ false = rw h at reported in cc)
+reader_read step (of_source old) (of_list new) h reported = absurd h
+reader_read step (of_list old) (of_source new) h reported = absurd h
 
 module _ (frame : ℕ → ℕ) (names : ℕ) (level : IsLevel frame) where
   pub one_more_falls : (regions : List ℕ) → Falls frame names (one_more regions) regions
@@ -190,12 +190,12 @@ module _ (frame : ℕ → ℕ) (names : ℕ) (level : IsLevel frame) where
     tightens : Tightens r s
 
   moves_spend : (move : Step Token) (fs gs : List Layer) (r s : Reader) → Moves fs r move gs s → wants_memory move ≡ false → IsMoved move fs gs r s
-  moves_spend move [] gs r s h told =
-      let read = reader_read move r s h.1 told in
+  moves_spend move [] gs r s h reported =
+      let read = reader_read move r s h.1 reported in
       rw h.0 (record { spends = read_spends move r s read.spends; tightens = read.tightens })
-  moves_spend move (f ∷ fs) gs r s (same, inl h) told =
+  moves_spend move (f ∷ fs) gs r s (same, inl h) reported =
       rw (same, h.0, h.1) (record { spends = frame_spends f fs (reads_left r) (advance f) (advance_lowers f); tightens = tightens_not r })
-  moves_spend move (f ∷ fs) gs r s (same, inr h) told = absurd (let bad : true ≡ false = rw h at told in cc)
+  moves_spend move (f ∷ fs) gs r s (same, inr h) reported = absurd (let bad : true ≡ false = rw h at reported in cc)
 
   taken_spends : (move : Step Token) (fs : List Layer) (r : Reader) (before after : List ℕ) → Spends frame names move before after → Spends frame names (taken_as move fs r) before after
   taken_spends (Ok token) fs r before after h = go (is_identifier line_name token.value) (shown_line r (unwrap_or (outermost_frame_line fs) token.location.line))
@@ -218,10 +218,10 @@ module _ (frame : ℕ → ℕ) (names : ℕ) (level : IsLevel frame) where
     pub free : n.held ≡ None
 
   pub step_spends : (step : Step Token) (m n : Machine) (r s : Reader) → StepsTaking m r step n s → wants_memory step ≡ false → IsTaken step m n r s
-  step_spends step m n r s (held step1 m1 n1 r1 s1 is at same) told =
+  step_spends step m n r s (held step1 m1 n1 r1 s1 is at same) reported =
       rw (is, at, same) (record { spends = held_spends step (regions_of m.frames (reads_left r)); tightens = tightens_not r; free = refl })
-  step_spends step m n r s (moved move step1 m1 n1 r1 s1 free moves is none) told =
-      let quiet : wants_memory move ≡ false = taken_quiet move n.frames s (rw is at told) in
+  step_spends step m n r s (moved move step1 m1 n1 r1 s1 free moves is none) reported =
+      let quiet : wants_memory move ≡ false = taken_quiet move n.frames s (rw is at reported) in
       let h = moves_spend move m.frames n.frames r s moves quiet in
       let spends = taken_spends move n.frames s (regions_of m.frames (reads_left r)) (regions_of n.frames (reads_left s)) h.spends in
       record { spends = rw (is, free, none) spends; tightens = h.tightens; free = none }
@@ -243,13 +243,13 @@ module _ (frame : ℕ → ℕ) (names : ℕ) (level : IsLevel frame) where
   on_spends (Err (Error fault)) before after h goes = h
 
   pub next_spends : (step : Step Token) (m n : Machine) (r s : Reader) → TakesNext m r step n s → wants_memory step ≡ false → IsTakenOn step m n r s
-  next_spends step m n r s (now step1 m1 n1 r1 s1 steps goes) told =
-      let h = step_spends step m n r s steps told in
+  next_spends step m n r s (now step1 m1 n1 r1 s1 steps goes) reported =
+      let h = step_spends step m n r s steps reported in
       let same : regions n s ≡ regions_of n.frames (reads_left s) = ap (λ o. holding_step o (regions_of n.frames (reads_left s))) h.free in
       record { spends = on_spends step (regions m r) (regions_of n.frames (reads_left s)) (rw same at h.spends) goes; tightens = h.tightens; free = h.free }
-  next_spends step m n r s (later step1 m1 between n1 r1 s1 t1 steps next) told =
+  next_spends step m n r s (later step1 m1 between n1 r1 s1 t1 steps next) reported =
       let h = step_spends (Err Continue) m between r s1 steps refl in
-      let k = next_spends step between n s1 s next told in
+      let k = next_spends step between n s1 s next reported in
       record {
         spends = no_more_then (regions m r) (regions between s1) (regions (record n { held = Some step }) s) (falls_at_most (regions m r) (regions between s1) h.spends) k.spends;
         tightens = tightens_then r s1 s h.tightens k.tightens;
@@ -287,7 +287,7 @@ module _ (frame : ℕ → ℕ) (names : ℕ) (level : IsLevel frame) where
       }
   gather_leaves l last m n r s o (overfull l1 last1 token m1 n1 r1 s1 g next out is) = rw is tt
   gather_leaves l last m n r s o (ended l1 last1 m1 n1 r1 s1 g next is) = rw is tt
-  gather_leaves l last m n r s o (failed l1 last1 fault m1 n1 r1 s1 g next told is) = rw is tt
+  gather_leaves l last m n r s o (failed l1 last1 fault m1 n1 r1 s1 g next reported is) = rw is tt
 
   -- no more is left after what comes next, and after a search, however it ends
   pub record IsLeft (m n : Machine) (r s : Reader) : Type 0 where
@@ -301,8 +301,8 @@ module _ (frame : ℕ → ℕ) (names : ℕ) (level : IsLevel frame) where
   holding_no_more (Err (Error fault)) xs = falls_at_most (one_more xs) xs (one_more_falls xs)
 
   pub next_left : (step : Step Token) (m n : Machine) (r s : Reader) → TakesNext m r step n s → wants_memory step ≡ false → IsLeft m n r s
-  next_left step m n r s next told =
-      let h = next_spends step m n r s next told in
+  next_left step m n r s next reported =
+      let h = next_spends step m n r s next reported in
       let xs = regions_of n.frames (reads_left s) in
       let same : regions n s ≡ xs = ap (λ o. holding_step o xs) h.free in
       record { spends = rw same (no_more_then (regions m r) (holding_step (Some step) xs) xs h.spends (holding_no_more step xs)); tightens = h.tightens }
@@ -315,4 +315,4 @@ module _ (frame : ℕ → ℕ) (names : ℕ) (level : IsLevel frame) where
       record { spends = no_more_then (regions m r) (regions between s1) (regions n s) h.spends j.spends; tightens = tightens_then r s1 s h.tightens j.tightens }
   gather_left l last m n r s o (overfull l1 last1 token m1 n1 r1 s1 g next out is) = next_left (Ok token) m n r s next refl
   gather_left l last m n r s o (ended l1 last1 m1 n1 r1 s1 g next is) = next_left (Err Finished) m n r s next refl
-  gather_left l last m n r s o (failed l1 last1 fault m1 n1 r1 s1 g next told is) = next_left (Err (Error fault)) m n r s next told
+  gather_left l last m n r s o (failed l1 last1 fault m1 n1 r1 s1 g next reported is) = next_left (Err (Error fault)) m n r s next reported

@@ -8,8 +8,8 @@ use Rattle.pp_model.specs.Names.{Name, is_in, is_same_name, defined_name}
 use Rattle.pp_model.specs.inner.Reading.{after_listed}
 use Rattle.pp_expansion.specs.Item.{Step}
 use Rattle.pp_expansion.specs.inner.Defined.{Defined, meaning_of}
-use Rattle.pp_expansion.specs.inner.Source.{Source, untold_of, StepsSource}
-use Rattle.pp_expansion.specs.inner.Untold.{StepTells}
+use Rattle.pp_expansion.specs.inner.Source.{Source, unreported_of, StepsSource}
+use Rattle.pp_expansion.specs.inner.Unreported.{StepReports}
 use Rattle.pp_expansion.specs.declared.step.StepExit.TheVariants.{Error, Finished}
 
 -- The tokens of an argument, or of the line of a directive, with what is defined there and the names that are open around.
@@ -32,9 +32,9 @@ listed_step (token ∷ tokens) = Ok token
 abbrev pub StepsListed : Listing → Step Token → Listing → Type 0
 StepsListed old step new = ((step ≡ listed_step old.tokens) × (new ≡ record old { tokens = after_listed old.tokens })) ⊎ (step ≡ Err (Error out_of_memory))
 
--- one step of a reader, which stays of its kind; of a source it tells the errors of the lexer too
+-- one step of a reader, which stays of its kind; of a source it reports the errors of the lexer too
 abbrev pub Reads : Reader → Step Token → Reader → Type 0
-Reads (of_source old) step (of_source new) = StepsSource old step new × StepTells step (untold_of old) (untold_of new)
+Reads (of_source old) step (of_source new) = StepsSource old step new × StepReports step (unreported_of old) (unreported_of new)
 Reads (of_list old) step (of_list new) = StepsListed old step new
 Reads _ step _ = ⊥
 

@@ -16,10 +16,10 @@ use Rattle.pp_expansion.specs.inner.Defined.{Defined, meaning_of, IsChanged}
 use Rattle.pp_expansion.specs.inner.OpenBlocks.{outer_blocks, block_opened, block_unread, block_decided}
 use Rattle.pp_expansion.specs.declared.blocks.OpenBlock.{OpenBlock}
 use Rattle.pp_expansion.specs.inner.SourceMoves.{Effect, gives, gives_item, fails, ends, passes, defines, undefines, opens_where, opens_if, opens_unread, parts, parts_if, closes, unfinished, renumbers, Note, notes_text, notes_directive, Move, move_of}
-use Rattle.pp_expansion.specs.inner.Untold.{Untold, untold}
+use Rattle.pp_expansion.specs.inner.Unreported.{Unreported, unreported}
 use Rattle.pp_expansion.specs.declared.step.StepExit.TheVariants.{Error, Continue, Finished}
 
--- the items that are left and where they stand, where the error of the lexer stands that was read and not told, what is defined, the blocks
+-- the items that are left and where they stand, where the error of the lexer stands that was read and not reported, what is defined, the blocks
 -- that are open, the outermost first, what `#line` adds to a line, whether memory was refused, and whether a live token of the text was read so
 -- far, and a directive
 pub record Source : Type 0 where
@@ -33,9 +33,9 @@ pub record Source : Type 0 where
   pub has_text : Bool
   pub has_directive : Bool
 
--- its errors of the lexer that were not told yet
-abbrev pub untold_of : Source → Untold
-untold_of s = untold s.rest s.places s.error_place
+-- its errors of the lexer that were not reported yet
+abbrev pub unreported_of : Source → Unreported
+unreported_of s = unreported s.rest s.places s.error_place
 
 -- after so many items, of which this is remembered, where these blocks are open
 pub record IsAfter (taken : ℕ) (note : Note) (still_open : List OpenBlock) (old new : Source) : Type 0 where

@@ -4,9 +4,9 @@ use Rattle.pp_lexer.specs.Lexed.{Seen, Lexed}
 use Rattle.pp_lexer.specs.declared.token.Location.{Location}
 use Rattle.pp_lexer.specs.declared.lexer.item.Token.{Token as LexerToken}
 use Rattle.pp_expansion.specs.declared.halt.Halt.{Halt}
-use Rattle.pp_expansion.specs.inner.Untold.{Untold, untold}
+use Rattle.pp_expansion.specs.inner.Unreported.{Unreported, unreported}
 
--- the items to come and where they stand, where the error stands that was read and not told, whether comments were passed so far and will
+-- the items to come and where they stand, where the error stands that was read and not reported, whether comments were passed so far and will
 -- have been at the end, and whether memory was refused
 pub record SourceLexed : Type 0 where
   pub rest : List Seen
@@ -20,9 +20,9 @@ pub record SourceLexed : Type 0 where
 abbrev pub beginning : Lexed → SourceLexed
 beginning l = record { rest = l.rest; places = l.places; error_place = None; had_comments = l.had_comments; at_end = l.at_end; spent = false }
 
--- the errors that were not told yet
-abbrev pub untold_at : SourceLexed → Untold
-untold_at l = untold l.rest l.places l.error_place
+-- the errors that were not reported yet
+abbrev pub unreported_at : SourceLexed → Unreported
+unreported_at l = unreported l.rest l.places l.error_place
 
 -- each item has a place, and there are no more places
 abbrev pub HavePlaces : List Seen → List Location → Type 0

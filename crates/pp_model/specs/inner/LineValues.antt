@@ -5,13 +5,13 @@ use Rattle.pp_lexer.specs.declared.token.Location.{Location}
 use Rattle.pp_expression.specs.declared.symbol.Found.{Found}
 use Rattle.pp_model.specs.Calls.{Fault}
 use Rattle.pp_model.specs.LineWords.{Words}
-use Rattle.pp_model.specs.LineValues.{told, operand_fault, unwanted_word, line_of, alone_on_line}
+use Rattle.pp_model.specs.LineValues.{reported, operand_fault, unwanted_word, line_of, alone_on_line}
 use Rattle.pp_model.specs.declared.word.Word.{Word}
 use Rattle.pp_expression.specs.declared.symbol.Value.{Value}
 use Rattle.pp_expression.specs.FirstFault.{Evaluates}
 
-abbrev pub told_fault : Location → Words → Found → Fault
-told_fault directive words found = told directive words found.kind found.left
+abbrev pub reported_fault : Location → Words → Found → Fault
+reported_fault directive words found = reported directive words found.kind found.left
 
 abbrev pub fault_of_operand : Fault → Word → Fault
 fault_of_operand fallback word = unwrap_or (operand_fault word) fallback

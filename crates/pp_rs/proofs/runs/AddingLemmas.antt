@@ -12,7 +12,7 @@ use Rattle.pp_model.specs.SourceReader.{SourceReader}
 use Rattle.pp_model.specs.Emitting.{expansion_limit}
 use Rattle.pp_rs.specs.Adding.{IsAdded, refused, faulty, added}
 use Rattle.pp_expansion.specs.inner.Defined.{Defined, IsChanged, meaning_of}
-use Rattle.pp_rs.specs.inner.Fit.{EndIsLast, IsFit, IsTold}
+use Rattle.pp_rs.specs.inner.Fit.{EndIsLast, IsFit, IsReported}
 use Rattle.pp_expansion.specs.inner.Frames.{Layer, names_of}
 use Rattle.pp_expansion.specs.Item.{Fault, Step}
 use Rattle.pp_rs.specs.Kept.{Preprocessing, Stands, is_spent, most_items, errors_left, error_place}
@@ -20,8 +20,8 @@ use Rattle.pp_expansion.specs.inner.Left.{AreDefinedAbove, work_of}
 use Rattle.pp_expansion.specs.inner.Machine.{Machine}
 use Rattle.pp_expansion.specs.inner.Reader.{of_source}
 use Rattle.pp_source.specs.inner.SettingContent.{IsSetIn}
-use Rattle.pp_expansion.specs.inner.Source.{Source, untold_of}
-use Rattle.pp_expansion.specs.inner.Untold.{untold_with}
+use Rattle.pp_expansion.specs.inner.Source.{Source, unreported_of}
+use Rattle.pp_expansion.specs.inner.Unreported.{unreported_with}
 use Rattle.pp_rs.specs.inner.Stands.{StandsForReader, StandsForHeld, StandsFor}
 use Rattle.pp_expansion.specs.declared.step.StepExit.TheVariants.{Error, Continue, Finished}
 use Rattle.pp_rs.proofs.runs.LeftLemmas.{no_more_work}
@@ -92,8 +92,8 @@ module _ (name : Name) (tokens : List Token) (old new : Source) (h : IsSetIn nam
     last = last_added m.held m.frames fit.last;
   }
 
-  pub told_added : (m : Machine) → IsTold m old → IsTold m new
-  told_added m told = subst (λ (source : Source). IsTold m source) (sym h.others) told
+  pub reported_added : (m : Machine) → IsReported m old → IsReported m new
+  reported_added m reported = subst (λ (source : Source). IsReported m source) (sym h.others) reported
 
   -- where nothing was left, nothing is
   pub none_left_added : (m : Machine) (spent : Bool) → (if spent then 0 else work_of expansion_limit m (of_source old)) ≡ 0 → (if spent then 0 else work_of expansion_limit m (of_source new)) ≡ 0
@@ -108,7 +108,7 @@ module _ (old : Preprocessing) (name content : List ℕ) (new : Source) where
     stands = λ state stands. stands_added (chars name) tokens old.source new h old.machine state stands;
     spent = refl;
     ended = λ none. none_left_added (chars name) tokens old.source new h old.machine old.spent none;
-    errors = ap (λ (s : Source). untold_with old.machine.held (untold_of s)) h.others;
+    errors = ap (λ (s : Source). unreported_with old.machine.held (unreported_of s)) h.others;
     place = refl;
   })
 

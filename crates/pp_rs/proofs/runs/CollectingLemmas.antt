@@ -100,12 +100,12 @@ module _ (now new : Preprocessing) (item : Item) (next : IsNextItem now (Some it
   ready = ready_for (is_spent now) item (new ≡ now) (IsRefusedItem (Some item) new ⊎ IsGivenItem now (Some item) new) next.gives
 
   given_by : IsRefusedItem (Some item) new ⊎ IsGivenItem now (Some item) new → is_refusal (Some item) ≡ false → IsGivenItem now (Some item) new
-  given_by (inl refused) told = let bad : is_refusal (Some item) ≡ true = ap is_refusal refused.item in cc
-  given_by (inr given) told = given
+  given_by (inl refused) reported = let bad : is_refusal (Some item) ≡ true = ap is_refusal refused.item in cc
+  given_by (inr given) reported = given
 
   pub gathered_more : (old : Preprocessing) (items more : List Item) → Gathered old items now → is_refusal (Some item) ≡ false → more ≡ items ++ item ∷ [] → Gathered old more new
-  gathered_more old items more g told e =
-      let given = given_by ready.1 told in
+  gathered_more old items more g reported e =
+      let given = given_by ready.1 reported in
       let fresh : is_spent old ≡ false = sym g.spent ∙ ready.0 in
       record {
         spent = given.spent ∙ sym fresh;
@@ -115,12 +115,12 @@ module _ (now new : Preprocessing) (item : Item) (next : IsNextItem now (Some it
       }
 
   spent_by : IsRefusedItem (Some item) new ⊎ IsGivenItem now (Some item) new → is_refusal (Some item) ≡ true → is_spent new ≡ true
-  spent_by (inl refused) told = refused.spent
-  spent_by (inr given) told = let bad : true ≡ false = sym told ∙ given.no_refusal in cc
+  spent_by (inl refused) reported = refused.spent
+  spent_by (inr given) reported = let bad : true ≡ false = sym reported ∙ given.no_refusal in cc
 
   -- memory for an item was refused
   pub refused_now : (old : Preprocessing) → is_refusal (Some item) ≡ true → IsGivenUp old new
-  refused_now old told = inl (spent_by ready.1 told)
+  refused_now old reported = inl (spent_by ready.1 reported)
 
 -- memory for the list was refused
 given_up_by : (spent : Bool) (old : Preprocessing) (items : List Item) (now : Preprocessing) → Gathered old items now → is_spent now ≡ spent → IsGivenUp old now

@@ -8,23 +8,23 @@ use Rattle.pp_model.specs.Emitting.{answers_at, expansion_limit}
 use Rattle.pp_model.specs.Calls.{Fault}
 use Rattle.pp_model.specs.Reading.{Expander}
 use Rattle.pp_model.specs.SourceReader.{SourceReader}
-use Rattle.pp_rs.specs.inner.Fit.{EndIsLast, IsFit, IsTold}
+use Rattle.pp_rs.specs.inner.Fit.{EndIsLast, IsFit, IsReported}
 use Rattle.pp_expansion.specs.Held.{HoldsOrdinary}
 use Rattle.pp_expansion.specs.Item.{Item, Step, is_out_of_memory, wants_memory}
 use Rattle.pp_expansion.specs.inner.Left.{work_of}
 use Rattle.pp_expansion.specs.LexerErrors.{ErrorAt}
 use Rattle.pp_expansion.specs.inner.Machine.{Machine}
 use Rattle.pp_expansion.specs.inner.Reader.{of_source}
-use Rattle.pp_expansion.specs.inner.Source.{Source, untold_of}
+use Rattle.pp_expansion.specs.inner.Source.{Source, unreported_of}
 use Rattle.pp_rs.specs.inner.SourceTurns.{TurnsSource, StepsOver}
 use Rattle.pp_rs.specs.inner.Stands.{StandsFor}
 use Rattle.pp_rs.specs.Kept.{Preprocessing, Stands, is_spent, most_items, errors_left, error_place}
 use Rattle.pp_rs.specs.Preprocessing.{IsLessLeft, IsErrorAt, of_lexer, of_its_own, IsRefusedItem, IsGivenItem, IsNextItem}
-use Rattle.pp_expansion.specs.inner.Untold.{with_read, IsToldBut}
+use Rattle.pp_expansion.specs.inner.Unreported.{with_read, IsReportedBut}
 use Rattle.pp_expansion.specs.declared.step.StepExit.TheVariants.{Error, Continue, Finished}
 use Rattle.pp_rs.proofs.runs.Leads.{LeadsFrom, Leads, leads_then}
 use Rattle.pp_rs.proofs.runs.LeftLemmas.{SomethingLeft, some_left, left_is_work, no_work}
-use Rattle.pp_rs.proofs.runs.UntoldTurnLemmas.{errors_of, ErrorsLeft, turn_errors}
+use Rattle.pp_rs.proofs.runs.UnreportedTurnLemmas.{errors_of, ErrorsLeft, turn_errors}
 use Rattle.pp_rs.proofs.runs.SourceTurnLemmas.{turned_source, source_fits, source_lowers, source_ends, source_some, source_turn_leads}
 
 -- a state from which the same comes next as from the first
@@ -33,17 +33,17 @@ pub record Reached (machine : Machine) (source : Source) (machine_now : Machine)
   pub leads : Leads (answers_at expansion_limit) machine source (Err Continue) machine_now source_now
   pub left : SomethingLeft machine_now source_now → SomethingLeft machine source
   pub less : work_of expansion_limit machine_now (of_source source_now) ≤ work_of expansion_limit machine (of_source source)
-  pub told : IsTold machine_now source_now
+  pub reported : IsReported machine_now source_now
   pub errors : errors_of machine_now source_now ≡ errors_of machine source
 
 -- the state that it begins in
-pub reached_first : (machine now : Machine) (source source_now : Source) → now ≡ machine → source_now ≡ source → IsFit now source_now × IsTold now source_now → Reached machine source now source_now
+pub reached_first : (machine now : Machine) (source source_now : Source) → now ≡ machine → source_now ≡ source → IsFit now source_now × IsReported now source_now → Reached machine source now source_now
 reached_first machine now source source_now e f fit = rw (e, f) (record {
   fit = rw (e, f) at fit.0;
   leads = record { from = λ s stands. (s, stands, λ o g emits. emits) };
   left = λ left. left;
   less = omega arith;
-  told = rw (e, f) at fit.1;
+  reported = rw (e, f) at fit.1;
   errors = refl;
 })
 
@@ -52,13 +52,13 @@ module _ (machine now after : Machine) (source source_now source_after : Source)
   Over step = StepsOver expansion_limit now source_now step after source_after
 
   turned : (step : Step Token) → Over step → wants_memory step ≡ false → TurnsSource expansion_limit now source_now step after source_after
-  turned step h told = turned_source expansion_limit now after source_now source_after step h told
+  turned step h reported = turned_source expansion_limit now after source_now source_after step h reported
 
   falls : (step : Step Token) → Over step → wants_memory step ≡ false → (step ≡ Err Finished → ⊥) → work_of expansion_limit after (of_source source_after) < work_of expansion_limit now (of_source source_now)
-  falls step h told goes = source_lowers expansion_limit now source_now source_after r.fit step after (turned step h told) told goes
+  falls step h reported goes = source_lowers expansion_limit now source_now source_after r.fit step after (turned step h reported) reported goes
 
   fits : (step : Step Token) → Over step → wants_memory step ≡ false → IsFit after source_after
-  fits step h told = source_fits expansion_limit now source_now source_after r.fit step after (turned step h told) told
+  fits step h reported = source_fits expansion_limit now source_now source_after r.fit step after (turned step h reported) reported
 
   -- where a turn isn't the end, something was left at first
   left_now : (step : Step Token) → Over step → (step ≡ Err Finished → ⊥) → SomethingLeft machine source
@@ -66,13 +66,13 @@ module _ (machine now after : Machine) (source source_now source_after : Source)
   left_now step (inr h) goes = r.left (some_left now source_now r.fit.unspent h.some)
 
   leads_last : (step : Step Token) → Over step → wants_memory step ≡ false → Leads (answers_at expansion_limit) machine source step after source_after
-  leads_last step h told =
-      leads_then (answers_at expansion_limit) machine now after source source_now source_after step r.leads (source_turn_leads expansion_limit now after source_now source_after step r.fit (turned step h told) told)
+  leads_last step h reported =
+      leads_then (answers_at expansion_limit) machine now after source source_now source_after step r.leads (source_turn_leads expansion_limit now after source_now source_after step r.fit (turned step h reported) reported)
 
   -- what a turn leaves of the errors of the lexer
   errors_last : (step : Step Token) → Over step → wants_memory step ≡ false → ErrorsLeft step (errors_of machine source) after source_after
-  errors_last step h told =
-      subst (λ (es : List ErrorAt). ErrorsLeft step es after source_after) r.errors (turn_errors expansion_limit now after source_now source_after step (turned step h told) told r.told)
+  errors_last step h reported =
+      subst (λ (es : List ErrorAt). ErrorsLeft step es after source_after) r.errors (turn_errors expansion_limit now after source_now source_after step (turned step h reported) reported r.reported)
 
   -- a pause
   pub reached_more : Over (Err Continue) → Reached machine source after source_after
@@ -83,7 +83,7 @@ module _ (machine now after : Machine) (source source_now source_after : Source)
         leads = leads_last (Err Continue) h refl;
         left = λ left. left_now (Err Continue) h (λ e. cc);
         less = omega (arith, less, r.less);
-        told = (errors_last (Err Continue) h refl).0;
+        reported = (errors_last (Err Continue) h refl).0;
         errors = (errors_last (Err Continue) h refl).1;
       }
 
@@ -91,19 +91,19 @@ module _ (machine now after : Machine) (source source_now source_after : Source)
   falls_more h = falls (Err Continue) h refl (λ e. cc)
 
   -- what holds after a token, after the end and after a fault, whose place was taken
-  pub token_fits : (token : Token) → Over (Ok token) → IsFit after source_after × IsTold after source_after
+  pub token_fits : (token : Token) → Over (Ok token) → IsFit after source_after × IsReported after source_after
   token_fits token h = (fits (Ok token) h refl, (errors_last (Ok token) h refl).0)
 
-  pub end_fits : Over (Err Finished) → IsFit after source_after × IsTold after source_after
+  pub end_fits : Over (Err Finished) → IsFit after source_after × IsReported after source_after
   end_fits h = (fits (Err Finished) h refl, (errors_last (Err Finished) h refl).0)
 
-  pub fault_fits : (fault : Fault) (told_source : Source) → told_source ≡ record source_after { error_place = None } → Over (Err (Error fault)) → is_out_of_memory fault.0 ≡ false → IsFit after told_source × IsTold after told_source
-  fault_fits fault told_source is h told =
-      let fit = fits (Err (Error fault)) h told in
-      let free = (errors_last (Err (Error fault)) h told).0 in
+  pub fault_fits : (fault : Fault) (reported_source : Source) → reported_source ≡ record source_after { error_place = None } → Over (Err (Error fault)) → is_out_of_memory fault.0 ≡ false → IsFit after reported_source × IsReported after reported_source
+  fault_fits fault reported_source is h reported =
+      let fit = fits (Err (Error fault)) h reported in
+      let free = (errors_last (Err (Error fault)) h reported).0 in
       rw is (
         record { unspent = fit.unspent; sound = fit.sound; last = subst (λ (o : Option (Step Token)). EndIsLast o after.frames (of_source (record source_after { error_place = None }))) (sym free) tt },
-        subst (λ (o : Option (Step Token)). IsToldBut o (untold_of (record source_after { error_place = None }))) (sym free) refl,
+        subst (λ (o : Option (Step Token)). IsReportedBut o (unreported_of (record source_after { error_place = None }))) (sym free) refl,
       )
 
   -- the answers from a state that isn't spent
@@ -126,8 +126,8 @@ module _ (machine now after : Machine) (source source_now source_after : Source)
     -- less is left after a token or a fault
     less_last : (step : Step Token) (place : Location) → Over step → wants_memory step ≡ false → (step ≡ Err Finished → ⊥) → most_items (record { machine = after; source = source_after; spent = false; place = place }) < most_items old
     unfolding most_items
-    less_last step place turn told goes =
-        let lower = falls step turn told goes in
+    less_last step place turn reported goes =
+        let lower = falls step turn reported goes in
         omega (arith, lower, r.less, most_first)
 
     errors_first : errors_left old ≡ errors_of machine source
@@ -145,7 +145,7 @@ module _ (machine now after : Machine) (source source_now source_after : Source)
               record { after = leads.0; emits = leads.1; goes_on = leads.2 };
           no_refusal = refl;
           holds = holds;
-          tells = ((errors_last (Ok token) turn refl).1 ∙ sym errors_first, same);
+          reports = ((errors_last (Ok token) turn refl).1 ∙ sym errors_first, same);
           spent = refl;
         })) (less_last (Ok token) place turn refl (λ e. cc))
 
@@ -156,8 +156,8 @@ module _ (machine now after : Machine) (source source_now source_after : Source)
         no_work expansion_limit after source_after e.0 e.1 e.2 e.3
 
     -- at the end each error was reported
-    none_untold : Over (Err Finished) → errors_of after source_after ≡ []
-    none_untold turn =
+    none_unreported : Over (Err Finished) → errors_of after source_after ≡ []
+    none_unreported turn =
         let e = source_ends expansion_limit now source_now source_after r.fit after (turned (Err Finished) turn refl) in
         rw (e.0, e.2) refl
 
@@ -171,48 +171,48 @@ module _ (machine now after : Machine) (source source_now source_after : Source)
               record { after = leads.0; emits = leads.1; goes_on = leads.2 };
           no_refusal = refl;
           holds = tt;
-          tells = (errors_first ∙ sym (errors_last (Err Finished) turn refl).1 ∙ none_untold turn, none_untold turn, same);
+          reports = (errors_first ∙ sym (errors_last (Err Finished) turn refl).1 ∙ none_unreported turn, none_unreported turn, same);
           spent = refl;
         })) (end_last place turn)
 
     -- a fault is reported where it stands: the place that was taken is that of an error of the lexer
-    module _ (fault : Fault) (told_source : Source) (place : Location) (is : told_source ≡ record source_after { error_place = None }) where
-      error_told : (taken : Option Location) (left : List ErrorAt) → errors_of machine source ≡ with_read fault taken left → place ≡ unwrap_or taken fault.1 → errors_left (record { machine = after; source = told_source; spent = false; place = place }) ≡ left
-          → IsErrorAt fault old (record { machine = after; source = told_source; spent = false; place = place })
+    module _ (fault : Fault) (reported_source : Source) (place : Location) (is : reported_source ≡ record source_after { error_place = None }) where
+      error_reported : (taken : Option Location) (left : List ErrorAt) → errors_of machine source ≡ with_read fault taken left → place ≡ unwrap_or taken fault.1 → errors_left (record { machine = after; source = reported_source; spent = false; place = place }) ≡ left
+          → IsErrorAt fault old (record { machine = after; source = reported_source; spent = false; place = place })
       unfolding error_place
-      error_told (Some there) left e at same = of_lexer (errors_first ∙ e ∙ ap (λ (es : List ErrorAt). record { item = fault; place = there } ∷ es) (sym same) ∙ ap (λ (p : Location). record { item = fault; place = p } ∷ errors_left (record { machine = after; source = told_source; spent = false; place = place })) (sym at))
-      error_told None left e at same = of_its_own at (same ∙ sym e ∙ sym errors_first)
+      error_reported (Some there) left e at same = of_lexer (errors_first ∙ e ∙ ap (λ (es : List ErrorAt). record { item = fault; place = there } ∷ es) (sym same) ∙ ap (λ (p : Location). record { item = fault; place = p } ∷ errors_left (record { machine = after; source = reported_source; spent = false; place = place })) (sym at))
+      error_reported None left e at same = of_its_own at (same ∙ sym e ∙ sym errors_first)
 
-      errors_now : Over (Err (Error fault)) → is_out_of_memory fault.0 ≡ false → errors_left (record { machine = after; source = told_source; spent = false; place = place }) ≡ (untold_of source_after).later
+      errors_now : Over (Err (Error fault)) → is_out_of_memory fault.0 ≡ false → errors_left (record { machine = after; source = reported_source; spent = false; place = place }) ≡ (unreported_of source_after).later
       unfolding errors_left
-      errors_now turn told = rw (is, (errors_last (Err (Error fault)) turn told).0) refl
+      errors_now turn reported = rw (is, (errors_last (Err (Error fault)) turn reported).0) refl
 
-      less_now : Over (Err (Error fault)) → is_out_of_memory fault.0 ≡ false → most_items (record { machine = after; source = told_source; spent = false; place = place }) < most_items old
+      less_now : Over (Err (Error fault)) → is_out_of_memory fault.0 ≡ false → most_items (record { machine = after; source = reported_source; spent = false; place = place }) < most_items old
       unfolding most_items
-      less_now turn told = rw is (less_last (Err (Error fault)) place turn told (λ e. cc))
+      less_now turn reported = rw is (less_last (Err (Error fault)) place turn reported (λ e. cc))
 
       next_fault : Over (Err (Error fault)) → is_out_of_memory fault.0 ≡ false → place ≡ unwrap_or source_after.error_place fault.1
-          → IsNextItem old (Some (Err fault)) (record { machine = after; source = told_source; spent = false; place = place })
+          → IsNextItem old (Some (Err fault)) (record { machine = after; source = reported_source; spent = false; place = place })
       unfolding is_spent
-      next_fault turn told at =
-          as_next (Some (Err fault)) (record { machine = after; source = told_source; spent = false; place = place }) (inr (record {
+      next_fault turn reported at =
+          as_next (Some (Err fault)) (record { machine = after; source = reported_source; spent = false; place = place }) (inr (record {
             item = λ e stands.
-                let leads : LeadsFrom (answers_at expansion_limit) e (Err (Error fault)) after source_after = (leads_last (Err (Error fault)) turn told).from e (stands_first e stands) in
+                let leads : LeadsFrom (answers_at expansion_limit) e (Err (Error fault)) after source_after = (leads_last (Err (Error fault)) turn reported).from e (stands_first e stands) in
                 record { after = leads.0; emits = leads.1; goes_on = tt };
-            no_refusal = told;
+            no_refusal = reported;
             holds = tt;
-            tells = error_told source_after.error_place (untold_of source_after).later (errors_last (Err (Error fault)) turn told).1 at (errors_now turn told);
+            reports = error_reported source_after.error_place (unreported_of source_after).later (errors_last (Err (Error fault)) turn reported).1 at (errors_now turn reported);
             spent = refl;
-          })) (less_now turn told)
+          })) (less_now turn reported)
 
-      next_refusal : Over (Err (Error fault)) → IsNextItem old (Some (Err out_of_memory)) (record { machine = after; source = told_source; spent = true; place = place })
+      next_refusal : Over (Err (Error fault)) → IsNextItem old (Some (Err out_of_memory)) (record { machine = after; source = reported_source; spent = true; place = place })
       unfolding is_spent most_items
       next_refusal turn =
           let left : SomethingLeft machine source = left_now (Err (Error fault)) turn (λ e. cc) in
-          as_next (Some (Err out_of_memory)) (record { machine = after; source = told_source; spent = true; place = place }) (inl (record { item = refl; spent = refl })) (omega (arith, left_is_work expansion_limit machine source left, most_first))
+          as_next (Some (Err out_of_memory)) (record { machine = after; source = reported_source; spent = true; place = place }) (inl (record { item = refl; spent = refl })) (omega (arith, left_is_work expansion_limit machine source left, most_first))
 
       pub next_error : (want : Bool) → is_out_of_memory fault.0 ≡ want → Over (Err (Error fault)) → place ≡ unwrap_or source_after.error_place (if want then out_of_memory else fault).1
-          → IsNextItem old (Some (Err (if want then out_of_memory else fault))) (record { machine = after; source = told_source; spent = want; place = place })
+          → IsNextItem old (Some (Err (if want then out_of_memory else fault))) (record { machine = after; source = reported_source; spent = want; place = place })
       next_error true e turn at = next_refusal turn
       next_error false e turn at = next_fault turn e at
 

@@ -23,10 +23,10 @@ use Rattle.pp_expansion.proofs.taking.TurnLeadsLemmas.{wants_taken}
 use Rattle.pp_rs.proofs.runs.UnspentLemmas.{steps_unspent}
 
 reads_ready : (r s : Reader) (step : Step Token) → IsReady r → Reads r step s → wants_memory step ≡ false → IsReady s
-reads_ready (of_source old) (of_source new) step ready h told = steps_unspent old new step ready old.spent refl told h.0
-reads_ready (of_list old) (of_list new) step ready h told = tt
-reads_ready (of_source old) (of_list new) step ready h told = absurd h
-reads_ready (of_list old) (of_source new) step ready h told = absurd h
+reads_ready (of_source old) (of_source new) step ready h reported = steps_unspent old new step ready old.spent refl reported h.0
+reads_ready (of_list old) (of_list new) step ready h reported = tt
+reads_ready (of_source old) (of_list new) step ready h reported = absurd h
+reads_ready (of_list old) (of_source new) step ready h reported = absurd h
 
 reads_end : (r s : Reader) → IsReady r → Reads r (Err Finished) s → NothingIn s
 reads_end (of_source old) (of_source new) ready h = source_end old new old.spent refl ready h.0
@@ -43,8 +43,8 @@ frames_pause fs (Some a) e = given a.gives e
 frames_pause fs None e = cc
 
 moves_ready : (fs gs : List Layer) (r s : Reader) (move : Step Token) → IsReady r → Moves fs r move gs s → wants_memory move ≡ false → IsReady s
-moves_ready [] gs r s move ready h told = reads_ready r s move ready h.1 told
-moves_ready (f ∷ fs) gs r s move ready h told = subst IsReady (sym h.0) ready
+moves_ready [] gs r s move ready h reported = reads_ready r s move ready h.1 reported
+moves_ready (f ∷ fs) gs r s move ready h reported = subst IsReady (sym h.0) ready
 
 moves_end : (fs gs : List Layer) (r s : Reader) → IsReady r → Moves fs r (Err Finished) gs s → (gs ≡ []) × NothingIn s
 moves_end [] gs r s ready h = (h.0, reads_end r s ready h.1)
@@ -61,9 +61,9 @@ taken_end (Ok token) fs r e = absurd (go (is_identifier line_name token.value) (
     go false o e = cc
 taken_end (Err exit) fs r e = e
 
-taken_told : (move : Step Token) (fs : List Layer) (r : Reader) → wants_memory (taken_as move fs r) ≡ false → wants_memory move ≡ false
-taken_told (Ok token) fs r h = refl
-taken_told (Err exit) fs r h = h
+taken_reported : (move : Step Token) (fs : List Layer) (r : Reader) → wants_memory (taken_as move fs r) ≡ false → wants_memory move ≡ false
+taken_reported (Ok token) fs r h = refl
+taken_reported (Err exit) fs r h = h
 
 -- nothing is held after what was taken
 pub step_free : (m n : Machine) (r s : Reader) (step : Step Token) → StepsTaking m r step n s → n.held ≡ None
@@ -79,23 +79,23 @@ gather_free k last m n r s g (closed k1 last1 token m1 n1 r1 s1 g1 next out is) 
 gather_free k last m n r s g (inside k1 l last1 token m1 between n1 r1 s1 t1 rest g1 next in_call more is) = gather_free l token.location between n s1 s rest more
 gather_free k last m n r s g (overfull k1 last1 token m1 n1 r1 s1 g1 next out is) = next_free m n r s (Ok token) next
 gather_free k last m n r s g (ended k1 last1 m1 n1 r1 s1 g1 next is) = next_free m n r s (Err Finished) next
-gather_free k last m n r s g (failed k1 last1 fault m1 n1 r1 s1 g1 next told is) = next_free m n r s (Err (Error fault)) next
+gather_free k last m n r s g (failed k1 last1 fault m1 n1 r1 s1 g1 next reported is) = next_free m n r s (Err (Error fault)) next
 
 -- the reader stays ready
 step_ready : (m n : Machine) (r s : Reader) (step : Step Token) → IsReady r → StepsTaking m r step n s → wants_memory step ≡ false → IsReady s
-step_ready m n r s step ready (held step1 m1 n1 r1 s1 is at same) told = subst IsReady (sym same) ready
-step_ready m n r s step ready (moved move step1 m1 n1 r1 s1 free moves is none) told = moves_ready m.frames n.frames r s move ready moves (taken_told move n.frames s (rw is at told))
+step_ready m n r s step ready (held step1 m1 n1 r1 s1 is at same) reported = subst IsReady (sym same) ready
+step_ready m n r s step ready (moved move step1 m1 n1 r1 s1 free moves is none) reported = moves_ready m.frames n.frames r s move ready moves (taken_reported move n.frames s (rw is at reported))
 
 next_ready : (m n : Machine) (r s : Reader) (step : Step Token) → IsReady r → TakesNext m r step n s → wants_memory step ≡ false → IsReady s
-next_ready m n r s step ready (now step1 m1 n1 r1 s1 steps goes) told = step_ready m n r s step ready steps told
-next_ready m n r s step ready (later step1 m1 between n1 r1 s1 t1 steps next) told = next_ready between n s1 s step (step_ready m between r s1 (Err Continue) ready steps refl) next told
+next_ready m n r s step ready (now step1 m1 n1 r1 s1 steps goes) reported = step_ready m n r s step ready steps reported
+next_ready m n r s step ready (later step1 m1 between n1 r1 s1 t1 steps next) reported = next_ready between n s1 s step (step_ready m between r s1 (Err Continue) ready steps refl) next reported
 
 gather_ready : (k : ℕ) (last : Location) (m n : Machine) (r s : Reader) (g : Result Gathered Fault) → IsReady r → GathersNext k last m r g n s → IsReady s
 gather_ready k last m n r s g ready (closed k1 last1 token m1 n1 r1 s1 g1 next out is) = next_ready m n r s (Ok token) ready next refl
 gather_ready k last m n r s g ready (inside k1 l last1 token m1 between n1 r1 s1 t1 rest g1 next in_call more is) = gather_ready l token.location between n s1 s rest (next_ready m between r s1 (Ok token) ready next refl) more
 gather_ready k last m n r s g ready (overfull k1 last1 token m1 n1 r1 s1 g1 next out is) = next_ready m n r s (Ok token) ready next refl
 gather_ready k last m n r s g ready (ended k1 last1 m1 n1 r1 s1 g1 next is) = next_ready m n r s (Err Finished) ready next refl
-gather_ready k last m n r s g ready (failed k1 last1 fault m1 n1 r1 s1 g1 next told is) = next_ready m n r s (Err (Error fault)) ready next told
+gather_ready k last m n r s g ready (failed k1 last1 fault m1 n1 r1 s1 g1 next reported is) = next_ready m n r s (Err (Error fault)) ready next reported
 
 -- nothing is left where the end is taken
 step_end : (m n : Machine) (r s : Reader) (step : Step Token) → step ≡ Err Finished → IsReady r → EndIsLast m.held m.frames r → StepsTaking m r step n s → (n.frames ≡ []) × NothingIn s
@@ -119,18 +119,18 @@ not_refused (Err Continue) h = refl
 not_refused (Err Finished) h = refl
 not_refused (Err (Error fault)) h = h
 
-paren_told : (next : Step Token) (paren : Location) → paren_of next ≡ Some paren → wants_memory next ≡ false
-paren_told (Ok token) paren e = refl
-paren_told (Err exit) paren e = cc
+paren_reported : (next : Step Token) (paren : Location) → paren_of next ≡ Some paren → wants_memory next ≡ false
+paren_reported (Ok token) paren e = refl
+paren_reported (Err exit) paren e = cc
 
-exit_told : (exit : StepExit) → wants_taken (Err exit) ≡ false → wants_memory (Err exit) ≡ false
-exit_told (Error fault) h = h
-exit_told Continue h = refl
-exit_told Finished h = refl
+exit_reported : (exit : StepExit) → wants_taken (Err exit) ≡ false → wants_memory (Err exit) ≡ false
+exit_reported (Error fault) h = h
+exit_reported Continue h = refl
+exit_reported Finished h = refl
 
 seeks_ready : (m n : Machine) (r s : Reader) (c : Sought) → IsReady r → Seeks m r c n s → IsReady s
-seeks_ready m n r s c ready (alone next m1 n1 r1 s1 c1 taken none told is) = next_ready m n r s next ready taken (not_refused next told)
-seeks_ready m n r s c ready (called next paren m1 between n1 r1 s1 t1 g c1 taken at gathers is) = gather_ready 0 paren between n s1 s g (next_ready m between r s1 next ready taken (paren_told next paren at)) gathers
+seeks_ready m n r s c ready (alone next m1 n1 r1 s1 c1 taken none reported is) = next_ready m n r s next ready taken (not_refused next reported)
+seeks_ready m n r s c ready (called next paren m1 between n1 r1 s1 t1 g c1 taken at gathers is) = gather_ready 0 paren between n s1 s g (next_ready m between r s1 next ready taken (paren_reported next paren at)) gathers
 
 -- what is held after a search is what was found, or nothing
 held_last : (next : Step Token) (m n : Machine) (r s : Reader) → IsReady r → m.held ≡ None → TakesNext m r next n s → EndIsLast (Some next) n.frames s
@@ -140,7 +140,7 @@ held_last (Err Finished) m n r s ready free next = next_end m n r s (Err Finishe
 held_last (Err (Error fault)) m n r s ready free next = tt
 
 finds_last : (token : Token) (name : Name) (definition : Definition) (c : Sought) (step : Step Taken) (m n p : Machine) (r s : Reader) → IsReady r → m.held ≡ None → Seeks m r c n s → Finds token name definition c step n p → EndIsLast p.held p.frames s
-finds_last token name definition c step m n p r s ready free (alone next m1 n1 r1 s1 c1 taken none told is) found =
+finds_last token name definition c step m n p r s ready free (alone next m1 n1 r1 s1 c1 taken none reported is) found =
     let found' : Finds token name definition (no_call next) step n p = subst (λ (x : Sought). Finds token name definition x step n p) is found in
     rw found'.1 (held_last next m n r s ready free taken)
 finds_last token name definition c step m n p r s ready free (called next paren m1 between n1 r1 s1 t1 g c1 taken at gathers is) found =
@@ -152,10 +152,10 @@ finds_last token name definition c step m n p r s ready free (called next paren 
 
 -- a turn
 pub turn_ready : (m n : Machine) (r s : Reader) (step : Step Taken) → IsReady r → TurnsTo m r step n s → wants_taken step ≡ false → IsReady s
-turn_ready m n r s step ready (passes exit step1 m1 n1 r1 s1 steps is) told = step_ready m n r s (Err exit) ready steps (exit_told exit (rw is at told))
-turn_ready m n r s step ready (gives token step1 m1 n1 r1 s1 steps none is) told = step_ready m n r s (Ok token) ready steps refl
-turn_ready m p r s step ready (object token name definition step1 m1 n p1 r1 s1 steps some plain is at) told = step_ready m n r s (Ok token) ready steps refl
-turn_ready m q r t step ready (seeks token name definition c step1 m1 n p q1 r1 s t1 steps some function sought found) told =
+turn_ready m n r s step ready (passes exit step1 m1 n1 r1 s1 steps is) reported = step_ready m n r s (Err exit) ready steps (exit_reported exit (rw is at reported))
+turn_ready m n r s step ready (gives token step1 m1 n1 r1 s1 steps none is) reported = step_ready m n r s (Ok token) ready steps refl
+turn_ready m p r s step ready (object token name definition step1 m1 n p1 r1 s1 steps some plain is at) reported = step_ready m n r s (Ok token) ready steps refl
+turn_ready m q r t step ready (seeks token name definition c step1 m1 n p q1 r1 s t1 steps some function sought found) reported =
     seeks_ready n p s t c (step_ready m n r s (Ok token) ready steps refl) sought
 
 pub turn_last : (m n : Machine) (r s : Reader) (step : Step Taken) → IsReady r → TurnsTo m r step n s → EndIsLast n.held n.frames s

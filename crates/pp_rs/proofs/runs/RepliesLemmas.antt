@@ -30,14 +30,14 @@ module _ (old new : Preprocessing) (ready : is_spent old ≡ false) where
 
   -- one that was refused, for another reason than a refusal of memory
   pub refused_answered : (name content : List ℕ) (fault : Fault) → is_out_of_memory fault.0 ≡ false → IsAdded old name content (Err fault) new → IsAnswered old (add_define name content) (reply.Refused fault) new
-  refused_answered name content fault told (refused given same) =
+  refused_answered name content fault reported (refused given same) =
       let wanted : fault ≡ out_of_memory = cc in
-      let bad : true ≡ false = sym (ap (λ (f : Fault). is_out_of_memory f.0) wanted) ∙ told in
+      let bad : true ≡ false = sym (ap (λ (f : Fault). is_out_of_memory f.0) wanted) ∙ reported in
       cc
-  refused_answered name content fault told (faulty other has given same) =
+  refused_answered name content fault reported (faulty other has given same) =
       let this : other ≡ fault = cc in
       goes_on refl (ap is_spent same ∙ ready) (λ state stands. (state, refuses name content fault _ _ state state (rw this at has) refl refl refl, subst (λ (p : Preprocessing). Stands p state) (sym same) stands))
-  refused_answered name content fault told (added tokens has given h) = cc
+  refused_answered name content fault reported (added tokens has given h) = cc
 
   unspent : (spent : Bool) (A B : Type 0) → spent ≡ false → MatchBool spent A B → B
   unspent true A B e h = cc
@@ -57,11 +57,11 @@ module _ (old new : Preprocessing) (ready : is_spent old ≡ false) where
   ]
 
   pub fault_answered : (fault : Fault) → is_out_of_memory fault.0 ≡ false → IsNextItem old (Some (Err fault)) new → IsAnswered old next (reply.Given (outcome.Fault fault)) new
-  fault_answered fault told h = elim (unspent (is_spent old) _ _ ready h.gives) [
+  fault_answered fault reported h = elim (unspent (is_spent old) _ _ ready h.gives) [
     | inl wants ↦
         (let e = wants.item in
         let wanted : fault ≡ out_of_memory = cc in
-        let bad : true ≡ false = sym (ap (λ (f : Fault). is_out_of_memory f.0) wanted) ∙ told in
+        let bad : true ≡ false = sym (ap (λ (f : Fault). is_out_of_memory f.0) wanted) ∙ reported in
         cc)
     | inr given ↦ ends fault refl refl (λ state stands. let item = given.item state stands in (item.after, item.emits))
   ]

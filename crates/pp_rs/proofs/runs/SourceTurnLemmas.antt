@@ -79,8 +79,8 @@ module _ (levels : ℕ) (m n : Machine) (r s : Source) where
       ends (Err exit) e follows = let is = follows.0 in cc
 
   pub turned_source : (step : Step Token) → StepsOver levels m r step n s → wants_memory step ≡ false → TurnsSource levels m r step n s
-  turned_source step (inl h) told = h
-  turned_source step (inr h) told = absurd (let bad : true ≡ false = rw h.fault at told in cc)
+  turned_source step (inl h) reported = h
+  turned_source step (inr h) reported = absurd (let bad : true ≡ false = rw h.fault at reported in cc)
 
 -- what holds after a turn: less is left, but at the end
 record IsAfter (levels : ℕ) (m : Machine) (old : Source) (step : Step Token) (n : Machine) (new : Source) : Type 0 where
@@ -120,31 +120,31 @@ module _ (levels : ℕ) (m : Machine) (old new : Source) (fit : IsFit m old) whe
   less_after step n p same last less = rw same (record { less = λ goes. less.falls; sound = less.sound; last = last })
 
   follows_after : (step : Step Token) (n p : Machine) (t : Step Taken) → TurnsTo m (of_source old) t n (of_source new) → FollowsTurn levels new.definitions t n step p → wants_memory step ≡ false → IsAfter levels m old step p new
-  follows_after step n p (Ok (taken.Token token)) turns follows told =
+  follows_after step n p (Ok (taken.Token token)) turns follows reported =
       less_after step n p follows.1 (turn_last m n (of_source old) (of_source new) (Ok (taken.Token token)) fit.unspent turns) (turn_falls levels m (of_source old) fit.sound (Ok (taken.Token token)) n (of_source new) turns refl)
-  follows_after step n p (Ok (taken.Call c)) turns follows told = call_after c n p step (turn_falls levels m (of_source old) fit.sound (Ok (taken.Call c)) n (of_source new) turns refl) follows
-  follows_after step n p (Err Continue) turns follows told =
+  follows_after step n p (Ok (taken.Call c)) turns follows reported = call_after c n p step (turn_falls levels m (of_source old) fit.sound (Ok (taken.Call c)) n (of_source new) turns refl) follows
+  follows_after step n p (Err Continue) turns follows reported =
       less_after step n p follows.1 (turn_last m n (of_source old) (of_source new) (Err Continue) fit.unspent turns) (turn_falls levels m (of_source old) fit.sound (Err Continue) n (of_source new) turns refl)
-  follows_after step n p (Err (Error fault)) turns follows told =
-      less_after step n p follows.1 (turn_last m n (of_source old) (of_source new) (Err (Error fault)) fit.unspent turns) (turn_falls levels m (of_source old) fit.sound (Err (Error fault)) n (of_source new) turns (rw follows.0 at told))
-  follows_after step n p (Err Finished) turns follows told =
+  follows_after step n p (Err (Error fault)) turns follows reported =
+      less_after step n p follows.1 (turn_last m n (of_source old) (of_source new) (Err (Error fault)) fit.unspent turns) (turn_falls levels m (of_source old) fit.sound (Err (Error fault)) n (of_source new) turns (rw follows.0 at reported))
+  follows_after step n p (Err Finished) turns follows reported =
       let sound : IsSound n (of_source new) = turn_falls levels m (of_source old) fit.sound (Err Finished) n (of_source new) turns refl in
       rw follows.1 (record { less = λ goes. absurd (goes follows.0); sound = sound; last = turn_last m n (of_source old) (of_source new) (Err Finished) fit.unspent turns })
 
-  taken_told : (step : Step Token) (n p : Machine) (t : Step Taken) → FollowsTurn levels new.definitions t n step p → wants_memory step ≡ false → wants_taken t ≡ false
-  taken_told step n p (Ok (taken.Token token)) follows told = refl
-  taken_told step n p (Ok (taken.Call c)) follows told = refl
-  taken_told step n p (Err Continue) follows told = refl
-  taken_told step n p (Err Finished) follows told = refl
-  taken_told step n p (Err (Error fault)) follows told = rw follows.0 at told
+  taken_reported : (step : Step Token) (n p : Machine) (t : Step Taken) → FollowsTurn levels new.definitions t n step p → wants_memory step ≡ false → wants_taken t ≡ false
+  taken_reported step n p (Ok (taken.Token token)) follows reported = refl
+  taken_reported step n p (Ok (taken.Call c)) follows reported = refl
+  taken_reported step n p (Err Continue) follows reported = refl
+  taken_reported step n p (Err Finished) follows reported = refl
+  taken_reported step n p (Err (Error fault)) follows reported = rw follows.0 at reported
 
-  module _ (step : Step Token) (n : Machine) (h : TurnsSource levels m old step n new) (told : wants_memory step ≡ false) where
+  module _ (step : Step Token) (n : Machine) (h : TurnsSource levels m old step n new) (reported : wants_memory step ≡ false) where
     after : IsAfter levels m old step n new
-    after = follows_after step h.between n h.taken h.turns h.follows told
+    after = follows_after step h.between n h.taken h.turns h.follows reported
 
     pub source_fits : IsFit n new
     source_fits = record {
-      unspent = turn_ready m h.between (of_source old) (of_source new) h.taken fit.unspent h.turns (taken_told step h.between n h.taken h.follows told);
+      unspent = turn_ready m h.between (of_source old) (of_source new) h.taken fit.unspent h.turns (taken_reported step h.between n h.taken h.follows reported);
       sound = after.sound;
       last = after.last;
     }
@@ -225,9 +225,9 @@ module _ (levels : ℕ) (m : Machine) (old new : Source) (fit : IsFit m old) (e 
 
 -- One turn: a token, a fault or the end is the next item, and a pause keeps it.
 pub source_turn_leads : (levels : ℕ) (m n : Machine) (old new : Source) (step : Step Token) → IsFit m old → TurnsSource levels m old step n new → wants_memory step ≡ false → Leads (answers_at levels) m old step n new
-source_turn_leads levels m n old new step fit h told = record {
+source_turn_leads levels m n old new step fit h reported = record {
   from = λ e stands.
       follows_lead levels m old new fit e stands step h.between n h.taken h.turns
-      (source_leads (answers_at levels) m h.between (of_source old) (of_source new) h.taken e (stands_in m old e stands) h.turns (taken_told levels m old new fit step h.between n h.taken h.follows told))
+      (source_leads (answers_at levels) m h.between (of_source old) (of_source new) h.taken e (stands_in m old e stands) h.turns (taken_reported levels m old new fit step h.between n h.taken h.follows reported))
       h.follows;
 }

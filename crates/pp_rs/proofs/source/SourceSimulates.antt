@@ -21,12 +21,12 @@ sight_simulates false old new r move s dead h = dead_simulates s dead move new (
 
 step_simulates : (old new : Source) (r : SourceReader) (move : Step Token) (spent : Bool) → StandsForReader old r → old.spent ≡ spent → wants_memory move ≡ false
     → MatchBool spent ((move ≡ Err Finished) × (new ≡ old)) (IsRefusedStep old move ⊎ Makes (moves.move_of old.blocks old.rest) old move new) → Simulates move r new
-step_simulates old new r move true s is told h = let e = s.unspent in cc
-step_simulates old new r move false s is told (inl h) =
-    let bad : true ≡ false = rw h.fault at told in
+step_simulates old new r move true s is reported h = let e = s.unspent in cc
+step_simulates old new r move false s is reported (inl h) =
+    let bad : true ≡ false = rw h.fault at reported in
     cc
-step_simulates old new r move false s is told (inr h) = sight_simulates (is_live_in (last_block old.blocks)) old new r move s refl h
+step_simulates old new r move false s is reported (inr h) = sight_simulates (is_live_in (last_block old.blocks)) old new r move s refl h
 
 -- each step of a source, but for a refusal of memory, is one of the reader that it stands for
 pub source_simulates : SourceSimulates
-source_simulates old new r move stands steps told = step_simulates old new r move old.spent stands refl told steps
+source_simulates old new r move stands steps reported = step_simulates old new r move old.spent stands refl reported steps

@@ -6,8 +6,8 @@ use Rattle.pp_expansion.specs.Item.{Step}
 use Rattle.pp_expansion.specs.inner.Left.{IsSound}
 use Rattle.pp_expansion.specs.inner.Machine.{Machine}
 use Rattle.pp_expansion.specs.inner.Reader.{Reader, of_source, of_list}
-use Rattle.pp_expansion.specs.inner.Source.{Source, untold_of}
-use Rattle.pp_expansion.specs.inner.Untold.{IsToldBut}
+use Rattle.pp_expansion.specs.inner.Source.{Source, unreported_of}
+use Rattle.pp_expansion.specs.inner.Unreported.{IsReportedBut}
 use Rattle.pp_expansion.specs.declared.step.StepExit.TheVariants.{Finished}
 
 -- a source with no item left, and no open block
@@ -31,5 +31,5 @@ pub record IsFit (machine : Machine) (source : Source) : Type 0 where
   pub last : EndIsLast machine.held machine.frames (of_source source)
 
 -- each error of the lexer that was read was reported, but for one that is held
-abbrev pub IsTold : Machine → Source → Type 0
-IsTold machine source = IsToldBut machine.held (untold_of source)
+abbrev pub IsReported : Machine → Source → Type 0
+IsReported machine source = IsReportedBut machine.held (unreported_of source)

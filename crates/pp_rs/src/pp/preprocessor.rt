@@ -37,14 +37,14 @@ pub struct Preprocessor<'a> {
 
 impl<'a> Model for Preprocessor<'a> {
     ghost use Rattle.std.specs.Prelude.{◌≡◌, false};
-    ghost use Rattle.pp_rs.specs.inner.Fit.{IsFit, IsTold};
+    ghost use Rattle.pp_rs.specs.inner.Fit.{IsFit, IsReported};
     ghost use Rattle.pp_rs.specs.Kept.{Preprocessing};
 
     ghost Value = { Preprocessing };
 
     ghost view = { λ p. record { machine = p.caller; source = p.source; spent = p.spent; place = p.place } };
 
-    ghost invariant = { λ p. p.spent ≡ false → IsFit p.caller p.source × IsTold p.caller p.source };
+    ghost invariant = { λ p. p.spent ≡ false → IsFit p.caller p.source × IsReported p.caller p.source };
 }
 
 // The error, where `OutOfMemory` has its one place.

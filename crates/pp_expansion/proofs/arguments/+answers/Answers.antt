@@ -53,8 +53,8 @@ expand_argument-returns-in-Err-Finished-clause-alone t c = rw c.new.ensures (rea
 pub expand_argument-returns-in-Err-Error-clause-alone : goal.expand_argument-returns-in-Err-Error-clause-alone
 expand_argument-returns-in-Err-Error-clause-alone t c =
     let heard = sym c.is_out_of_memory.ensures ∙ c.if-is_out_of_memory.false in
-    let told : is_out_of_memory c.in-Err-Error.fault.0 ≡ false = ap (λ f. is_out_of_memory f.0) (sym c.in-Err-Error.fault-is) ∙ heard in
-    subst (λ (f : Fault). Alone c.args.levels c.args.tokens (meaning_of c.args.definitions.now) c.args.hidden.now (Err f)) (sym c.in-Err-Error.fault-is) (reached_fault _ _ _ _ _ _ _ c.items.invariant.reached _ _ c.in-Err-Error.fault (turned _ _ _ _ (Err (Error c.in-Err-Error.fault)) (rw c.in-Err-Error.field-0-is at c.in-Err-Error.ensures.turns) told) told)
+    let reported : is_out_of_memory c.in-Err-Error.fault.0 ≡ false = ap (λ f. is_out_of_memory f.0) (sym c.in-Err-Error.fault-is) ∙ heard in
+    subst (λ (f : Fault). Alone c.args.levels c.args.tokens (meaning_of c.args.definitions.now) c.args.hidden.now (Err f)) (sym c.in-Err-Error.fault-is) (reached_fault _ _ _ _ _ _ _ c.items.invariant.reached _ _ c.in-Err-Error.fault (turned _ _ _ _ (Err (Error c.in-Err-Error.fault)) (rw c.in-Err-Error.field-0-is at c.in-Err-Error.ensures.turns) reported) reported)
 
 pub expand_argument-returns-in_err-finish_call-in-Ok-Call-clause-alone : goal.expand_argument-returns-in_err-finish_call-in-Ok-Call-clause-alone
 expand_argument-returns-in_err-finish_call-in-Ok-Call-clause-alone t c =

@@ -12,7 +12,7 @@ use Rattle.pp_plain.proofs.run.add_define.Goals as goal
 pub returns-in-Err : goal.returns-in-Err
 returns-in-Err c =
     ok_more _ _ c.refusal.result
-    (λ r told. refused_reply (answers_at expansion_limit) c.args.name.now c.args.content.now c.added_body.result c.in-Err.halt (seen source_state c.args.expander.now) r c.added_body.ensures c.in-Err.is told)
+    (λ r reported. refused_reply (answers_at expansion_limit) c.args.name.now c.args.content.now c.added_body.result c.in-Err.halt (seen source_state c.args.expander.now) r c.added_body.ensures c.in-Err.is reported)
     c.refusal.ensures
 
 pub returns-in_ok-add-in-Ok : goal.returns-in_ok-add-in-Ok

@@ -1,7 +1,7 @@
 use Rattle.std.proofs.Common.{◌≡◌, ◌≢◌, [], false, IsTrue, All, IfSome, ◌+◌, ◌≤◌, length, drop}
 use Rattle.pp_lexer.specs.TokenValue.{is_ordinary}
 use Rattle.pp_expansion.specs.inner.LineReading as spec
-use Rattle.pp_expansion.specs.inner.SourceLexed.{untold_at}
+use Rattle.pp_expansion.specs.inner.SourceLexed.{unreported_at}
 use Rattle.pp_source.proofs.LineReadingLemmas.{tokens_before, wanted_items}
 use Rattle.pp_source.proofs.lines.line_tokens_from.Given as goal
 
@@ -12,7 +12,7 @@ invariant-loop-next l = record {
   place : drop (spec.length_after l.next l.lexer.rest) l.lexer.rest ≡ drop (spec.length_after l.initial.next l.initial.lexer.rest) l.initial.lexer.rest;
   fewer : length l.lexer.rest ≤ length l.initial.lexer.rest;
   unspent : l.lexer.spent ≡ false;
-  errors : untold_at l.lexer ≡ untold_at l.initial.lexer;
+  errors : unreported_at l.lexer ≡ unreported_at l.initial.lexer;
   read_ordinary : All (λ t. IsTrue (is_ordinary t.value)) l.tokens.items;
   next_ordinary : IfSome l.next (λ t. IsTrue (is_ordinary t.value));
   comments : spec.comments_after l.next l.lexer.rest l.lexer.had_comments ≡ spec.comments_after l.initial.next l.initial.lexer.rest l.initial.lexer.had_comments;

@@ -1,7 +1,7 @@
 use Rattle.std.proofs.Common.{◌≡◌, false, ◌≤◌, length, drop}
 use Rattle.pp_model.specs.Lines.{line_length}
 use Rattle.pp_expansion.specs.inner.LineReading as spec
-use Rattle.pp_expansion.specs.inner.SourceLexed.{untold_at}
+use Rattle.pp_expansion.specs.inner.SourceLexed.{unreported_at}
 use Rattle.pp_source.proofs.lines.skip_line.Given as goal
 
 -- what is left of the line is its end
@@ -11,7 +11,7 @@ invariant-line l = record {
   place : drop (line_length l.lexer.rest) l.lexer.rest ≡ drop (line_length l.initial.lexer.rest) l.initial.lexer.rest;
   fewer : length l.lexer.rest ≤ length l.initial.lexer.rest;
   unspent : l.lexer.spent ≡ false;
-  errors : untold_at l.lexer ≡ untold_at l.initial.lexer;
+  errors : unreported_at l.lexer ≡ unreported_at l.initial.lexer;
 }
 
 abbrev pub decreases-line : goal.decreases-line

@@ -1,6 +1,6 @@
 use Rattle.std.proofs.Common.{◌≡◌, false, ◌≤◌, length}
 use Rattle.pp_model.specs.DefineLines.{parameters, after_parameter}
-use Rattle.pp_expansion.specs.inner.SourceLexed.{untold_at}
+use Rattle.pp_expansion.specs.inner.SourceLexed.{unreported_at}
 use Rattle.pp_source.proofs.parameters.parameters.Given as goal
 
 -- what goes on after these parameters is the whole
@@ -9,7 +9,7 @@ invariant-parameters l = record {
   whole : parameters l.fn.word l.fn.lexer.rest ≡ after_parameter l.fn.word l.names.items l.lexer.rest;
   fewer : length l.lexer.rest ≤ length l.fn.lexer.rest;
   unspent : l.lexer.spent ≡ false;
-  errors : untold_at l.lexer ≡ untold_at l.fn.lexer;
+  errors : unreported_at l.lexer ≡ unreported_at l.fn.lexer;
 }
 
 abbrev pub decreases-parameters : goal.decreases-parameters

@@ -1,7 +1,7 @@
 use Rattle.std.proofs.Common.{refl}
 use Rattle.pp_lexer.specs.Spots.{spots_of}
 use Rattle.pp_source.proofs.EndedLemmas.{start_ended}
-use Rattle.pp_source.proofs.UntoldLemmas.{start_has_places}
+use Rattle.pp_source.proofs.UnreportedLemmas.{start_has_places}
 use Rattle.pp_source.proofs.source_lexer.SourceLexer.new.Goals as goal
 
 pub invariant_of-result : goal.invariant_of-result

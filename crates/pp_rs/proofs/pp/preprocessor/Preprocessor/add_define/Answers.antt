@@ -1,9 +1,9 @@
 use Rattle.std.proofs.Common.{subst, sym}
 use Rattle.std.specs.Str.{chars}
-use Rattle.pp_rs.specs.inner.Fit.{IsFit, IsTold}
+use Rattle.pp_rs.specs.inner.Fit.{IsFit, IsReported}
 use Rattle.pp_rs.specs.Kept.{Preprocessing}
 use Rattle.pp_expansion.specs.inner.Source.{Source}
-use Rattle.pp_rs.proofs.runs.AddingLemmas.{added_now, faulty_now, refused_now, fit_added, told_added}
+use Rattle.pp_rs.proofs.runs.AddingLemmas.{added_now, faulty_now, refused_now, fit_added, reported_added}
 use Rattle.pp_rs.proofs.pp.preprocessor.Preprocessor.add_define.Goals.{in-Ok, in-Err-Fault, in-Err-OutOfMemory}
 use Rattle.pp_rs.proofs.pp.preprocessor.Preprocessor.add_define.Goals as goal
 
@@ -31,15 +31,15 @@ invariant_of-self c =
     let p = c.self.inside in
     let new = c.set_content.new.self in
     λ unspent.
-    let fit : IsFit p.caller p.source × IsTold p.caller p.source = c.self.invariant unspent in
+    let fit : IsFit p.caller p.source × IsReported p.caller p.source = c.self.invariant unspent in
     elim c.match-set_content.branch [
       | in-Ok w ↦
           (let h = w.in-Ok.ensures {u = tt} in
-          (fit_added (chars c.args.name.now) h.0 p.source new h.2 p.caller fit.0, told_added (chars c.args.name.now) h.0 p.source new h.2 p.caller fit.1))
+          (fit_added (chars c.args.name.now) h.0 p.source new h.2 p.caller fit.0, reported_added (chars c.args.name.now) h.0 p.source new h.2 p.caller fit.1))
       | in-Err-Fault w ↦
           (let h = rw w.in-Err-Fault.field-0-is at (w.in-Err-Fault.ensures {u = tt}) in
-          subst (λ (s : Source). IsFit p.caller s × IsTold p.caller s) (sym h.1) fit)
+          subst (λ (s : Source). IsFit p.caller s × IsReported p.caller s) (sym h.1) fit)
       | in-Err-OutOfMemory w ↦
           (let h = rw w.in-Err-OutOfMemory.field-0-is at (w.in-Err-OutOfMemory.ensures {u = tt}) in
-          subst (λ (s : Source). IsFit p.caller s × IsTold p.caller s) (sym h) fit)
+          subst (λ (s : Source). IsFit p.caller s × IsReported p.caller s) (sym h) fit)
     ]

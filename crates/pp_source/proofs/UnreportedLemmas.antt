@@ -1,4 +1,4 @@
--- What reading makes of the errors of the lexer that were not told yet.
+-- What reading makes of the errors of the lexer that were not reported yet.
 use Rattle.std.proofs.Common.{◌≡◌, List, [], ◌∷◌, map, refl, subst, Result}
 use Rattle.pp_lexer.specs.Items.{Item, items_of, places_of}
 use Rattle.pp_lexer.specs.ItemLaws.{StandAt}
@@ -8,7 +8,7 @@ use Rattle.pp_lexer.specs.declared.token.Location.{Location}
 use Rattle.pp_lexer.proofs.items.ItemPlacesLemmas.{places_of_items}
 use Rattle.pp_expansion.specs.Item.{Fault}
 use Rattle.pp_expansion.specs.inner.SourceLexed.{HavePlaces}
-use Rattle.pp_expansion.specs.inner.Untold.{Untold, IsMet, Tells}
+use Rattle.pp_expansion.specs.inner.Unreported.{Unreported, IsMet, Reports}
 use Rattle.pp_expansion.specs.declared.halt.Halt.{Halt}
 
 -- the items of a text have places
@@ -28,10 +28,10 @@ places_after [] (place ∷ places) h = absurd h
 places_after (s ∷ rest) [] h = absurd h
 places_after (s ∷ rest) (place ∷ places) h = h
 
--- where no error is read, no error is untold
-pub nothing_met : (fault : Fault) (old new : Untold) → new ≡ old → IsMet fault old new
+-- where no error is read, no error is unreported
+pub nothing_met : (fault : Fault) (old new : Unreported) → new ≡ old → IsMet fault old new
 nothing_met fault old new same none = rw (same, none) refl
 
 -- a result after something that read no error
-pub tells_after : {A : Type 0} (result : Result A Halt) (old mid new : Untold) → mid ≡ old → Tells result mid new → Tells result old new
-tells_after result old mid new same = subst (λ (u : Untold). Tells result u new) same
+pub reports_after : {A : Type 0} (result : Result A Halt) (old mid new : Unreported) → mid ≡ old → Reports result mid new → Reports result old new
+reports_after result old mid new same = subst (λ (u : Unreported). Reports result u new) same
