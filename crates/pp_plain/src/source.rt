@@ -31,7 +31,7 @@ pub struct Source<'a> {
 }
 
 // A fault as what reading gives.
-fn reported(fault: Fault) -> Option<Outcome>
+fn fault_outcome(fault: Fault) -> Option<Outcome>
     ensures { result ≡ Some (outcome.Fault fault) }
 {
     Some(Outcome::Fault(fault))
@@ -50,7 +50,7 @@ impl<'a> Source<'a> {
                 Ok(None)
             }
             Some(old) if is_same_definition(old, &named.definition) => Ok(None),
-            Some(_) => Ok(reported((PreprocessorError::DefineRedefined, named.location))),
+            Some(_) => Ok(fault_outcome((PreprocessorError::DefineRedefined, named.location))),
         }
     }
 
@@ -78,7 +78,7 @@ impl<'a> Source<'a> {
                 self.reader.decide(holds)?;
                 Ok(None)
             }
-            Err(Halt::Fault(fault)) => Ok(reported(fault)),
+            Err(Halt::Fault(fault)) => Ok(fault_outcome(fault)),
             Err(Halt::Stop(stop)) => Err(stop),
         }
     }
@@ -107,7 +107,7 @@ impl<'a> Source<'a> {
                 self.reader.renumber(word, number);
                 Ok(None)
             }
-            Err(Halt::Fault(fault)) => Ok(reported(fault)),
+            Err(Halt::Fault(fault)) => Ok(fault_outcome(fault)),
             Err(Halt::Stop(stop)) => Err(stop),
         }
     }

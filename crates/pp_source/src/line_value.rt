@@ -115,7 +115,7 @@ fn fault_of_operand(alloc: Global, directive: Location, word: &Word) -> Result<F
 }
 
 // The first fault of an expression, with its place.
-fn reported(
+fn reported_fault(
     alloc: Global,
     directive: Location,
     words: &Words,
@@ -167,7 +167,7 @@ fn holds_alone(
             ends_line(alloc, words, value.left)?;
             Ok(value.value != 0)
         }
-        Err(found) => Err(Halt::Fault(reported(alloc, directive, words, found)?)),
+        Err(found) => Err(Halt::Fault(reported_fault(alloc, directive, words, found)?)),
     }
 }
 
@@ -186,7 +186,7 @@ fn number_alone(
             ends_line(alloc, words, value.left)?;
             Ok(number)
         }
-        Err(found) => Err(Halt::Fault(reported(alloc, directive, words, found)?)),
+        Err(found) => Err(Halt::Fault(reported_fault(alloc, directive, words, found)?)),
     }
 }
 
@@ -241,7 +241,7 @@ fn numbers(alloc: Global, directive: Location, words: Words) -> Result<u32, Halt
 {
     let value = match evaluation(alloc, &words)? {
         Ok(value) => value,
-        Err(found) => return Err(Halt::Fault(reported(alloc, directive, &words, found)?)),
+        Err(found) => return Err(Halt::Fault(reported_fault(alloc, directive, &words, found)?)),
     };
     let number = match as_line_number(value) {
         Some(number) => number,

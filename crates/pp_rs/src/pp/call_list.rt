@@ -13,7 +13,7 @@ use pp_model::outcome::{Fault, Outcome};
 use std::alloc::{AllocError, Global};
 
 // The error, where it isn't that memory was refused.
-fn reported(fault: Fault) -> Result<Fault, AllocError>
+fn reported_fault(fault: Fault) -> Result<Fault, AllocError>
     ensures { IfOk result (λ reported. (reported ≡ fault) × (is_out_of_memory reported.0 ≡ false)) }
 {
     if is_out_of_memory(&fault.0) {
@@ -34,7 +34,7 @@ fn reply_to_definition(
 {
     match pp.add_define(name, content) {
         Ok(()) => Ok(Reply::Added),
-        Err(fault) => Ok(Reply::Refused(reported(fault)?)),
+        Err(fault) => Ok(Reply::Refused(reported_fault(fault)?)),
     }
 }
 
@@ -45,7 +45,7 @@ fn reply_to_next(pp: &mut Preprocessor<'_>) -> Result<Reply, AllocError>
 {
     match pp.next() {
         Some(Ok(token)) => Ok(Reply::Given(Outcome::Token(token))),
-        Some(Err(fault)) => Ok(Reply::Given(Outcome::Fault(reported(fault)?))),
+        Some(Err(fault)) => Ok(Reply::Given(Outcome::Fault(reported_fault(fault)?))),
         None => Ok(Reply::Given(Outcome::End)),
     }
 }

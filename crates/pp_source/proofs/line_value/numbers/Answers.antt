@@ -3,7 +3,7 @@ use Rattle.pp_source.proofs.LineValueLemmas.{satisfies_more}
 use Rattle.pp_source.proofs.line_value.numbers.Goals as goal
 
 pub returns-in-Err : goal.returns-in-Err
-returns-in-Err c = numbers_faulty c.args.directive c.args.words _ c.in-Err.found _ c.in_ok-value.ensures c.in-Err.is c.in_ok-reported-in-Err.ensures
+returns-in-Err c = numbers_faulty c.args.directive c.args.words _ c.in-Err.found _ c.in_ok-value.ensures c.in-Err.is c.in_ok-reported_fault-in-Err.ensures
 
 pub returns-in-None : goal.returns-in-None
 returns-in-None c = numbers_out c.args.directive c.args.words _ c.in-Ok.value _ c.in_ok-value.ensures c.in-Ok.is c.as_line_number.ensures c.in-None.is
