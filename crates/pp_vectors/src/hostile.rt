@@ -1,7 +1,7 @@
 //! Hostile texts: sources that are cut off, definitions that are added without end, and long chains. Each run comes to
 //! its end.
 
-use pp_rs::pp::{Preprocessor, PreprocessorItem, preprocess_all};
+use pp_rs::pp::{Preprocessor, PreprocessorItem, drain, preprocess_all};
 use pp_shown::{item, joined};
 use std::alloc::{AllocError, Global};
 use std::test::Fail;
@@ -73,6 +73,18 @@ fn ends_with_additions(pp: &mut Preprocessor<'_>) -> bool {
         }
     }
     false
+}
+
+#[test]
+fn a_drained_preprocessor_gives_nothing(rt: HostRuntime) -> Result<(), Fail> {
+    for source in WORKED {
+        let mut pp = start(rt.alloc(), source)?;
+        drop(pp.next());
+        drain(&mut pp);
+        drop(pp.add_define("A", "1"));
+        assert!(rt; pp.next().is_none(), "after {source:?}");
+    }
+    Ok(())
 }
 
 #[test]

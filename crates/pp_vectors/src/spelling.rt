@@ -3,8 +3,8 @@
 ghost use Rattle.std.specs.Prelude.{◌≡◌};
 
 use pp_rs::pp::{
-    EXPANSION_LIMIT, Preprocessor, StepExit, convert_lexer_token, convert_lexer_token_to_step,
-    spell_tokens,
+    EXPANSION_LIMIT, Preprocessor, StepExit, are_read_afresh, convert_lexer_token,
+    convert_lexer_token_to_step, spell_tokens,
 };
 use pp_rs::token::{Location, PreprocessorError, Punct, Text, Token, TokenValue};
 use pp_rs::{laws, lexer};
@@ -52,9 +52,15 @@ fn spelled(alloc: Global, tokens: &[Token]) -> Result<String, AllocError> {
     }
 }
 
-// Whether two lists of tokens have the same values.
-fn have_same_values(one: &[Token], other: &[Token]) -> bool {
-    one.len() == other.len() && one.iter().zip(other).all(|(a, b)| a.value == b.value)
+// Whether the tokens are ordinary, and their text gives them again.
+fn read_afresh(alloc: Global, tokens: &[Token]) -> Result<bool, AllocError> {
+    if !tokens.iter().all(|token| token.is_ordinary()) {
+        return Ok(false);
+    }
+    match are_read_afresh(alloc, tokens) {
+        Ok(answer) => Ok(answer),
+        Err(_) => Err(AllocError),
+    }
 }
 
 // Sources, and the text that spells their tokens.
@@ -73,9 +79,20 @@ fn spelled_text_gives_the_same_values(rt: HostRuntime) -> Result<(), Fail> {
         let first = tokens(rt.alloc(), source)?;
         let text = spelled(rt.alloc(), &first)?;
         assert_eq!(rt; text.as_str(), wanted);
-        let again = tokens(rt.alloc(), text.as_str())?;
-        assert!(rt; have_same_values(&again, &first), "of {source:?}");
+        assert!(rt; read_afresh(rt.alloc(), &first)?, "of {source:?}");
     }
+    Ok(())
+}
+
+// A name with a blank in it comes of no source, and its text gives two tokens.
+#[test]
+fn what_is_no_output_is_not_read_afresh(rt: HostRuntime) -> Result<(), Fail> {
+    let value = TokenValue::Ident(Text::from(String::from_str(rt.alloc(), "a b")?));
+    let token = Token {
+        value,
+        location: PLACE,
+    };
+    assert!(rt; !read_afresh(rt.alloc(), &[token])?);
     Ok(())
 }
 
