@@ -17,7 +17,7 @@ pub use types.Run.{enter, addr, stop, no_more, and_then, returns}
 pub use types.ByLocal.{alloc_all, pass_all, free_all, look_at, get, through, sets, lands_as}
 pub use denote.FnPtr.{vt_lit}
 pub use denote.Lend.{lends_again, comes_back, LentAgain}
-pub use denote.Ref.{MutRef, mut_vals, mut_Reports, mut_hides}
+pub use denote.Ref.{MutRef, mut_vals, mut_Tells, mut_hides}
 pub use denote.Param.Table.{MutAny, Includes-none}
 pub use denote.Param.Dyn.{wide_val, table_at}
 pub use denote.Signature.{plain, named_lft}

@@ -1,5 +1,5 @@
 use Rattle.std.specs.Prelude.{IfOk}
-use Rattle.pp_expansion.proofs.taking.Walk.{[], ◌∷◌, ◌++◌, ℕ, refl, MutBor, proved, full_share, common, id⊢, emp, wand, sep, apply∗, Lft, Incl, ftrue, flft, fdead, named, mut, ty_ref, ty_unit, vptr, fact, fact_i, tables, ⊑_meet, ⊑_refl, meet_⊑_left, meet_⊑_right, ‵, raw, ◌⊛◌, some, later, ◌$◌, ◌∵◌, !, qed, done, move, keep, use0, use1, use2, use3, split, join, fsplit, pick, await, suffices, frame, group, lft_new, lft_end, lft-common, agg, enter, addr, stop, no_more, and_then, returns, alloc_all, pass_all, free_all, look_at, get, through, sets, lands_as, vt_lit, lends_again, comes_back, LentAgain, MutRef, mut_vals, mut_Reports, mut_hides, MutAny, Includes-none, wide_val, table_at, plain, named_lft, nothing, heard, peeks, calls_at, lasts, triple_of, Stays, stay_ref, Goes-ref, ends_at, framed, hide_mut, Is, shows}
+use Rattle.pp_expansion.proofs.taking.Walk.{[], ◌∷◌, ◌++◌, ℕ, refl, MutBor, proved, full_share, common, id⊢, emp, wand, sep, apply∗, Lft, Incl, ftrue, flft, fdead, named, mut, ty_ref, ty_unit, vptr, fact, fact_i, tables, ⊑_meet, ⊑_refl, meet_⊑_left, meet_⊑_right, ‵, raw, ◌⊛◌, some, later, ◌$◌, ◌∵◌, !, qed, done, move, keep, use0, use1, use2, use3, split, join, fsplit, pick, await, suffices, frame, group, lft_new, lft_end, lft-common, agg, enter, addr, stop, no_more, and_then, returns, alloc_all, pass_all, free_all, look_at, get, through, sets, lands_as, vt_lit, lends_again, comes_back, LentAgain, MutRef, mut_vals, mut_Tells, mut_hides, MutAny, Includes-none, wide_val, table_at, plain, named_lft, nothing, heard, peeks, calls_at, lasts, triple_of, Stays, stay_ref, Goes-ref, ends_at, framed, hide_mut, Is, shows}
 use Rattle.pp_expansion.specs.inner.Reader.{of_list}
 use Rattle.pp_expansion.specs.inner.Machine.{TakesNext}
 use Rattle.pp_expansion.specs.Held.{HoldsOrdinary}
@@ -29,7 +29,7 @@ take_list_spec 𝓤 𝓛 𝓜 𝓡 wired =
     let c = f.clauses 𝓛 𝓜.mem 𝓡.returns in
     proved 𝓛 f.ended row c 𝓜 𝓡 (Goes-ref 𝓛 3 0 tt (plain (λ _. P)), (Goes-ref 𝓛 3 1 tt (plain (λ κs. source_row (named_lft 3 2 tt κs))), tt))
     f.Key.name code.function (code.unfolded 𝓤 𝓛.H 𝓜 𝓡 wired)
-    (λ κs. (mut_vals, (mut_vals, tt))) (λ κs. (mut_Reports (named 0) κs.0 P, (mut_Reports (named 1) κs.1.0 (source_row (named_lft 3 2 tt κs)), tt))) (λ κs qs bounds a _ are.
+    (λ κs. (mut_vals, (mut_vals, tt))) (λ κs. (mut_Tells (named 0) κs.0 P, (mut_Tells (named 1) κs.1.0 (source_row (named_lft 3 2 tt κs)), tt))) (λ κs qs bounds a _ are.
     let κp = κs.0 in let κ = κs.1.0 in let κ₁ = κs.1.1.0 in let qp = qs.0 in let q = qs.1.0 in let q₁ = qs.1.1.0 in
     let p = a.0 in let r = a.1.0 in let b = r.ref_ptr.0 in let o = r.ref_ptr.1 in
     let R = source_row (named_lft 3 2 tt κs) in let O = result_row token_row exit_row in

@@ -17,7 +17,7 @@ use types.Run.{enter, addr, stop, no_more, and_then, returns}
 use types.ByLocal.{alloc_all, pass_all, free_all, look_at, get, through, sets, lands_as}
 use denote.FnPtr.{vt_lit}
 use denote.Lend.{lends_again, comes_back, LentAgain}
-use denote.Ref.{MutRef, mut_vals, mut_Reports, mut_hides}
+use denote.Ref.{MutRef, mut_vals, mut_Tells, mut_hides}
 use denote.Param.Table.{MutAny, Includes-none}
 use denote.Param.Dyn.{wide_val, table_at}
 use denote.Signature.{plain, named_lft}
@@ -56,7 +56,7 @@ step_source_spec 𝓤 𝓛 𝓜 𝓡 wired =
     let c = f.clauses 𝓛 𝓜.mem 𝓡.returns in
     proved 𝓛 f.ended row c 𝓜 𝓡 (Goes-ref 𝓛 3 0 tt (plain (λ _. P)), (Goes-ref 𝓛 3 1 tt (plain (λ κs. source_row (named_lft 3 2 tt κs))), tt))
     f.Key.name code.function (code.unfolded 𝓤 𝓛.H 𝓜 𝓡 wired)
-    (λ κs. (mut_vals, (mut_vals, tt))) (λ κs. (mut_Reports (named 0) κs.0 P, (mut_Reports (named 1) κs.1.0 (source_row (named_lft 3 2 tt κs)), tt))) (λ κs qs bounds a _ are.
+    (λ κs. (mut_vals, (mut_vals, tt))) (λ κs. (mut_Tells (named 0) κs.0 P, (mut_Tells (named 1) κs.1.0 (source_row (named_lft 3 2 tt κs)), tt))) (λ κs qs bounds a _ are.
     let κp = κs.0 in let κ = κs.1.0 in let κ₁ = κs.1.1.0 in let qp = qs.0 in let q = qs.1.0 in let q₁ = qs.1.1.0 in
     let p = a.0 in let r = a.1.0 in let b = r.ref_ptr.0 in let o = r.ref_ptr.1 in
     let R = source_row (named_lft 3 2 tt κs) in let O = result_row token_row exit_row in
