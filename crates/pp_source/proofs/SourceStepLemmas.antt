@@ -54,7 +54,9 @@ hash_sight token rest v s = rw (v, s) refl
 
 -- what a directive comes to after its number sign, by the token after it
 abbrev word_move_by : Bool → Option OpenBlock → Result LexerToken Fault → List Seen → Move
-word_move_by live block first after = if live then live_word_move block (first >>= λ token. name_of token >>= λ name. Ok (record { name = name; location = token.location })) after else dead_word_move block first after
+word_move_by live block first after =
+    if live then live_word_move block (first >>= λ token. name_of token >>= λ name. Ok (record { name = name; location = token.location })) after
+    else dead_word_move block first after
 
 module _ (definitions : List Defined) (blocks : List OpenBlock) (line_offset : ℤ) (has_text has_directive : Bool) (old mid : SourceLexed) (new : Source) (taken : mid.rest ≡ drop 1 old.rest) (fewer : length mid.rest < length old.rest) where
   -- what a move means after the number sign is a step of the source, or memory was refused
@@ -80,11 +82,16 @@ module _ (definitions : List Defined) (blocks : List OpenBlock) (line_offset : �
   live_makes block token None result h = acts_make (fails (refused_token token)) 0 1 unnoted refl result h
   live_makes block token (Some name) result h = directive_makes true block name token.location result h
 
-  -- so it does where the word is the token's name
-  named_gives : (block : Option OpenBlock) (token : LexerToken) (result : Result (Option Token) Halt) → Gives (word_move_by true block (Ok token) (drop 1 mid.rest)) (source_of mid definitions blocks line_offset has_text has_directive) result new
-      → Gives (live_word_move block (name_or_refused token (identifier_of token.value)) (drop 1 mid.rest)) (source_of mid definitions blocks line_offset has_text has_directive) result new
+  -- what a move gives after the number sign
+  abbrev GivesBy : Result (Option Token) Halt → Move → Type 0
+  GivesBy result move = Gives move (source_of mid definitions blocks line_offset has_text has_directive) result new
+
+  -- the same by the name that the token holds, or its refusal
+  named_gives : (block : Option OpenBlock) (token : LexerToken) (result : Result (Option Token) Halt)
+      → GivesBy result (word_move_by true block (Ok token) (drop 1 mid.rest))
+      → GivesBy result (live_word_move block (name_or_refused token (identifier_of token.value)) (drop 1 mid.rest))
   named_gives block token result h =
-      subst (λ (word : Result Placed Fault). Gives (live_word_move block word (drop 1 mid.rest)) (source_of mid definitions blocks line_offset has_text has_directive) result new) (name_or_refused_is token) h
+      subst (λ (word : Result Placed Fault). GivesBy result (live_word_move block word (drop 1 mid.rest))) (name_or_refused_is token) h
 
   dead_makes : (block : Option OpenBlock) (token : LexerToken) (name : Option Name) (result : Result (Option Token) Halt) → Gives (dead_name_move block token.location name (drop 1 mid.rest)) (source_of mid definitions blocks line_offset has_text has_directive) result new
       → StepsBy result (move_at false block (named_directive token name) old.rest)
@@ -93,8 +100,7 @@ module _ (definitions : List Defined) (blocks : List OpenBlock) (line_offset : �
 
   word_makes : (live : Bool) (block : Option OpenBlock) (first : Result LexerToken Fault) (result : Result (Option Token) Halt) → Gives (word_move_by live block first (drop 1 mid.rest)) (source_of mid definitions blocks line_offset has_text has_directive) result new
       → StepsBy result (move_at live block (directive_sight first) old.rest)
-  word_makes true block (Ok token) result h =
-      live_makes block token (identifier_of token.value) result (named_gives block token result h)
+  word_makes true block (Ok token) result h = live_makes block token (identifier_of token.value) result (named_gives block token result h)
   word_makes true block (Err fault) result h = acts_make (fails fault) 0 1 unnoted refl result h
   word_makes false block (Ok token) result h = dead_makes block token (identifier_of token.value) result h
   word_makes false block (Err fault) result h = acts_make (fails fault) 0 1 unnoted refl result h

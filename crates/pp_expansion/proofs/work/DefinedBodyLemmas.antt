@@ -54,7 +54,8 @@ defined_after word token (LexerIdent name) rest = named_least (definition_at wor
 defined_after word token _ rest = tt
 
 defined_at : (word : Location) (item : Lexeme) (had : Bool) (rest : List Seen)
-    → IfOk (defined_on word (record { item = item; had_comments = had } ∷ rest)) (λ named. length named.definition.body ≤ line_length (record { item = item; had_comments = had } ∷ rest))
+    → IfOk (defined_on word (record { item = item; had_comments = had } ∷ rest))
+    (λ named. length named.definition.body ≤ line_length (record { item = item; had_comments = had } ∷ rest))
 defined_at word (Err fault) had rest = tt
 defined_at word (Ok token) had rest = rw (name_or_refused_is token) (defined_after word token token.value rest)
 

@@ -13,7 +13,8 @@ use Rattle.pp_model.specs.inner.DefineLines.{parameter_here}
 use Rattle.pp_model.specs.inner.Lines.{name_or_refused}
 
 -- one more parameter is that of the token's name
-pub parameter_here_is : (names : List Name) (token : LexerToken) → (name_of token >>= new_parameter names token.location) ≡ parameter_here names token (identifier_of token.value)
+pub parameter_here_is : (names : List Name) (token : LexerToken)
+    → (name_of token >>= new_parameter names token.location) ≡ parameter_here names token (identifier_of token.value)
 parameter_here_is names token = by (identifier_of token.value)
   where
     by : (found : Option Name) → (ok_or found (refused_token token) >>= new_parameter names token.location) ≡ parameter_here names token found
@@ -22,10 +23,12 @@ parameter_here_is names token = by (identifier_of token.value)
 
 -- a name with its place is that of the token's name
 pub name_or_refused_is : (token : LexerToken)
-    → ◌≡◌ {A = Result Placed Fault} (name_of token >>= λ name. Ok (record { name = name; location = token.location })) (name_or_refused token (identifier_of token.value))
+    → ◌≡◌ {A = Result Placed Fault} (name_of token >>= λ name. Ok (record { name = name; location = token.location }))
+    (name_or_refused token (identifier_of token.value))
 name_or_refused_is token = by (identifier_of token.value)
   where
     by : (found : Option Name)
-        → ◌≡◌ {A = Result Placed Fault} (ok_or found (refused_token token) >>= λ name. Ok (record { name = name; location = token.location })) (name_or_refused token found)
+        → ◌≡◌ {A = Result Placed Fault} (ok_or found (refused_token token) >>= λ name. Ok (record { name = name; location = token.location }))
+        (name_or_refused token found)
     by (Some name) = refl
     by None = refl

@@ -49,24 +49,30 @@ first_at true here none later fault e = cc
 first_at false (Ok names) none later fault e = cc
 first_at false (Err other) none later fault e = let same : other ≡ fault = cc in ap (λ (f : Fault). Err f) same
 
--- the parameters, by the first of them
+-- a parameter that stands here, and what goes on after it
+abbrev after_here : Location → List Seen → Result (List Name) Fault → Result Parameters Fault
+after_here word rest here = here >>= λ names. after_parameter word names rest
+
+-- no parameters, or a first one that stands here
+abbrev first_here : Location → LexerToken → List Seen → Result (List Name) Fault → Result Parameters Fault
+first_here word token rest here = if closes_parameters token.value then Ok (record { names = []; after = rest }) else after_here word rest here
+
 parameters_are : (word : Location) (token : LexerToken) (had : Bool) (rest : List Seen)
     → parameters word (record { item = Ok token; had_comments = had } ∷ rest)
-    ≡ (if closes_parameters token.value then Ok (record { names = []; after = rest }) else (parameter_here [] token (identifier_of token.value) >>= λ names. after_parameter word names rest))
-parameters_are word token had rest =
-    ap (λ (here : Result (List Name) Fault). if closes_parameters token.value then Ok (record { names = []; after = rest }) else (here >>= λ names. after_parameter word names rest))
-    (parameter_here_is [] token)
+    ≡ first_here word token rest (parameter_here [] token (identifier_of token.value))
+parameters_are word token had rest = ap (first_here word token rest) (parameter_here_is [] token)
 
--- the parameters after a comma, by the next of them
 after_comma_are : (word : Location) (names : List Name) (token : LexerToken) (had : Bool) (rest : List Seen)
-    → after_comma word names (record { item = Ok token; had_comments = had } ∷ rest) ≡ (parameter_here names token (identifier_of token.value) >>= λ more. after_parameter word more rest)
-after_comma_are word names token had rest = ap (λ (here : Result (List Name) Fault). here >>= λ more. after_parameter word more rest) (parameter_here_is names token)
+    → after_comma word names (record { item = Ok token; had_comments = had } ∷ rest)
+    ≡ after_here word rest (parameter_here names token (identifier_of token.value))
+after_comma_are word names token had rest = ap (after_here word rest) (parameter_here_is names token)
 
 first_item : (word : Location) (item : Lexeme) (had : Bool) (rest : List Seen) (fault : Fault) → first_parameter word (record { item = item; had_comments = had } ∷ rest) ≡ Err fault → parameters word (record { item = item; had_comments = had } ∷ rest) ≡ Err fault
 first_item word (Err f) had rest fault e = let same : f ≡ fault = cc in ap (λ (x : Fault). Err x) same
 first_item word (Ok token) had rest fault e =
-    parameters_are word token had rest
-    ∙ first_at (closes_parameters token.value) (parameter_here [] token (identifier_of token.value)) (record { names = []; after = rest }) (λ names. after_parameter word names rest) fault e
+    let here = parameter_here [] token (identifier_of token.value) in
+    let none : Parameters = record { names = []; after = rest } in
+    parameters_are word token had rest ∙ first_at (closes_parameters token.value) here none (λ names. after_parameter word names rest) fault e
 
 first_refused : (word : Location) (rest : List Seen) (fault : Fault) → first_parameter word rest ≡ Err fault → parameters word rest ≡ Err fault
 first_refused word [] fault e = let same : (UnexpectedEndOfInput, word) ≡ fault = cc in ap (λ (f : Fault). Err f) same
@@ -137,7 +143,8 @@ after_item word names (Ok token) had rest p comma e = after_token word names tok
 
 comma_item : (word : Location) (names : List Name) (item : Lexeme) (had : Bool) (rest : List Seen) (p : Parameters) → ((more : List Name) (q : Parameters) → after_parameter word more rest ≡ Ok q → IsOnLine rest q.after) → after_comma word names (record { item = item; had_comments = had } ∷ rest) ≡ Ok p → IsOnLine (record { item = item; had_comments = had } ∷ rest) p.after
 comma_item word names (Err fault) had rest p after e = cc
-comma_item word names (Ok token) had rest p after e = here_token word names token had rest p after (identifier_of token.value) refl (sym (after_comma_are word names token had rest) ∙ e)
+comma_item word names (Ok token) had rest p after e =
+    here_token word names token had rest p after (identifier_of token.value) refl (sym (after_comma_are word names token had rest) ∙ e)
 
 mutual
   after_on_line : (word : Location) (names : List Name) (rest : List Seen) (p : Parameters) → after_parameter word names rest ≡ Ok p → IsOnLine rest p.after
@@ -157,7 +164,8 @@ opening_token word token had rest p false c e = here_token word [] token had res
 
 opening_item : (word : Location) (item : Lexeme) (had : Bool) (rest : List Seen) (p : Parameters) → parameters word (record { item = item; had_comments = had } ∷ rest) ≡ Ok p → IsOnLine (record { item = item; had_comments = had } ∷ rest) p.after
 opening_item word (Err fault) had rest p e = cc
-opening_item word (Ok token) had rest p e = opening_token word token had rest p (closes_parameters token.value) refl (sym (parameters_are word token had rest) ∙ e)
+opening_item word (Ok token) had rest p e =
+    opening_token word token had rest p (closes_parameters token.value) refl (sym (parameters_are word token had rest) ∙ e)
 
 -- the parameters stand on one line
 pub parameters_on_line : (word : Location) (rest : List Seen) (p : Parameters) → parameters word rest ≡ Ok p → IsOnLine rest p.after
