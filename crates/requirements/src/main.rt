@@ -1,0 +1,54 @@
+//! Says what the shader on standard input asks of its compiler: its version, and its extensions with the lines on which
+//! they are asked for, as they stand where the macro `FAST` is 1. An error of the source is the last line.
+#![tactic(auto)]
+
+ghost use Rattle.std.specs.Prelude.{◌-◌, ◌^◌, ◌<◌, length};
+
+use pp_rs::pp::{Preprocessor, spell_tokens};
+use pp_rs::token::{Location, PreprocessorError, TokenValue};
+use std::alloc::Global;
+use std::io;
+
+// A source has fewer bytes than this.
+const SOURCE_LIMIT: usize = 4294967295;
+
+fn main(rt: HostRuntime) -> io::Result<()> {
+    let source = io::read_to_string(rt.alloc(), rt.stdin())?;
+    if source.len() >= SOURCE_LIMIT {
+        return println!(rt; "the source is too long");
+    }
+    match show_requirements(&rt, rt.alloc(), source.as_str())? {
+        Ok(()) => Ok(()),
+        Err((error, place)) => println!(rt; "line {}: {}", place.line, error.name()),
+    }
+}
+
+// Prints a line for each directive that asks for something, up to the first error.
+fn show_requirements(
+    rt: &impl Print,
+    alloc: Global,
+    source: &str,
+) -> io::Result<Result<(), (PreprocessorError, Location)>>
+    requires { length source.now < 2 ^ 32 - 1 }
+{
+    let mut pp = Preprocessor::new(alloc, source);
+    if let Err(refusal) = pp.add_define("FAST", "1") {
+        return Ok(Err(refusal));
+    }
+    'items: while let Some(item) = pp.next() {
+        let token = match item {
+            Ok(token) => token,
+            Err((error, _)) => return Ok(Err((error, pp.place()))),
+        };
+        let (kind, tokens) = match &token.value {
+            TokenValue::Version(version) => ("version", version.tokens.as_slice()),
+            TokenValue::Extension(extension) => ("extension", extension.tokens.as_slice()),
+            _ => continue,
+        };
+        match spell_tokens(alloc, tokens) {
+            Ok(text) => println!(rt; "line {}: {} {}", token.location.line, kind, text)?,
+            Err(refusal) => return Ok(Err(refusal)),
+        }
+    }
+    Ok(Ok(()))
+}
