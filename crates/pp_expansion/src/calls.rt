@@ -499,6 +499,7 @@ impl Caller {
     }
 
     /// One step: a token is taken, and is given, or opens its macro, or begins a call that is gathered.
+    #[inline(always)]
     pub fn step(&mut self, lexer: &mut dyn MeLexer) -> Step<Taken>
         ensures turns { TurnsOrRefuses self.old (reader lexer.old) result self.new (reader lexer.new) }
         ensures holds { IfOk result TakenHoldsOrdinary }

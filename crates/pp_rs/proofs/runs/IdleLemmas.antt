@@ -1,28 +1,26 @@
 -- A token of a source, where no macro is open: it is given at once, or is taken, held, and goes on from there.
 use Rattle.std.proofs.Common.{◌≡◌, ◌&&◌, inl, inr, ℕ, Bool, true, false, not, is_some, [], ◌∷◌, List, refl, Option, Some, None, Ok, Err}
 use Rattle.pp_lexer.specs.declared.token.Token.{Token}
-use Rattle.pp_lexer.specs.declared.token.PreprocessorError.TheVariants.{LineOverflow}
 use Rattle.pp_model.specs.Names.{is_identifier, line_name}
-use Rattle.pp_model.specs.declared.outcome.Outcome.TheVariants as outcome
 use Rattle.pp_expansion.specs.inner.CallTurns.{TurnsTo, passes, gives, object, seeks}
 use Rattle.pp_expansion.specs.inner.Frames.{Layer}
-use Rattle.pp_expansion.specs.inner.Idle.{is_idle, gives_itself}
+use Rattle.pp_expansion.specs.inner.Idle.{is_idle, gives_itself, IsHeld, HoldsWord}
 use Rattle.pp_expansion.specs.Item.{Step}
-use Rattle.pp_expansion.specs.inner.Machine.{Machine, StepsTaking, held, moved}
+use Rattle.pp_expansion.specs.inner.Machine.{Machine, taken_as, StepsTaking, held, moved}
 use Rattle.pp_expansion.specs.inner.Reader.{Reader, of_source, Reads}
 use Rattle.pp_expansion.specs.inner.Source.{Source}
 use Rattle.pp_rs.specs.inner.SourceTurns.{StepsOver}
-use Rattle.pp_expansion.specs.inner.Turns.{taken_in, opens_value}
+use Rattle.pp_expansion.specs.inner.Turns.{opens_value}
 use Rattle.pp_expansion.specs.declared.calls.Taken.{Taken}
 use Rattle.pp_expansion.specs.declared.calls.Taken.TheVariants as taken
 use Rattle.pp_expansion.specs.declared.step.StepExit.{StepExit}
-use Rattle.pp_expansion.specs.declared.step.StepExit.TheVariants.{Error}
 use Rattle.pp_expansion.proofs.taking.MachineLemmas.{takes_exit, takes_shown, takes_step, shows_token}
 
 abbrev pub idle : Machine
 idle = record { held = None; frames = [] }
 
-idle_at : (h : Option (Step Token)) (fs : List Layer) → is_idle (record { held = h; frames = fs }) ≡ true → ◌≡◌ {A = Machine} (record { held = h; frames = fs }) idle
+idle_at : (h : Option (Step Token)) (fs : List Layer) → is_idle (record { held = h; frames = fs }) ≡ true
+    → ◌≡◌ {A = Machine} (record { held = h; frames = fs }) idle
 idle_at None [] e = refl
 idle_at None (f ∷ fs) e = cc
 idle_at (Some step) fs e = cc
@@ -36,7 +34,8 @@ neither false (Some x) e = cc
 neither true o e = cc
 
 -- what a step that is held goes on to, the step by which it came goes on to
-module _ (m h : Machine) (r s : Reader) (token : Token) (takes : StepsTaking m r (Ok token) (record h { held = None }) s) (holds : h.held ≡ Some (Ok token)) where
+module _ (m h : Machine) (r s : Reader) (token : Token) (takes : StepsTaking m r (Ok token) (record h { held = None }) s)
+    (holds : h.held ≡ Some (Ok token)) where
   retaken : (step : Step Token) (n : Machine) (t : Reader) → StepsTaking h s step n t → StepsTaking m r step n t
   retaken step n t (held step1 m1 n1 r1 s1 a b c) =
       let same : step ≡ Ok token = cc in
@@ -46,41 +45,59 @@ module _ (m h : Machine) (r s : Reader) (token : Token) (takes : StepsTaking m r
   returned : (step : Step Taken) (n : Machine) (t : Reader) → TurnsTo h s step n t → TurnsTo m r step n t
   returned step n t (passes exit step1 m1 n1 r1 s1 steps is) = passes exit step m n r t (retaken (Err exit) n t steps) is
   returned step n t (gives token1 step1 m1 n1 r1 s1 steps none is) = gives token1 step m n r t (retaken (Ok token1) n t steps) none is
-  returned step p t (object token1 name definition step1 m1 n p1 r1 s1 steps some plain is opened) = object token1 name definition step m n p r t (retaken (Ok token1) n t steps) some plain is opened
-  returned step q t (seeks token1 name definition c step1 m1 n p q1 r1 u t1 steps some function sought finds) = seeks token1 name definition c step m n p q r u t (retaken (Ok token1) n u steps) some function sought finds
+  returned step p t (object token1 name definition step1 m1 n p1 r1 s1 steps some plain is opened) =
+      object token1 name definition step m n p r t (retaken (Ok token1) n t steps) some plain is opened
+  returned step q t (seeks token1 name definition c step1 m1 n p q1 r1 u t1 steps some function sought finds) =
+      seeks token1 name definition c step m n p q r u t (retaken (Ok token1) n u steps) some function sought finds
 
 module _ (levels : ℕ) (r s : Source) where
-  exits : (exit : StepExit) (step : Step Token) → StepsTaking idle (of_source r) (Err exit) idle (of_source s) → step ≡ Err exit → StepsOver levels idle r step idle s
-  exits exit step takes is = inl (record { taken = Err exit; between = idle; turns = passes exit (Err exit) idle idle (of_source r) (of_source s) takes refl; follows = (is, refl) })
+  exits : (exit : StepExit) (step : Step Token) → StepsTaking idle (of_source r) (Err exit) idle (of_source s) → step ≡ Err exit
+      → StepsOver levels idle r step idle s
+  exits exit step takes is =
+      let turns = passes exit (Err exit) idle idle (of_source r) (of_source s) takes refl in
+      inl (record { taken = Err exit; between = idle; turns = turns; follows = (is, refl) })
 
   -- a pause, a fault or the end of the source
-  pub idle_exit : (m : Machine) (exit : StepExit) (step : Step Token) → m ≡ idle → Reads (of_source r) (Err exit) (of_source s) → step ≡ Err exit → StepsOver levels m r step m s
-  idle_exit m exit step e reads is = rw e (exits exit step (takes_exit idle None None [] [] (Err exit) (Err exit) exit (of_source r) (of_source s) refl refl refl (refl, reads) refl refl) is)
+  pub idle_exit : (m : Machine) (exit : StepExit) (step : Step Token) → m ≡ idle → Reads (of_source r) (Err exit) (of_source s)
+      → step ≡ Err exit → StepsOver levels m r step m s
+  idle_exit m exit step e reads is =
+      let takes = takes_exit idle None None [] [] (Err exit) (Err exit) exit (of_source r) (of_source s) refl refl refl (refl, reads) refl refl in
+      rw e (exits exit step takes is)
 
   -- a token that is given as it stands there
-  pub idle_token : (m : Machine) (token : Token) → m ≡ idle → Reads (of_source r) (Ok token) (of_source s) → gives_itself s token.value ≡ true → StepsOver levels m r (Ok token) m s
+  pub idle_token : (m : Machine) (token : Token) → m ≡ idle → Reads (of_source r) (Ok token) (of_source s)
+      → gives_itself s token.value ≡ true → StepsOver levels m r (Ok token) m s
   idle_token m token e reads itself =
       let plain = neither (is_identifier line_name token.value) (opens_value [] (of_source s) token.value) itself in
       let takes = takes_step idle None None [] [] (Ok token) (of_source r) (of_source s) refl refl refl (refl, reads) plain.0 in
-      rw e (inl (record { taken = Ok (taken.Token token); between = idle; turns = gives token (Ok (taken.Token token)) idle idle (of_source r) (of_source s) takes plain.1 refl; follows = (refl, refl) }))
+      let turns = gives token (Ok (taken.Token token)) idle idle (of_source r) (of_source s) takes plain.1 refl in
+      rw e (inl (record { taken = Ok (taken.Token token); between = idle; turns = turns; follows = (refl, refl) }))
+
+  -- a step as which the word is taken
+  shown : (word : Token) (step : Step Token) → Reads (of_source r) (Ok word) (of_source s) → step ≡ taken_as (Ok word) [] (of_source s)
+      → StepsTaking idle (of_source r) step idle (of_source s)
+  shown word step reads is = takes_shown idle None None [] [] (Ok word) step (of_source r) (of_source s) refl refl refl (refl, reads) is
 
   -- `__LINE__` out of range
-  pub idle_fault : (m : Machine) (word : Token) (exit : StepExit) (step : Step Token) → m ≡ idle → Reads (of_source r) (Ok word) (of_source s)
-      → (exit ≡ Error (LineOverflow, word.location)) × (taken_in [] (of_source s) word ≡ outcome.Fault (LineOverflow, word.location)) → step ≡ Err exit → StepsOver levels m r step m s
-  idle_fault m word exit step e reads fault is =
-      rw e (exits exit step (takes_shown idle None None [] [] (Ok word) (Err exit) (of_source r) (of_source s) refl refl refl (refl, reads) (shows_token [] (of_source s) word (Err exit) fault)) is)
+  pub idle_fault : (m n : Machine) (word : Token) (exit : StepExit) (step : Step Token) → m ≡ idle
+      → Reads (of_source r) (Ok word) (of_source s) → HoldsWord word s m (Err exit) n → step ≡ Err exit → StepsOver levels m r step n s
+  idle_fault m n word exit step e reads fault is =
+      rw (fault.2, e) (exits exit step (shown word (Err exit) reads (shows_token [] (of_source s) word (Err exit) (fault.0, fault.1))) is)
 
-  -- a word that is taken and held
-  pub idle_word : (m h n : Machine) (t : Source) (word token : Token) (step : Step Token) → m ≡ idle → Reads (of_source r) (Ok word) (of_source s) → taken_in [] (of_source s) word ≡ outcome.Token token
-      → h ≡ record { held = Some (Ok token); frames = m.frames } → StepsOver levels h s step n t → StepsOver levels m r step n t
-  idle_word m h n t word token step e reads was is steps = rw e (goes (rw (is, e) at steps))
+  -- a word that is held goes on to what it goes on to as it is read
+  pub idle_word : (m h n : Machine) (t : Source) (word : Token) (step : Step Token) → m ≡ idle
+      → Reads (of_source r) (Ok word) (of_source s) → IsHeld word s m h → StepsOver levels h s step n t → StepsOver levels m r step n t
+  idle_word m h n t word step e reads w steps = rw e (goes (rw (w.holds, e) at steps))
     where
       kept : Machine
-      kept = record { held = Some (Ok token); frames = [] }
+      kept = record { held = Some (Ok w.token); frames = [] }
 
-      takes : StepsTaking idle (of_source r) (Ok token) idle (of_source s)
-      takes = takes_shown idle None None [] [] (Ok word) (Ok token) (of_source r) (of_source s) refl refl refl (refl, reads) (shows_token [] (of_source s) word (Ok token) was)
+      takes : StepsTaking idle (of_source r) (Ok w.token) idle (of_source s)
+      takes = shown word (Ok w.token) reads (shows_token [] (of_source s) word (Ok w.token) w.taken)
 
       goes : StepsOver levels kept s step n t → StepsOver levels idle r step n t
-      goes (inl x) = inl (record { taken = x.taken; between = x.between; turns = returned idle kept (of_source r) (of_source s) token takes refl x.taken x.between (of_source t) x.turns; follows = x.follows })
-      goes (inr x) = inr (record { some = record { step = Ok token; after = idle; reader = of_source s; takes = takes; goes = refl }; fault = x.fault })
+      goes (inl x) =
+          let turns = returned idle kept (of_source r) (of_source s) w.token takes refl x.taken x.between (of_source t) x.turns in
+          inl (record { taken = x.taken; between = x.between; turns = turns; follows = x.follows })
+      goes (inr x) =
+          inr (record { some = record { step = Ok w.token; after = idle; reader = of_source s; takes = takes; goes = refl }; fault = x.fault })

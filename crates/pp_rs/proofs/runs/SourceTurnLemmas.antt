@@ -1,5 +1,5 @@
 -- A turn over a source, after which a call is finished: what holds after it, how much is left, and what it is to the definitions' expander.
-use Rattle.std.proofs.Common.{◌≡◌, ◌∙◌, inl, inr, ℕ, zero, suc, ◌-◌, ◌<◌, ◌≤◌, true, false, List, [], ◌∷◌, ◌++◌, length, refl, ap, sym, subst, arith, Option, Some, None, Ok, Err, All}
+use Rattle.std.proofs.Common.{◌≡◌, ◌∙◌, ◌⊎◌, inl, inr, ℕ, zero, suc, ◌-◌, ◌<◌, ◌≤◌, true, false, List, [], ◌∷◌, ◌++◌, length, refl, ap, sym, subst, arith, Option, Some, None, Ok, Err, All}
 use Rattle.pp_lexer.specs.PreprocessorError.{out_of_memory}
 use Rattle.pp_lexer.specs.declared.token.Token.{Token}
 use Rattle.pp_model.specs.Calls.{Site, arguments_of, site_of}
@@ -43,6 +43,13 @@ use Rattle.pp_expansion.proofs.work.SpendLemmas.{Falls, no_more_falls, one_more_
 use Rattle.pp_expansion.proofs.taking.TurnLeadsLemmas.{LeadsTo, wants_taken}
 use Rattle.pp_expansion.proofs.work.WorkFallsLemmas.{frame_of, falls_work}
 
+-- what follows of a call that is not finished, unless memory is refused
+pub follows_halt : (levels l : ℕ) (ds es : List Defined) (hidden : List Name) (c : PendingCall) (m n : Machine) (h : Halt) (step : Step Token)
+    → l ≡ levels → es ≡ ds → hidden ≡ [] → Finishes l es hidden c m (Err h) n → step ≡ Err (exit_of h)
+    → FollowsCall levels ds c m step n ⊎ (step ≡ Err (Error out_of_memory))
+follows_halt levels l ds es hidden c m n (halt.Fault fault) step e d none f is = inl (refused fault is (rw (e, d, none) at f.0) f.1)
+follows_halt levels l ds es hidden c m n halt.OutOfMemory step e d none f is = inr is
+
 -- the turns of the code
 module _ (levels : ℕ) (m n : Machine) (r s : Source) where
   pub goes_token : (token : Token) → TurnsOrRefuses m (of_source r) (Ok (taken.Token token)) n (of_source s) → StepsOver levels m r (Ok token) n s
@@ -56,19 +63,13 @@ module _ (levels : ℕ) (m n : Machine) (r s : Source) where
   goes_exit exit step (inl h) is = inl (record { taken = Err exit; between = n; turns = h; follows = (is, refl) })
   goes_exit exit step (inr h) is = inr (record { some = h.some; fault = exit_as exit step h.fault is })
 
-  pub goes_call : (c : PendingCall) (p : Machine) → TurnsOrRefuses m (of_source r) (Ok (taken.Call c)) n (of_source s) → IsOpened levels s.definitions (names_of n.frames ++ []) c n p → StepsOver levels m r (Err Continue) p s
-  goes_call c p (inl h) o = inl (record { taken = Ok (taken.Call c); between = n; turns = h; follows = opened refl o })
-  goes_call c p (inr h) o = let bad = h.fault in cc
-
-  pub goes_refused : (c : PendingCall) (p : Machine) (h : Halt) (step : Step Token) → TurnsOrRefuses m (of_source r) (Ok (taken.Call c)) n (of_source s) → Finishes levels s.definitions [] c n (Err h) p → step ≡ Err (exit_of h) → StepsOver levels m r step p s
-  goes_refused c p h step (inr t) f is = let bad = t.fault in cc
-  goes_refused c p (halt.Fault fault) step (inl t) f is = inl (record { taken = Ok (taken.Call c); between = n; turns = t; follows = refused fault is f.0 f.1 })
-  goes_refused c p halt.OutOfMemory step (inl t) f is = inr (record { some = turn_some m n (of_source r) (of_source s) (Ok (taken.Call c)) t (λ e. cc); fault = is })
-
-  pub goes_refused_as : (levels' : ℕ) (definitions : List Defined) (hidden : List Name) (c : PendingCall) (p : Machine) (h : Halt) (step : Step Token) → TurnsOrRefuses m (of_source r) (Ok (taken.Call c)) n (of_source s)
-      → levels' ≡ levels → definitions ≡ s.definitions → hidden ≡ [] → Finishes levels' definitions hidden c n (Err h) p → step ≡ Err (exit_of h) → StepsOver levels m r step p s
-  goes_refused_as levels' definitions hidden c p h step t e d none f is =
-      goes_refused c p h step t (subst (λ (l : ℕ). Finishes l s.definitions [] c n (Err h) p) e (subst (λ (ds : List Defined). Finishes levels' ds [] c n (Err h) p) d (subst (λ (ns : List Name). Finishes levels' definitions ns c n (Err h) p) none f))) is
+  -- a call that is finished at once, unless memory is refused
+  pub goes_follow : (c : PendingCall) (p : Machine) (step : Step Token) → TurnsOrRefuses m (of_source r) (Ok (taken.Call c)) n (of_source s)
+      → FollowsCall levels s.definitions c n step p ⊎ (step ≡ Err (Error out_of_memory)) → StepsOver levels m r step p s
+  goes_follow c p step (inr t) f = let bad = t.fault in cc
+  goes_follow c p step (inl t) (inl f) = inl (record { taken = Ok (taken.Call c); between = n; turns = t; follows = f })
+  goes_follow c p step (inl t) (inr is) =
+      inr (record { some = turn_some m n (of_source r) (of_source s) (Ok (taken.Call c)) t (λ e. cc); fault = is })
 
   -- but for the end, something was taken
   pub source_some : (step : Step Token) → TurnsSource levels m r step n s → (step ≡ Err Finished → ⊥) → TakesSomething m (of_source r)

@@ -1,21 +1,21 @@
 //! One turn over the reader of a source.
 
-ghost use Rattle.std.specs.Prelude.{◌≡◌, [], None, Ok, IfOk, MatchResult};
+ghost use Rattle.std.specs.Prelude.{◌≡◌, ◌⊎◌, [], Err, IfOk, MatchResult};
+ghost use Rattle.pp_lexer.specs.PreprocessorError.{out_of_memory};
 ghost use Rattle.pp_lexer.specs.declared.token.PreprocessorError.TheVariants.{LineOverflow};
 ghost use Rattle.pp_model.specs.Emitting.{expansion_limit};
 ghost use Rattle.pp_model.specs.declared.outcome.Outcome.TheVariants as outcome;
 ghost use Rattle.pp_expansion.specs.Held.{HoldsOrdinary};
-ghost use Rattle.pp_expansion.specs.inner.Idle.{gives_itself};
-ghost use Rattle.pp_expansion.specs.inner.Reader.{of_source, Reads};
-ghost use Rattle.pp_expansion.specs.inner.Source.{Source};
-ghost use Rattle.pp_rs.specs.inner.SourceTurns.{StepsOver};
+ghost use Rattle.pp_expansion.specs.inner.Idle.{gives_itself, HoldsWord};
+ghost use Rattle.pp_expansion.specs.inner.Reader.{of_source};
+ghost use Rattle.pp_rs.specs.inner.SourceTurns.{FollowsCall, StepsOver};
 ghost use Rattle.pp_expansion.specs.inner.Turns.{taken_in};
 ghost use Rattle.pp_expansion.specs.declared.step.StepExit.TheVariants.{Error};
 
 use crate::pp::preprocessor_step::step_source;
 use crate::token::{Token, TokenValue};
 use pp_expansion::arguments::finish_call;
-use pp_expansion::calls::{Caller, Taken};
+use pp_expansion::calls::{Call, Caller, Taken};
 use pp_expansion::expander::{is_line_name, make_line_number};
 use pp_expansion::open_around::OpenAround;
 use pp_expansion::reader::MeLexer;
@@ -24,8 +24,33 @@ use pp_source::directives::DirectiveProcessor;
 use pp_source::limit::expansion_limit;
 use std::alloc::Global;
 
-// One step of the expander over a source, after which a call is finished at once.
+// Finishes a call, over the definitions of the source, with nothing open around. It stands apart, so
+// that other steps are moved without it.
 #[inline(never)]
+fn follow_call(
+    alloc: Global,
+    caller: &mut Caller,
+    source: &DirectiveProcessor<'_>,
+    call: Call,
+) -> Step<Token>
+    ensures follows { FollowsCall expansion_limit source.now.definitions call caller.old result caller.new
+        ⊎ (result ≡ Err (Error out_of_memory)) }
+    ensures holds { IfOk result (λ token. HoldsOrdinary token.value) }
+{
+    let around = OpenAround::nothing(alloc);
+    finish_call(
+        alloc,
+        caller,
+        call,
+        source.definitions(),
+        &around,
+        expansion_limit(),
+    )?;
+    Err(StepExit::Continue)
+}
+
+// One step of the expander over a source, after which a call is finished at once.
+#[inline(always)]
 fn turn_caller(
     alloc: Global,
     caller: &mut Caller,
@@ -36,18 +61,7 @@ fn turn_caller(
 {
     match step_source(caller, source)? {
         Taken::Token(token) => Ok(token),
-        Taken::Call(call) => {
-            let around = OpenAround::nothing(alloc);
-            finish_call(
-                alloc,
-                caller,
-                call,
-                source.definitions(),
-                &around,
-                expansion_limit(),
-            )?;
-            Err(StepExit::Continue)
-        }
+        Taken::Call(call) => follow_call(alloc, caller, &*source, call),
     }
 }
 
@@ -62,11 +76,13 @@ fn gives_itself(source: &DirectiveProcessor<'_>, value: &TokenValue) -> bool
     }
 }
 
-// What a token of the source becomes when it is taken, where no macro is open: `__LINE__` is a number at once.
+// What a token of the source becomes when it is taken, where no macro is open: `__LINE__` is a number
+// at once.
 fn take_in(source: &DirectiveProcessor<'_>, token: Token) -> Step<Token>
     requires { HoldsOrdinary token.value }
     ensures taken { MatchResult result (λ taken. taken_in [] (of_source source.now) token ≡ outcome.Token taken)
-        (λ exit. (exit ≡ Error (LineOverflow, token.location)) × (taken_in [] (of_source source.now) token ≡ outcome.Fault (LineOverflow, token.location))) }
+        (λ exit. (exit ≡ Error (LineOverflow, token.location))
+        × (taken_in [] (of_source source.now) token ≡ outcome.Fault (LineOverflow, token.location))) }
     ensures holds { IfOk result (λ token. HoldsOrdinary token.value) }
 {
     if !is_line_name(&token.value) {
@@ -77,22 +93,16 @@ fn take_in(source: &DirectiveProcessor<'_>, token: Token) -> Step<Token>
     Ok(make_line_number(shown, location))
 }
 
-// Goes on with a token of the source that is `__LINE__` or may open a macro, where none is open.
+// Holds a token of the source that is `__LINE__` or may open a macro, where none is open: it is then the
+// next step of the expander.
 #[inline(never)]
-fn turn_word(
-    alloc: Global,
-    caller: &mut Caller,
-    source: &mut DirectiveProcessor<'_>,
-    word: Token,
-) -> Step<Token>
-    requires idle { caller.old ≡ record { held = None; frames = [] } }
-    requires word { HoldsOrdinary word.value }
-    ensures turns { (before : Source) → Reads (of_source before) (Ok word) (of_source source.old) → StepsOver expansion_limit caller.old before result caller.new source.new }
-    ensures holds { IfOk result (λ token. HoldsOrdinary token.value) }
+fn hold_word(caller: &mut Caller, source: &DirectiveProcessor<'_>, word: Token) -> Step<()>
+    requires { HoldsOrdinary word.value }
+    ensures { HoldsWord word source.now caller.old result caller.new }
 {
     let token = take_in(source, word)?;
     caller.hold(token);
-    turn_caller(alloc, caller, source)
+    Ok(())
 }
 
 /// One step of the expander over a source, after which a call is finished at once.
@@ -107,12 +117,12 @@ pub fn turn_source(
     ensures turns { StepsOver expansion_limit caller.old source.old result caller.new source.new }
     ensures holds { IfOk result (λ token. HoldsOrdinary token.value) }
 {
-    if !caller.is_idle() {
-        return turn_caller(alloc, caller, source);
+    if caller.is_idle() {
+        let token = source.step()?;
+        if gives_itself(source, &token.value) {
+            return Ok(token);
+        }
+        hold_word(caller, &*source, token)?;
     }
-    let token = source.step()?;
-    if gives_itself(source, &token.value) {
-        return Ok(token);
-    }
-    turn_word(alloc, caller, source, token)
+    turn_caller(alloc, caller, source)
 }
