@@ -1,5 +1,5 @@
 -- What comes of a text of which it is known that it gives these tokens.
-use Rattle.std.proofs.Common.{◌≡◌, ◌∙◌, List, [], ◌∷◌, ◌++◌, append_nil, map, refl, ap, sym, subst, Option, Some, None, Result, Ok, Err, Bool, true, false, IsTrue, ◌↔◌}
+use Rattle.std.proofs.Common.{◌≡◌, ◌∙◌, List, [], ◌∷◌, ◌++◌, append-nil, map, refl, ap, sym, subst, Option, Some, None, Result, Ok, Err, Bool, true, false, IsTrue, ◌↔◌}
 use Rattle.pp_lexer.specs.Spelling.{values_of}
 use Rattle.pp_lexer.specs.declared.token.Token.{Token}
 use Rattle.pp_lexer.specs.declared.token.TokenValue.{TokenValue}
@@ -35,17 +35,17 @@ token_comes e token tokens (given o e1 f calls rest replies comes plain more is)
 token_comes e token tokens (failed fault e1 f calls replies comes is) = cc
 
 -- what comes first of such a run, and what is left of it
-record Left (all given : List Token) (f : State) : Type 0 where
+record Left (all front : List Token) (f : State) : Type 0 where
   rest : List Token
-  is : all ≡ given ++ rest
+  is : all ≡ front ++ rest
   run : RunsThrough f rest
 
-left_of : (all given : List Token) (e f : State) → Gives e given f → RunsThrough e all → Left all given f
-left_of all given e f (nothing ts e1 f1 none same) run = rw (none, same) (record { rest = all; is = refl; run = run })
-left_of [] given e f (first token rest ts e1 next f1 comes more is) run =
+left_of : (all front : List Token) (e f : State) → Gives e front f → RunsThrough e all → Left all front f
+left_of all front e f (nothing ts e1 f1 none same) run = rw (none, same) (record { rest = all; is = refl; run = run })
+left_of [] front e f (first token rest ts e1 next f1 comes more is) run =
     let end = end_comes e run in
     absurd (let bad = (one_comes _ _ e end.0 next end.1 comes).0 in cc)
-left_of (t ∷ all) given e f (first token rest ts e1 next f1 comes more is) run =
+left_of (t ∷ all) front e f (first token rest ts e1 next f1 comes more is) run =
     let h = token_comes e t all run in
     let same = one_comes _ _ e h.after next h.comes comes in
     let this : t ≡ token = cc in
@@ -67,7 +67,7 @@ pub items_are_whole : (all : List Token) (items : List Item) (e : State) → Run
 items_are_whole all items e run from =
     let left = left_of all (tokens_before_error items) e from.before from.gives run in
     let end = whole_at left.rest (first_error items) from.before from.after left.run from.ends in
-    record { tokens = left.is ∙ ap (λ ts. tokens_before_error items ++ ts) end.0 ∙ append_nil _; ends = end.1 }
+    record { tokens = left.is ∙ ap (λ ts. tokens_before_error items ++ ts) end.0 ∙ append-nil _; ends = end.1 }
 
 -- items without an error are their tokens
 pub values_are : (items : List Item) → first_error items ≡ None → map value_of_item items ≡ map Ok (values_of (tokens_before_error items))
@@ -78,17 +78,17 @@ values_are (Err fault ∷ items) e = cc
 -- and items with these values have no error
 pub record AreTokens (items : List Item) (values : List TokenValue) : Type 0 where
   pub ends : first_error items ≡ None
-  pub values : values_of (tokens_before_error items) ≡ values
+  pub are : values_of (tokens_before_error items) ≡ values
 
 pub tokens_are : (items : List Item) (values : List TokenValue) → map value_of_item items ≡ map Ok values → AreTokens items values
-tokens_are [] [] e = record { ends = refl; values = refl }
+tokens_are [] [] e = record { ends = refl; are = refl }
 tokens_are [] (v ∷ values) e = cc
 tokens_are (Ok token ∷ items) [] e = cc
 tokens_are (Ok token ∷ items) (v ∷ values) e =
     let here : token.value ≡ v = cc in
     let there : map value_of_item items ≡ map Ok values = cc in
     let later = tokens_are items values there in
-    record { ends = later.ends; values = rw here (ap (λ vs. v ∷ vs) later.values) }
+    record { ends = later.ends; are = rw here (ap (λ vs. v ∷ vs) later.are) }
 tokens_are (Err fault ∷ items) [] e = cc
 tokens_are (Err fault ∷ items) (v ∷ values) e = cc
 

@@ -1,4 +1,4 @@
-use Rattle.std.proofs.Common.{⊤}
+use Rattle.std.specs.Prelude.{⊤}
 use Rattle.pp_rs.specs.Kept.{most_items}
 use Rattle.pp_rs.proofs.pp.all_items.drain.Given as goal
 
