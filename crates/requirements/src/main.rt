@@ -1,11 +1,11 @@
 //! Says what the shader on standard input asks of its compiler: its version, and its extensions with the lines on which
-//! they are asked for, as they stand where the macro `FAST` is 1. An error of the source is the last line.
+//! they are asked for, where the macro `FAST` is 1. An error of the source is the last line.
 #![tactic(auto)]
 
 ghost use Rattle.std.specs.Prelude.{◌-◌, ◌^◌, ◌<◌, length};
 
-use pp_rs::pp::{Preprocessor, spell_tokens};
-use pp_rs::token::{Location, PreprocessorError, TokenValue};
+use pp_rs::pp::Preprocessor;
+use pp_rs::token::{Location, PreprocessorError, Token, TokenValue};
 use std::alloc::Global;
 use std::io;
 
@@ -23,7 +23,7 @@ fn main(rt: HostRuntime) -> io::Result<()> {
     }
 }
 
-// Prints a line for each directive that asks for something, up to the first error.
+// Prints a line for each directive that asks for something, up to the first error, which it gives with its place.
 fn show_requirements(
     rt: &impl Print,
     alloc: Global,
@@ -36,19 +36,28 @@ fn show_requirements(
         return Ok(Err(refusal));
     }
     'items: while let Some(item) = pp.next() {
-        let token = match item {
-            Ok(token) => token,
+        match item {
+            Ok(token) => show_requirement(rt, &token)?,
             Err((error, _)) => return Ok(Err((error, pp.place()))),
-        };
-        let (kind, tokens) = match &token.value {
-            TokenValue::Version(version) => ("version", version.tokens.as_slice()),
-            TokenValue::Extension(extension) => ("extension", extension.tokens.as_slice()),
-            _ => continue,
-        };
-        match spell_tokens(alloc, tokens) {
-            Ok(text) => println!(rt; "line {}: {} {}", token.location.line, kind, text)?,
-            Err(refusal) => return Ok(Err(refusal)),
         }
     }
     Ok(Ok(()))
+}
+
+// Prints a `#version` with its number, or an `#extension` with its name.
+fn show_requirement(rt: &impl Print, token: &Token) -> io::Result<()> {
+    let line = token.location.line;
+    let (kind, tokens) = match &token.value {
+        TokenValue::Version(version) => ("version", version.tokens.as_slice()),
+        TokenValue::Extension(extension) => ("extension", extension.tokens.as_slice()),
+        _ => return Ok(()),
+    };
+    let Some(first) = tokens.first() else {
+        return println!(rt; "line {}: {}", line, kind);
+    };
+    match &first.value {
+        TokenValue::Ident(name) => println!(rt; "line {}: {} {}", line, kind, name.as_str()),
+        TokenValue::Integer(number) => println!(rt; "line {}: {} {}", line, kind, number.value),
+        _ => println!(rt; "line {}: {}", line, kind),
+    }
 }

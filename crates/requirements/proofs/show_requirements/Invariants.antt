@@ -3,7 +3,7 @@ use Rattle.pp_rs.specs.Kept.{most_items}
 use Rattle.requirements.proofs.show_requirements.Given as goal
 
 abbrev pub invariant-items : goal.invariant-items
-invariant-items l = ⊤
+invariant-items g l = ⊤
 
 abbrev pub decreases-items : goal.decreases-items
-decreases-items l = most_items l.pp
+decreases-items g l = most_items l.pp
