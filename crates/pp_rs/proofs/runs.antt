@@ -8,6 +8,7 @@ pub mod StartLemmas
 pub mod RepliesLemmas
 pub mod AddingLemmas
 pub mod ComesLemmas
+pub mod ItemValuesLemmas
 pub mod AfreshLemmas
 pub mod CollectingLemmas
 pub mod SourceLeadsLemmas

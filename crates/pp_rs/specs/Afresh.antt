@@ -1,9 +1,8 @@
 -- Plain output, spelled with single spaces and preprocessed afresh (docs/RULES.md, "Runs").
-use Rattle.std.specs.Prelude.{◌≡◌, ◌<◌, ◌^◌, ◌-◌, Bool, true, ℕ, List, All, length, Result, Ok, Err, IsTrue, ◌↔◌, map, Some, Option}
+use Rattle.std.specs.Prelude.{◌≡◌, ◌<◌, ◌^◌, ◌-◌, ℕ, List, All, length}
 use Rattle.std.specs.Str.{encode_utf8_all}
 use Rattle.pp_lexer.specs.Spelling.{spelled_text, values_of}
 use Rattle.pp_lexer.specs.declared.token.Token.{Token}
-use Rattle.pp_lexer.specs.declared.token.TokenValue.{TokenValue}
 use Rattle.pp_model.specs.Emitting.{answers_at, expansion_limit}
 use Rattle.pp_model.specs.RespellLaws.{IsText, HasText, given_tokens, IsReadAfresh}
 use Rattle.pp_model.specs.Run.{Call, IsRun}

@@ -1,30 +1,22 @@
 -- What comes of a text of which it is known that it gives these tokens.
-use Rattle.std.proofs.Common.{ℕ, All, ◌≡◌, ◌∙◌, List, [], ◌∷◌, ◌++◌, append-nil, map, refl, ap, sym, subst, Option, Some, None, Result, Ok, Err, Bool, true, false, length, arith, IsTrue, ◌↔◌}
+use Rattle.std.proofs.Common.{ℕ, All, ◌≡◌, ◌∙◌, List, [], ◌∷◌, ◌++◌, append-nil, map, refl, ap, sym, subst, Option, Some, None, Ok, false, IsTrue}
 use Rattle.std.specs.Str.{IsUtf8, encode_utf8_all, chars}
 use Rattle.std.proofs.lemmas.Str.{encodes-chars}
-use Rattle.std.specs.Bool.{Decides}
-use Rattle.std.specs.List.{zip, list_all}
-use Rattle.std.proofs.lemmas.Bool.Decides.{Decides-and, Decides-like}
-use Rattle.pp_lexer.specs.contracts.token.TokenValuePartialEq.TheImpl.{eq-value as value_eq}
-use Rattle.pp_lexer.proofs.values.EqualityLemmas.{value_decides}
 use Rattle.pp_lexer.specs.Spelling.{values_of}
 use Rattle.pp_lexer.specs.TokenValue.{is_ordinary}
 use Rattle.pp_lexer.specs.declared.token.Token.{Token}
-use Rattle.pp_lexer.specs.declared.token.TokenValue.{TokenValue}
-use Rattle.pp_model.specs.RespellLaws.{calls_for, replies_with, GivesValues}
-use Rattle.pp_model.specs.Run.{Runs, done, given, failed, items_of, start}
 use Rattle.pp_model.specs.Emitting.{expansion_limit}
-use Rattle.pp_model.proofs.RespellLemmas.{runs_read_afresh}
-use Rattle.pp_rs.specs.Afresh.{IsOutput, AreReadAfresh, text_of}
-use Rattle.pp_model.specs.declared.call.Reply.TheVariants as reply
-use Rattle.pp_model.specs.declared.outcome.Outcome.{Outcome}
+use Rattle.pp_model.specs.RespellLaws.{calls_for, replies_with}
+use Rattle.pp_model.specs.Run.{Runs, done, given, failed, items_of, start}
 use Rattle.pp_model.specs.declared.outcome.Outcome.TheVariants as outcome
+use Rattle.pp_model.proofs.RespellLemmas.{runs_read_afresh}
 use Rattle.pp_expansion.specs.Item.{Fault, Item}
+use Rattle.pp_rs.specs.Afresh.{IsOutput, AreReadAfresh, text_of}
 use Rattle.pp_rs.specs.Collecting.{tokens_before_error, first_error, error_or_end, AreItemsFrom, AreItemsOf}
-use Rattle.pp_rs.specs.Comes.{State, Comes, Gives, nothing, first, IsRunFrom}
+use Rattle.pp_rs.specs.Comes.{State, Comes, Gives, nothing, first}
 use Rattle.pp_rs.specs.Kept.{Preprocessing, Stands, is_spent}
-use Rattle.pp_rs.specs.inner.ItemValues.{value_of_item}
 use Rattle.pp_rs.proofs.runs.ComesLemmas.{one_comes}
+use Rattle.pp_rs.proofs.runs.ItemValuesLemmas.{HaveValues, values_are, tokens_are}
 
 -- from the state these tokens come, and then the end
 abbrev RunsThrough : State → List Token → Type 0
@@ -62,102 +54,75 @@ left_of (t ∷ all) front e f (first token rest ts e1 next f1 comes more is) run
     let same = one_comes _ _ e h.after next h.comes comes in
     let this : t ≡ token = cc in
     let later = left_of all rest next f more (subst (λ s. RunsThrough s all) same.1 h.later) in
-    record { rest = later.rest; is = ap (λ x. x ∷ all) this ∙ ap (λ ts. token ∷ ts) later.is ∙ ap (λ ts. ts ++ later.rest) (sym is); run = later.run }
+    let same = ap (λ x. x ∷ all) this ∙ ap (λ ts. token ∷ ts) later.is ∙ ap (λ ts. ts ++ later.rest) (sym is) in
+    record { rest = later.rest; is = same; run = later.run }
 
 -- such a run gives these tokens alone, and then the end
-pub record IsWhole (all : List Token) (items : List Item) : Type 0 where
-  pub tokens : all ≡ tokens_before_error items
-  pub ends : first_error items ≡ None
+record IsWhole (all : List Token) (items : List Item) : Type 0 where
+  tokens : all ≡ tokens_before_error items
+  ends : first_error items ≡ None
 
-whole_at : (rest : List Token) (error : Option Fault) (f g : State) → RunsThrough f rest → Comes f (error_or_end error) g → (rest ≡ []) × (error ≡ None)
+whole_at : (rest : List Token) (error : Option Fault) (f g : State) → RunsThrough f rest → Comes f (error_or_end error) g
+    → (rest ≡ []) × (error ≡ None)
 whole_at [] None f g run comes = (refl, refl)
 whole_at [] (Some fault) f g run comes = let end = end_comes f run in absurd (let bad = (one_comes _ _ f end.0 g end.1 comes).0 in cc)
 whole_at (t ∷ rest) None f g run comes = let h = token_comes f t rest run in absurd (let bad = (one_comes _ _ f h.after g h.comes comes).0 in cc)
 whole_at (t ∷ rest) (Some fault) f g run comes = let h = token_comes f t rest run in absurd (let bad = (one_comes _ _ f h.after g h.comes comes).0 in cc)
 
-pub items_are_whole : (all : List Token) (items : List Item) (e : State) → RunsThrough e all → AreItemsFrom e items → IsWhole all items
+items_are_whole : (all : List Token) (items : List Item) (e : State) → RunsThrough e all → AreItemsFrom e items → IsWhole all items
 items_are_whole all items e run from =
     let left = left_of all (tokens_before_error items) e from.before from.gives run in
     let end = whole_at left.rest (first_error items) from.before from.after left.run from.ends in
     record { tokens = left.is ∙ ap (λ ts. tokens_before_error items ++ ts) end.0 ∙ append-nil _; ends = end.1 }
 
--- whether an item is a token with the value
-abbrev pub item_has : Item → TokenValue → Bool
-item_has (Ok token) value = value_eq.it token.value value
-item_has (Err fault) value = false
-
-pub item_has_decides : (item : Item) (value : TokenValue) → Decides (item_has item value) (value_of_item item ≡ Ok value)
-item_has_decides (Ok token) value = Decides-like _ (λ e. ap Ok e) (λ e. cc) (value_decides token.value value)
-item_has_decides (Err fault) value = (λ e. cc, λ e. cc)
-
--- whether each item has the value of the token beside it
-abbrev pub have_each : List Item → List Token → Bool
-have_each items tokens = list_all (λ (p : Item × Token). item_has p.0 p.1.value) (zip items tokens)
-
-have_each_decides : (items : List Item) (tokens : List Token) → length items ≡ length tokens → Decides (have_each items tokens) (map value_of_item items ≡ map Ok (values_of tokens))
-have_each_decides [] [] e = (λ _. refl, λ _. refl)
-have_each_decides (i ∷ items) [] e = absurd (omega arith)
-have_each_decides [] (t ∷ tokens) e = absurd (omega arith)
-have_each_decides (i ∷ items) (t ∷ tokens) e =
-    Decides-like _ (λ p. cc) (λ same. (cc, cc)) (Decides-and _ _ (item_has_decides i t.value) (have_each_decides items tokens (omega arith)))
-
--- the same of a test that comes to that
-pub have_each_tested : (r : Bool) (items : List Item) (tokens : List Token) → length items ≡ length tokens → r ≡ have_each items tokens → Decides r (map value_of_item items ≡ map Ok (values_of tokens))
-have_each_tested r items tokens n e = rw e (have_each_decides items tokens n)
-
--- items without an error are their tokens
-pub values_are : (items : List Item) → first_error items ≡ None → map value_of_item items ≡ map Ok (values_of (tokens_before_error items))
-values_are [] e = refl
-values_are (Ok token ∷ items) e = ap (λ vs. Ok token.value ∷ vs) (values_are items e)
-values_are (Err fault ∷ items) e = cc
-
--- and items with these values have no error
-pub record AreTokens (items : List Item) (values : List TokenValue) : Type 0 where
-  pub ends : first_error items ≡ None
-  pub are : values_of (tokens_before_error items) ≡ values
-
-pub tokens_are : (items : List Item) (values : List TokenValue) → map value_of_item items ≡ map Ok values → AreTokens items values
-tokens_are [] [] e = record { ends = refl; are = refl }
-tokens_are [] (v ∷ values) e = cc
-tokens_are (Ok token ∷ items) [] e = cc
-tokens_are (Ok token ∷ items) (v ∷ values) e =
-    let here : token.value ≡ v = cc in
-    let there : map value_of_item items ≡ map Ok values = cc in
-    let later = tokens_are items values there in
-    record { ends = later.ends; are = rw here (ap (λ vs. v ∷ vs) later.are) }
-tokens_are (Err fault ∷ items) [] e = cc
-tokens_are (Err fault ∷ items) (v ∷ values) e = cc
-
 -- tokens that come one after another, and then the end, are a run
-pub run_of : (tokens : List Token) (e f g : State) → Gives e tokens f → Comes f outcome.End g → RunsThrough e tokens
-run_of tokens e f g (nothing ts e1 f1 none same) ends = rw none (given outcome.End e g [] [] _ (subst (λ s. Comes s outcome.End g) same ends) refl (done g [] refl) refl)
-run_of tokens e f g (first token rest ts e1 next f1 comes more is) ends = rw is (given (outcome.Token token) e next (calls_for rest) (replies_with rest) _ comes refl (run_of rest next f g more ends) refl)
+run_of : (tokens : List Token) (e f g : State) → Gives e tokens f → Comes f outcome.End g → RunsThrough e tokens
+run_of tokens e f g (nothing ts e1 f1 none same) ends =
+    rw none (given outcome.End e g [] [] _ (subst (λ s. Comes s outcome.End g) same ends) refl (done g [] refl) refl)
+run_of tokens e f g (first token rest ts e1 next f1 comes more is) ends =
+    let later = run_of rest next f g more ends in
+    rw is (given (outcome.Token token) e next (calls_for rest) (replies_with rest) _ comes refl later refl)
 
--- items with the values of tokens, that come from their text, say that it is read afresh
-pub read_afresh : (tokens : List Token) (items : List Item) → AreItemsFrom (start (items_of (text_of tokens))) items → map value_of_item items ≡ map Ok (values_of tokens) → AreReadAfresh tokens
+-- the bytes of a text of these characters
+pub bytes_are : (bytes characters : List ℕ) → IsUtf8 bytes → chars bytes ≡ characters → bytes ≡ encode_utf8_all characters
+bytes_are bytes characters u e = sym (encodes-chars bytes u) ∙ ap encode_utf8_all e
+
+-- these items come from the start of a text
+abbrev AreItemsOfText : List ℕ → List Item → Type 0
+AreItemsOfText text items = AreItemsFrom (start (items_of text)) items
+
+-- they do where a preprocessor of the text gives them
+pub text_gives : (pp : Preprocessing) (items : List Item) (bytes text : List ℕ) → is_spent pp ≡ false → Stands pp (start (items_of bytes))
+    → AreItemsOf pp items → bytes ≡ text → AreItemsOfText text items
+text_gives pp items bytes text unspent stands all same =
+    let from : (state : State) → Stands pp state → AreItemsFrom state items = rw unspent at all in
+    subst (λ t. AreItemsOfText t items) same (from _ stands)
+
+-- Where the items of the tokens' text have the tokens' values, the tokens are read afresh.
+pub read_afresh : (tokens : List Token) (items : List Item) → AreItemsOfText (text_of tokens) items → HaveValues items (values_of tokens)
+    → AreReadAfresh tokens
 read_afresh tokens items from same =
-    let t = tokens_are items (values_of tokens) same in
-    let ends = subst (λ error. Comes from.before (error_or_end error) from.after) t.ends from.ends in
-    record { tokens = tokens_before_error items; same = t.are; run = run_of (tokens_before_error items) _ from.before from.after from.gives ends }
+    let these = tokens_are items (values_of tokens) same in
+    let ends = subst (λ error. Comes from.before (error_or_end error) from.after) these.ends from.ends in
+    record {
+      tokens = tokens_before_error items;
+      same = these.are;
+      run = run_of (tokens_before_error items) _ from.before from.after from.gives ends;
+    }
+
+abbrev AreOrdinary : List Token → Type 0
+AreOrdinary tokens = All (λ token. IsTrue (is_ordinary token.value)) tokens
 
 -- plain output is read afresh
-output_is_read : (tokens : List Token) → IsOutput tokens → All (λ token. IsTrue (is_ordinary token.value)) tokens → AreReadAfresh tokens
+output_is_read : (tokens : List Token) → IsOutput tokens → AreOrdinary tokens → AreReadAfresh tokens
 output_is_read tokens o plain =
-    subst AreReadAfresh o.given (runs_read_afresh expansion_limit o.source o.calls o.replies o.is_text o.contents o.run (subst (λ ts. All (λ token. is_ordinary token.value ≡ true) ts) (sym o.given) plain))
+    let given_plain = subst AreOrdinary (sym o.given) plain in
+    subst AreReadAfresh o.given (runs_read_afresh expansion_limit o.source o.calls o.replies o.is_text o.contents o.run given_plain)
 
 -- so the items of its text have its values
-pub items_of_output : (tokens : List Token) (items : List Item) → IsOutput tokens → All (λ token. IsTrue (is_ordinary token.value)) tokens → AreItemsFrom (start (items_of (text_of tokens))) items → map value_of_item items ≡ map Ok (values_of tokens)
+pub items_of_output : (tokens : List Token) (items : List Item) → IsOutput tokens → AreOrdinary tokens
+    → AreItemsOfText (text_of tokens) items → HaveValues items (values_of tokens)
 items_of_output tokens items o plain from =
     let read = output_is_read tokens o plain in
     let whole = items_are_whole read.tokens items _ read.run from in
     values_are items whole.ends ∙ ap (λ values. map Ok values) (ap values_of (sym whole.tokens) ∙ read.same)
-
--- a text of these characters is their bytes
-pub bytes_are : (bytes values : List ℕ) → IsUtf8 bytes → chars bytes ≡ values → bytes ≡ encode_utf8_all values
-bytes_are bytes values u e = sym (encodes-chars bytes u) ∙ ap encode_utf8_all e
-
--- all items of a preprocessor that stands at the start of a text
-pub items_from : (pp : Preprocessing) (items : List Item) (bytes text : List ℕ) → is_spent pp ≡ false → Stands pp (start (items_of bytes)) → AreItemsOf pp items → bytes ≡ text → AreItemsFrom (start (items_of text)) items
-items_from pp items bytes text unspent stands all same =
-    let from : (state : State) → Stands pp state → AreItemsFrom state items = rw unspent at all in
-    subst (λ t. AreItemsFrom (start (items_of t)) items) same (from _ stands)

@@ -1,11 +1,10 @@
-use Rattle.std.proofs.Common.{rules, ◌≡◌, ◌∙◌, length, List, ap, arith, sym, subst}
+use Rattle.std.proofs.Common.{length, ap, arith}
 use Rattle.std.specs.String.{string_bytes}
 use Rattle.std.proofs.lemmas.Str.{IsUtf8-string_bytes}
-use Rattle.pp_lexer.specs.Spelling.{spelled_text, values_of}
+use Rattle.pp_model.specs.Run.{items_of, start}
 use Rattle.pp_rs.specs.Afresh.{text_of}
 use Rattle.pp_rs.specs.Collecting.{AreItemsFrom}
-use Rattle.pp_model.specs.Run.{start, items_of}
-use Rattle.pp_rs.proofs.runs.AfreshLemmas.{read_afresh, items_of_output, bytes_are, items_from}
+use Rattle.pp_rs.proofs.runs.AfreshLemmas.{read_afresh, items_of_output, bytes_are, text_gives}
 use Rattle.pp_rs.proofs.pp.afresh.are_read_afresh.Goals as goal
 
 pub returns-then-len-ge-SOURCE_LIMIT-clause-output :
@@ -16,15 +15,18 @@ returns-then-len-ge-SOURCE_LIMIT-clause-output c = λ output.
     let room = output.room in
     absurd (omega (arith, ap length bytes))
 
+items_given : (c : goal.After-drop-text-2) → AreItemsFrom (start (items_of (text_of c.args.tokens.now))) c.in_ok-items.items.items
+items_given c =
+    let bytes = bytes_are c.as_str.result.now _ c.as_str.utf8 (rw c.as_str.ensures.value c.in_ok-text.ensures) in
+    let new = c.new-pp.ensures in
+    text_gives c.new-pp.result c.in_ok-items.items.items _ _ new.unspent new.stands c.in_ok-items.ensures.items bytes
+
 pub returns-clause-same : goal.returns-clause-same
 returns-clause-same c = λ yes.
-    let bytes = bytes_are c.as_str.result.now _ c.as_str.utf8 (rw c.as_str.ensures.value c.in_ok-text.ensures) in
-    let from = items_from c.new-pp.result c.in_ok-items.items.items _ _ c.new-pp.ensures.unspent c.new-pp.ensures.stands c.in_ok-items.ensures.items bytes in
-    read_afresh c.args.tokens.now c.in_ok-items.items.items from (rw c.deref.ensures.value at (c.have_values.ensures.0 yes))
+    let same = rw c.deref.ensures.value at (c.have_values.ensures.0 yes) in
+    read_afresh c.args.tokens.now c.in_ok-items.items.items (items_given c) same
 
 pub returns-clause-output : goal.returns-clause-output
 returns-clause-output c = λ output.
-    let bytes = bytes_are c.as_str.result.now _ c.as_str.utf8 (rw c.as_str.ensures.value c.in_ok-text.ensures) in
-    let from = items_from c.new-pp.result c.in_ok-items.items.items _ _ c.new-pp.ensures.unspent c.new-pp.ensures.stands c.in_ok-items.ensures.items bytes in
-    let same = items_of_output c.args.tokens.now c.in_ok-items.items.items output c.requires.ordinary from in
+    let same = items_of_output c.args.tokens.now c.in_ok-items.items.items output c.requires.ordinary (items_given c) in
     c.have_values.ensures.1 (rw c.deref.ensures.value same)

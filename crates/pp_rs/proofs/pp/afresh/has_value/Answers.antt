@@ -1,6 +1,5 @@
-use Rattle.std.proofs.Common.{rules, ◌≡◌, ◌↔◌, true, IsTrue, Ok, refl, ap}
+use Rattle.std.proofs.Common.{Ok, ap}
 use Rattle.pp_lexer.proofs.values.EqualityLemmas.{value_decides}
-use Rattle.pp_rs.specs.inner.ItemValues.{value_of_item}
 use Rattle.pp_rs.proofs.pp.afresh.has_value.Goals as goal
 
 pub returns-in-Ok : goal.returns-in-Ok
