@@ -486,6 +486,7 @@ impl Caller {
     }
 
     // A token that is taken opens its macro, begins its call, or is given.
+    #[inline(always)]
     fn follow(&mut self, lexer: &mut dyn MeLexer, token: Token) -> Step<Taken>
         requires { HoldsOrdinary token.value }
         ensures follows { FollowsToken (opens self.old.frames (reader lexer.old) token) token self.old (reader lexer.old) result self.new (reader lexer.new) ⊎ (result ≡ Err (Error out_of_memory)) }

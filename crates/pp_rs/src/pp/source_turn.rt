@@ -24,8 +24,8 @@ use pp_source::directives::DirectiveProcessor;
 use pp_source::limit::expansion_limit;
 use std::alloc::Global;
 
-// Finishes a call, over the definitions of the source, with nothing open around. It stands apart, so
-// that other steps are moved without it.
+// Finishes a call, over the definitions of the source, with nothing open around. It stands apart,
+// so that other steps are moved without it.
 #[inline(never)]
 fn follow_call(
     alloc: Global,
@@ -33,8 +33,8 @@ fn follow_call(
     source: &DirectiveProcessor<'_>,
     call: Call,
 ) -> Step<Token>
-    ensures follows { FollowsCall expansion_limit source.now.definitions call caller.old result caller.new
-        ⊎ (result ≡ Err (Error out_of_memory)) }
+    ensures follows { FollowsCall expansion_limit source.now.definitions call caller.old result
+        caller.new ⊎ (result ≡ Err (Error out_of_memory)) }
     ensures holds { IfOk result (λ token. HoldsOrdinary token.value) }
 {
     let around = OpenAround::nothing(alloc);
@@ -76,13 +76,15 @@ fn gives_itself(source: &DirectiveProcessor<'_>, value: &TokenValue) -> bool
     }
 }
 
-// What a token of the source becomes when it is taken, where no macro is open: `__LINE__` is a number
-// at once.
+// What a token of the source becomes when it is taken, where no macro is open: `__LINE__` is a
+// number at once.
 fn take_in(source: &DirectiveProcessor<'_>, token: Token) -> Step<Token>
     requires { HoldsOrdinary token.value }
-    ensures taken { MatchResult result (λ taken. taken_in [] (of_source source.now) token ≡ outcome.Token taken)
+    ensures taken { MatchResult result
+        (λ taken. taken_in [] (of_source source.now) token ≡ outcome.Token taken)
         (λ exit. (exit ≡ Error (LineOverflow, token.location))
-        × (taken_in [] (of_source source.now) token ≡ outcome.Fault (LineOverflow, token.location))) }
+        × (taken_in [] (of_source source.now) token
+        ≡ outcome.Fault (LineOverflow, token.location))) }
     ensures holds { IfOk result (λ token. HoldsOrdinary token.value) }
 {
     if !is_line_name(&token.value) {
@@ -93,8 +95,8 @@ fn take_in(source: &DirectiveProcessor<'_>, token: Token) -> Step<Token>
     Ok(make_line_number(shown, location))
 }
 
-// Holds a token of the source that is `__LINE__` or may open a macro, where none is open: it is then the
-// next step of the expander.
+// Holds a token of the source that is `__LINE__` or may open a macro, where none is open: it is then
+// the next step of the expander.
 #[inline(never)]
 fn hold_word(caller: &mut Caller, source: &DirectiveProcessor<'_>, word: Token) -> Step<()>
     requires { HoldsOrdinary word.value }
