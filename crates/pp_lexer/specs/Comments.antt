@@ -50,10 +50,7 @@ mark total comment = record {
   end = if is_unclosed comment.others then total else last_end comment.first.end comment.others;
 }
 
--- a comment has at least two characters, and what is no comment is one character by itself
-abbrev pub stand_in : ℕ → Part Placed → Placed
-stand_in total part = if is_empty part.others then part.first else mark total part
-
--- the characters of a source of that many bytes, with one mark for each comment
+-- The characters of a source of that many bytes, with one mark for each comment.
+-- A comment has at least two characters, and what is no comment is one character by itself.
 unfoldable pub replaced : ℕ → List Placed → List Placed
-replaced total ps = map (stand_in total) (cut comment_length ps)
+replaced total ps = map (λ part. if is_empty part.others then part.first else mark total part) (cut comment_length ps)

@@ -9,7 +9,7 @@ use Rattle.pp_lexer.specs.declared.lexer.item.TokenValue.{TokenValue}
 use Rattle.pp_lexer.specs.declared.lexer.item.TokenValue.TheVariants.{NewLine}
 use Rattle.pp_lexer.specs.declared.lexer.char_iterator.Spot.{Spot}
 use Rattle.pp_lexer.specs.Location.{nowhere}
-use Rattle.pp_lexer.specs.Surroundings.{Surrounded, surrounded}
+use Rattle.pp_lexer.specs.Surroundings.{surrounded}
 use Rattle.pp_lexer.specs.Segments.{Kind, blank, comment, item, Segment, segments}
 
 -- a token, or an error with its place
@@ -84,13 +84,9 @@ final_newline (g ∷ gs) =
       comments = comments_in (g ∷ gs);
     } ∷ []
 
--- the item of a segment, by what stands before it
-abbrev pub item_of : Surrounded Segment → List Item
-item_of s = item_at s.before s.here s.here.kind
-
--- the items of a text, by its characters after the phases: those of its segments, and that of its end
+-- the items of a text, by its characters after the phases: those of its segments, each by what stands before it, and that of its end
 abbrev pub items_of : List Spot → List Item
-items_of ss = flat_map item_of (surrounded (segments ss)) ++ final_newline (reverse (segments ss))
+items_of ss = flat_map (λ s. item_at s.before s.here s.here.kind) (surrounded (segments ss)) ++ final_newline (reverse (segments ss))
 
 -- where the item of a segment stands, an error too
 abbrev pub places_at : Segment → Kind → List Location

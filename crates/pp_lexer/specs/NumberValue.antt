@@ -53,20 +53,13 @@ is_float w = list_any (λ c. is_point c || (not (begins_hex w) && is_e c)) w
 
 -- Floats
 
-abbrev pub small_e : ℕ → ℕ
-small_e c = if is_e c then 101 else c
-
 -- the number without its `x`, and with a small `e`
 abbrev pub float_text : List ℕ → List ℕ
-float_text w = map small_e (filter (λ c. not (is_x c)) w)
-
--- [+-]?D+
-abbrev pub float_power : List ℕ → Bool
-float_power = maybe is_sign (one is_decimal digits)
+float_text w = map (λ c. if is_e c then 101 else c) (filter (λ c. not (is_x c)) w)
 
 -- (e[+-]?D+)?
 abbrev pub float_exponent : List ℕ → Bool
-float_exponent = optional (one (λ c. c == 101) float_power)
+float_exponent = optional (one (λ c. c == 101) (maybe is_sign (one is_decimal digits)))
 
 -- (.D*)?(e[+-]?D+)?
 abbrev pub float_tail : List ℕ → Bool
@@ -95,15 +88,11 @@ base_of w = if begins_hex w then 16 else if begins_octal w then 8 else 10
 abbrev pub digits_of : List ℕ → List ℕ
 digits_of w = if begins_hex w then drop 2 w else w
 
--- what the digits write when they follow those of n, where all are digits of the base and it is below 2^64
-abbrev pub whole_after : ℕ → ℕ → List ℕ → Option ℕ
-whole_after base n ds =
-    if list_all (λ c. is_digit c base) ds && nat_lt (digits_value_after base n ds) (2 ^ 64) then Some (digits_value_after base n ds) else None
-
--- the same of one digit or more
+-- what one digit or more write, where all are digits of the base and it is below 2^64
 abbrev pub whole : ℕ → List ℕ → Option ℕ
 whole base [] = None
-whole base (c ∷ cs) = whole_after base 0 (c ∷ cs)
+whole base (c ∷ cs) =
+    if list_all (λ d. is_digit d base) (c ∷ cs) && nat_lt (digits_value_after base 0 (c ∷ cs)) (2 ^ 64) then Some (digits_value_after base 0 (c ∷ cs)) else None
 
 abbrev pub integer_value : Bool → List ℕ → Answer
 integer_value signed w = ok_or (option_map (λ n. Integer (record { value = n; signed = signed; width = pos 32 })) (whole (base_of w) (digits_of w))) IntegerOverflow

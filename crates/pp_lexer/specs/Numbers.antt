@@ -32,21 +32,13 @@ is_hex c = is_digit c 16
 abbrev pub digits : List ℕ → Bool
 digits = many is_decimal nothing
 
--- [+-]?D*
-abbrev pub signed_digits : List ℕ → Bool
-signed_digits = maybe is_sign digits
-
 -- ([eE][+-]?D*)?
 abbrev pub exponent : List ℕ → Bool
-exponent = optional (one is_e signed_digits)
+exponent = optional (one is_e (maybe is_sign digits))
 
 -- D*([eE][+-]?D*)?
 abbrev pub fraction : List ℕ → Bool
 fraction = many is_decimal exponent
-
--- (.D*([eE][+-]?D*)?)?
-abbrev pub hex_tail : List ℕ → Bool
-hex_tail = optional (one is_point fraction)
 
 -- (.D*)?([eE][+-]?D*)?
 abbrev pub decimal_tail : List ℕ → Bool
@@ -54,18 +46,11 @@ decimal_tail cs = exponent cs || one is_point fraction cs
 
 -- 0[xX]H*(.D*([eE][+-]?D*)?)?
 abbrev pub is_hex_number : List ℕ → Bool
-is_hex_number = one is_zero (one is_x (many is_hex hex_tail))
+is_hex_number = one is_zero (one is_x (many is_hex (optional (one is_point fraction))))
 
--- D+(.D*)?([eE][+-]?D*)?
-abbrev pub is_decimal_number : List ℕ → Bool
-is_decimal_number = one is_decimal (many is_decimal decimal_tail)
-
--- .D+([eE][+-]?D*)?
-abbrev pub is_point_number : List ℕ → Bool
-is_point_number = one is_point (one is_decimal fraction)
-
+-- a number of the `0x` form, D+(.D*)?([eE][+-]?D*)? or .D+([eE][+-]?D*)?
 unfoldable pub is_number : List ℕ → Bool
-is_number cs = is_hex_number cs || (is_decimal_number cs || is_point_number cs)
+is_number cs = is_hex_number cs || (one is_decimal (many is_decimal decimal_tail) cs || one is_point (one is_decimal fraction) cs)
 
 -- a number begins here: a digit, or a point and then a digit
 abbrev pub begins_number : List ℕ → Bool

@@ -1,14 +1,10 @@
 -- The text cut into segments, from the left: blanks, tokens, and characters that begin no token (GLSL ES 3.20, section 3.10, phase 7, and docs/RULES.md, Tokens 1, 2 and 6).
-use Rattle.std.specs.Prelude.{ℕ, zero, suc, Bool, ◌==◌, if◌then◌else◌, List, [], ◌∷◌, Result, length, take, drop}
+use Rattle.std.specs.Prelude.{ℕ, zero, suc, ◌==◌, if◌then◌else◌, List, [], ◌∷◌, Result, length, take, drop}
 use Rattle.pp_lexer.specs.declared.token.PreprocessorError.{PreprocessorError}
 use Rattle.pp_lexer.specs.declared.lexer.item.TokenValue.{TokenValue}
 use Rattle.pp_lexer.specs.declared.lexer.char_iterator.Spot.{Spot}
 use Rattle.pp_lexer.specs.Reading.{letters}
 use Rattle.pp_lexer.specs.Words.{is_blank, word_at}
-
--- a carriage return, which stands for a comment: after the phases no other is left
-abbrev pub is_mark : ℕ → Bool
-is_mark c = c == 13
 
 pub data Kind : Type 0 where
   blank : Kind
@@ -26,9 +22,9 @@ abbrev pub last_of : Spot → List Spot → Spot
 last_of s [] = s
 last_of s (t ∷ ts) = last_of t ts
 
--- a blank is a segment alone
+-- A blank is a segment alone. A carriage return stands for a comment: after the phases no other is left.
 abbrev pub kind_of : Spot → List Spot → Kind
-kind_of s ss = if is_blank s.c then (if is_mark s.c then comment else blank) else item (word_at (letters (s ∷ ss))).value
+kind_of s ss = if is_blank s.c then (if s.c == 13 then comment else blank) else item (word_at (letters (s ∷ ss))).value
 
 abbrev pub taken_by : Spot → List Spot → ℕ
 taken_by s ss = if is_blank s.c then 1 else (word_at (letters (s ∷ ss))).taken

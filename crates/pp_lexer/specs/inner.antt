@@ -1,4 +1,8 @@
+pub mod Numbers
 pub mod NumberValue
+pub mod Comments
+pub mod Segments
+pub mod Items
 pub mod Lines
 pub mod Words
 pub mod Readers

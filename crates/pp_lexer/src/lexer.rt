@@ -7,7 +7,6 @@ ghost use Rattle.std.specs.Prelude.{◌≡◌, ◌-◌, ◌^◌, ◌<◌, ◌+�
 ghost use Rattle.std.specs.Iterator.{at_most};
 ghost use Rattle.pp_lexer.specs.Reading.{first_char};
 ghost use Rattle.pp_lexer.specs.Spots.{spots_of};
-ghost use Rattle.pp_lexer.specs.Segments.{is_mark};
 ghost use Rattle.pp_lexer.specs.Words.{is_blank};
 ghost use Rattle.pp_lexer.specs.Lexed.{start_of, first_item, after_first_item, first_place, places_after_first, IsNext};
 ghost use Rattle.pp_lexer.specs.inner.Passing.{is_newline_result, seen_of, newline_seen, lexeme_seen, comments_at_end, newline_places, places_left, IsPlaced, IsLexed};

@@ -5,7 +5,8 @@ use Rattle.std.specs.Str.{chars, IsUtf8, all_scalars}
 use Rattle.std.proofs.Math.Utf8.{scalar}
 use Rattle.std.proofs.lemmas.Bool.{and_parts}
 use Rattle.std.proofs.lemmas.Str.{scalars-chars}
-use Rattle.pp_lexer.specs.Comments.{comment_length, stand_in, replaced}
+use Rattle.pp_lexer.specs.Comments.{comment_length, replaced}
+use Rattle.pp_lexer.specs.inner.Comments.{stand_in}
 use Rattle.pp_lexer.specs.Continuations.{is_continuation, continued}
 use Rattle.pp_lexer.specs.Cursor.{Placed}
 use Rattle.pp_lexer.specs.Cut.{cut_after, cut}

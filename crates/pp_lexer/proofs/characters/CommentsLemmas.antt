@@ -3,7 +3,8 @@ use Rattle.std.proofs.Common.{◌≡◌, ◌≢◌, ◌∷◌, ◌+◌, ◌-◌,
 use Rattle.std.proofs.lemmas.Bool.{eqb-true, ne_eqb, eq-eqb}
 use Rattle.pp_lexer.specs.Cursor.{Placed, Cursor, first_of, after_of, after, passed}
 use Rattle.pp_lexer.specs.Surroundings.{begins_with}
-use Rattle.pp_lexer.specs.Comments.{is_slash, is_star, line_length, block_length, has_close, comment_length, is_unclosed, mark, stand_in, replaced}
+use Rattle.pp_lexer.specs.Comments.{is_slash, is_star, line_length, block_length, has_close, comment_length, is_unclosed, mark, replaced}
+use Rattle.pp_lexer.specs.inner.Comments.{stand_in}
 use Rattle.pp_lexer.specs.inner.Readers.{uncommented, past_line, past_block}
 use Rattle.pp_lexer.proofs.characters.CutLemmas.{cut-nil, cut-cons}
 use Rattle.pp_lexer.proofs.characters.ContinuationsLemmas.{Steps, item_char, item_line}

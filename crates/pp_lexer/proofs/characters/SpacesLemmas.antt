@@ -8,7 +8,8 @@ use Rattle.pp_lexer.specs.declared.lexer.Flags.{Flags}
 use Rattle.pp_lexer.specs.inner.Fronts.{is_plain, run}
 use Rattle.pp_lexer.specs.Items.{is_comment}
 use Rattle.pp_lexer.specs.inner.PlainWords.{is_space}
-use Rattle.pp_lexer.specs.Segments.{is_mark, segments}
+use Rattle.pp_lexer.specs.Segments.{segments}
+use Rattle.pp_lexer.specs.inner.Segments.{is_mark}
 use Rattle.pp_lexer.specs.Words.{is_blank}
 use Rattle.pp_lexer.specs.inner.Passing.{seen_from, places_from}
 use Rattle.pp_lexer.proofs.items.PassingLemmas.{blanked, blank_seen, blank_places, blank_at_end}

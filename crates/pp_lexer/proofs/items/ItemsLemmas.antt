@@ -13,7 +13,8 @@ use Rattle.pp_lexer.specs.Reading.{Reading}
 use Rattle.pp_lexer.specs.Surroundings.{surrounded_from, surrounded}
 use Rattle.pp_lexer.specs.Segments.{Kind, blank, comment, item, Segment, segments}
 use Rattle.pp_lexer.specs.inner.Passing.{is_newline_result, passed, lexeme_seen, item_seen, newline_seen, seen_from, places_from, lexed}
-use Rattle.pp_lexer.specs.Items.{is_comment, leading_whitespace, start_of_line, comments_in, item_at, final_newline, item_of, items_of, Item, places_at, final_place, places_of}
+use Rattle.pp_lexer.specs.Items.{is_comment, leading_whitespace, start_of_line, comments_in, item_at, final_newline, items_of, Item, places_at, final_place, places_of}
+use Rattle.pp_lexer.specs.inner.Items.{item_of}
 use Rattle.pp_lexer.specs.Lexed.{seen, start_of}
 
 -- the items of the segments from a place on, and of the end

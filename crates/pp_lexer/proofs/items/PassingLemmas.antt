@@ -5,7 +5,8 @@ use Rattle.pp_lexer.specs.declared.lexer.char_iterator.Spot.{Spot}
 use Rattle.pp_lexer.specs.declared.lexer.Flags.{Flags}
 use Rattle.pp_lexer.specs.Reading.{Reading, letters, first_of, first_char, past, after_first, advanced_of}
 use Rattle.pp_lexer.specs.Words.{word_at}
-use Rattle.pp_lexer.specs.Segments.{blank, comment, item, is_mark, last_of, kind_of, taken_by, segments}
+use Rattle.pp_lexer.specs.Segments.{blank, comment, item, last_of, kind_of, taken_by, segments}
+use Rattle.pp_lexer.specs.inner.Segments.{is_mark}
 use Rattle.pp_lexer.specs.Words.{is_blank}
 use Rattle.pp_lexer.specs.Items.{is_comment}
 use Rattle.pp_lexer.specs.Items.{places_at}

@@ -5,8 +5,8 @@ use Rattle.pp_lexer.specs.Longest.{front_len}
 use Rattle.pp_lexer.specs.Numbers.{is_point, is_sign, is_decimal, digits}
 use Rattle.pp_lexer.specs.Spellings.{nothing, one, many}
 use Rattle.pp_lexer.specs.Surroundings.{begins_with}
-use Rattle.pp_lexer.specs.NumberValue.{float_power, float_exponent, float_tail, is_float_text}
-use Rattle.pp_lexer.specs.inner.NumberValue.{is_small_e}
+use Rattle.pp_lexer.specs.NumberValue.{float_exponent, float_tail, is_float_text}
+use Rattle.pp_lexer.specs.inner.NumberValue.{is_small_e, float_power}
 use Rattle.pp_lexer.proofs.words.LongestLemmas.{many_pass, many_is}
 use Rattle.pp_lexer.proofs.numbers.NumbersLemmas.{point_apart, small_e_apart, or_false}
 

@@ -2,9 +2,10 @@
 use Rattle.std.proofs.Common.{◌≡◌, ℕ, Bool, false, ◌||◌, ◌==◌, [], ◌∷◌}
 use Rattle.std.proofs.lemmas.Bool.{or_left, false≢true}
 use Rattle.pp_lexer.specs.Spellings.{nothing, one, many}
-use Rattle.pp_lexer.specs.Numbers.{is_zero, is_x, is_point, is_e, is_sign, is_decimal, is_hex, digits, signed_digits, exponent, fraction, hex_tail, decimal_tail, is_hex_number, is_decimal_number, is_point_number, is_number}
-use Rattle.pp_lexer.specs.NumberValue.{float_power, float_exponent, float_tail, is_float_text}
-use Rattle.pp_lexer.specs.inner.NumberValue.{is_small_e}
+use Rattle.pp_lexer.specs.Numbers.{is_zero, is_x, is_point, is_e, is_sign, is_decimal, is_hex, digits, exponent, fraction, decimal_tail, is_hex_number, is_number}
+use Rattle.pp_lexer.specs.inner.Numbers.{signed_digits, hex_tail, is_decimal_number, is_point_number}
+use Rattle.pp_lexer.specs.NumberValue.{float_exponent, float_tail, is_float_text}
+use Rattle.pp_lexer.specs.inner.NumberValue.{is_small_e, float_power}
 use Rattle.pp_lexer.proofs.words.SetsLemmas.{Implies, IsPart, IsMadeOf, Lacks, is_other, missing, union_part, left_part, right_part, one_part, many_part, maybe_part, optional_part, made_nothing, made_one, made_many, made_maybe, made_optional}
 
 -- the classes of characters that a number has

@@ -5,7 +5,8 @@ use Rattle.std.specs.Char.{is_digit}
 use Rattle.pp_lexer.specs.Longest.{longest, front_len}
 use Rattle.pp_lexer.specs.Spellings.{nothing, one, many, optional}
 use Rattle.pp_lexer.specs.Surroundings.{begins_with}
-use Rattle.pp_lexer.specs.Numbers.{is_zero, is_x, is_point, is_e, is_sign, is_decimal, is_hex, digits, signed_digits, exponent, fraction, hex_tail, decimal_tail, is_number, begins_number}
+use Rattle.pp_lexer.specs.Numbers.{is_zero, is_x, is_point, is_e, is_sign, is_decimal, is_hex, digits, exponent, fraction, decimal_tail, is_number, begins_number}
+use Rattle.pp_lexer.specs.inner.Numbers.{signed_digits, hex_tail}
 use Rattle.pp_lexer.proofs.words.LongestLemmas.{within_same, longest_same, longest_none, longest_step, longest_step_some, longest-many, many_pass, longest-maybe_pass, longest-maybe_stop, longest-optional_pass, longest-optional_stop}
 
 -- neither of the two characters is a digit

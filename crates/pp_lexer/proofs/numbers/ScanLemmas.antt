@@ -1,7 +1,8 @@
 -- What one part of the scanner takes, and then the next.
 use Rattle.std.proofs.Common.{◌≡◌, ℕ, ◌+◌, ◌<◌, length, List, [], ◌∷◌, drop, Bool, true, false, sym, ◌∙◌, ap, arith, if◌then◌else◌, Some, None, option_map}
 use Rattle.pp_lexer.specs.Longest.{longest, front_len}
-use Rattle.pp_lexer.specs.Numbers.{is_sign, digits, signed_digits}
+use Rattle.pp_lexer.specs.Numbers.{is_sign, digits}
+use Rattle.pp_lexer.specs.inner.Numbers.{signed_digits}
 use Rattle.pp_lexer.specs.Reading.{letters, first_of, first_char, advanced}
 use Rattle.pp_lexer.specs.declared.lexer.char_iterator.Spot.{Spot}
 use Rattle.pp_lexer.specs.inner.Scan.{Scan, upcoming, further, Takes}

@@ -6,7 +6,8 @@ use Rattle.std.specs.List.{list_all}
 use Rattle.std.specs.Char.{is_digit, digit_value}
 use Rattle.std.specs.Str.Parse.{digits_value_after}
 use Rattle.pp_lexer.specs.Spellings.{nothing, next_of}
-use Rattle.pp_lexer.specs.NumberValue.{whole_after, whole}
+use Rattle.pp_lexer.specs.NumberValue.{whole}
+use Rattle.pp_lexer.specs.inner.NumberValue.{whole_after}
 
 grows : (base n : ℕ) (ds : List ℕ) → 2 ≤ base → n ≤ digits_value_after base n ds
 grows base n [] h = omega arith

@@ -6,8 +6,8 @@ use Rattle.pp_lexer.specs.declared.token.Float.{Float as FloatLiteral}
 use Rattle.pp_lexer.specs.declared.token.PreprocessorError.TheVariants.{FloatParsingError}
 use Rattle.pp_lexer.specs.declared.lexer.item.TokenValue.TheVariants.{Float}
 use Rattle.pp_lexer.specs.Numbers.{is_x, is_point, is_sign, is_decimal}
-use Rattle.pp_lexer.specs.NumberValue.{is_l, is_h, is_f, small_e, float_text, is_float_text, float_value, float_outcome, is_float, number_outcome, width_refusal}
-use Rattle.pp_lexer.specs.inner.NumberValue.{is_small_e}
+use Rattle.pp_lexer.specs.NumberValue.{is_l, is_h, is_f, float_text, is_float_text, float_value, float_outcome, is_float, number_outcome, width_refusal}
+use Rattle.pp_lexer.specs.inner.NumberValue.{is_small_e, small_e}
 use Rattle.pp_lexer.specs.Words.{word_at}
 use Rattle.pp_lexer.proofs.numbers.NumbersLemmas.{either_apart, e_apart}
 use Rattle.pp_lexer.proofs.numbers.NumberSetsLemmas.{made_float_text, float_text_number}

@@ -8,8 +8,8 @@ use Rattle.pp_lexer.specs.declared.token.PreprocessorError.{PreprocessorError}
 use Rattle.pp_lexer.specs.declared.token.PreprocessorError.TheVariants.{FloatParsingError}
 use Rattle.pp_lexer.specs.declared.lexer.item.TokenValue.TheVariants.{Float}
 use Rattle.pp_lexer.specs.Numbers.{is_zero, is_x, is_point, is_e}
-use Rattle.pp_lexer.specs.NumberValue.{is_h, is_s, is_u, begins_hex, is_float, small_e, float_text, is_float_text, float_value, float_outcome, whole, base_of, digits_of, integer_value, integer_outcome, width_refusal, number_outcome}
-use Rattle.pp_lexer.specs.inner.NumberValue.{is_float_mark, integer_of, unsigned_suffix_len, unless_refused}
+use Rattle.pp_lexer.specs.NumberValue.{is_h, is_s, is_u, begins_hex, is_float, float_text, is_float_text, float_value, float_outcome, whole, base_of, digits_of, integer_value, integer_outcome, width_refusal, number_outcome}
+use Rattle.pp_lexer.specs.inner.NumberValue.{is_float_mark, integer_of, unsigned_suffix_len, unless_refused, small_e}
 use Rattle.pp_lexer.specs.Outcome.{Answer}
 use Rattle.pp_lexer.specs.Respelling.{IsSpelled}
 use Rattle.pp_lexer.specs.Spellings.{after_first}

@@ -18,7 +18,8 @@ use Rattle.pp_lexer.specs.Lexed.{Seen, seen}
 use Rattle.pp_lexer.specs.Outcome.{Outcome}
 use Rattle.pp_lexer.specs.Reading.{letters}
 use Rattle.pp_lexer.specs.Respelling.{IsSpellable, lexer_value, item_value, read_values, ending}
-use Rattle.pp_lexer.specs.Segments.{Kind, blank, comment, item, Segment, is_mark, kind_of, taken_by, segment_at, segments}
+use Rattle.pp_lexer.specs.Segments.{Kind, blank, comment, item, Segment, kind_of, taken_by, segment_at, segments}
+use Rattle.pp_lexer.specs.inner.Segments.{is_mark}
 use Rattle.pp_lexer.specs.Spelling.{spelling, spelled_text}
 use Rattle.pp_lexer.specs.Spots.{spots_of}
 use Rattle.pp_lexer.specs.Words.{is_blank, is_word, word_at}

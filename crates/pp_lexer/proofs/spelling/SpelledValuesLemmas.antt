@@ -18,7 +18,8 @@ use Rattle.pp_lexer.specs.NumberValue.{number_outcome}
 use Rattle.pp_lexer.specs.Punctuators.{is_hash, punct_of, punctuation_value, punctuation_outcome}
 use Rattle.pp_lexer.specs.Reading.{letters}
 use Rattle.pp_lexer.specs.Respelling.{IsSpelled, item_value, read_values}
-use Rattle.pp_lexer.specs.Segments.{Kind, blank, comment, item, Segment, is_mark, kind_of, taken_by, segment_at, segments_within, segments}
+use Rattle.pp_lexer.specs.Segments.{Kind, blank, comment, item, Segment, kind_of, taken_by, segment_at, segments_within, segments}
+use Rattle.pp_lexer.specs.inner.Segments.{is_mark}
 use Rattle.pp_lexer.specs.Spots.{spots_of}
 use Rattle.pp_lexer.specs.Words.{is_blank, is_newline_word, is_word, word_outcome, word_at}
 use Rattle.pp_lexer.proofs.characters.CharactersLemmas.{source_scalar}

@@ -1,5 +1,6 @@
 use Rattle.std.proofs.Common.{if◌then◌else◌}
-use Rattle.pp_lexer.specs.Numbers.{is_decimal, is_e, exponent, signed_digits, digits}
+use Rattle.pp_lexer.specs.Numbers.{is_decimal, is_e, exponent, digits}
+use Rattle.pp_lexer.specs.inner.Numbers.{signed_digits}
 use Rattle.pp_lexer.proofs.numbers.NumbersLemmas.{exponent_len, exponent_none}
 use Rattle.pp_lexer.proofs.numbers.ScanLemmas.{then_takes, either_then, either_stop, all_taken, signed_after}
 use Rattle.pp_lexer.proofs.lexer.number.scan.take_exponent.Goals as goal

@@ -1,5 +1,6 @@
 use Rattle.pp_lexer.specs.Longest.{front_len}
-use Rattle.pp_lexer.specs.Numbers.{is_hex, is_point, hex_tail, fraction}
+use Rattle.pp_lexer.specs.Numbers.{is_hex, is_point, fraction}
+use Rattle.pp_lexer.specs.inner.Numbers.{hex_tail}
 use Rattle.pp_lexer.specs.inner.Scan.{upcoming}
 use Rattle.pp_lexer.specs.Spellings.{many}
 use Rattle.pp_lexer.proofs.numbers.NumbersLemmas.{hex_len, hex_tail_len, hex_tail_none}

@@ -1,5 +1,6 @@
 use Rattle.std.proofs.Common.{◌≡◌, ◌∙◌, sym, ap, true, false, refl}
-use Rattle.pp_lexer.specs.Numbers.{is_decimal, is_hex, is_point, is_zero, is_x, hex_tail, decimal_tail, fraction, is_number, begins_number}
+use Rattle.pp_lexer.specs.Numbers.{is_decimal, is_hex, is_point, is_zero, is_x, decimal_tail, fraction, is_number, begins_number}
+use Rattle.pp_lexer.specs.inner.Numbers.{hex_tail}
 use Rattle.pp_lexer.specs.inner.Scan.{upcoming}
 use Rattle.pp_lexer.specs.Spellings.{many}
 use Rattle.pp_lexer.specs.Surroundings.{begins_with}

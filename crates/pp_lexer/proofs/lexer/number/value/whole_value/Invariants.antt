@@ -1,5 +1,5 @@
 use Rattle.std.proofs.Common.{◌≡◌, ◌<◌, ◌^◌, length}
-use Rattle.pp_lexer.specs.NumberValue.{whole_after}
+use Rattle.pp_lexer.specs.inner.NumberValue.{whole_after}
 use Rattle.pp_lexer.proofs.lexer.number.value.whole_value.Given as goal
 
 abbrev pub invariant-digits : goal.invariant-digits
