@@ -13,7 +13,7 @@ use Rattle.pp_model.specs.DefineLines.{defined_on}
 use Rattle.pp_model.specs.Sights.{sight_of}
 use Rattle.pp_model.specs.Blocks.{Block, is_live, are_surroundings_live, has_taken_branch, has_else}
 use Rattle.pp_model.specs.SourceReader.{SourceReader}
-use Rattle.pp_model.specs.Acts.{Acted, passed, failed, failed_at, given, moved, after_word, after_line, acted, skipped, only_word, decided, condition, elif_in, else_in, endif_in, block_here, line_item, live_directive, dead_directive, ended_by, live_act, dead_act, act}
+use Rattle.pp_model.specs.Acts.{Acted, passed, failed, given, moved, after_word, after_line, acted, skipped, only_word, decided, condition, elif_in, else_in, endif_in, block_here, line_item, live_directive, dead_directive, ended_by, live_act, dead_act, act}
 use Rattle.pp_model.specs.inner.Acts.{else_line, skipped_by, is_defined_now}
 use Rattle.pp_model.specs.declared.definition.Named.{Named}
 use Rattle.pp_model.specs.declared.directive.Directive.{Directive}
@@ -63,12 +63,12 @@ module _ (P : Acted → Type 0) (r : SourceReader) (all : HoldsOfDead P r) where
   elif_holds None word = all.fault _
   elif_holds (Some block) word =
       let can_not = not (are_surroundings_live r.items r.truths block) || has_taken_branch r.truths block in
-      either_holds P (has_else block) (failed_at ElifAfterElse word r) (if can_not then skipped r else condition word r) (all.fault _)
+      either_holds P (has_else block) (failed (ElifAfterElse, word) r) (if can_not then skipped r else condition word r) (all.fault _)
       (either_holds P can_not (skipped r) (condition word r) skipped_holds (condition_holds word))
 
   else_holds : (block : Option Block) (word : Location) → P (else_in block word r (after_line r))
   else_holds None word = all.fault _
-  else_holds (Some block) word = either_holds P (has_else block) (failed_at MoreThanOneElse word r) (passed (after_line r)) (all.fault _) (all.nothing _)
+  else_holds (Some block) word = either_holds P (has_else block) (failed (MoreThanOneElse, word) r) (passed (after_line r)) (all.fault _) (all.nothing _)
 
   pub else_line_holds : (word : Location) → P (else_line word r)
   else_line_holds word = word_holds word (else_in (block_here r) word r) (else_holds (block_here r) word)

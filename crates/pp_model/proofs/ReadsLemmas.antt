@@ -8,7 +8,8 @@ use Rattle.pp_model.specs.Calls.{Fault, Answers}
 use Rattle.pp_model.specs.LineValues.{IsCondition, IsLineNumber}
 use Rattle.pp_model.specs.SourceReader.{SourceReader}
 use Rattle.pp_model.specs.Acts.{act, decided}
-use Rattle.pp_model.specs.Reads.{renumbered, defining, Steps, passes, gives, defines, repeats, redefines, decides, undecided, renumbers, unnumbered, Reads, here, later, source_reading}
+use Rattle.pp_model.specs.Reads.{Steps, passes, gives, defines, repeats, redefines, decides, undecided, renumbers, unnumbered, Reads, here, later, source_reading}
+use Rattle.pp_model.specs.inner.Reads.{renumbered, defining}
 use Rattle.pp_model.specs.ExpansionLaws.{OneReads, OneAnswer}
 use Rattle.pp_model.specs.RunLaws.{OneStep}
 use Rattle.pp_model.specs.declared.definition.Named.{Named}

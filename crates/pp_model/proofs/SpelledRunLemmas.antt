@@ -17,10 +17,11 @@ use Rattle.pp_lexer.specs.declared.token.TokenValue.{TokenValue}
 use Rattle.pp_lexer.specs.declared.token.TokenValue.TheVariants.{Ident, Integer, Float, Punct, Version, Extension, Pragma}
 use Rattle.pp_model.specs.Names.{is_identifier, line_name}
 use Rattle.pp_model.specs.Conversions.{is_hash}
-use Rattle.pp_model.specs.Definitions.{nothing_defined}
+use Rattle.pp_model.specs.inner.Definitions.{nothing_defined}
 use Rattle.pp_model.specs.Sights.{sight_of, token_sight}
 use Rattle.pp_model.specs.inner.Sights.{item_sight}
-use Rattle.pp_model.specs.Blocks.{line_at, block_lines, Block, open_blocks, blocks_at, innermost, is_branch_live, is_live}
+use Rattle.pp_model.specs.Blocks.{line_at, block_lines, Block, open_blocks, blocks_at, innermost, is_live}
+use Rattle.pp_model.specs.inner.Blocks.{is_branch_live}
 use Rattle.pp_model.specs.SourceReader.{SourceReader}
 use Rattle.pp_model.specs.Acts.{ended_by, live_act, dead_act, act}
 use Rattle.pp_model.specs.Reading.{Expander, opening}

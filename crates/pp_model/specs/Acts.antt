@@ -5,7 +5,6 @@ use Rattle.std.specs.Option.{option_map_or}
 use Rattle.pp_lexer.specs.Lexed.{Seen}
 use Rattle.pp_lexer.specs.Preorder.{preorder}
 use Rattle.pp_lexer.specs.declared.token.Location.{Location}
-use Rattle.pp_lexer.specs.declared.token.PreprocessorError.{PreprocessorError}
 use Rattle.pp_lexer.specs.declared.token.PreprocessorError.TheVariants.{UnexpectedHash, ErrorDirective, UnknownDirective, ElifOutsideOfBlock, ElseOutsideOfBlock, EndifOutsideOfBlock, ElifAfterElse, MoreThanOneElse, UnfinishedBlock}
 use Rattle.pp_lexer.specs.declared.token.Token.{Token}
 use Rattle.pp_lexer.specs.declared.token.TokenValue.{TokenValue}
@@ -35,9 +34,6 @@ passed after = record { step = step.Passed; after = after }
 
 abbrev pub failed : Fault → SourceReader → Acted
 failed fault reader = record { step = step.Given (outcome.Fault fault); after = reader }
-
-abbrev pub failed_at : PreprocessorError → Location → SourceReader → Acted
-failed_at error location reader = failed (error, location) reader
 
 abbrev pub given : Token → SourceReader → Acted
 given token after = record { step = step.Given (outcome.Token token); after = after }
@@ -73,47 +69,29 @@ decided reader holds = record (after_line reader) { truths = record { position =
 
 -- a line whose condition is wanted: its tokens are gathered
 abbrev pub condition : Location → SourceReader → Acted
-condition word reader =
-    acted (line_tokens (after_word reader)) reader (λ tokens. record { step = step.Condition word tokens; after = reader })
-
-abbrev pub line_number : Location → SourceReader → Acted
-line_number word reader =
-    acted (line_tokens (after_word reader)) reader (λ tokens. record { step = step.LineNumber word tokens; after = reader })
-
--- `#define`
-abbrev pub define : Location → SourceReader → Acted
-define word reader =
-    acted (defined_on word (after_word reader)) reader (λ named. record { step = step.Defines named; after = after_line reader })
-
--- `#undef`
-abbrev pub undef : Location → SourceReader → Acted
-undef word reader =
-    acted (only_name word (after_word reader)) reader (λ name. passed (record (after_line reader) { definitions = changed reader.definitions name None }))
+condition word reader = acted (line_tokens (after_word reader)) reader (λ tokens. record { step = step.Condition word tokens; after = reader })
 
 -- `#ifdef` and `#ifndef`, which say of a name that it is defined, or isn't
 abbrev pub if_defined : (Bool → Bool) → Location → SourceReader → Acted
-if_defined holds word reader =
-    acted (only_name word (after_word reader)) reader (λ name. passed (decided reader (holds (is_some (reader.definitions name)))))
+if_defined holds word reader = acted (only_name word (after_word reader)) reader (λ name. passed (decided reader (holds (is_some (reader.definitions name)))))
 
 -- `#elif` in the block: it is skipped where it can't be the first branch to be taken
 abbrev pub elif_in : Option Block → Location → SourceReader → Acted
-elif_in None word reader = failed_at ElifOutsideOfBlock word reader
+elif_in None word reader = failed (ElifOutsideOfBlock, word) reader
 elif_in (Some block) word reader =
-    if has_else block then failed_at ElifAfterElse word reader
+    if has_else block then failed (ElifAfterElse, word) reader
     else if not (are_surroundings_live reader.items reader.truths block) || has_taken_branch reader.truths block then skipped reader
     else condition word reader
 
 -- `#else` in the block, once its line has ended
 abbrev pub else_in : Option Block → Location → SourceReader → SourceReader → Acted
-else_in None word reader after = failed_at ElseOutsideOfBlock word reader
-else_in (Some block) word reader after = if has_else block then failed_at MoreThanOneElse word reader else passed after
+else_in None word reader after = failed (ElseOutsideOfBlock, word) reader
+else_in (Some block) word reader after = if has_else block then failed (MoreThanOneElse, word) reader else passed after
 
 -- `#endif` of the block
 abbrev pub endif_in : Option Block → Location → SourceReader → Acted
-endif_in None word reader = failed_at EndifOutsideOfBlock word reader
-endif_in (Some block) word reader =
-    if are_surroundings_live reader.items reader.truths block then only_word word reader passed
-    else skipped reader
+endif_in None word reader = failed (EndifOutsideOfBlock, word) reader
+endif_in (Some block) word reader = if are_surroundings_live reader.items reader.truths block then only_word word reader passed else skipped reader
 
 abbrev pub block_here : SourceReader → Option Block
 block_here reader = innermost (blocks_at reader.items reader.position)
@@ -136,25 +114,24 @@ extension word reader = line_item (λ tokens. Extension (record {
   has_non_directive_before = has_live_text_before reader.items reader.truths reader.position;
 })) word reader
 
-abbrev pub pragma : Location → SourceReader → Acted
-pragma word reader = line_item (λ tokens. Pragma (record { tokens = preorder tokens })) word reader
-
 -- a directive in live text
 abbrev pub live_directive : Directive → Location → SourceReader → Acted
-live_directive d.Define word reader = define word reader
-live_directive d.Undef word reader = undef word reader
+live_directive d.Define word reader =
+    acted (defined_on word (after_word reader)) reader (λ named. record { step = step.Defines named; after = after_line reader })
+live_directive d.Undef word reader =
+    acted (only_name word (after_word reader)) reader (λ name. passed (record (after_line reader) { definitions = changed reader.definitions name None }))
 live_directive d.If word reader = condition word reader
 live_directive d.Ifdef word reader = if_defined (λ defined. defined) word reader
 live_directive d.Ifndef word reader = if_defined not word reader
 live_directive d.Elif word reader = elif_in (block_here reader) word reader
 live_directive d.Else word reader = only_word word reader (else_in (block_here reader) word reader)
 live_directive d.Endif word reader = endif_in (block_here reader) word reader
-live_directive d.Error word reader = failed_at ErrorDirective word reader
-live_directive d.Line word reader = line_number word reader
+live_directive d.Error word reader = failed (ErrorDirective, word) reader
+live_directive d.Line word reader = acted (line_tokens (after_word reader)) reader (λ tokens. record { step = step.LineNumber word tokens; after = reader })
 live_directive d.Version word reader = version word reader
 live_directive d.Extension word reader = extension word reader
-live_directive d.Pragma word reader = pragma word reader
-live_directive d.Unknown word reader = failed_at UnknownDirective word reader
+live_directive d.Pragma word reader = line_item (λ tokens. Pragma (record { tokens = preorder tokens })) word reader
+live_directive d.Unknown word reader = failed (UnknownDirective, word) reader
 
 -- a directive in dead text: those that part and close blocks act, a block is opened unread, and after an unknown word the
 -- line is dead text
@@ -179,7 +156,7 @@ live_act sight.End reader = ended reader
 live_act sight.NewLine reader = passed (moved 1 reader)
 live_act (sight.Fault fault) reader = failed fault reader
 live_act (sight.Token token) reader = given token (moved 1 reader)
-live_act (sight.Hash location) reader = failed_at UnexpectedHash location reader
+live_act (sight.Hash location) reader = failed (UnexpectedHash, location) reader
 live_act (sight.NoWord fault) reader = failed fault reader
 live_act (sight.Directive directive word) reader = live_directive directive word reader
 

@@ -109,13 +109,10 @@ abbrev pub is_last_chosen : Truths → BlockLine → List BlockLine → Bool
 is_last_chosen truths mark [] = holds_at truths mark
 is_last_chosen truths mark (later ∷ marks) = fails_at truths mark && is_last_chosen truths later marks
 
-abbrev pub is_branch_live : Truths → Block → Bool
-is_branch_live truths block = is_last_chosen truths block.first block.partings
-
 -- A position is live if in each block that is open there the latest mark is chosen. The blocks around a block are open at its
 -- first line too, with the same latest marks; so that line is live where its block's branches are.
 abbrev pub is_live : List Seen → Truths → ℕ → Bool
-is_live source truths position = list_all (is_branch_live truths) (blocks_at source position)
+is_live source truths position = list_all (λ block. is_last_chosen truths block.first block.partings) (blocks_at source position)
 
 -- the surroundings of a block
 abbrev pub are_surroundings_live : List Seen → Truths → Block → Bool

@@ -1,5 +1,5 @@
 -- Macros and the map of their names (GLSL ES 3.20, section 3.4, and docs/RULES.md, Directives 5 and 6).
-use Rattle.std.specs.Prelude.{◌≡◌, Bool, false, List, [], Option, None, if◌then◌else◌}
+use Rattle.std.specs.Prelude.{◌≡◌, Bool, false, List, [], Option, if◌then◌else◌}
 use Rattle.pp_lexer.specs.declared.token.Token.{Token}
 use Rattle.pp_lexer.specs.Spelling.{values_of}
 use Rattle.pp_model.specs.Names.{Name, is_same_name}
@@ -13,9 +13,6 @@ pub record Definition : Type 0 where
 -- which names are defined, and as what
 abbrev pub Definitions : Type 0
 Definitions = Name → Option Definition
-
-abbrev pub nothing_defined : Definitions
-nothing_defined = λ name. None
 
 -- the name stands for this, or for nothing, and all other names stay
 abbrev pub changed : Definitions → Name → Option Definition → Definitions

@@ -17,9 +17,6 @@ use Rattle.pp_model.specs.declared.outcome.Outcome.TheVariants as outcome
 abbrev pub opened : {R : Type 0} → Opening → ℕ → List (List Token) → Expander R → Expander R
 opened m line arguments expander = record expander { list = spliced m.name m.definition line arguments expander.list }
 
-abbrev pub holding : {R : Type 0} → Outcome → Expander R → Expander R
-holding o expander = record expander { held = Some o }
-
 -- The next item: a token that opens no macro, an error or the end. `A` says what calls come to.
 pub data Emits {R : Type 0} (I : Reading R) (A : Answers) : Expander R → Outcome → Expander R → Type 0 where
   -- what opens no macro is the item
@@ -27,7 +24,7 @@ pub data Emits {R : Type 0} (I : Reading R) (A : Answers) : Expander R → Outco
   -- an object-like macro is replaced
   object : (x o : Outcome) (m : Opening) (e f h : Expander R) → Takes I e x f → opening I f x ≡ Some m → m.definition.function_like ≡ false → Emits I A (opened m m.token.location.line [] f) o h → Emits I A e o h
   -- the name of a function-like macro without a call is the item; what was found after it comes next
-  name_alone : (x y o : Outcome) (m : Opening) (e f g h : Expander R) → Takes I e x f → opening I f x ≡ Some m → m.definition.function_like ≡ true → Calls I A m.definition f (no_call y) g → o ≡ x → h ≡ holding y g → Emits I A e o h
+  name_alone : (x y o : Outcome) (m : Opening) (e f g h : Expander R) → Takes I e x f → opening I f x ≡ Some m → m.definition.function_like ≡ true → Calls I A m.definition f (no_call y) g → o ≡ x → h ≡ record g { held = Some y } → Emits I A e o h
   -- the fault of a call is the item
   call_refused : (x o : Outcome) (fault : Fault) (m : Opening) (e f g : Expander R) → Takes I e x f → opening I f x ≡ Some m → m.definition.function_like ≡ true → Calls I A m.definition f (refused fault) g → o ≡ outcome.Fault fault → Emits I A e o g
   -- a call is replaced

@@ -53,14 +53,10 @@ pub record Listed : Type 0 where
   pub tokens : List Token
   pub visible : Definitions
 
--- its tokens in order, and then the end
-abbrev pub ReadsListed : Listed → Outcome → Listed → Type 0
-ReadsListed old given new = (given ≡ option_map_or outcome.Token (slice_get old.tokens 0) outcome.End) × (new ≡ record old { tokens = drop 1 old.tokens })
-
--- a list of tokens, where these names never open
+-- a list of tokens, where these names never open: its tokens in order, and then the end
 abbrev pub listed_reading : (Name → Bool) → Reading Listed
 listed_reading is_reserved = record {
-  Reads = ReadsListed;
+  Reads = λ old given new. (given ≡ option_map_or outcome.Token (slice_get old.tokens 0) outcome.End) × (new ≡ record old { tokens = drop 1 old.tokens });
   visible = λ reader. reader.visible;
   shown_line = λ reader line. Some line;
   is_reserved = is_reserved;

@@ -18,14 +18,6 @@ use Rattle.pp_model.specs.declared.step.Step.TheVariants as step
 abbrev pub shown_line : SourceReader → ℕ → Option ℕ
 shown_line reader line = as_line_number (pos line +ℤ reader.line_offset)
 
--- the reader after a `#line` of this number whose word stands here
-abbrev pub renumbered : SourceReader → Location → ℕ → SourceReader
-renumbered reader word n = record (after_line reader) { line_offset = pos n -ℤ pos word.line }
-
--- the reader after a `#define` of a name that was not defined
-abbrev pub defining : Named → SourceReader → SourceReader
-defining named reader = record reader { definitions = changed reader.definitions named.name (Some named.definition) }
-
 -- One token or line of the source: it gives something, or nothing. `A` says what calls in `#if` and `#line` lines come to.
 pub data Steps (A : Answers) : SourceReader → Option Outcome → SourceReader → Type 0 where
   -- it gives nothing
@@ -33,7 +25,7 @@ pub data Steps (A : Answers) : SourceReader → Option Outcome → SourceReader 
   -- it gives a token, an error or the end
   gives : (x : Outcome) (o : Option Outcome) (r t : SourceReader) → (act r).step ≡ step.Given x → o ≡ Some x → t ≡ (act r).after → Steps A r o t
   -- a `#define` of a new name
-  defines : (named : Named) (o : Option Outcome) (r t : SourceReader) → (act r).step ≡ step.Defines named → r.definitions named.name ≡ None → o ≡ None → t ≡ defining named (act r).after → Steps A r o t
+  defines : (named : Named) (o : Option Outcome) (r t : SourceReader) → (act r).step ≡ step.Defines named → r.definitions named.name ≡ None → o ≡ None → t ≡ record (act r).after { definitions = changed (act r).after.definitions named.name (Some named.definition) } → Steps A r o t
   -- a `#define` that says what was said before: the old definition stays
   repeats : (named : Named) (old : Definition) (o : Option Outcome) (r t : SourceReader) → (act r).step ≡ step.Defines named → r.definitions named.name ≡ Some old → IsSameDefinition old named.definition → o ≡ None → t ≡ (act r).after → Steps A r o t
   -- a `#define` that says something else
@@ -42,8 +34,8 @@ pub data Steps (A : Answers) : SourceReader → Option Outcome → SourceReader 
   decides : (word : Location) (tokens : List Token) (holds : Bool) (o : Option Outcome) (r t : SourceReader) → (act r).step ≡ step.Condition word tokens → IsCondition A word tokens r.definitions (Ok holds) → o ≡ None → t ≡ decided r holds → Steps A r o t
   -- an `#if` or `#elif` whose condition is at fault
   undecided : (word : Location) (tokens : List Token) (fault : Fault) (o : Option Outcome) (r t : SourceReader) → (act r).step ≡ step.Condition word tokens → IsCondition A word tokens r.definitions (Err fault) → o ≡ Some (outcome.Fault fault) → t ≡ r → Steps A r o t
-  -- a `#line`
-  renumbers : (word : Location) (tokens : List Token) (n : ℕ) (o : Option Outcome) (r t : SourceReader) → (act r).step ≡ step.LineNumber word tokens → IsLineNumber A word tokens r.definitions (Ok n) → o ≡ None → t ≡ renumbered r word n → Steps A r o t
+  -- a `#line`: what it adds to later lines is its number, less the line of its word
+  renumbers : (word : Location) (tokens : List Token) (n : ℕ) (o : Option Outcome) (r t : SourceReader) → (act r).step ≡ step.LineNumber word tokens → IsLineNumber A word tokens r.definitions (Ok n) → o ≡ None → t ≡ record (after_line r) { line_offset = pos n -ℤ pos word.line } → Steps A r o t
   -- a `#line` at fault
   unnumbered : (word : Location) (tokens : List Token) (fault : Fault) (o : Option Outcome) (r t : SourceReader) → (act r).step ≡ step.LineNumber word tokens → IsLineNumber A word tokens r.definitions (Err fault) → o ≡ Some (outcome.Fault fault) → t ≡ r → Steps A r o t
 

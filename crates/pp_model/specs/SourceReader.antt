@@ -1,8 +1,8 @@
 -- A reader of a source, and what was read before a position (docs/RULES.md, Directives 1, 11, 13 and 14).
-use Rattle.std.specs.Prelude.{ℕ, zero, suc, ℤ, pos, Bool, false, not, ◌&&◌, ◌||◌, List, [], ◌∷◌, take, drop, length, slice_get}
+use Rattle.std.specs.Prelude.{ℕ, zero, suc, ℤ, pos, Bool, false, not, ◌&&◌, ◌||◌, List, [], ◌∷◌, take, drop, length, slice_get, None}
 use Rattle.std.specs.Option.{option_map_or}
 use Rattle.pp_lexer.specs.Lexed.{Seen}
-use Rattle.pp_model.specs.Definitions.{Definitions, nothing_defined}
+use Rattle.pp_model.specs.Definitions.{Definitions}
 use Rattle.pp_model.specs.Lines.{ends_line}
 use Rattle.pp_model.specs.Sights.{sight_of, is_directive, is_text, is_directive_hash}
 use Rattle.pp_model.specs.Blocks.{Truths, blocks_at, is_live}
@@ -21,7 +21,7 @@ abbrev pub start_of : List Seen → SourceReader
 start_of source = record {
   items = source;
   position = 0;
-  definitions = nothing_defined;
+  definitions = λ name. None;
   line_offset = pos 0;
   truths = [];
   unfinished = length (blocks_at source (length source));
@@ -42,8 +42,7 @@ is_on_directive_line source (suc position) =
 
 -- a live token of the text stands at the position
 abbrev pub is_live_text : List Seen → Truths → ℕ → Bool
-is_live_text source truths position =
-    is_text (sight_of (drop position source)) && not (is_on_directive_line source position) && is_live source truths position
+is_live_text source truths position = is_text (sight_of (drop position source)) && not (is_on_directive_line source position) && is_live source truths position
 
 -- a live token of the text stands before the position
 abbrev pub has_live_text_before : List Seen → Truths → ℕ → Bool

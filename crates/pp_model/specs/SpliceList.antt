@@ -44,5 +44,4 @@ replaced parameters arguments (token ∷ body) entries =
 
 -- the macro's replacement with its end mark before the entries
 abbrev pub spliced : Name → Definition → ℕ → List (List Token) → List Entry → List Entry
-spliced name definition line arguments entries =
-    replaced definition.parameters arguments definition.body (End (record { name = name; line = line }) ∷ entries)
+spliced name definition line arguments entries = replaced definition.parameters arguments definition.body (End (record { name = name; line = line }) ∷ entries)

@@ -1,3 +1,4 @@
+pub mod Definitions
 pub mod Sights
 pub mod Blocks
 pub mod Reading
@@ -6,6 +7,7 @@ pub mod Lines
 pub mod DefineLines
 pub mod Run
 pub mod Acts
+pub mod Reads
 pub mod SpliceList
 pub mod LineValues
 pub mod SourceReader

@@ -8,7 +8,8 @@ use Rattle.pp_model.specs.LineValues.{IsCondition, IsLineNumber}
 use Rattle.pp_model.specs.Blocks.{Block}
 use Rattle.pp_model.specs.SourceReader.{SourceReader}
 use Rattle.pp_model.specs.Acts.{Acted, ended_by, act}
-use Rattle.pp_model.specs.Reads.{defining, Steps, passes, gives, defines, repeats, redefines, decides, undecided, renumbers, unnumbered}
+use Rattle.pp_model.specs.Reads.{Steps, passes, gives, defines, repeats, redefines, decides, undecided, renumbers, unnumbered}
+use Rattle.pp_model.specs.inner.Reads.{defining}
 use Rattle.pp_plain.specs.inner.Acting.{Defining, Deciding, DecidesBy, Renumbering, RenumbersBy}
 use Rattle.pp_model.specs.declared.definition.Named.{Named}
 use Rattle.pp_model.specs.declared.outcome.Outcome.{Outcome}

@@ -9,7 +9,7 @@ use Rattle.pp_model.specs.Reading.{Reading, Expander, Opening, opening, masked}
 use Rattle.pp_model.specs.Taking.{Takes}
 use Rattle.pp_model.specs.Calls.{Fault, Answers, Gathered, Gathers, arguments_of, paren_at, site_of, Calls}
 use Rattle.pp_model.specs.Calls as calls
-use Rattle.pp_model.specs.Emitting.{Emits, opened, holding, Collects}
+use Rattle.pp_model.specs.Emitting.{Emits, opened, Collects}
 use Rattle.pp_model.specs.Emitting as emitting
 use Rattle.pp_plain.specs.inner.Seen.{TakesParen, none, some, Finds, nothing, broken, whole, turned, TurnsAt, object, function, Turns, itself, opens, Resolves}
 use Rattle.pp_plain.specs.declared.expander.Call.{Call}

@@ -205,7 +205,7 @@ fn is_last_chosen(truths: &[Truth], mark: BlockLine, marks: &[BlockLine]) -> boo
 
 // Whether the latest mark of each block is chosen.
 fn are_branches_live(truths: &[Truth], blocks: &[Block]) -> bool
-    ensures { result ≡ list_all (spec.is_branch_live truths.now) blocks.now }
+    ensures { result ≡ list_all (parts.is_branch_live truths.now) blocks.now }
 {
     match blocks.split_first() {
         None => true,

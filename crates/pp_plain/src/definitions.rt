@@ -2,7 +2,8 @@
 
 ghost use Rattle.std.specs.Prelude.{◌≡◌, OnOk, OnErr};
 ghost use Rattle.std.specs.Option.{option_copied};
-ghost use Rattle.pp_model.specs.Definitions.{changed, nothing_defined};
+ghost use Rattle.pp_model.specs.Definitions.{changed};
+ghost use Rattle.pp_model.specs.inner.Definitions.{nothing_defined};
 ghost use Rattle.pp_plain.specs.inner.Changes.{meaning_of};
 
 use pp_lexer::token::Text;

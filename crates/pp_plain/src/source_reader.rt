@@ -7,7 +7,8 @@ ghost use Rattle.pp_model.specs.Acts as spec;
 ghost use Rattle.pp_model.specs.inner.Acts as parts;
 ghost use Rattle.pp_model.specs.Blocks.{are_surroundings_live};
 ghost use Rattle.pp_plain.specs.inner.ReaderState.{reader_of};
-ghost use Rattle.pp_model.specs.Reads.{renumbered, shown_line};
+ghost use Rattle.pp_model.specs.Reads.{shown_line};
+ghost use Rattle.pp_model.specs.inner.Reads.{renumbered};
 ghost use Rattle.pp_model.specs.inner.Run.{adding};
 ghost use Rattle.pp_model.specs.Sights.{least_items};
 ghost use Rattle.pp_plain.specs.declared.stop.Halt.TheVariants as halt;
@@ -154,7 +155,7 @@ impl<'a> SourceReader<'a> {
     // Gathers a `#line`.
     fn line_number(&mut self, alloc: Global, word: Location) -> Result<Step, Halt>
         requires { self.old.position + 2 ≤ length self.old.items }
-        ensures acts { ActsAs result (spec.line_number word (reader_of self.old)) (reader_of self.new) }
+        ensures acts { ActsAs result (parts.line_number word (reader_of self.old)) (reader_of self.new) }
         ensures line { HasLineIfOk result self.new }
     {
         let tokens = line_tokens(alloc, self.after_word())?;
@@ -164,7 +165,7 @@ impl<'a> SourceReader<'a> {
     // Reads a `#define`.
     fn define(&mut self, alloc: Global, word: Location) -> Result<Step, Halt>
         requires { self.old.position + 2 ≤ length self.old.items }
-        ensures acts { ActsAs result (spec.define word (reader_of self.old)) (reader_of self.new) }
+        ensures acts { ActsAs result (parts.define word (reader_of self.old)) (reader_of self.new) }
         ensures line { HasLineIfOk result self.new }
     {
         let named = defined_on(alloc, word, self.after_word())?;
@@ -175,7 +176,7 @@ impl<'a> SourceReader<'a> {
     // Does what an `#undef` says.
     fn undef(&mut self, alloc: Global, word: Location) -> Result<Step, Halt>
         requires { self.old.position + 2 ≤ length self.old.items }
-        ensures acts { ActsAs result (spec.undef word (reader_of self.old)) (reader_of self.new) }
+        ensures acts { ActsAs result (parts.undef word (reader_of self.old)) (reader_of self.new) }
         ensures line { HasLineIfOk result self.new }
     {
         let name = only_name(alloc, word, self.after_word())?;
@@ -343,7 +344,7 @@ impl<'a> SourceReader<'a> {
     // Gives the item of a `#pragma`.
     fn pragma(&mut self, alloc: Global, word: Location) -> Result<Step, Halt>
         requires { self.old.position + 2 ≤ length self.old.items }
-        ensures acts { ActsAs result (spec.pragma word (reader_of self.old)) (reader_of self.new) }
+        ensures acts { ActsAs result (parts.pragma word (reader_of self.old)) (reader_of self.new) }
         ensures line { HasLineIfOk result self.new }
     {
         let tokens = line_tokens(alloc, self.after_word())?;

@@ -3,8 +3,8 @@ use Rattle.std.proofs.Common.{◌≡◌, ◌∙◌, inl, inr, true, false, ℕ, 
 use Rattle.std.specs.Prelude.{if◌then◌else◌, ◌||◌, ◌&&◌, Ok, Err}
 use Rattle.pp_lexer.specs.declared.token.Token.{Token}
 use Rattle.pp_model.specs.Names.{Name, is_in, is_same_name, defined_name}
-use Rattle.pp_model.specs.Reading.{Reading, ReadsListed, Expander, Listed, masked}
-use Rattle.pp_model.specs.inner.Reading.{first_listed, after_listed}
+use Rattle.pp_model.specs.Reading.{Reading, Expander, Listed, masked}
+use Rattle.pp_model.specs.inner.Reading.{first_listed, after_listed, ReadsListed}
 use Rattle.pp_model.specs.Calls.{Answers, arguments_of, site_of}
 use Rattle.pp_model.specs.Definitions.{Definitions}
 use Rattle.pp_model.specs.declared.splice.Entry.{Entry}

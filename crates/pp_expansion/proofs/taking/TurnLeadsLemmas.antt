@@ -14,7 +14,8 @@ use Rattle.pp_model.specs.Taking.{Takes}
 use Rattle.pp_model.specs.Calls as calls
 use Rattle.pp_model.specs.Calls.{Fault, Gathered, Answers, paren_at, is_left_paren, site_of}
 use Rattle.pp_model.specs.Emitting as emitting
-use Rattle.pp_model.specs.Emitting.{Emits, opened, holding}
+use Rattle.pp_model.specs.Emitting.{Emits, opened}
+use Rattle.pp_model.specs.inner.Emitting.{holding}
 use Rattle.pp_model.specs.SpliceList.{open_names, spliced}
 use Rattle.pp_model.specs.declared.splice.Entry.{Entry}
 use Rattle.pp_model.specs.declared.outcome.Outcome.{Outcome}

@@ -1,7 +1,8 @@
 -- What the preprocessor keeps of the names that are defined: a list of them, in which no name stands twice.
 use Rattle.std.specs.Prelude.{◌≡◌, ℕ, ◌+◌, ◌≤◌, List, [], ◌∷◌, length, Option, Some, None}
 use Rattle.pp_model.specs.Names.{Name}
-use Rattle.pp_model.specs.Definitions.{Definition, Definitions, nothing_defined, changed}
+use Rattle.pp_model.specs.Definitions.{Definition, Definitions, changed}
+use Rattle.pp_model.specs.inner.Definitions.{nothing_defined}
 
 -- a name, and what it stands for
 pub record Defined : Type 0 where

@@ -3,7 +3,8 @@ use Rattle.std.specs.Prelude.{◌≡◌, ℕ, ◌<◌, ◌-◌, Bool, true, fals
 use Rattle.std.specs.List.{AllByRecursion as Each, AllZip, list_all}
 use Rattle.pp_lexer.specs.Lexed.{Seen}
 use Rattle.pp_lexer.specs.declared.token.Location.{Location}
-use Rattle.pp_model.specs.Blocks.{Block, Truths, fails_at, is_branch_live, are_surroundings_live, has_taken_branch, has_else}
+use Rattle.pp_model.specs.Blocks.{Block, Truths, fails_at, are_surroundings_live, has_taken_branch, has_else}
+use Rattle.pp_model.specs.inner.Blocks.{is_branch_live}
 use Rattle.pp_model.specs.declared.block.BlockLine.{BlockLine}
 -- A block that is open: the place of its first line's word, whether its surroundings are live, whether a branch of it was taken, whether
 -- it has an `#else`, and whether the branch that is being read is chosen.

@@ -1,9 +1,11 @@
 -- Parts of emitting, under names of their own.
-use Rattle.std.specs.Prelude.{List, Option, unwrap_or, Result}
+use Rattle.std.specs.Prelude.{List, Option, Some, unwrap_or, Result}
 use Rattle.pp_lexer.specs.declared.token.PreprocessorError.{PreprocessorError}
 use Rattle.pp_lexer.specs.declared.token.PreprocessorError.TheVariants.{RecursionLimitReached}
 use Rattle.pp_lexer.specs.declared.token.Token.{Token}
 use Rattle.pp_model.specs.Calls.{Fault}
+use Rattle.pp_model.specs.Reading.{Expander}
+use Rattle.pp_model.specs.declared.outcome.Outcome.{Outcome}
 use Rattle.pp_model.specs.Emitting.{first_before}
 
 abbrev pub token_before : Token → Result (List Token) Fault → Result (List Token) Fault
@@ -14,3 +16,6 @@ list_before tokens rest = first_before tokens rest
 
 abbrev pub refusal : Option PreprocessorError → PreprocessorError
 refusal error = unwrap_or error RecursionLimitReached
+
+abbrev pub holding : {R : Type 0} → Outcome → Expander R → Expander R
+holding o expander = record expander { held = Some o }

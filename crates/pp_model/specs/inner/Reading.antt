@@ -1,9 +1,9 @@
 -- Parts of reading, under names of their own.
-use Rattle.std.specs.Prelude.{List, drop, Option, option_map, slice_get}
+use Rattle.std.specs.Prelude.{◌≡◌, List, drop, Option, option_map, slice_get}
 use Rattle.pp_lexer.specs.declared.token.Token.{Token}
 use Rattle.pp_model.specs.Names.{Name}
 use Rattle.pp_model.specs.Definitions.{Definition}
-use Rattle.pp_model.specs.Reading.{Opening}
+use Rattle.pp_model.specs.Reading.{Opening, Listed}
 use Rattle.std.specs.Option.{option_map_or}
 use Rattle.pp_model.specs.declared.outcome.Outcome.{Outcome}
 use Rattle.pp_model.specs.declared.outcome.Outcome.TheVariants as outcome
@@ -16,3 +16,7 @@ after_listed tokens = drop 1 tokens
 
 abbrev pub first_listed : List Token → Outcome
 first_listed tokens = option_map_or outcome.Token (slice_get tokens 0) outcome.End
+
+-- its tokens in order, and then the end
+abbrev pub ReadsListed : Listed → Outcome → Listed → Type 0
+ReadsListed old given new = (given ≡ option_map_or outcome.Token (slice_get old.tokens 0) outcome.End) × (new ≡ record old { tokens = drop 1 old.tokens })

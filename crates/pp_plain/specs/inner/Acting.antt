@@ -9,7 +9,7 @@ use Rattle.pp_model.specs.LineValues.{IsCondition, IsLineNumber}
 use Rattle.pp_model.specs.SourceReader.{SourceReader}
 use Rattle.pp_plain.specs.inner.ReaderState.{ReaderState}
 use Rattle.pp_model.specs.Acts.{Acted, failed, decided}
-use Rattle.pp_model.specs.Reads.{defining, renumbered}
+use Rattle.pp_model.specs.inner.Reads.{defining, renumbered}
 use Rattle.pp_model.specs.declared.definition.Named.{Named}
 use Rattle.pp_model.specs.declared.outcome.Outcome.{Outcome}
 use Rattle.pp_model.specs.declared.outcome.Outcome.TheVariants as outcome

@@ -1,7 +1,8 @@
 -- The meaning of a list of changes, the latest first.
 use Rattle.std.specs.Prelude.{List, [], ◌∷◌}
 use Rattle.pp_plain.specs.declared.definitions.Change.{Change}
-use Rattle.pp_model.specs.Definitions.{Definitions, nothing_defined, changed}
+use Rattle.pp_model.specs.Definitions.{Definitions, changed}
+use Rattle.pp_model.specs.inner.Definitions.{nothing_defined}
 
 abbrev pub meaning_of : List Change → Definitions
 meaning_of [] = nothing_defined

@@ -5,7 +5,8 @@ use Rattle.pp_lexer.specs.declared.token.Token.{Token}
 use Rattle.pp_model.specs.Reading.{Reading, Expander, Opening, opening}
 use Rattle.pp_model.specs.Taking.{Takes}
 use Rattle.pp_model.specs.Calls.{Fault, Gathered, Gathers, arguments_of, paren_at}
-use Rattle.pp_model.specs.Emitting.{opened, holding}
+use Rattle.pp_model.specs.Emitting.{opened}
+use Rattle.pp_model.specs.inner.Emitting.{holding}
 use Rattle.pp_plain.specs.declared.expander.Call.{Call}
 use Rattle.pp_plain.specs.declared.expander.Site.{Site}
 use Rattle.pp_plain.specs.declared.expander.Expander as declared

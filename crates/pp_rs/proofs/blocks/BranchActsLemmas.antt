@@ -11,7 +11,7 @@ use Rattle.pp_model.specs.Lines.{line_fault, line_tokens, ended_line, only_name}
 use Rattle.pp_model.specs.Sights.{sight_of}
 use Rattle.pp_model.specs.Blocks.{part_of, Block, is_live, are_surroundings_live, has_taken_branch, has_else}
 use Rattle.pp_model.specs.SourceReader.{SourceReader}
-use Rattle.pp_model.specs.Acts.{Acted, passed, failed_at, given, after_word, after_line, acted, skipped, only_word, decided, condition, elif_in, else_in, endif_in, block_here, line_item, live_directive, dead_directive, ended_by, live_act, dead_act, act}
+use Rattle.pp_model.specs.Acts.{Acted, passed, failed, given, after_word, after_line, acted, skipped, only_word, decided, condition, elif_in, else_in, endif_in, block_here, line_item, live_directive, dead_directive, ended_by, live_act, dead_act, act}
 use Rattle.pp_model.specs.inner.Acts.{skipped_by}
 use Rattle.pp_model.specs.Reads.{Steps, passes, gives, defines, repeats, redefines, decides, undecided, renumbers, unnumbered}
 use Rattle.pp_model.specs.declared.block.Part.TheVariants as part
@@ -59,7 +59,7 @@ module _ (r : SourceReader) (b : HasRead r) where
   module _ (directive : Directive) (word : Location) (e : sight_of (drop r.position r.items) ≡ sight.Directive directive word) where
     elif_with : (block : Block) (other skips : Bool) → block_here r ≡ Some block → part_of directive ≡ Some part.Elif → has_else block ≡ other
         → not (are_surroundings_live r.items r.truths block) || has_taken_branch r.truths block ≡ skips
-        → Keeps r (if other then failed_at ElifAfterElse word r else if skips then skipped r else condition word r)
+        → Keeps r (if other then failed (ElifAfterElse, word) r else if skips then skipped r else condition word r)
     elif_with block true skips found its none is = b
     elif_with block false true found its none is = skipped_keeps (skipping_keeps r b directive word e block found its none is)
     elif_with block false false found its none is = condition_keeps word (choosing_keeps r b directive word e block found its none is)
@@ -69,7 +69,7 @@ module _ (r : SourceReader) (b : HasRead r) where
     elif_keeps (Some block) found its = elif_with block (has_else block) (not (are_surroundings_live r.items r.truths block) || has_taken_branch r.truths block) found its refl refl
 
     else_with : (block : Block) (other : Bool) → block_here r ≡ Some block → part_of directive ≡ Some part.Else → has_else block ≡ other
-        → Keeps r (if other then failed_at MoreThanOneElse word r else passed (after_line r))
+        → Keeps r (if other then failed (MoreThanOneElse, word) r else passed (after_line r))
     else_with block true found its is = b
     else_with block false found its is = parting_keeps r b directive word e block found its is
 

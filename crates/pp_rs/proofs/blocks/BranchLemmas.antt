@@ -2,8 +2,8 @@
 use Rattle.std.proofs.Common.{◌≡◌, ◌∙◌, ℕ, Bool, true, false, ◌&&◌, ◌||◌, not, List, [], ◌∷◌, ◌++◌, refl, ap, sym, Some}
 use Rattle.std.proofs.Math.Bool.{and-true, and_assoc, or_assoc}
 use Rattle.std.specs.List.{list_any, list_all}
-use Rattle.pp_model.specs.Blocks.{Block, Truths, truth_at, opens, is_else, holds_at, fails_at, is_last_chosen, is_branch_live, has_taken_branch, has_else}
-use Rattle.pp_model.specs.inner.Blocks.{is_known_true, is_known_false}
+use Rattle.pp_model.specs.Blocks.{Block, Truths, truth_at, opens, is_else, holds_at, fails_at, is_last_chosen, has_taken_branch, has_else}
+use Rattle.pp_model.specs.inner.Blocks.{is_known_true, is_known_false, is_branch_live}
 use Rattle.pp_model.specs.declared.block.BlockLine.{BlockLine}
 use Rattle.pp_model.specs.declared.block.Part.{Part}
 use Rattle.pp_model.specs.declared.block.Part.TheVariants as part

@@ -13,7 +13,8 @@ use Rattle.pp_model.specs.Blocks.{Block, innermost, are_surroundings_live, has_t
 use Rattle.pp_model.specs.SourceReader.{SourceReader}
 use Rattle.pp_model.specs.Acts.{decided, elif_in}
 use Rattle.pp_model.specs.inner.Acts.{elif_line}
-use Rattle.pp_model.specs.Reads.{renumbered, decides, undecided, renumbers, unnumbered}
+use Rattle.pp_model.specs.Reads.{decides, undecided, renumbers, unnumbered}
+use Rattle.pp_model.specs.inner.Reads.{renumbered}
 use Rattle.pp_model.specs.declared.directive.Directive.TheVariants as d
 use Rattle.pp_model.specs.declared.outcome.Outcome.TheVariants as outcome
 use Rattle.pp_model.specs.declared.sight.Sight.{Sight}

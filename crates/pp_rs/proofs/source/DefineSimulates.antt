@@ -9,7 +9,8 @@ use Rattle.pp_model.specs.DefineLines.{defined_on}
 use Rattle.pp_model.specs.Sights.{sight_of}
 use Rattle.pp_model.specs.SourceReader.{SourceReader}
 use Rattle.pp_model.specs.Acts.{passed, after_line, live_act}
-use Rattle.pp_model.specs.Reads.{defines, repeats, redefines, defining}
+use Rattle.pp_model.specs.Reads.{defines, repeats, redefines}
+use Rattle.pp_model.specs.inner.Reads.{defining}
 use Rattle.pp_model.specs.declared.definition.Named.{Named}
 use Rattle.pp_model.specs.declared.directive.Directive.TheVariants as d
 use Rattle.pp_model.specs.declared.sight.Sight.TheVariants as sight
