@@ -1,5 +1,5 @@
 -- What a `#line` of two words comes to in the plain program, which can be stopped.
-use Rattle.std.proofs.Common.{◌≡◌, ℕ, Result, Ok, Err, sym}
+use Rattle.std.proofs.Common.{ℕ, Result, Ok, Err, sym}
 use Rattle.pp_expression.specs.declared.symbol.Value.{Value}
 use Rattle.pp_expression.specs.declared.symbol.Found.{Found}
 use Rattle.pp_expression.specs.FirstFault.{Evaluates}

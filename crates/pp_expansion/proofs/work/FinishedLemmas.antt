@@ -1,27 +1,14 @@
 -- No effect but the end of a source ends a step.
-use Rattle.std.proofs.Common.{◌≡◌, ◌∙◌, ◌⊎◌, inl, inr, ℕ, Bool, true, false, if◌then◌else◌, List, [], ◌∷◌, drop, refl, ap, sym, Option, Some, None}
-use Rattle.std.specs.Prelude.{Result, Ok, Err, MatchBool}
-use Rattle.pp_lexer.specs.Lexed.{Seen}
+use Rattle.std.proofs.Common.{◌≡◌, inl, inr, ℕ, Bool, true, false, List, refl, Option, Some, None}
+use Rattle.std.specs.Prelude.{Err}
 use Rattle.pp_lexer.specs.declared.token.Location.{Location}
-use Rattle.pp_lexer.specs.declared.token.PreprocessorError.TheVariants.{ElifAfterElse, MoreThanOneElse}
 use Rattle.pp_lexer.specs.declared.token.Token.{Token}
-use Rattle.pp_model.specs.Calls.{Fault}
 use Rattle.pp_model.specs.Definitions.{Definition}
-use Rattle.pp_model.specs.DefineLines.{defined_on}
-use Rattle.pp_model.specs.Lines.{line_length, line_fault, comments_before_end, ended_line, only_name, line_tokens}
-use Rattle.pp_model.specs.Sights.{sight_of}
 use Rattle.pp_model.specs.declared.definition.Named.{Named}
-use Rattle.pp_model.specs.declared.directive.Directive.{Directive}
-use Rattle.pp_model.specs.declared.directive.Directive.TheVariants as d
-use Rattle.pp_model.specs.declared.sight.Sight.{Sight}
-use Rattle.pp_model.specs.declared.sight.Sight.TheVariants as sight
-use Rattle.pp_expansion.specs.Item.{Step}
 use Rattle.pp_expansion.specs.inner.Defined.{meaning_of}
-use Rattle.pp_expansion.specs.inner.OpenBlocks.{last_block, is_live_in, block_parted, block_skipped, skips_branches}
 use Rattle.pp_expansion.specs.declared.blocks.OpenBlock.{OpenBlock}
-use Rattle.pp_expansion.specs.inner.DirectiveItems.{version, extension, pragma, line_entries}
-use Rattle.pp_expansion.specs.inner.SourceMoves.{Effect, gives, gives_item, fails, ends, passes, defines, undefines, opens_where, opens_if, opens_unread, parts, parts_if, closes, unfinished, renumbers, Note, Move, failing, line_move, skip_by, skip_move, else_effect, endif_move, elif_move, live_move, dead_move, directive_move, move_at, move_of}
-use Rattle.pp_expansion.specs.inner.Source.{Source, DefinesOver, HasEffect, IsRefusedStep, Makes, Decides, holds, faulty, Renumbers, numbers, unnumbered}
+use Rattle.pp_expansion.specs.inner.SourceMoves.{Effect, gives, gives_item, fails, ends, passes, defines, undefines, opens_where, opens_if, opens_unread, parts, parts_if, closes, unfinished, renumbers, Note}
+use Rattle.pp_expansion.specs.inner.Source.{Source, DefinesOver, HasEffect, Decides, holds, faulty, Renumbers, numbers, unnumbered}
 use Rattle.pp_expansion.specs.declared.step.StepExit.TheVariants.{Finished}
 
 abbrev pub is_end_effect : Effect → Bool
