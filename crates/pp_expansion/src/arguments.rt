@@ -141,7 +141,8 @@ fn expand_within(
     hidden: &OpenAround<'_>,
     levels: u32,
 ) -> Result<ExpandedArguments, Halt>
-    ensures each { Satisfies result (λ out. Each (Alone levels) (meaning_of definitions.now) (names_of caller.now.frames ++ hidden.now) arguments out) }
+    ensures each { Satisfies result (λ out. Each (Alone levels) (meaning_of definitions.now)
+        (names_of caller.now.frames ++ hidden.now) arguments out) }
     ensures least { IfOk result (λ outs. AreShort levels definitions.now arguments outs) }
 {
     let around = (&*caller).around(&*hidden)?;
@@ -157,7 +158,8 @@ fn expand_arguments(
     hidden: &OpenAround<'_>,
     levels: u32,
 ) -> Result<ExpandedArguments, Halt>
-    ensures each { Satisfies result (λ out. Each (Alone levels) (meaning_of definitions.now) hidden.now arguments out) }
+    ensures each { Satisfies result (λ out. Each (Alone levels)
+        (meaning_of definitions.now) hidden.now arguments out) }
     ensures least { IfOk result (λ outs. AreShort levels definitions.now arguments outs) }
 {
     let mut expanded = Vec::new(alloc);
@@ -198,7 +200,8 @@ fn expand_argument(
     hidden: &OpenAround<'_>,
     levels: u32,
 ) -> Result<TokenList, Halt>
-    ensures alone { Satisfies result (λ out. Alone levels tokens (meaning_of definitions.now) hidden.now out) }
+    ensures alone { Satisfies result (λ out. Alone levels tokens
+        (meaning_of definitions.now) hidden.now out) }
     ensures least { IfOk result (λ out. IsShort levels definitions.now (length tokens) out) }
 {
     if are_plain(tokens.as_slice(), definitions) {

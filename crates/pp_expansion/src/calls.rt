@@ -347,7 +347,8 @@ impl Caller {
 
     // The tokens up to the `)` of a call whose `(` stands here, or the fault that is met before it.
     fn gather(&mut self, lexer: &mut dyn MeLexer, paren: Location) -> Result<Gathered, Halt>
-        ensures gathers { Satisfies result (λ g. GathersNext 0 paren self.old (reader lexer.old) g self.new (reader lexer.new)) }
+        ensures gathers { Satisfies result
+            (λ g. GathersNext 0 paren self.old (reader lexer.old) g self.new (reader lexer.new)) }
     {
         let mut tokens = Vec::with_capacity(self.alloc, 16)?;
         let mut last = paren;
@@ -456,7 +457,9 @@ impl Caller {
         lexer: &dyn MeLexer,
         value: &TokenValue,
     ) -> Result<Option<Rc<Define>>, AllocError>
-        ensures { IfOk result (λ found. option_map (λ define. define.value) found ≡ option_map (λ opening. opening.1) (opens_value self.now.frames (reader lexer.now) value.now)) }
+        ensures { IfOk result (λ found. option_map (λ define. define.value) found
+            ≡ option_map (λ opening. opening.1) (opens_value self.now.frames
+            (reader lexer.now) value.now)) }
     {
         match value {
             TokenValue::Ident(name) => self.processor.find_macro(lexer, name),
@@ -467,9 +470,12 @@ impl Caller {
     // A name that is taken opens its macro, or begins its call.
     #[inline(never)]
     fn enter(&mut self, lexer: &mut dyn MeLexer, token: Token, define: Rc<Define>) -> Step<Taken>
-        requires opens { option_map (λ opening. opening.1) (opens self.old.frames (reader lexer.old) token) ≡ Some define.value }
+        requires opens { option_map (λ opening. opening.1) (opens self.old.frames
+            (reader lexer.old) token) ≡ Some define.value }
         requires holds { HoldsOrdinary token.value }
-        ensures follows { FollowsToken (opens self.old.frames (reader lexer.old) token) token self.old (reader lexer.old) result self.new (reader lexer.new) ⊎ (result ≡ Err (Error out_of_memory)) }
+        ensures follows { FollowsToken (opens self.old.frames (reader lexer.old) token) token
+            self.old (reader lexer.old) result self.new (reader lexer.new)
+            ⊎ (result ≡ Err (Error out_of_memory)) }
         ensures holds { IfOk result TakenHoldsOrdinary }
     {
         let location = token.location;
@@ -489,7 +495,9 @@ impl Caller {
     #[inline(always)]
     fn follow(&mut self, lexer: &mut dyn MeLexer, token: Token) -> Step<Taken>
         requires { HoldsOrdinary token.value }
-        ensures follows { FollowsToken (opens self.old.frames (reader lexer.old) token) token self.old (reader lexer.old) result self.new (reader lexer.new) ⊎ (result ≡ Err (Error out_of_memory)) }
+        ensures follows { FollowsToken (opens self.old.frames (reader lexer.old) token) token
+            self.old (reader lexer.old) result self.new (reader lexer.new)
+            ⊎ (result ≡ Err (Error out_of_memory)) }
         ensures holds { IfOk result TakenHoldsOrdinary }
     {
         match self.find_macro(&*lexer, &token.value) {

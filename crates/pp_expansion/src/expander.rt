@@ -146,7 +146,11 @@ impl MacroProcessor {
     // A token that is taken: `__LINE__` becomes a number at once.
     pub fn take_in(&self, lexer: &dyn MeLexer, token: Token) -> Step<Token>
         requires { HoldsOrdinary token.value }
-        ensures taken { MatchResult result (λ taken. taken_in self.now (reader lexer.now) token ≡ outcome.Token taken) (λ exit. (exit ≡ Error (LineOverflow, token.location)) × (taken_in self.now (reader lexer.now) token ≡ outcome.Fault (LineOverflow, token.location))) }
+        ensures taken { MatchResult result
+            (λ taken. taken_in self.now (reader lexer.now) token ≡ outcome.Token taken)
+            (λ exit. (exit ≡ Error (LineOverflow, token.location))
+            × (taken_in self.now (reader lexer.now) token
+            ≡ outcome.Fault (LineOverflow, token.location))) }
         ensures holds { IfOk result (λ token. HoldsOrdinary token.value) }
     {
         if !is_line_name(&token.value) {
@@ -164,7 +168,8 @@ impl MacroProcessor {
         lexer: &dyn MeLexer,
         name: &Text,
     ) -> Result<Option<Rc<Define>>, AllocError>
-        ensures { IfOk result (λ found. option_map (λ define. (name.now, define.value)) found ≡ opens_value self.now (reader lexer.now) (value.Ident name.now)) }
+        ensures { IfOk result (λ found. option_map (λ define. (name.now, define.value)) found
+            ≡ opens_value self.now (reader lexer.now) (value.Ident name.now)) }
     {
         let Some(define) = lexer.get_define(name.as_str()) else {
             return Ok(None);

@@ -84,7 +84,8 @@ impl Model for Frame {
       parameters = f.define.value.parameters;
       body = drop f.position f.define.value.body;
       arguments = f.arguments.items;
-      reading = option_map (λ k. drop f.argument_position (argument_at f.arguments.items k)) f.expanding;
+      reading = option_map (λ k. drop f.argument_position
+          (argument_at f.arguments.items k)) f.expanding;
     } };
 }
 
@@ -117,7 +118,8 @@ pub fn token_at(tokens: &[Token], position: usize) -> Option<&Token>
 
 // The token of the argument with this index at the position.
 fn argument_token(arguments: &[TokenList], index: usize, position: usize) -> Option<&Token>
-    ensures token { option_map (λ token. token.now) result ≡ slice_get (argument_at arguments.now index) position }
+    ensures token { option_map (λ token. token.now) result
+        ≡ slice_get (argument_at arguments.now index) position }
     ensures small { IfSome result (λ _. position < 2 ^ 63) }
     ensures holds { IfSome result (λ token. HoldsOrdinary token.now.value) }
 {
@@ -188,7 +190,9 @@ impl Frame {
     /// The next step of the frame. A parameter and the end of an argument are pauses, and so is
     /// the end of the body.
     pub fn advance(&mut self, alloc: Global) -> Step<Token>
-        ensures step { (result ≡ Err (Error out_of_memory)) ⊎ MatchOption (advance self.old) (result ≡ Err Continue) (λ step. (result ≡ as_pause step.gives) × (self.new ≡ step.after)) }
+        ensures step { (result ≡ Err (Error out_of_memory))
+            ⊎ MatchOption (advance self.old) (result ≡ Err Continue)
+            (λ step. (result ≡ as_pause step.gives) × (self.new ≡ step.after)) }
         ensures name { self.new.name ≡ self.old.name }
         ensures holds { IfOk result (λ token. HoldsOrdinary token.value) }
     {

@@ -29,7 +29,8 @@ impl<'a> Model for OpenAround<'a> {
 
 // Whether a macro of this name is open in one of these.
 fn is_open_in(expanders: &[&MacroProcessor], name: &str) -> bool
-    ensures { result ≡ list_any (λ expander. is_in (chars name.now) (names_of expander.now)) expanders.now }
+    ensures { result ≡ list_any (λ expander. is_in (chars name.now)
+        (names_of expander.now)) expanders.now }
 {
     expanders.iter().any(|expander| expander.is_open(name))
 }

@@ -23,9 +23,11 @@ pub trait MeLexer {
 
     /// What the name stands for there.
     fn get_define(&self, name: &str) -> Option<&Rc<Define>>
-        ensures { option_map (λ define. define.now.value) result ≡ visible (reader self.now) (chars name.now) };
+        ensures { option_map (λ define. define.now.value) result
+            ≡ visible (reader self.now) (chars name.now) };
 
     /// The number that `__LINE__` shows for a line, or `LineOverflow` at the place.
     fn apply_line_offset(&self, line: u32, location: Location) -> Step<u32>
-        ensures { result ≡ as_step (ok_or (shown_line (reader self.now) line) (LineOverflow, location)) };
+        ensures { result ≡ as_step (ok_or (shown_line (reader self.now) line)
+            (LineOverflow, location)) };
 }

@@ -50,7 +50,8 @@ ok_is r x e = rw e refl
 
 -- ---- an operand
 
-signs_unread : (symbols : List Symbol) (ending : Option ExpressionFault) (e : ExpressionFault) → (next_of symbols ending >>= (λ x. Ok (sign_of x))) ≡ Err e → next_of symbols ending ≡ Err e
+signs_unread : (symbols : List Symbol) (ending : Option ExpressionFault) (e : ExpressionFault)
+    → (next_of symbols ending >>= (λ x. Ok (sign_of x))) ≡ Err e → next_of symbols ending ≡ Err e
 signs_unread (x ∷ xs) ending e h = cc
 signs_unread [] None e h = cc
 signs_unread [] (Some d) e h = cc
@@ -58,14 +59,17 @@ signs_unread [] (Some d) e h = cc
 pub sign_unread : (level : ℕ) (line : Line) (e : ExpressionFault) → sign_at line ≡ Err e → Possible HasValue level line (length line.symbols) 1 e
 sign_unread level line e h = here level line (length line.symbols) 1 e (unread (signs_unread line.symbols line.ending e h) refl refl)
 
-sign_at_next : (symbols : List Symbol) (ending : Option ExpressionFault) (x : Option Symbol) → next_of symbols ending ≡ Ok x → (next_of symbols ending >>= (λ x. Ok (sign_of x))) ≡ Ok None → sign_of x ≡ None
+sign_at_next : (symbols : List Symbol) (ending : Option ExpressionFault) (x : Option Symbol) → next_of symbols ending ≡ Ok x
+    → (next_of symbols ending >>= (λ x. Ok (sign_of x))) ≡ Ok None → sign_of x ≡ None
 sign_at_next symbols ending x e h =
     let s : Ok (sign_of x) ≡ Ok None = rw e at h in cc
 
-pub not_begun : (old : Line) (x : Option Symbol) (e : ExpressionFault) → next old ≡ Ok x → sign_at old ≡ Ok None → atom_of x ≡ Err e → Possible HasValue 10 old (length old.symbols) 4 e
+pub not_begun : (old : Line) (x : Option Symbol) (e : ExpressionFault) → next old ≡ Ok x → sign_at old ≡ Ok None → atom_of x ≡ Err e
+    → Possible HasValue 10 old (length old.symbols) 4 e
 not_begun old x e h s out = here 10 old (length old.symbols) 4 e (wrong x h (sign_at_next old.symbols old.ending x h s) out refl refl)
 
-pub in_group : (old : Line) (left order : ℕ) (e : ExpressionFault) → next old ≡ Ok (Some (symbol.Punct mark.LeftParen)) → Possible HasValue 0 (after_next old) left order e → Possible HasValue 10 old left order e
+pub in_group : (old : Line) (left order : ℕ) (e : ExpressionFault) → next old ≡ Ok (Some (symbol.Punct mark.LeftParen))
+    → Possible HasValue 0 (after_next old) left order e → Possible HasValue 10 old left order e
 in_group old left order e opens h = record {
   front = InGroup h.front;
   here = h.here;
@@ -75,13 +79,15 @@ in_group old left order e opens h = record {
   fails = h.fails;
 }
 
-pub not_closed : (old mid : Line) (v : ℤ) (x : Option Symbol) (e : ExpressionFault) → next old ≡ Ok (Some (symbol.Punct mark.LeftParen)) → Reads 0 0 (after_next old) mid v → next mid ≡ Ok x → closing x ≡ Err e → Possible HasValue 10 old (length mid.symbols) 4 e
+pub not_closed : (old mid : Line) (v : ℤ) (x : Option Symbol) (e : ExpressionFault) → next old ≡ Ok (Some (symbol.Punct mark.LeftParen))
+    → Reads 0 0 (after_next old) mid v → next mid ≡ Ok x → closing x ≡ Err e → Possible HasValue 10 old (length mid.symbols) 4 e
 not_closed old mid v x e opens r h not_closing =
     here 10 old (length mid.symbols) 4 e (unclosed r.tree mid x
     (next_is old.symbols old.ending (symbol.Punct mark.LeftParen) opens ∙ ap (λ (xs : List Symbol). symbol.Punct mark.LeftParen ∷ xs) r.spelled)
     r.ending r.fits (ok_is (value r.tree) v r.valued) h r.stops.over not_closing refl refl)
 
-pub in_sign : (o : Unary) (old : Line) (left order : ℕ) (e : ExpressionFault) → sign_at old ≡ Ok (Some o) → Possible HasValue 10 (after_next old) left order e → Possible HasValue 10 old left order e
+pub in_sign : (o : Unary) (old : Line) (left order : ℕ) (e : ExpressionFault) → sign_at old ≡ Ok (Some o)
+    → Possible HasValue 10 (after_next old) left order e → Possible HasValue 10 old left order e
 in_sign o old left order e sign h = record {
   front = InPrefix o h.front;
   here = h.here;
@@ -91,7 +97,8 @@ in_sign o old left order e sign h = record {
   fails = h.fails;
 }
 
-pub sign_fails : (o : Unary) (old new : Line) (x : ℤ) (e : ExpressionFault) → sign_at old ≡ Ok (Some o) → Reads 10 10 (after_next old) new x → unary_value o x ≡ Err e → Possible HasValue 10 old (length new.symbols + 1) 2 e
+pub sign_fails : (o : Unary) (old new : Line) (x : ℤ) (e : ExpressionFault) → sign_at old ≡ Ok (Some o) → Reads 10 10 (after_next old) new x
+    → unary_value o x ≡ Err e → Possible HasValue 10 old (length new.symbols + 1) 2 e
 sign_fails o old new x e sign r h =
     here 10 old (length new.symbols + 1) 2 e (signed o r.tree new x
     (sign_is old o sign ∙ ap (λ (xs : List Symbol). symbol.Punct (unary_punct o) ∷ xs) r.spelled)
@@ -99,13 +106,16 @@ sign_fails o old new x e sign r h =
 
 -- ---- from a tighter level to a looser one
 
-fails_looser : (level : ℕ) (line : Line) (left order : ℕ) (e : ExpressionFault) → Fails HasValue (level + 1) line left order e → Fails HasValue level line left order e
+fails_looser : (level : ℕ) (line : Line) (left order : ℕ) (e : ExpressionFault) → Fails HasValue (level + 1) line left order e
+    → Fails HasValue level line left order e
 fails_looser level line left order e (unread h a b) = unread h a b
 fails_looser level line left order e (wrong x h s out a b) = wrong x h s out a b
-fails_looser level line left order e (unread_after t rest low spelled ending fits ok h a b) = unread_after t rest (omega arith) spelled ending (fits_looser level t fits) ok h a b
+fails_looser level line left order e (unread_after t rest low spelled ending fits ok h a b) =
+    unread_after t rest (omega arith) spelled ending (fits_looser level t fits) ok h a b
 fails_looser level line left order e (unclosed t rest x spelled ending fits ok h over out a b) = unclosed t rest x spelled ending fits ok h over out a b
 fails_looser level line left order e (signed o t rest x spelled ending fits ok h a b) = signed o t rest x spelled ending fits ok h a b
-fails_looser level line left order e (operated o l r rest x y spelled ending fits lv rv h stops a b) = operated o l r rest x y spelled ending (fits_looser level (Infix o l r) fits) lv rv h stops a b
+fails_looser level line left order e (operated o l r rest x y spelled ending fits lv rv h stops a b) =
+    operated o l r rest x y spelled ending (fits_looser level (Infix o l r) fits) lv rv h stops a b
 
 front_looser : (level : ℕ) (c : Front) → FitsFront HasValue (level + 1) c → FitsFront HasValue level c
 front_looser level Here h = tt
@@ -113,13 +123,15 @@ front_looser level (InGroup c) h = h
 front_looser level (InPrefix o c) h = h
 front_looser level (InInfix o l c) h = (omega (arith, h.0), h.1, h.2, h.3)
 
-wanted_looser : (level : ℕ) (c : Front) (line : Line) (left order : ℕ) (e : ExpressionFault) → Fails HasValue (wanted (level + 1) c) line left order e → Fails HasValue (wanted level c) line left order e
+wanted_looser : (level : ℕ) (c : Front) (line : Line) (left order : ℕ) (e : ExpressionFault)
+    → Fails HasValue (wanted (level + 1) c) line left order e → Fails HasValue (wanted level c) line left order e
 wanted_looser level Here line left order e h = fails_looser level line left order e h
 wanted_looser level (InGroup c) line left order e h = h
 wanted_looser level (InPrefix o c) line left order e h = h
 wanted_looser level (InInfix o l c) line left order e h = h
 
-pub looser : (level : ℕ) (old : Line) (left order : ℕ) (e : ExpressionFault) → Possible HasValue (level + 1) old left order e → Possible HasValue level old left order e
+pub looser : (level : ℕ) (old : Line) (left order : ℕ) (e : ExpressionFault) → Possible HasValue (level + 1) old left order e
+    → Possible HasValue level old left order e
 looser level old left order e h = record {
   front = h.front;
   here = h.here;
@@ -131,28 +143,36 @@ looser level old left order e h = record {
 
 -- ---- operators between operands
 
-operator_unread : (level : ℕ) (symbols : List Symbol) (ending : Option ExpressionFault) (e : ExpressionFault) → (next_of symbols ending >>= (λ x. Ok (operator_of level x))) ≡ Err e → next_of symbols ending ≡ Err e
+operator_unread : (level : ℕ) (symbols : List Symbol) (ending : Option ExpressionFault) (e : ExpressionFault)
+    → (next_of symbols ending >>= (λ x. Ok (operator_of level x))) ≡ Err e → next_of symbols ending ≡ Err e
 operator_unread level (x ∷ xs) ending e h = cc
 operator_unread level [] None e h = cc
 operator_unread level [] (Some d) e h = cc
 
-pub not_read_after : (level : ℕ) (old mid : Line) (v : ℤ) (e : ExpressionFault) → level ≤ 9 → Reads level (level + 1) old mid v → operator_at level mid ≡ Err e → Possible HasValue level old (length mid.symbols) 1 e
+pub not_read_after : (level : ℕ) (old mid : Line) (v : ℤ) (e : ExpressionFault) → level ≤ 9 → Reads level (level + 1) old mid v
+    → operator_at level mid ≡ Err e → Possible HasValue level old (length mid.symbols) 1 e
 not_read_after level old mid v e low r h =
-    here level old (length mid.symbols) 1 e (unread_after r.tree mid low r.spelled r.ending r.fits (ok_is (value r.tree) v r.valued) (operator_unread level mid.symbols mid.ending e h) refl refl)
+    here level old (length mid.symbols) 1 e (unread_after r.tree mid low r.spelled r.ending r.fits (ok_is (value r.tree) v r.valued)
+    (operator_unread level mid.symbols mid.ending e h) refl refl)
 
-pub in_right : (level : ℕ) (o : Binary) (old mid : Line) (x : ℤ) (left order : ℕ) (e : ExpressionFault) → Reads level (level + 1) old mid x → operator_at level mid ≡ Ok (Some o) → Possible HasValue (level + 1) (after_next mid) left order e → Possible HasValue level old left order e
+pub in_right : (level : ℕ) (o : Binary) (old mid : Line) (x : ℤ) (left order : ℕ) (e : ExpressionFault) → Reads level (level + 1) old mid x
+    → operator_at level mid ≡ Ok (Some o) → Possible HasValue (level + 1) (after_next mid) left order e → Possible HasValue level old left order e
 in_right level o old mid x left order e former op h =
     let is = operator_is level mid o op in
     record {
       front = InInfix o former.tree h.front;
       here = h.here;
-      spelled = former.spelled ∙ ap (λ (xs : List Symbol). spelling former.tree ++ xs) (is.0 ∙ ap (λ (xs : List Symbol). symbol.Punct (binary_punct o) ∷ xs) h.spelled) ∙ sym (append_assoc (spelling former.tree) (symbol.Punct (binary_punct o) ∷ front_spelling h.front) h.here.symbols);
+      spelled = former.spelled ∙ ap (λ (xs : List Symbol). spelling former.tree ++ xs) (is.0
+          ∙ ap (λ (xs : List Symbol). symbol.Punct (binary_punct o) ∷ xs) h.spelled)
+          ∙ sym (append_assoc (spelling former.tree) (symbol.Punct (binary_punct o) ∷ front_spelling h.front) h.here.symbols);
       ending = h.ending ∙ former.ending;
       stands = (omega (arith, is.1), rw is.1 former.fits, ok_is (value former.tree) x former.valued, rw is.1 h.stands);
       fails = rw is.1 h.fails;
     }
 
-pub operation_fails : (level : ℕ) (o : Binary) (old mid new : Line) (x y : ℤ) (e : ExpressionFault) → Reads level (level + 1) old mid x → operator_at level mid ≡ Ok (Some o) → Reads (level + 1) (level + 1) (after_next mid) new y → binary_value o x y ≡ Err e → Possible HasValue level old (unread_at o new) 2 e
+pub operation_fails : (level : ℕ) (o : Binary) (old mid new : Line) (x y : ℤ) (e : ExpressionFault) → Reads level (level + 1) old mid x
+    → operator_at level mid ≡ Ok (Some o) → Reads (level + 1) (level + 1) (after_next mid) new y → binary_value o x y ≡ Err e
+    → Possible HasValue level old (unread_at o new) 2 e
 operation_fails level o old mid new x y e former op latter h =
     let is = operator_is level mid o op in
     here level old (unread_at o new) 2 e (operated o former.tree latter.tree new x y

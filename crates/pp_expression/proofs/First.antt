@@ -40,7 +40,9 @@ down line out a = record { enough = a.enough; settled = λ m le. a.settled (suc 
 
 -- ---- the word after a tree isn't read
 
-unread_atom : (t : Tree) (level : ℕ) (rest : Line) (v : ℤ) (d : ExpressionFault) → level ≤ 9 → Settles Operand (onto (spelling t) rest) (Ok (v, rest)) → next rest ≡ Err d → Settles (Level level) (onto (spelling t) rest) (found (length rest.symbols) 1 d)
+unread_atom : (t : Tree) (level : ℕ) (rest : Line) (v : ℤ) (d : ExpressionFault) → level ≤ 9
+    → Settles Operand (onto (spelling t) rest) (Ok (v, rest)) → next rest ≡ Err d
+    → Settles (Level level) (onto (spelling t) rest) (found (length rest.symbols) 1 d)
 unread_atom t level rest v d h a is =
     descend_fault (9 - level) level 9 (onto (spelling t) rest) (spot (length rest.symbols) 1 d) (omega arith) (omega arith)
     (level_goes 9 (onto (spelling t) rest) rest v (found (length rest.symbols) 1 d) (omega arith)
@@ -48,10 +50,13 @@ unread_atom t level rest v d h a is =
     (loop_unread 9 v rest d (operator_unread 9 rest d is)))
 
 abbrev pub Unreads : Tree → Type 0
-Unreads t = (level : ℕ) (rest : Line) (d : ExpressionFault) → level ≤ 9 → Fits level t → IsOk (value t) → next rest ≡ Err d → Settles (Level level) (onto (spelling t) rest) (found (length rest.symbols) 1 d)
+Unreads t = (level : ℕ) (rest : Line) (d : ExpressionFault) → level ≤ 9 → Fits level t → IsOk (value t) → next rest ≡ Err d
+    → Settles (Level level) (onto (spelling t) rest) (found (length rest.symbols) 1 d)
 
 -- after a left operand comes its operator
-pub left_goes : (o : Binary) (l : Tree) (xs : List Symbol) (level : ℕ) (rest : Line) (x : ℤ) (out : Outcome) → level ≤ level_of o → Fits (level_of o) l → value l ≡ Ok x → Settles (Loop (level_of o) x) (onto (symbol.Punct (binary_punct o) ∷ xs) rest) out → Settles (Level (level_of o)) (onto (spelling l ++ (symbol.Punct (binary_punct o) ∷ xs)) rest) out
+pub left_goes : (o : Binary) (l : Tree) (xs : List Symbol) (level : ℕ) (rest : Line) (x : ℤ) (out : Outcome) → level ≤ level_of o
+    → Fits (level_of o) l → value l ≡ Ok x → Settles (Loop (level_of o) x) (onto (symbol.Punct (binary_punct o) ∷ xs) rest) out
+    → Settles (Level (level_of o)) (onto (spelling l ++ (symbol.Punct (binary_punct o) ∷ xs)) rest) out
 left_goes o l xs level rest x out h fits is loop =
     let own = level_of o in
     let low = low_operator o in
@@ -80,9 +85,12 @@ unread_infix o l r right level rest d h fits ok is =
     (left_goes o l (spelling r) level rest x.0 (Err e) fits.0 fits.1 x.1 loop)
 
 pub unreads : (t : Tree) → Unreads t
-unreads (Number n) = λ level rest d h fits ok is. let v = ok_value (value (Number n)) ok in unread_atom (Number n) level rest v.0 d h ((is_read (Number n)).atom rest v.0 fits v.1) is
-unreads (Group t) = λ level rest d h fits ok is. let v = ok_value (value (Group t)) ok in unread_atom (Group t) level rest v.0 d h ((is_read (Group t)).atom rest v.0 fits v.1) is
-unreads (Prefix o t) = λ level rest d h fits ok is. let v = ok_value (value (Prefix o t)) ok in unread_atom (Prefix o t) level rest v.0 d h ((is_read (Prefix o t)).atom rest v.0 fits v.1) is
+unreads (Number n) = λ level rest d h fits ok is. let v = ok_value (value (Number n)) ok in
+    unread_atom (Number n) level rest v.0 d h ((is_read (Number n)).atom rest v.0 fits v.1) is
+unreads (Group t) = λ level rest d h fits ok is. let v = ok_value (value (Group t)) ok in
+    unread_atom (Group t) level rest v.0 d h ((is_read (Group t)).atom rest v.0 fits v.1) is
+unreads (Prefix o t) = λ level rest d h fits ok is. let v =
+    ok_value (value (Prefix o t)) ok in unread_atom (Prefix o t) level rest v.0 d h ((is_read (Prefix o t)).atom rest v.0 fits v.1) is
 unreads (Infix o l r) = unread_infix o l r (unreads r)
 
 -- ---- a fault where it is found
@@ -90,7 +98,8 @@ unreads (Infix o l r) = unread_infix o l r (unreads r)
 pub sign_none : (line : Line) (x : Option Symbol) → next line ≡ Ok x → sign_of x ≡ None → sign_at line ≡ Ok None
 sign_none line x h s = rw (h, s) refl
 
-pub fails_settles : (level : ℕ) (line : Line) (left order : ℕ) (e : ExpressionFault) → level ≤ 10 → Fails HasValue level line left order e → Settles (Level level) line (found left order e)
+pub fails_settles : (level : ℕ) (line : Line) (left order : ℕ) (e : ExpressionFault) → level ≤ 10 → Fails HasValue level line left order e
+    → Settles (Level level) line (found left order e)
 fails_settles level line left order e h (unread is a b) =
     let s : sign_at line ≡ Err e = rw is refl in
     rw (a, b) (up level line (spot (length line.symbols) 1 e) h (operand_unread line e s))
@@ -122,7 +131,8 @@ fails_settles level line left order e h (operated o l r rest x y spelled ending 
 
 -- ---- and seen from the front of the line
 
-front_settles : (c : Front) (level : ℕ) (here : Line) (e : Halt) → level ≤ 10 → FitsFront HasValue level c → Settles (Level (wanted level c)) here (Err e) → Settles (Level level) (onto (front_spelling c) here) (Err e)
+front_settles : (c : Front) (level : ℕ) (here : Line) (e : Halt) → level ≤ 10 → FitsFront HasValue level c
+    → Settles (Level (wanted level c)) here (Err e) → Settles (Level level) (onto (front_spelling c) here) (Err e)
 front_settles Here level here e h is a = a
 front_settles (InGroup c) level here e h is a =
     let inner = onto (front_spelling c) here in
@@ -147,7 +157,8 @@ wanted_low (InGroup c) level h = wanted_low c 0 (omega arith)
 wanted_low (InPrefix o c) level h = wanted_low c 10 (omega arith)
 wanted_low (InInfix o l c) level h = let low = low_operator o in wanted_low c (level_of o + 1) (omega arith)
 
-pub fault_settles : (level : ℕ) (line : Line) (left order : ℕ) (e : ExpressionFault) → level ≤ 10 → Possible HasValue level line left order e → Settles (Level level) line (found left order e)
+pub fault_settles : (level : ℕ) (line : Line) (left order : ℕ) (e : ExpressionFault) → level ≤ 10 → Possible HasValue level line left order e
+    → Settles (Level level) line (found left order e)
 fault_settles level line left order e low h =
     rw (line_is line h.here (front_spelling h.front) h.spelled h.ending)
     (front_settles h.front level h.here (spot left order e) low h.stands

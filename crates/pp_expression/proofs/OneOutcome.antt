@@ -13,9 +13,12 @@ use Rattle.pp_expression.proofs.PossibleFaults.{Sooner, earlier, lower, exact, p
 use Rattle.pp_expression.proofs.Sound.{found_possible}
 
 -- An expression at the front of a line has one value, and one end.
-pub one_value : (level : ℕ) (line rest other_rest : Line) (number other : ℤ) → level ≤ 10 → Reads level level line rest number → Reads level level line other_rest other → (number ≡ other) × (rest ≡ other_rest)
+pub one_value : (level : ℕ) (line rest other_rest : Line) (number other : ℤ) → level ≤ 10 → Reads level level line rest number
+    → Reads level level line other_rest other → (number ≡ other) × (rest ≡ other_rest)
 one_value level line rest other_rest number other low a b =
-    let same : Ok (number, rest) ≡ Ok (other, other_rest) = settles_once (Level level) line (Ok (number, rest)) (Ok (other, other_rest)) (reads_settles level line rest number low a) (reads_settles level line other_rest other low b) in
+    let same : Ok (number, rest) ≡ Ok (other, other_rest) =
+    settles_once (Level level) line (Ok (number, rest)) (Ok (other, other_rest)) (reads_settles level line rest number low a)
+    (reads_settles level line other_rest other low b) in
     let pair : (number, rest) ≡ (other, other_rest) = cc in
     (ap (λ (z : ℤ × Line). z.0) pair, ap (λ (z : ℤ × Line). z.1) pair)
 
@@ -28,7 +31,8 @@ not_sooner halt bound (inr a) (lower b c) = absurd (omega (arith, a.1))
 not_sooner halt bound before (exact e) = e
 
 -- The run finds the first fault.
-first_settles : (level : ℕ) (line : Line) (fault : Found) → level ≤ 10 → (first : IsFirst level line fault) → Settles (Level level) line (found fault.left first.order fault.kind)
+first_settles : (level : ℕ) (line : Line) (fault : Found) → level ≤ 10 → (first : IsFirst level line fault)
+    → Settles (Level level) line (found fault.left first.order fault.kind)
 first_settles level line fault low first =
     let by = possible_by level line fault.left first.order fault.kind low first.possible in
     let possible = is_possible level line by.halt.left by.halt.order by.halt.kind (found_possible level line by.halt low by.ordered by.settles) in
@@ -46,7 +50,8 @@ pub one_fault : (level : ℕ) (line : Line) (fault other : Found) → level ≤ 
 one_fault level line fault other low a b =
     let halt = spot fault.left a.order fault.kind in
     let other_halt = spot other.left b.order other.kind in
-    let same = same_halt halt other_halt (settles_once (Level level) line (broken halt) (broken other_halt) (first_settles level line fault low a) (first_settles level line other low b)) in
+    let same = same_halt halt other_halt (settles_once (Level level) line (broken halt) (broken other_halt) (first_settles level line fault low a)
+    (first_settles level line other low b)) in
     let made : Halt → Found = λ z. record { kind = z.kind; left = z.left } in
     ap made same
 

@@ -67,7 +67,8 @@ stops_eleven line = stops_more 10 line (operand_stops line)
 
 operator_here : (symbols : List Symbol) (ending : Option ExpressionFault) (o : Binary)
     → (next_of symbols ending >>= (λ x. Ok (binary_sign_of x))) ≡ Ok (Some o)
-    → ((next_of symbols ending >>= (λ x. Ok (operator_of (level_of o) x))) ≡ Ok (Some o)) × IsOk (next_of symbols ending) × (goes_on (level_of o + 1) symbols ≡ false)
+    → ((next_of symbols ending >>= (λ x. Ok (operator_of (level_of o) x))) ≡ Ok (Some o)) × IsOk (next_of symbols ending)
+    × (goes_on (level_of o + 1) symbols ≡ false)
 operator_here (symbol.Punct q ∷ ys) ending o e =
     let is : binary_of q ≡ Some o = cc in
     (rw is (ap Ok (level_same (level_of o) o refl)), refl, rw is (loosest (level_of o) o refl))

@@ -50,13 +50,15 @@ sooner_lower halt bound later e h (exact i) = lower (ap (λ (z : Halt). z.left) 
 by_earlier : (mode : Mode) (line : Line) (bound later : Halt) → later.left < bound.left → FailsBy mode line bound → FailsBy mode line later
 by_earlier mode line bound later h a = record { halt = a.halt; settles = a.settles; ordered = a.ordered; sooner = sooner_earlier a.halt bound later h a.sooner }
 
-by_lower : (mode : Mode) (line : Line) (bound later : Halt) → later.left ≡ bound.left → bound.order < later.order → FailsBy mode line bound → FailsBy mode line later
+by_lower : (mode : Mode) (line : Line) (bound later : Halt) → later.left ≡ bound.left → bound.order < later.order → FailsBy mode line bound
+    → FailsBy mode line later
 by_lower mode line bound later e h a = record { halt = a.halt; settles = a.settles; ordered = a.ordered; sooner = sooner_lower a.halt bound later e h a.sooner }
 
 exactly : (mode : Mode) (line : Line) (bound : Halt) → 1 ≤ bound.order → Settles mode line (Err bound) → FailsBy mode line bound
 exactly mode line bound ordered a = record { halt = bound; settles = a; ordered = ordered; sooner = exact refl }
 
-by_step : (mode : Mode) (line : Line) (mode' : Mode) (line' : Line) (bound : Halt) → ((e : Halt) → Settles mode line (Err e) → Settles mode' line' (Err e)) → FailsBy mode line bound → FailsBy mode' line' bound
+by_step : (mode : Mode) (line : Line) (mode' : Mode) (line' : Line) (bound : Halt)
+    → ((e : Halt) → Settles mode line (Err e) → Settles mode' line' (Err e)) → FailsBy mode line bound → FailsBy mode' line' bound
 by_step mode line mode' line' bound go a = record { halt = a.halt; settles = go a.halt a.settles; ordered = a.ordered; sooner = a.sooner }
 
 -- ---- a tree without a value
@@ -67,11 +69,13 @@ AtomFails t = (rest : Line) (e : ExpressionFault) → Fits 10 t → value t ≡ 
 
 -- Another tree's fault is found at the symbol after it at the latest.
 abbrev TreeFails : Tree → Type 0
-TreeFails t = (level : ℕ) (rest : Line) (e : ExpressionFault) → level ≤ 10 → Fits level t → value t ≡ Err e → Stops (level + 1) rest → FailsBy (Level level) (onto (spelling t) rest) (spot (length rest.symbols) 2 e)
+TreeFails t = (level : ℕ) (rest : Line) (e : ExpressionFault) → level ≤ 10 → Fits level t → value t ≡ Err e → Stops (level + 1) rest
+    → FailsBy (Level level) (onto (spelling t) rest) (spot (length rest.symbols) 2 e)
 
 -- The same where that symbol isn't read: its fault comes first, if no other did.
 abbrev UnreadFails : Tree → Type 0
-UnreadFails t = (level : ℕ) (rest : Line) (e d : ExpressionFault) → level ≤ 9 → Fits level t → value t ≡ Err e → next rest ≡ Err d → FailsBy (Level level) (onto (spelling t) rest) (spot (length rest.symbols) 1 d)
+UnreadFails t = (level : ℕ) (rest : Line) (e d : ExpressionFault) → level ≤ 9 → Fits level t → value t ≡ Err e → next rest ≡ Err d
+    → FailsBy (Level level) (onto (spelling t) rest) (spot (length rest.symbols) 1 d)
 
 to_level : (level : ℕ) (line : Line) (bound : Halt) → level ≤ 10 → FailsBy Operand line bound → FailsBy (Level level) line bound
 to_level level line bound h a = by_step Operand line (Level level) line bound (λ e s. up level line e h s) a
@@ -79,12 +83,14 @@ to_level level line bound h a = by_step Operand line (Level level) line bound (�
 atom_tree : (t : Tree) → ((level : ℕ) → Fits level t → Fits 10 t) → AtomFails t → TreeFails t
 atom_tree t tight a level rest e h fits is s =
     to_level level (onto (spelling t) rest) (spot (length rest.symbols) 2 e) h
-    (by_earlier Operand (onto (spelling t) rest) (spot (length rest.symbols + 1) 2 e) (spot (length rest.symbols) 2 e) (omega arith) (a rest e (tight level fits) is))
+    (by_earlier Operand (onto (spelling t) rest) (spot (length rest.symbols + 1) 2 e) (spot (length rest.symbols) 2 e) (omega arith)
+    (a rest e (tight level fits) is))
 
 atom_unread : (t : Tree) → ((level : ℕ) → Fits level t → Fits 10 t) → AtomFails t → UnreadFails t
 atom_unread t tight a level rest e d h fits is out =
     to_level level (onto (spelling t) rest) (spot (length rest.symbols) 1 d) (omega arith)
-    (by_earlier Operand (onto (spelling t) rest) (spot (length rest.symbols + 1) 2 e) (spot (length rest.symbols) 1 d) (omega arith) (a rest e (tight level fits) is))
+    (by_earlier Operand (onto (spelling t) rest) (spot (length rest.symbols + 1) 2 e) (spot (length rest.symbols) 1 d) (omega arith)
+    (a rest e (tight level fits) is))
 
 group_fails : (t : Tree) → TreeFails t → AtomFails (Group t)
 group_fails t tree rest e fits is =
@@ -108,12 +114,16 @@ prefix_fails o t atom rest e fits is =
     (operand_overflows o whole rest x e sign ((is_read t).atom rest x fits some) none))
 
 -- What an operator's right side comes to, seen from its own level.
-left_by : (o : Binary) (l : Tree) (xs : List Symbol) (rest : Line) (x : ℤ) (bound : Halt) → Fits (level_of o) l → value l ≡ Ok x → FailsBy (Loop (level_of o) x) (onto (symbol.Punct (binary_punct o) ∷ xs) rest) bound → FailsBy (Level (level_of o)) (onto (spelling l ++ (symbol.Punct (binary_punct o) ∷ xs)) rest) bound
+left_by : (o : Binary) (l : Tree) (xs : List Symbol) (rest : Line) (x : ℤ) (bound : Halt) → Fits (level_of o) l → value l ≡ Ok x
+    → FailsBy (Loop (level_of o) x) (onto (symbol.Punct (binary_punct o) ∷ xs) rest) bound
+    → FailsBy (Level (level_of o)) (onto (spelling l ++ (symbol.Punct (binary_punct o) ∷ xs)) rest) bound
 left_by o l xs rest x bound fits is a =
-    by_step (Loop (level_of o) x) (onto (symbol.Punct (binary_punct o) ∷ xs) rest) (Level (level_of o)) (onto (spelling l ++ (symbol.Punct (binary_punct o) ∷ xs)) rest) bound
+    by_step (Loop (level_of o) x) (onto (symbol.Punct (binary_punct o) ∷ xs) rest) (Level (level_of o))
+    (onto (spelling l ++ (symbol.Punct (binary_punct o) ∷ xs)) rest) bound
     (λ e s. left_goes o l xs (level_of o) rest x (Err e) (omega arith) fits is s) a
 
-right_by : (o : Binary) (x : ℤ) (xs : List Symbol) (rest : Line) (bound : Halt) → FailsBy (Level (level_of o + 1)) (onto xs rest) bound → FailsBy (Loop (level_of o) x) (onto (symbol.Punct (binary_punct o) ∷ xs) rest) bound
+right_by : (o : Binary) (x : ℤ) (xs : List Symbol) (rest : Line) (bound : Halt) → FailsBy (Level (level_of o + 1)) (onto xs rest) bound
+    → FailsBy (Loop (level_of o) x) (onto (symbol.Punct (binary_punct o) ∷ xs) rest) bound
 right_by o x xs rest bound a =
     let after = onto (symbol.Punct (binary_punct o) ∷ xs) rest in
     by_step (Level (level_of o + 1)) (onto xs rest) (Loop (level_of o) x) after bound
@@ -124,7 +134,9 @@ descend_by level top line bound le h a =
     by_step (Level top) line (Level level) line bound (λ e s. descend_fault (top - level) level top line e (omega arith) h s) a
 
 -- a left operand without a value is at fault before the symbols after its operator
-left_fails : (o : Binary) (l : Tree) (xs : List Symbol) (rest : Line) (e : ExpressionFault) (bound : Halt) → TreeFails l → Fits (level_of o) l → value l ≡ Err e → bound.left ≤ length (xs ++ rest.symbols) → FailsBy (Level (level_of o)) (onto (spelling l ++ (symbol.Punct (binary_punct o) ∷ xs)) rest) bound
+left_fails : (o : Binary) (l : Tree) (xs : List Symbol) (rest : Line) (e : ExpressionFault) (bound : Halt) → TreeFails l → Fits (level_of o) l
+    → value l ≡ Err e → bound.left ≤ length (xs ++ rest.symbols)
+    → FailsBy (Level (level_of o)) (onto (spelling l ++ (symbol.Punct (binary_punct o) ∷ xs)) rest) bound
 left_fails o l xs rest e bound tree fits is within =
     let low = low_operator o in
     let after = onto (symbol.Punct (binary_punct o) ∷ xs) rest in
@@ -145,11 +157,20 @@ split : {A E : Type 0} {P : Type 0} (r : Result A E) → ((x : A) → r ≡ Ok x
 split (Ok x) a b = a x refl
 split (Err e) a b = b e refl
 
-near_fails : (o : Binary) (x y : ℤ) (line rest : Line) (e : ExpressionFault) → operator_at (level_of o) line ≡ Ok (Some o) → Settles (Level (level_of o + 1)) (after_next line) (Ok (y, rest)) → binary_value o x y ≡ Err e → FailsBy (Loop (level_of o) x) line (spot (length rest.symbols) 2 e)
+near_fails : (o : Binary) (x y : ℤ) (line rest : Line) (e : ExpressionFault) → operator_at (level_of o) line ≡ Ok (Some o)
+    → Settles (Level (level_of o + 1)) (after_next line) (Ok (y, rest)) → binary_value o x y ≡ Err e
+    → FailsBy (Loop (level_of o) x) line (spot (length rest.symbols) 2 e)
 near_fails o x y line rest e h a is =
-    record { halt = spot (unread_at o rest) 2 e; settles = loop_overflows (level_of o) o x y line rest e h a is; ordered = omega arith; sooner = unread_near o rest e }
+    record {
+      halt = spot (unread_at o rest) 2 e;
+      settles = loop_overflows (level_of o) o x y line rest e h a is;
+      ordered = omega arith;
+      sooner = unread_near o rest e;
+    }
 
-own_fails : (o : Binary) (l r : Tree) → TreeFails l → TreeFails r → (rest : Line) (e : ExpressionFault) → Fits (level_of o) l → Fits (level_of o + 1) r → value (Infix o l r) ≡ Err e → Stops (level_of o + 1) rest → FailsBy (Level (level_of o)) (onto (spelling (Infix o l r)) rest) (spot (length rest.symbols) 2 e)
+own_fails : (o : Binary) (l r : Tree) → TreeFails l → TreeFails r → (rest : Line) (e : ExpressionFault) → Fits (level_of o) l
+    → Fits (level_of o + 1) r → value (Infix o l r) ≡ Err e → Stops (level_of o + 1) rest
+    → FailsBy (Level (level_of o)) (onto (spelling (Infix o l r)) rest) (spot (length rest.symbols) 2 e)
 own_fails o l r left right rest e fl fr is s =
     let k = level_of o in
     let low = low_operator o in
@@ -170,7 +191,9 @@ infix_fails o l r left right level rest e h fits is s =
     (own_fails o l r left right rest e fits.1 fits.2 is (stops_above (k - level) (level + 1) (k + 1) rest (omega (arith, fits.0)) s))
 
 -- the right operand of an operator, where the symbol after it isn't read
-right_unread : (o : Binary) (r : Tree) → AtomFails r → UnreadFails r → (x : ℤ) (rest : Line) (e d : ExpressionFault) → Fits (level_of o + 1) r → (value r >>= binary_value o x) ≡ Err e → next rest ≡ Err d → FailsBy (Loop (level_of o) x) (onto (symbol.Punct (binary_punct o) ∷ spelling r) rest) (spot (length rest.symbols) 1 d)
+right_unread : (o : Binary) (r : Tree) → AtomFails r → UnreadFails r → (x : ℤ) (rest : Line) (e d : ExpressionFault) → Fits (level_of o + 1) r
+    → (value r >>= binary_value o x) ≡ Err e → next rest ≡ Err d
+    → FailsBy (Loop (level_of o) x) (onto (symbol.Punct (binary_punct o) ∷ spelling r) rest) (spot (length rest.symbols) 1 d)
 right_unread o r atom unread_r x rest e d fr is out =
     let k = level_of o in
     let low = low_operator o in
@@ -235,34 +258,52 @@ unread_most o rest = grind (arith, common_steps)
 within : (level : ℕ) (line : Line) (left order : ℕ) (e : ExpressionFault) → Fails Any level line left order e → left ≤ length line.symbols
 within level line left order e (unread is a b) = omega arith
 within level line left order e (wrong x is s out a b) = omega arith
-within level line left order e (unread_after t rest low spelled ending fits ok is a b) = omega (arith, ap length spelled, length-append (spelling t) rest.symbols)
-within level line left order e (unclosed t rest x spelled ending fits ok is over out a b) = omega (arith, ap length spelled, length-append (spelling t) rest.symbols)
+within level line left order e (unread_after t rest low spelled ending fits ok is a b) =
+    omega (arith, ap length spelled, length-append (spelling t) rest.symbols)
+within level line left order e (unclosed t rest x spelled ending fits ok is over out a b) =
+    omega (arith, ap length spelled, length-append (spelling t) rest.symbols)
 within level line left order e (signed o t rest x spelled ending fits is out a b) = omega (arith, ap length spelled, length-append (spelling t) rest.symbols)
 within level line left order e (operated o l r rest x y spelled ending fits lv rv out s a b) =
-    omega (arith, ap length spelled, length-append (spelling l ++ (symbol.Punct (binary_punct o) ∷ spelling r)) rest.symbols, length-append (spelling l) (symbol.Punct (binary_punct o) ∷ spelling r), unread_most o rest)
+    omega (
+      arith,
+      ap length spelled,
+      length-append (spelling l ++ (symbol.Punct (binary_punct o) ∷ spelling r)) rest.symbols,
+      length-append (spelling l) (symbol.Punct (binary_punct o) ∷ spelling r),
+      unread_most o rest,
+    )
 
-possible_here : (level : ℕ) (line : Line) (left order : ℕ) (e : ExpressionFault) → level ≤ 10 → Fails Any level line left order e → FailsBy (Level level) line (spot left order e)
-possible_here level line left order e h (unread is a b) = exactly (Level level) line (spot left order e) (omega (arith, b)) (fails_settles level line left order e h (unread is a b))
-possible_here level line left order e h (wrong x is s out a b) = exactly (Level level) line (spot left order e) (omega (arith, b)) (fails_settles level line left order e h (wrong x is s out a b))
-possible_here level line left order e h (signed o t rest x spelled ending fits is out a b) = exactly (Level level) line (spot left order e) (omega (arith, b)) (fails_settles level line left order e h (signed o t rest x spelled ending fits is out a b))
-possible_here level line left order e h (operated o l r rest x y spelled ending fits lv rv out s a b) = exactly (Level level) line (spot left order e) (omega (arith, b)) (fails_settles level line left order e h (operated o l r rest x y spelled ending fits lv rv out s a b))
+possible_here : (level : ℕ) (line : Line) (left order : ℕ) (e : ExpressionFault) → level ≤ 10 → Fails Any level line left order e
+    → FailsBy (Level level) line (spot left order e)
+possible_here level line left order e h (unread is a b) = exactly (Level level) line (spot left order e)
+    (omega (arith, b)) (fails_settles level line left order e h (unread is a b))
+possible_here level line left order e h (wrong x is s out a b) =
+    exactly (Level level) line (spot left order e) (omega (arith, b)) (fails_settles level line left order e h (wrong x is s out a b))
+possible_here level line left order e h (signed o t rest x spelled ending fits is out a b) =
+    exactly (Level level) line (spot left order e) (omega (arith, b)) (fails_settles level line left order e h
+    (signed o t rest x spelled ending fits is out a b))
+possible_here level line left order e h (operated o l r rest x y spelled ending fits lv rv out s a b) =
+    exactly (Level level) line (spot left order e) (omega (arith, b)) (fails_settles level line left order e h
+    (operated o l r rest x y spelled ending fits lv rv out s a b))
 possible_here level line left order e h (unread_after t rest low spelled ending fits any is a b) =
     rw (a, b, line_is line rest (spelling t) spelled ending)
     (split (value t)
-    (λ v some. exactly (Level level) (onto (spelling t) rest) (spot (length rest.symbols) 1 e) (omega arith) (unreads t level rest e low fits (rw some refl) is))
+    (λ v some. exactly (Level level) (onto (spelling t) rest) (spot (length rest.symbols) 1 e) (omega arith)
+    (unreads t level rest e low fits (rw some refl) is))
     (λ d none. (fails_soon t).unread_tree level rest d e low fits none is))
 possible_here level line left order e h (unclosed t rest x spelled ending fits any is over out a b) =
     let opening = onto (symbol.Punct mark.LeftParen ∷ spelling t) rest in
     let bound = spot (length rest.symbols) 4 e in
     split (value t)
-    (λ v some. exactly (Level level) line (spot left order e) (omega (arith, b)) (fails_settles level line left order e h (unclosed t rest x spelled ending fits (rw some refl) is over out a b)))
+    (λ v some. exactly (Level level) line (spot left order e)
+    (omega (arith, b)) (fails_settles level line left order e h (unclosed t rest x spelled ending fits (rw some refl) is over out a b)))
     (λ d none. rw (a, b, line_is line rest (symbol.Punct mark.LeftParen ∷ spelling t) spelled ending)
     (to_level level opening bound h
     (by_step (Level 0) (onto (spelling t) rest) Operand opening bound (λ f s. operand_in_group opening f refl refl s)
     (by_lower (Level 0) (onto (spelling t) rest) (spot (length rest.symbols) 2 d) bound refl (omega arith)
     ((fails_soon t).tree 0 rest d (omega arith) fits none (record { known = λ z. rw is refl; over = over_more 0 rest.symbols over }))))))
 
-possible_front : (c : Front) (level : ℕ) (here : Line) (bound : Halt) → level ≤ 10 → FitsFront Any level c → bound.left ≤ length here.symbols → FailsBy (Level (wanted level c)) here bound → FailsBy (Level level) (onto (front_spelling c) here) bound
+possible_front : (c : Front) (level : ℕ) (here : Line) (bound : Halt) → level ≤ 10 → FitsFront Any level c → bound.left ≤ length here.symbols
+    → FailsBy (Level (wanted level c)) here bound → FailsBy (Level level) (onto (front_spelling c) here) bound
 possible_front Here level here bound h is within a = a
 possible_front (InGroup c) level here bound h is within a =
     let whole = onto (symbol.Punct mark.LeftParen ∷ front_spelling c) here in
@@ -284,7 +325,8 @@ possible_front (InInfix o l c) level here bound h is within a =
     (right_by o x (front_spelling c) here bound (possible_front c (k + 1) here bound (omega arith) is.3 within a)))
     (λ e none. left_fails o l (front_spelling c) here e bound (fails_soon l).tree is.1 none (omega (arith, length-append (front_spelling c) here.symbols))))
 
-pub possible_by : (level : ℕ) (line : Line) (left order : ℕ) (e : ExpressionFault) → level ≤ 10 → Possible Any level line left order e → FailsBy (Level level) line (spot left order e)
+pub possible_by : (level : ℕ) (line : Line) (left order : ℕ) (e : ExpressionFault) → level ≤ 10 → Possible Any level line left order e
+    → FailsBy (Level level) line (spot left order e)
 possible_by level line left order e h q =
     rw (line_is line q.here (front_spelling q.front) q.spelled q.ending)
     (possible_front q.front level q.here (spot left order e) h q.stands (within (wanted level q.front) q.here left order e q.fails)
@@ -304,9 +346,11 @@ fails_any level line left order e (wrong x h s out a b) = wrong x h s out a b
 fails_any level line left order e (unread_after t rest low spelled ending fits ok h a b) = unread_after t rest low spelled ending fits tt h a b
 fails_any level line left order e (unclosed t rest x spelled ending fits ok h over out a b) = unclosed t rest x spelled ending fits tt h over out a b
 fails_any level line left order e (signed o t rest x spelled ending fits ok h a b) = signed o t rest x spelled ending fits ok h a b
-fails_any level line left order e (operated o l r rest x y spelled ending fits lv rv h stops a b) = operated o l r rest x y spelled ending fits lv rv h stops a b
+fails_any level line left order e (operated o l r rest x y spelled ending fits lv rv h stops a b) =
+    operated o l r rest x y spelled ending fits lv rv h stops a b
 
-pub is_possible : (level : ℕ) (line : Line) (left order : ℕ) (e : ExpressionFault) → Possible HasValue level line left order e → Possible Any level line left order e
+pub is_possible : (level : ℕ) (line : Line) (left order : ℕ) (e : ExpressionFault) → Possible HasValue level line left order e
+    → Possible Any level line left order e
 is_possible level line left order e h = record {
   front = h.front;
   here = h.here;
@@ -335,7 +379,8 @@ is_first level line found low h = record {
   first = λ left other kind q.
       let by = possible_by level line left other kind low q in
       before_same by.halt (spot found.left h.order found.kind) left other
-      (settles_once (Level level) line (broken by.halt) (broken (spot found.left h.order found.kind)) by.settles (fault_settles level line found.left h.order found.kind low h.possible))
+      (settles_once (Level level) line (broken by.halt) (broken (spot found.left h.order found.kind)) by.settles
+      (fault_settles level line found.left h.order found.kind low h.possible))
       (before_of by.halt (spot left other kind) by.sooner);
 }
 
@@ -346,7 +391,8 @@ apart : (x : ℤ × Line) (e : Halt) → given x ≡ broken e → ⊥
 apart x e h = cc
 
 -- A line with a value has no fault.
-pub no_fault : (level : ℕ) (old new : Line) (v : ℤ) (left order : ℕ) (e : ExpressionFault) → level ≤ 10 → Reads level level old new v → Possible Any level old left order e → ⊥
+pub no_fault : (level : ℕ) (old new : Line) (v : ℤ) (left order : ℕ) (e : ExpressionFault) → level ≤ 10 → Reads level level old new v
+    → Possible Any level old left order e → ⊥
 no_fault level old new v left order e low r q =
     let by = possible_by level old left order e low q in
     apart (v, new) by.halt (settles_once (Level level) old (given (v, new)) (broken by.halt) (reads_settles level old new v low r) by.settles)

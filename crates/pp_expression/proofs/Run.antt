@@ -38,7 +38,8 @@ Turn = Mode → Line → Outcome
 
 abbrev pub atom_by : Turn → Line → Option ℕ → Outcome
 atom_by turn line (Some n) = Ok (literal n, after_next line)
-atom_by turn line None = turn (Level 0) (after_next line) >>= λ x. at (length x.1.symbols) 1 (next x.1) >>= λ w. at (length x.1.symbols) 4 (closing w) >>= λ u. Ok (x.0, after_next x.1)
+atom_by turn line None = turn (Level 0) (after_next line) >>= λ x. at (length x.1.symbols) 1 (next x.1) >>= λ w. at (length x.1.symbols) 4
+    (closing w) >>= λ u. Ok (x.0, after_next x.1)
 
 abbrev pub operand_by : Turn → Line → Option Unary → Outcome
 operand_by turn line (Some o) = turn Operand (after_next line) >>= λ x. at (length x.1.symbols + 1) 2 (unary_value o x.0) >>= λ v. Ok (v, x.1)
@@ -46,7 +47,8 @@ operand_by turn line None = at (length line.symbols) 1 (next line) >>= λ w. at 
 
 abbrev pub loop_by : Turn → ℕ → ℤ → Line → Option Binary → Outcome
 loop_by turn level x line None = Ok (x, line)
-loop_by turn level x line (Some o) = turn (Level (level + 1)) (after_next line) >>= λ y. at (unread_at o y.1) 2 (binary_value o x y.0) >>= λ v. turn (Loop level v) y.1
+loop_by turn level x line (Some o) = turn (Level (level + 1)) (after_next line) >>= λ y. at (unread_at o y.1) 2
+    (binary_value o x y.0) >>= λ v. turn (Loop level v) y.1
 
 abbrev pub step : Turn → Mode → Line → Outcome
 step turn Operand line = at (length line.symbols) 1 (sign_at line) >>= operand_by turn line
@@ -78,7 +80,8 @@ low level h = grind (arith, common_steps)
 
 -- ---- one turn of each kind
 
-pub level_goes : (level : ℕ) (line rest : Line) (x : ℤ) (out : Outcome) → level ≤ 9 → Settles (Level (level + 1)) line (Ok (x, rest)) → Settles (Loop level x) rest out → Settles (Level level) line out
+pub level_goes : (level : ℕ) (line rest : Line) (x : ℤ) (out : Outcome) → level ≤ 9 → Settles (Level (level + 1)) line (Ok (x, rest))
+    → Settles (Loop level x) rest out → Settles (Level level) line out
 level_goes level line rest x out h a b =
     settle (a.enough + b.enough) (Level level) line out
     (λ m le. rw (low level h) (rw (a.settled m (omega arith)) (b.settled m (omega arith))))
@@ -94,46 +97,65 @@ level_operand line out a = settle a.enough (Level 10) line out (λ m le. a.settl
 pub loop_ends : (level : ℕ) (x : ℤ) (rest : Line) → operator_at level rest ≡ Ok None → Settles (Loop level x) rest (Ok (x, rest))
 loop_ends level x rest h = settle 0 (Loop level x) rest (Ok (x, rest)) (λ m le. rw h refl)
 
-pub loop_unread : (level : ℕ) (x : ℤ) (rest : Line) (e : ExpressionFault) → operator_at level rest ≡ Err e → Settles (Loop level x) rest (Err (record { left = length rest.symbols; order = 1; kind = e }))
+pub loop_unread : (level : ℕ) (x : ℤ) (rest : Line) (e : ExpressionFault) → operator_at level rest ≡ Err e
+    → Settles (Loop level x) rest (Err (record { left = length rest.symbols; order = 1; kind = e }))
 loop_unread level x rest e h = settle 0 (Loop level x) rest (Err (record { left = length rest.symbols; order = 1; kind = e })) (λ m le. rw h refl)
 
-pub loop_goes : (level : ℕ) (o : Binary) (x y v : ℤ) (line rest : Line) (out : Outcome) → operator_at level line ≡ Ok (Some o) → Settles (Level (level + 1)) (after_next line) (Ok (y, rest)) → binary_value o x y ≡ Ok v → Settles (Loop level v) rest out → Settles (Loop level x) line out
+pub loop_goes : (level : ℕ) (o : Binary) (x y v : ℤ) (line rest : Line) (out : Outcome) → operator_at level line ≡ Ok (Some o)
+    → Settles (Level (level + 1)) (after_next line) (Ok (y, rest)) → binary_value o x y ≡ Ok v → Settles (Loop level v) rest out
+    → Settles (Loop level x) line out
 loop_goes level o x y v line rest out h a e b =
     settle (a.enough + b.enough) (Loop level x) line out
     (λ m le. rw h (rw (a.settled m (omega arith)) (rw e (b.settled m (omega arith)))))
 
-pub loop_overflows : (level : ℕ) (o : Binary) (x y : ℤ) (line rest : Line) (e : ExpressionFault) → operator_at level line ≡ Ok (Some o) → Settles (Level (level + 1)) (after_next line) (Ok (y, rest)) → binary_value o x y ≡ Err e → Settles (Loop level x) line (Err (record { left = unread_at o rest; order = 2; kind = e }))
+pub loop_overflows : (level : ℕ) (o : Binary) (x y : ℤ) (line rest : Line) (e : ExpressionFault) → operator_at level line ≡ Ok (Some o)
+    → Settles (Level (level + 1)) (after_next line) (Ok (y, rest)) → binary_value o x y ≡ Err e
+    → Settles (Loop level x) line (Err (record { left = unread_at o rest; order = 2; kind = e }))
 loop_overflows level o x y line rest e h a is =
     settle a.enough (Loop level x) line (Err (record { left = unread_at o rest; order = 2; kind = e }))
     (λ m le. rw h (rw (a.settled m le) (rw is refl)))
 
-pub loop_right : (level : ℕ) (o : Binary) (x : ℤ) (line : Line) (e : Halt) → operator_at level line ≡ Ok (Some o) → Settles (Level (level + 1)) (after_next line) (Err e) → Settles (Loop level x) line (Err e)
+pub loop_right : (level : ℕ) (o : Binary) (x : ℤ) (line : Line) (e : Halt) → operator_at level line ≡ Ok (Some o)
+    → Settles (Level (level + 1)) (after_next line) (Err e) → Settles (Loop level x) line (Err e)
 loop_right level o x line e h a =
     settle a.enough (Loop level x) line (Err e) (λ m le. rw h (rw (a.settled m le) refl))
 
-pub operand_unread : (line : Line) (e : ExpressionFault) → sign_at line ≡ Err e → Settles Operand line (Err (record { left = length line.symbols; order = 1; kind = e }))
+pub operand_unread : (line : Line) (e : ExpressionFault) → sign_at line ≡ Err e
+    → Settles Operand line (Err (record { left = length line.symbols; order = 1; kind = e }))
 operand_unread line e h = settle 0 Operand line (Err (record { left = length line.symbols; order = 1; kind = e })) (λ m le. rw h refl)
 
-pub operand_signed : (o : Unary) (line rest : Line) (x v : ℤ) → sign_at line ≡ Ok (Some o) → Settles Operand (after_next line) (Ok (x, rest)) → unary_value o x ≡ Ok v → Settles Operand line (Ok (v, rest))
+pub operand_signed : (o : Unary) (line rest : Line) (x v : ℤ) → sign_at line ≡ Ok (Some o) → Settles Operand (after_next line) (Ok (x, rest))
+    → unary_value o x ≡ Ok v → Settles Operand line (Ok (v, rest))
 operand_signed o line rest x v h a e = settle a.enough Operand line (Ok (v, rest)) (λ m le. rw h (rw (a.settled m le) (rw e refl)))
 
-pub operand_overflows : (o : Unary) (line rest : Line) (x : ℤ) (e : ExpressionFault) → sign_at line ≡ Ok (Some o) → Settles Operand (after_next line) (Ok (x, rest)) → unary_value o x ≡ Err e → Settles Operand line (Err (record { left = length rest.symbols + 1; order = 2; kind = e }))
-operand_overflows o line rest x e h a is = settle a.enough Operand line (Err (record { left = length rest.symbols + 1; order = 2; kind = e })) (λ m le. rw h (rw (a.settled m le) (rw is refl)))
+pub operand_overflows : (o : Unary) (line rest : Line) (x : ℤ) (e : ExpressionFault) → sign_at line ≡ Ok (Some o)
+    → Settles Operand (after_next line) (Ok (x, rest)) → unary_value o x ≡ Err e
+    → Settles Operand line (Err (record { left = length rest.symbols + 1; order = 2; kind = e }))
+operand_overflows o line rest x e h a is = settle a.enough Operand line (Err (record { left = length rest.symbols + 1; order = 2; kind = e }))
+    (λ m le. rw h (rw (a.settled m le) (rw is refl)))
 
-pub operand_in_sign : (o : Unary) (line : Line) (e : Halt) → sign_at line ≡ Ok (Some o) → Settles Operand (after_next line) (Err e) → Settles Operand line (Err e)
+pub operand_in_sign : (o : Unary) (line : Line) (e : Halt) → sign_at line ≡ Ok (Some o) → Settles Operand (after_next line) (Err e)
+    → Settles Operand line (Err e)
 operand_in_sign o line e h a = settle a.enough Operand line (Err e) (λ m le. rw h (rw (a.settled m le) refl))
 
-pub operand_number : (line : Line) (n : ℕ) → sign_at line ≡ Ok None → next line ≡ Ok (Some (symbol.Number n)) → Settles Operand line (Ok (literal n, after_next line))
+pub operand_number : (line : Line) (n : ℕ) → sign_at line ≡ Ok None → next line ≡ Ok (Some (symbol.Number n))
+    → Settles Operand line (Ok (literal n, after_next line))
 operand_number line n h e = settle 0 Operand line (Ok (literal n, after_next line)) (λ m le. rw h (rw e refl))
 
-pub operand_wrong : (line : Line) (x : Option Symbol) (e : ExpressionFault) → sign_at line ≡ Ok None → next line ≡ Ok x → atom_of x ≡ Err e → Settles Operand line (Err (record { left = length line.symbols; order = 4; kind = e }))
+pub operand_wrong : (line : Line) (x : Option Symbol) (e : ExpressionFault) → sign_at line ≡ Ok None → next line ≡ Ok x → atom_of x ≡ Err e
+    → Settles Operand line (Err (record { left = length line.symbols; order = 4; kind = e }))
 operand_wrong line x e h is out = settle 0 Operand line (Err (record { left = length line.symbols; order = 4; kind = e })) (λ m le. rw h (rw is (rw out refl)))
 
-pub operand_group : (line mid : Line) (v : ℤ) → sign_at line ≡ Ok None → next line ≡ Ok (Some (symbol.Punct mark.LeftParen)) → Settles (Level 0) (after_next line) (Ok (v, mid)) → next mid ≡ Ok (Some (symbol.Punct mark.RightParen)) → Settles Operand line (Ok (v, after_next mid))
+pub operand_group : (line mid : Line) (v : ℤ) → sign_at line ≡ Ok None → next line ≡ Ok (Some (symbol.Punct mark.LeftParen))
+    → Settles (Level 0) (after_next line) (Ok (v, mid)) → next mid ≡ Ok (Some (symbol.Punct mark.RightParen)) → Settles Operand line (Ok (v, after_next mid))
 operand_group line mid v h e a c = settle a.enough Operand line (Ok (v, after_next mid)) (λ m le. rw h (rw e (rw (a.settled m le) (rw c refl))))
 
-pub operand_unclosed : (line mid : Line) (v : ℤ) (x : Option Symbol) (d : ExpressionFault) → sign_at line ≡ Ok None → next line ≡ Ok (Some (symbol.Punct mark.LeftParen)) → Settles (Level 0) (after_next line) (Ok (v, mid)) → next mid ≡ Ok x → closing x ≡ Err d → Settles Operand line (Err (record { left = length mid.symbols; order = 4; kind = d }))
-operand_unclosed line mid v x d h e a c out = settle a.enough Operand line (Err (record { left = length mid.symbols; order = 4; kind = d })) (λ m le. rw h (rw e (rw (a.settled m le) (rw c (rw out refl)))))
+pub operand_unclosed : (line mid : Line) (v : ℤ) (x : Option Symbol) (d : ExpressionFault) → sign_at line ≡ Ok None
+    → next line ≡ Ok (Some (symbol.Punct mark.LeftParen)) → Settles (Level 0) (after_next line) (Ok (v, mid)) → next mid ≡ Ok x → closing x ≡ Err d
+    → Settles Operand line (Err (record { left = length mid.symbols; order = 4; kind = d }))
+operand_unclosed line mid v x d h e a c out = settle a.enough Operand line (Err (record { left = length mid.symbols; order = 4; kind = d }))
+    (λ m le. rw h (rw e (rw (a.settled m le) (rw c (rw out refl)))))
 
-pub operand_in_group : (line : Line) (e : Halt) → sign_at line ≡ Ok None → next line ≡ Ok (Some (symbol.Punct mark.LeftParen)) → Settles (Level 0) (after_next line) (Err e) → Settles Operand line (Err e)
+pub operand_in_group : (line : Line) (e : Halt) → sign_at line ≡ Ok None → next line ≡ Ok (Some (symbol.Punct mark.LeftParen))
+    → Settles (Level 0) (after_next line) (Err e) → Settles Operand line (Err e)
 operand_in_group line e h is a = settle a.enough Operand line (Err e) (λ m le. rw h (rw is (rw (a.settled m le) refl)))

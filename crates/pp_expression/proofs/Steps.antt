@@ -70,7 +70,8 @@ atom_fails line e s h =
     (λ none. absurd (unread_sign line e.kind none s))
     (λ x some out. met 10 line (length line.symbols) 4 e is.1 (faults.not_begun line x e.kind some s out))
 
-pub closing_fails : (old mid : Line) (v : ℤ) (e : Found) → next old ≡ Ok (Some (symbol.Punct mark.LeftParen)) → Reads 0 0 (after_next old) mid v → located (length mid.symbols) (closing_at mid) ≡ Err e → IsFault 10 old e
+pub closing_fails : (old mid : Line) (v : ℤ) (e : Found) → next old ≡ Ok (Some (symbol.Punct mark.LeftParen)) → Reads 0 0 (after_next old) mid v
+    → located (length mid.symbols) (closing_at mid) ≡ Err e → IsFault 10 old e
 closing_fails old mid v e open_paren r h =
     let is = located_err (length mid.symbols) (closing_at mid) e h in
     bind_err (next mid) closing e.kind is.0
@@ -99,15 +100,19 @@ sign_fails o old new x e sign reads h =
 pub looser : (level : ℕ) (old : Line) (e : Found) → IsFault (level + 1) old e → IsFault level old e
 looser level old e h = record { order = h.order; possible = faults.looser level old e.left h.order e.kind h.possible }
 
-pub not_read_after : (level : ℕ) (old mid : Line) (v : ℤ) (e : Found) → level ≤ 9 → Reads level (level + 1) old mid v → located (length mid.symbols) (operator_at level mid) ≡ Err e → IsFault level old e
+pub not_read_after : (level : ℕ) (old mid : Line) (v : ℤ) (e : Found) → level ≤ 9 → Reads level (level + 1) old mid v
+    → located (length mid.symbols) (operator_at level mid) ≡ Err e → IsFault level old e
 not_read_after level old mid v e low r h =
     let is = located_err (length mid.symbols) (operator_at level mid) e h in
     met level old (length mid.symbols) 1 e is.1 (faults.not_read_after level old mid v e.kind low r is.0)
 
-pub in_right : (level : ℕ) (o : Binary) (old mid : Line) (x : ℤ) (e : Found) → Reads level (level + 1) old mid x → operator_at level mid ≡ Ok (Some o) → IsFault (level + 1) (after_next mid) e → IsFault level old e
+pub in_right : (level : ℕ) (o : Binary) (old mid : Line) (x : ℤ) (e : Found) → Reads level (level + 1) old mid x
+    → operator_at level mid ≡ Ok (Some o) → IsFault (level + 1) (after_next mid) e → IsFault level old e
 in_right level o old mid x e former op h = record { order = h.order; possible = faults.in_right level o old mid x e.left h.order e.kind former op h.possible }
 
-pub operation_fails : (level : ℕ) (o : Binary) (old mid new : Line) (x y : ℤ) (e : Found) → Reads level (level + 1) old mid x → operator_at level mid ≡ Ok (Some o) → Reads (level + 1) (level + 1) (after_next mid) new y → located (unread_at o new) (binary_value o x y) ≡ Err e → IsFault level old e
+pub operation_fails : (level : ℕ) (o : Binary) (old mid new : Line) (x y : ℤ) (e : Found) → Reads level (level + 1) old mid x
+    → operator_at level mid ≡ Ok (Some o) → Reads (level + 1) (level + 1) (after_next mid) new y
+    → located (unread_at o new) (binary_value o x y) ≡ Err e → IsFault level old e
 operation_fails level o old mid new x y e former op latter h =
     let is = located_err (unread_at o new) (binary_value o x y) e h in
     met level old (unread_at o new) 2 e is.1 (faults.operation_fails level o old mid new x y e.kind former op latter is.0)

@@ -65,7 +65,8 @@ next_is (y ∷ ys) ending x e = let h : y ≡ x = cc in ap (λ (z : Symbol). z �
 next_is [] None x e = cc
 next_is [] (Some d) x e = cc
 
-sign_at_front : (symbols : List Symbol) (ending : Option ExpressionFault) (o : Unary) → (next_of symbols ending >>= (λ x. Ok (sign_of x))) ≡ Ok (Some o) → Begins symbols (symbol.Punct (unary_punct o))
+sign_at_front : (symbols : List Symbol) (ending : Option ExpressionFault) (o : Unary)
+    → (next_of symbols ending >>= (λ x. Ok (sign_of x))) ≡ Ok (Some o) → Begins symbols (symbol.Punct (unary_punct o))
 sign_at_front (symbol.Punct q ∷ ys) ending o e =
     let some : unary_of q ≡ Some o = cc in
     let same : q ≡ unary_punct o = unary_inverse q o some in
@@ -83,7 +84,8 @@ of_level_is : (level : ℕ) (m : Option Binary) (o : Binary) → of_level level 
 of_level_is level (Some a) o e = grind (arith, common_steps)
 of_level_is level None o e = cc
 
-operator_at_front : (level : ℕ) (symbols : List Symbol) (ending : Option ExpressionFault) (o : Binary) → (next_of symbols ending >>= (λ x. Ok (operator_of level x))) ≡ Ok (Some o) → Begins symbols (symbol.Punct (binary_punct o)) × (level_of o ≡ level)
+operator_at_front : (level : ℕ) (symbols : List Symbol) (ending : Option ExpressionFault) (o : Binary)
+    → (next_of symbols ending >>= (λ x. Ok (operator_of level x))) ≡ Ok (Some o) → Begins symbols (symbol.Punct (binary_punct o)) × (level_of o ≡ level)
 operator_at_front level (symbol.Punct q ∷ ys) ending o e =
     let some : of_level level (binary_of q) ≡ Some o = cc in
     let is = of_level_is level (binary_of q) o some in
@@ -95,7 +97,8 @@ operator_at_front level (symbol.Other ∷ ys) ending o e = cc
 operator_at_front level [] None o e = cc
 operator_at_front level [] (Some d) o e = cc
 
-pub operator_is : (level : ℕ) (line : Line) (o : Binary) → operator_at level line ≡ Ok (Some o) → Begins line.symbols (symbol.Punct (binary_punct o)) × (level_of o ≡ level)
+pub operator_is : (level : ℕ) (line : Line) (o : Binary) → operator_at level line ≡ Ok (Some o) → Begins line.symbols (symbol.Punct (binary_punct o))
+    × (level_of o ≡ level)
 operator_is level line o e = operator_at_front level line.symbols line.ending o e
 
 -- no operator binds as tightly as an operand
@@ -134,20 +137,24 @@ read_number old n e = record {
   ending = refl;
 }
 
-pub read_group : (old mid : Line) (v : ℤ) → next old ≡ Ok (Some (symbol.Punct mark.LeftParen)) → Reads 0 0 (after_next old) mid v → next mid ≡ Ok (Some (symbol.Punct mark.RightParen)) → Reads 10 10 old (after_next mid) v
+pub read_group : (old mid : Line) (v : ℤ) → next old ≡ Ok (Some (symbol.Punct mark.LeftParen)) → Reads 0 0 (after_next old) mid v
+    → next mid ≡ Ok (Some (symbol.Punct mark.RightParen)) → Reads 10 10 old (after_next mid) v
 read_group old mid v opens r close =
     let first = next_is old.symbols old.ending (symbol.Punct mark.LeftParen) opens in
     let last = next_is mid.symbols mid.ending (symbol.Punct mark.RightParen) close in
     record {
       tree = Group r.tree;
-      spelled = first ∙ ap (λ (xs : List Symbol). symbol.Punct mark.LeftParen ∷ xs) (r.spelled ∙ ap (λ (xs : List Symbol). spelling r.tree ++ xs) last ∙ sym (append_assoc (spelling r.tree) (symbol.Punct mark.RightParen ∷ []) (drop 1 mid.symbols)));
+      spelled = first ∙ ap (λ (xs : List Symbol). symbol.Punct mark.LeftParen ∷ xs)
+          (r.spelled ∙ ap (λ (xs : List Symbol). spelling r.tree ++ xs) last
+          ∙ sym (append_assoc (spelling r.tree) (symbol.Punct mark.RightParen ∷ []) (drop 1 mid.symbols)));
       fits = r.fits;
       valued = r.valued;
       stops = operand_stops (after_next mid);
       ending = r.ending;
     }
 
-pub read_signed : (o : Unary) (old new : Line) (x v : ℤ) → sign_at old ≡ Ok (Some o) → Reads 10 10 (after_next old) new x → unary_value o x ≡ Ok v → Reads 10 10 old new v
+pub read_signed : (o : Unary) (old new : Line) (x v : ℤ) → sign_at old ≡ Ok (Some o) → Reads 10 10 (after_next old) new x → unary_value o x ≡ Ok v
+    → Reads 10 10 old new v
 read_signed o old new x v sign r e =
     record {
       tree = Prefix o r.tree;
@@ -169,11 +176,15 @@ read_looser level stop old new v r = record {
 }
 
 -- the symbols of an operation, from those of its operands
-joined : (o : Binary) (l r : Tree) (old mid new : List Symbol) → old ≡ spelling l ++ mid → Begins mid (symbol.Punct (binary_punct o)) → drop 1 mid ≡ spelling r ++ new → old ≡ spelling (Infix o l r) ++ new
+joined : (o : Binary) (l r : Tree) (old mid new : List Symbol) → old ≡ spelling l ++ mid → Begins mid (symbol.Punct (binary_punct o))
+    → drop 1 mid ≡ spelling r ++ new → old ≡ spelling (Infix o l r) ++ new
 joined o l r old mid new left first right =
-    left ∙ ap (λ (xs : List Symbol). spelling l ++ xs) (first ∙ ap (λ (xs : List Symbol). symbol.Punct (binary_punct o) ∷ xs) right) ∙ sym (append_assoc (spelling l) (symbol.Punct (binary_punct o) ∷ spelling r) new)
+    left ∙ ap (λ (xs : List Symbol). spelling l ++ xs) (first ∙ ap (λ (xs : List Symbol). symbol.Punct (binary_punct o) ∷ xs) right)
+    ∙ sym (append_assoc (spelling l) (symbol.Punct (binary_punct o) ∷ spelling r) new)
 
-pub operation_spelled : (level : ℕ) (o : Binary) (old mid new : Line) (x y : ℤ) → (left : Reads level (level + 1) old mid x) → operator_at level mid ≡ Ok (Some o) → (right : Reads (level + 1) (level + 1) (after_next mid) new y) → old.symbols ≡ spelling (Infix o left.tree right.tree) ++ new.symbols
+pub operation_spelled : (level : ℕ) (o : Binary) (old mid new : Line) (x y : ℤ) → (left : Reads level (level + 1) old mid x)
+    → operator_at level mid ≡ Ok (Some o) → (right : Reads (level + 1) (level + 1) (after_next mid) new y)
+    → old.symbols ≡ spelling (Infix o left.tree right.tree) ++ new.symbols
 operation_spelled level o old mid new x y left op right =
     joined o left.tree right.tree old.symbols mid.symbols new.symbols left.spelled (operator_is level mid o op).0 right.spelled
 
@@ -183,7 +194,8 @@ operation_fits level o l r e fl fr = (omega (arith, e), rw e fl, rw e fr)
 pub operation_value : (o : Binary) (l r : Tree) (x y v : ℤ) → value l ≡ Ok x → value r ≡ Ok y → binary_value o x y ≡ Ok v → value (Infix o l r) ≡ Ok v
 operation_value o l r x y v el er e = rw el (rw er e)
 
-pub read_operation : (level : ℕ) (o : Binary) (old mid new : Line) (x y v : ℤ) → Reads level (level + 1) old mid x → operator_at level mid ≡ Ok (Some o) → Reads (level + 1) (level + 1) (after_next mid) new y → binary_value o x y ≡ Ok v → Reads level (level + 1) old new v
+pub read_operation : (level : ℕ) (o : Binary) (old mid new : Line) (x y v : ℤ) → Reads level (level + 1) old mid x
+    → operator_at level mid ≡ Ok (Some o) → Reads (level + 1) (level + 1) (after_next mid) new y → binary_value o x y ≡ Ok v → Reads level (level + 1) old new v
 read_operation level o old mid new x y v left op right e =
     record {
       tree = Infix o left.tree right.tree;

@@ -43,7 +43,8 @@ sign_front o xs rest = ap Ok (unary_again o)
 pub level_same : (level : ℕ) (o : Binary) → level_of o ≡ level → of_level level (Some o) ≡ Some o
 level_same level o e = grind (arith, common_steps)
 
-pub operator_front : (level : ℕ) (o : Binary) (xs : List Symbol) (rest : Line) → level_of o ≡ level → operator_at level (onto (symbol.Punct (binary_punct o) ∷ xs) rest) ≡ Ok (Some o)
+pub operator_front : (level : ℕ) (o : Binary) (xs : List Symbol) (rest : Line) → level_of o ≡ level
+    → operator_at level (onto (symbol.Punct (binary_punct o) ∷ xs) rest) ≡ Ok (Some o)
 operator_front level o xs rest e = rw (binary_again o) (ap Ok (level_same level o e))
 
 -- ---- where an expression is over
@@ -70,7 +71,8 @@ binds_at : (level : ℕ) (m : Option Binary) → binds_from level m ≡ false �
 binds_at level (Some o) h = grind (arith, common_steps)
 binds_at level None h = refl
 
-none_at : (level : ℕ) (symbols : List Symbol) (ending : Option ExpressionFault) → IsOk (next_of symbols ending) → goes_on level symbols ≡ false → (next_of symbols ending >>= (λ x. Ok (operator_of level x))) ≡ Ok None
+none_at : (level : ℕ) (symbols : List Symbol) (ending : Option ExpressionFault) → IsOk (next_of symbols ending) → goes_on level symbols ≡ false
+    → (next_of symbols ending >>= (λ x. Ok (operator_of level x))) ≡ Ok None
 none_at level (symbol.Punct q ∷ xs) ending k h = ap Ok (binds_at level (binary_of q) h)
 none_at level (symbol.Number n ∷ xs) ending k h = refl
 none_at level (symbol.Fault ∷ xs) ending k h = refl
@@ -85,7 +87,8 @@ pub loosest : (level : ℕ) (o : Binary) → level_of o ≡ level → binds_from
 loosest level o e = grind (arith, common_steps)
 
 -- an operand of an operator is over before it
-pub stops_before : (level : ℕ) (o : Binary) (xs : List Symbol) (rest : Line) → level_of o ≡ level → Stops (level + 1) (onto (symbol.Punct (binary_punct o) ∷ xs) rest)
+pub stops_before : (level : ℕ) (o : Binary) (xs : List Symbol) (rest : Line) → level_of o ≡ level
+    → Stops (level + 1) (onto (symbol.Punct (binary_punct o) ∷ xs) rest)
 stops_before level o xs rest e = record { known = λ h. refl; over = rw (binary_again o) (loosest level o e) }
 
 pub low_operator : (o : Binary) → level_of o ≤ 9
@@ -95,14 +98,16 @@ low_operator _ = omega arith
 
 -- ---- from a tighter level to a looser one
 
-pub descend : (d level top : ℕ) (line rest : Line) (v : ℤ) → top ≡ level + d → top ≤ 10 → Settles (Level top) line (Ok (v, rest)) → Stops level rest → Settles (Level level) line (Ok (v, rest))
+pub descend : (d level top : ℕ) (line rest : Line) (v : ℤ) → top ≡ level + d → top ≤ 10 → Settles (Level top) line (Ok (v, rest)) → Stops level rest
+    → Settles (Level level) line (Ok (v, rest))
 descend zero level top line rest v e h a s = let same : level ≡ top = omega arith in rw same a
 descend (suc d) level top line rest v e h a s =
     level_goes level line rest v (Ok (v, rest)) (omega arith)
     (descend d (level + 1) top line rest v (omega arith) h a (stops_more level rest s))
     (loop_ends level v rest (stops_none level rest (omega arith) s))
 
-pub descend_fault : (d level top : ℕ) (line : Line) (e : Halt) → top ≡ level + d → top ≤ 10 → Settles (Level top) line (Err e) → Settles (Level level) line (Err e)
+pub descend_fault : (d level top : ℕ) (line : Line) (e : Halt) → top ≡ level + d → top ≤ 10 → Settles (Level top) line (Err e)
+    → Settles (Level level) line (Err e)
 descend_fault zero level top line e is h a = let same : level ≡ top = omega arith in rw same a
 descend_fault (suc d) level top line e is h a = level_fails level line e (omega arith) (descend_fault d (level + 1) top line e (omega arith) h a)
 
@@ -110,17 +115,20 @@ descend_fault (suc d) level top line e is h a = level_fails level line e (omega 
 
 -- The symbols of the tree are read as the tree.
 abbrev pub Whole : Tree → Type 0
-Whole t = (level : ℕ) (rest : Line) (v : ℤ) → level ≤ 10 → Fits level t → value t ≡ Ok v → Stops level rest → Settles (Level level) (onto (spelling t) rest) (Ok (v, rest))
+Whole t = (level : ℕ) (rest : Line) (v : ℤ) → level ≤ 10 → Fits level t → value t ≡ Ok v → Stops level rest
+    → Settles (Level level) (onto (spelling t) rest) (Ok (v, rest))
 
 -- They are read as a left operand, whatever comes of the operators after it.
 abbrev pub Spine : Tree → Type 0
-Spine t = (level : ℕ) (rest : Line) (v : ℤ) (out : Outcome) → level ≤ 9 → Fits level t → value t ≡ Ok v → Stops (level + 1) rest → Settles (Loop level v) rest out → Settles (Level level) (onto (spelling t) rest) out
+Spine t = (level : ℕ) (rest : Line) (v : ℤ) (out : Outcome) → level ≤ 9 → Fits level t → value t ≡ Ok v → Stops (level + 1) rest
+    → Settles (Loop level v) rest out → Settles (Level level) (onto (spelling t) rest) out
 
 pub bind_ok : {A B E : Type 0} (r : Result A E) (f : A → Result B E) (y : B) → (r >>= f) ≡ Ok y → (x : A) × (r ≡ Ok x) × (f x ≡ Ok y)
 bind_ok (Ok x) f y h = (x, refl, h)
 bind_ok (Err e) f y h = cc
 
-pub bind_err : {A B E : Type 0} {P : Type 0} (r : Result A E) (f : A → Result B E) (e : E) → (r >>= f) ≡ Err e → (r ≡ Err e → P) → ((x : A) → r ≡ Ok x → f x ≡ Err e → P) → P
+pub bind_err : {A B E : Type 0} {P : Type 0} (r : Result A E) (f : A → Result B E) (e : E) → (r >>= f) ≡ Err e → (r ≡ Err e → P)
+    → ((x : A) → r ≡ Ok x → f x ≡ Err e → P) → P
 bind_err (Ok x) f e h a b = b x refl h
 bind_err (Err d) f e h a b = a (let same : d ≡ e = cc in rw same refl)
 
@@ -144,7 +152,8 @@ number_atom n rest v fits is =
 group_atom : (t : Tree) → Whole t → IsAtom (Group t)
 group_atom t whole rest v fits is =
     let inner = onto (symbol.Punct mark.RightParen ∷ []) rest in
-    let found : Settles (Level 0) (onto (spelling t) inner) (Ok (v, inner)) = whole 0 inner v (omega arith) fits is (record { known = λ h. refl; over = refl }) in
+    let found : Settles (Level 0) (onto (spelling t) inner) (Ok (v, inner)) =
+    whole 0 inner v (omega arith) fits is (record { known = λ h. refl; over = refl }) in
     let same = onto_more (spelling t) (symbol.Punct mark.RightParen ∷ []) rest in
     operand_group (onto (spelling (Group t)) rest) inner v refl refl (rw same found) refl
 
@@ -157,7 +166,9 @@ pub infix_absurd : (o : Binary) (l r : Tree) → Fits 10 (Infix o l r) → ⊥
 infix_absurd o l r h = let low = low_operator o in omega (arith, low, h.0)
 
 -- an operation, at its own level
-infix_own : (o : Binary) (l r : Tree) → Spine l → Whole r → (level : ℕ) (rest : Line) (v : ℤ) (out : Outcome) → level_of o ≡ level → Fits (level_of o) l → Fits (level_of o + 1) r → value (Infix o l r) ≡ Ok v → Stops (level + 1) rest → Settles (Loop level v) rest out → Settles (Level level) (onto (spelling (Infix o l r)) rest) out
+infix_own : (o : Binary) (l r : Tree) → Spine l → Whole r → (level : ℕ) (rest : Line) (v : ℤ) (out : Outcome) → level_of o ≡ level
+    → Fits (level_of o) l → Fits (level_of o + 1) r → value (Infix o l r) ≡ Ok v → Stops (level + 1) rest → Settles (Loop level v) rest out
+    → Settles (Level level) (onto (spelling (Infix o l r)) rest) out
 infix_own o l r left right level rest v out e fl fr is s loop =
     let low = low_operator o in
     let x = bind_ok (value l) (λ x. value r >>= binary_value o x) v is in
@@ -175,7 +186,8 @@ infix_whole o l r left right level rest v h fits is s =
     let gap : own ≡ level + (own - level) = omega (arith, fits.0) in
     let above = stops_above (own - level) level own rest gap s in
     descend (own - level) level own (onto (spelling (Infix o l r)) rest) rest v gap (omega arith)
-    (infix_own o l r left right own rest v (Ok (v, rest)) refl fits.1 fits.2 is (stops_more own rest above) (loop_ends own v rest (stops_none own rest low above))) s
+    (infix_own o l r left right own rest v (Ok (v, rest)) refl fits.1 fits.2 is (stops_more own rest above)
+    (loop_ends own v rest (stops_none own rest low above))) s
 
 infix_spine : (o : Binary) (l r : Tree) → Spine l → Whole r → Spine (Infix o l r)
 infix_spine o l r left right level rest v out h fits is s loop =

@@ -197,7 +197,8 @@ fn lex_newline(
 fn final_newline(last: Spot, flags: &mut Flags) -> Option<LexerItem>
     ensures value { result ≡ first_item (newline_seen flags.old last) }
     ensures rest { newline_seen flags.new last ≡ after_first_item (newline_seen flags.old last) }
-    ensures places { newline_places flags.new last ≡ places_after_first (newline_places flags.old last) }
+    ensures places { newline_places flags.new last
+        ≡ places_after_first (newline_places flags.old last) }
     ensures comments { flags.new.had_comments ≡ flags.old.had_comments }
 {
     if flags.start_of_line {
@@ -274,7 +275,8 @@ fn lex_by_characters(
     place: &mut Location,
 ) -> Result<Option<LexerItem>, AllocError>
     ensures lexed { IsLexed flags.old inner.old result flags.new inner.new }
-    ensures placed { OnOk result (IsPlaced flags.old inner.old place.old flags.new inner.new place.new) }
+    ensures placed { OnOk result
+        (IsPlaced flags.old inner.old place.old flags.new inner.new place.new) }
 {
     skip_blanks(inner, flags);
     let Some(first) = inner.peek_spot() else {
@@ -304,7 +306,8 @@ fn lex(
     place: &mut Location,
 ) -> Result<Option<LexerItem>, AllocError>
     ensures lexed { IsLexed flags.old inner.old result flags.new inner.new }
-    ensures placed { OnOk result (IsPlaced flags.old inner.old place.old flags.new inner.new place.new) }
+    ensures placed { OnOk result
+        (IsPlaced flags.old inner.old place.old flags.new inner.new place.new) }
 {
     skip_spaces(inner, flags);
     if let Some(item) = lex_plain(alloc, inner, flags, place)? {

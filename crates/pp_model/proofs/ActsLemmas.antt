@@ -97,15 +97,18 @@ module _ (P : Acted → Type 0) (r : SourceReader) (all : HoldsOfDead P r) where
 
 module _ (P : Acted → Type 0) (r : SourceReader) (all : HoldsOfLive P r) where
   -- a name alone on its line, which is passed
-  name_holds : (word : Location) (after : Name → SourceReader) → ((name : Name) → P (passed (after name))) → P (acted (only_name word (after_word r)) r (λ name. passed (after name)))
+  name_holds : (word : Location) (after : Name → SourceReader) → ((name : Name) → P (passed (after name)))
+      → P (acted (only_name word (after_word r)) r (λ name. passed (after name)))
   name_holds word after h = value_holds P r all.dead (only_name word (after_word r)) (λ name. passed (after name)) h
 
   item_holds : (value : List Token → TokenValue) (word : Location) → P (line_item value word r)
   item_holds value word =
-      value_holds P r all.dead (line_tokens (after_word r)) (λ tokens. given (record { value = value tokens; location = word }) (after_line r)) (λ tokens. all.token _ _)
+      value_holds P r all.dead (line_tokens (after_word r)) (λ tokens. given (record { value = value tokens; location = word }) (after_line r))
+      (λ tokens. all.token _ _)
 
   pub live_directive_holds : (directive : Directive) (word : Location) → P (live_directive directive word r)
-  live_directive_holds d.Define word = value_holds P r all.dead (defined_on word (after_word r)) (λ named. record { step = step.Defines named; after = after_line r }) all.defined
+  live_directive_holds d.Define word = value_holds P r all.dead (defined_on word (after_word r))
+      (λ named. record { step = step.Defines named; after = after_line r }) all.defined
   live_directive_holds d.Undef word = name_holds word (λ name. record (after_line r) { definitions = changed r.definitions name None }) (λ name. all.changed _)
   live_directive_holds d.If word = condition_holds P r all.dead word
   live_directive_holds d.Ifdef word = name_holds word (λ name. decided r (is_defined_now r name)) (λ name. all.decision _)
@@ -114,7 +117,8 @@ module _ (P : Acted → Type 0) (r : SourceReader) (all : HoldsOfLive P r) where
   live_directive_holds d.Else word = else_line_holds P r all.dead word
   live_directive_holds d.Endif word = endif_holds P r all.dead (block_here r) word
   live_directive_holds d.Error word = all.dead.fault _
-  live_directive_holds d.Line word = value_holds P r all.dead (line_tokens (after_word r)) (λ tokens. record { step = step.LineNumber word tokens; after = r }) (all.numbered word)
+  live_directive_holds d.Line word = value_holds P r all.dead (line_tokens (after_word r))
+      (λ tokens. record { step = step.LineNumber word tokens; after = r }) (all.numbered word)
   live_directive_holds d.Version word = item_holds _ word
   live_directive_holds d.Extension word = item_holds _ word
   live_directive_holds d.Pragma word = item_holds _ word
@@ -133,4 +137,5 @@ module _ (P : Acted → Type 0) (r : SourceReader) (all : HoldsOfLive P r) where
   pub act_holds : ((block : Option Block) → P (ended_by block r)) → P (act r)
   act_holds end =
       let sight = sight_of (drop r.position r.items) in
-      either_holds P (is_live r.items r.truths r.position) (live_act sight r) (dead_act sight r) (live_text_holds end sight) (dead_text_holds P r all.dead end sight)
+      either_holds P (is_live r.items r.truths r.position) (live_act sight r) (dead_act sight r) (live_text_holds end sight)
+      (dead_text_holds P r all.dead end sight)

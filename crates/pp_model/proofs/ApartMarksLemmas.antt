@@ -26,15 +26,18 @@ module _ {R : Type 0} (I : Reading R) where
 
   pub gathering_leaves_rest : (n : ℕ) (last : Location) (x : Result Gathered Fault) (e f : Expander R) → Gathers I n last e x f → IsRest e.list f.list
   gathering_leaves_rest n last x e f (closed n1 l1 token e1 f1 x1 t h p) = taking_leaves_rest _ e f t
-  gathering_leaves_rest n last x e f (inside n1 k l1 token e1 f1 f2 rest x1 t h u p) = rest_of_rest e.list f1.list f.list (taking_leaves_rest _ e f1 t) (gathering_leaves_rest k token.location rest f1 f u)
+  gathering_leaves_rest n last x e f (inside n1 k l1 token e1 f1 f2 rest x1 t h u p) =
+      rest_of_rest e.list f1.list f.list (taking_leaves_rest _ e f1 t) (gathering_leaves_rest k token.location rest f1 f u)
   gathering_leaves_rest n last x e f (overfull n1 l1 token e1 f1 x1 t h p) = taking_leaves_rest _ e f t
   gathering_leaves_rest n last x e f (ended n1 l1 e1 f1 x1 t p) = taking_leaves_rest _ e f t
   gathering_leaves_rest n last x e f (failed n1 l1 fault e1 f1 x1 t p) = taking_leaves_rest _ e f t
 
   pub call_leaves_rest : (A : Answers) (d : Definition) (c : Called) (e f : Expander R) → Calls I A d e c f → IsRest e.list f.list
   call_leaves_rest A d c e f (alone o e1 f1 c1 t h p) = taking_leaves_rest o e f t
-  call_leaves_rest A d c e f (broken o paren fault e1 f1 f2 c1 t h u p) = rest_of_rest e.list f1.list f.list (taking_leaves_rest o e f1 t) (gathering_leaves_rest 0 paren (Err fault) f1 f u)
-  call_leaves_rest A d c e f (whole o paren gathered answer e1 f1 f2 c1 t h u a p) = rest_of_rest e.list f1.list f.list (taking_leaves_rest o e f1 t) (gathering_leaves_rest 0 paren (Ok gathered) f1 f u)
+  call_leaves_rest A d c e f (broken o paren fault e1 f1 f2 c1 t h u p) =
+      rest_of_rest e.list f1.list f.list (taking_leaves_rest o e f1 t) (gathering_leaves_rest 0 paren (Err fault) f1 f u)
+  call_leaves_rest A d c e f (whole o paren gathered answer e1 f1 f2 c1 t h u a p) =
+      rest_of_rest e.list f1.list f.list (taking_leaves_rest o e f1 t) (gathering_leaves_rest 0 paren (Ok gathered) f1 f u)
 
   pub only_takes_entries : (A : Answers) → OnlyTakesEntries I A
   only_takes_entries A = record { taking = taking_leaves_rest; gathering = gathering_leaves_rest; call = call_leaves_rest A }
@@ -42,7 +45,8 @@ module _ {R : Type 0} (I : Reading R) where
   pub opens_new : OpensNew I
   opens_new o m e rest h r = rest_opens_nothing m.name e.list rest r (opening_not_open I e o m h)
 
-  pub opened_is_apart : (o : Outcome) (m : Opening) (line : ℕ) (arguments : List (List Token)) (e f : Expander R) → opening I e o ≡ Some m → IsRest e.list f.list → HasApartMarks f.list → HasApartMarks (opened m line arguments f).list
+  pub opened_is_apart : (o : Outcome) (m : Opening) (line : ℕ) (arguments : List (List Token)) (e f : Expander R) → opening I e o ≡ Some m
+      → IsRest e.list f.list → HasApartMarks f.list → HasApartMarks (opened m line arguments f).list
   opened_is_apart o m line arguments e f h r apart =
       let both : AreApart (m.name ∷ open_names f.list) = (opens_new o m e f.list h r, apart) in
       rw (open_spliced m.name m.definition line arguments f.list) both

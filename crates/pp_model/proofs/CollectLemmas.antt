@@ -17,11 +17,13 @@ abbrev pub after_items : {X : Type 0} → List X → Result (List X) Fault → R
 after_items items (Ok rest) = Ok (items ++ rest)
 after_items items (Err fault) = Err fault
 
-pub after_items-before : (items : List Token) (token : Token) (rest : Result (List Token) Fault) → after_items items (token_before token rest) ≡ after_items (items ++ token ∷ []) rest
+pub after_items-before : (items : List Token) (token : Token) (rest : Result (List Token) Fault)
+    → after_items items (token_before token rest) ≡ after_items (items ++ token ∷ []) rest
 after_items-before items token (Ok rest) = rw append_assoc refl
 after_items-before items token (Err fault) = refl
 
-pub after_lists-before : (lists : List (List Token)) (list : List Token) (rest : Result (List (List Token)) Fault) → after_items lists (list_before list rest) ≡ after_items (lists ++ list ∷ []) rest
+pub after_lists-before : (lists : List (List Token)) (list : List Token) (rest : Result (List (List Token)) Fault)
+    → after_items lists (list_before list rest) ≡ after_items (lists ++ list ∷ []) rest
 after_lists-before lists list (Ok rest) = rw append_assoc refl
 after_lists-before lists list (Err fault) = refl
 
@@ -29,22 +31,29 @@ pub after_items-end : {X : Type 0} (items : List X) → after_items items (Ok []
 after_items-end {X} items = ap (λ (xs : List X). let r : Result (List X) Fault = Ok xs in r) (append-nil items)
 
 -- an argument alone is its items up to the end
-pub Alone-collects : (levels : ℕ) (tokens : List Token) (visible : Definitions) (hidden : List Name) (out : Result (List Token) Fault) → Collects argument_reading (answers_at levels) (reading_of tokens visible hidden) out → Alone levels tokens visible hidden out
+pub Alone-collects : (levels : ℕ) (tokens : List Token) (visible : Definitions) (hidden : List Name) (out : Result (List Token) Fault)
+    → Collects argument_reading (answers_at levels) (reading_of tokens visible hidden) out → Alone levels tokens visible hidden out
 Alone-collects zero tokens visible hidden out h = h
 Alone-collects (suc levels) tokens visible hidden out h = h
 
 -- the arguments from a place on, by the one that stands there
-pub each_at-failed : (deeper : Alones) (visible : Definitions) (hidden : List Name) (arguments : List (List Token)) (i : ℕ) (x tokens : List Token) (fault : Fault) → i < length arguments → x ≡ get_or arguments i x → tokens ≡ x → deeper tokens visible hidden (Err fault) → Each deeper visible hidden (drop i arguments) (Err fault)
+pub each_at-failed : (deeper : Alones) (visible : Definitions) (hidden : List Name) (arguments : List (List Token)) (i : ℕ) (x tokens : List Token)
+    (fault : Fault) → i < length arguments → x ≡ get_or arguments i x → tokens ≡ x → deeper tokens visible hidden (Err fault)
+    → Each deeper visible hidden (drop i arguments) (Err fault)
 each_at-failed deeper visible hidden arguments i x tokens fault h e s d =
     subst (λ (xs : List (List Token)). Each deeper visible hidden xs (Err fault)) (sym (drop-item arguments i x h e))
     (first_failed x (drop (i + 1) arguments) fault (Err fault) (subst (λ (ts : List Token). deeper ts visible hidden (Err fault)) s d) refl)
 
-pub each_at-more : (deeper : Alones) (visible : Definitions) (hidden : List Name) (arguments : List (List Token)) (i : ℕ) (x tokens list : List Token) (out : Result (List (List Token)) Fault) → i < length arguments → x ≡ get_or arguments i x → tokens ≡ x → deeper tokens visible hidden (Ok list) → Each deeper visible hidden (drop (i + 1) arguments) out → Each deeper visible hidden (drop i arguments) (list_before list out)
+pub each_at-more : (deeper : Alones) (visible : Definitions) (hidden : List Name) (arguments : List (List Token))
+    (i : ℕ) (x tokens list : List Token) (out : Result (List (List Token)) Fault) → i < length arguments → x ≡ get_or arguments i x → tokens ≡ x
+    → deeper tokens visible hidden (Ok list) → Each deeper visible hidden (drop (i + 1) arguments) out
+    → Each deeper visible hidden (drop i arguments) (list_before list out)
 each_at-more deeper visible hidden arguments i x tokens list out h e s d each =
     subst (λ (xs : List (List Token)). Each deeper visible hidden xs (list_before list out)) (sym (drop-item arguments i x h e))
     (more x list (drop (i + 1) arguments) out (list_before list out) (subst (λ (ts : List Token). deeper ts visible hidden (Ok list)) s d) each refl)
 
-pub each_at-end : (deeper : Alones) (visible : Definitions) (hidden : List Name) (arguments : List (List Token)) (i : ℕ) → length arguments ≤ i → Each deeper visible hidden (drop i arguments) (Ok [])
+pub each_at-end : (deeper : Alones) (visible : Definitions) (hidden : List Name) (arguments : List (List Token)) (i : ℕ) → length arguments ≤ i
+    → Each deeper visible hidden (drop i arguments) (Ok [])
 each_at-end deeper visible hidden arguments i h =
     let e : drop i arguments ≡ [] = drop_all i arguments h in
     subst (λ (xs : List (List Token)). Each deeper visible hidden xs (Ok [])) (sym e) (none (Ok []) refl)

@@ -20,7 +20,8 @@ gives_something _ = false
 differs : (s t : Step) → gives_something s ≡ false → gives_something t ≡ true → s ≡ t → ⊥
 differs s t h k same = let bad : false ≡ true = sym h ∙ ap gives_something same ∙ k in cc
 
-gives_nothing : (r : SourceReader) (a : Acted) → gives_something a.step ≡ false → a.after.definitions ≡ r.definitions → a.after.line_offset ≡ r.line_offset → GivesNothing r a
+gives_nothing : (r : SourceReader) (a : Acted) → gives_something a.step ≡ false → a.after.definitions ≡ r.definitions
+    → a.after.line_offset ≡ r.line_offset → GivesNothing r a
 gives_nothing r a h definitions lines = record {
   no_token = λ token. differs a.step _ h refl;
   no_define = λ named. differs a.step _ h refl;

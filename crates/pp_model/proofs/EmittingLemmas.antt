@@ -19,18 +19,21 @@ one_kind m n same h k =
 
 module _ {R : Type 0} (I : Reading R) (one : OneReads I) (A : Answers) (single : OneAnswer A) where
   -- two takings open one macro, or neither opens one
-  one_opening : (v w : Option Opening) (x y : Outcome) (e f g : Expander R) → Takes I e x f → Takes I e y g → opening I f x ≡ v → opening I g y ≡ w → (x ≡ y) × (f ≡ g) × (v ≡ w)
+  one_opening : (v w : Option Opening) (x y : Outcome) (e f g : Expander R) → Takes I e x f → Takes I e y g → opening I f x ≡ v → opening I g y ≡ w
+      → (x ≡ y) × (f ≡ g) × (v ≡ w)
   one_opening v w x y e f g a b h k =
       let same = one_taking I one x y e f g a b in
       let there : opening I f x ≡ w = rw (same.0, same.1) k in
       (same.0, same.1, sym h ∙ there)
 
   -- an object-like macro and a function-like one are not opened by one taking
-  not_both_kinds : (m n : Opening) (x y : Outcome) (e f g : Expander R) → Takes I e x f → Takes I e y g → opening I f x ≡ Some m → opening I g y ≡ Some n → m.definition.function_like ≡ false → n.definition.function_like ≡ true → false ≡ true
+  not_both_kinds : (m n : Opening) (x y : Outcome) (e f g : Expander R) → Takes I e x f → Takes I e y g → opening I f x ≡ Some m
+      → opening I g y ≡ Some n → m.definition.function_like ≡ false → n.definition.function_like ≡ true → false ≡ true
   not_both_kinds m n x y e f g a b h k = one_kind m n (one_opening (Some m) (Some n) x y e f g a b h k).2
 
   -- after two takings that open macros stands one call, or none
-  one_called : (c d : Called) (m n : Opening) (x y : Outcome) (e f g h k : Expander R) → Takes I e x f → Takes I e y g → opening I f x ≡ Some m → opening I g y ≡ Some n → Calls I A m.definition f c h → Calls I A n.definition g d k → (x ≡ y) × (m ≡ n) × (c ≡ d) × (h ≡ k)
+  one_called : (c d : Called) (m n : Opening) (x y : Outcome) (e f g h k : Expander R) → Takes I e x f → Takes I e y g → opening I f x ≡ Some m
+      → opening I g y ≡ Some n → Calls I A m.definition f c h → Calls I A n.definition g d k → (x ≡ y) × (m ≡ n) × (c ≡ d) × (h ≡ k)
   one_called c d m n x y e f g h k a b i j p q =
       let same = one_opening (Some m) (Some n) x y e f g a b i j in
       let macro : m ≡ n = (let z = same.2 in cc) in
@@ -52,27 +55,35 @@ module _ {R : Type 0} (I : Reading R) (one : OneReads I) (A : Answers) (single :
       one_item x y (opened m m.token.location.line [] f1) f g i v1
   one_item x y e f g (object u x1 m e1 f1 f2 a h r i) (name_alone w z y1 n e2 g1 g2 g3 b k t c q s) = let bad = not_both_kinds m n u w e f1 g1 a b h k r t in cc
   one_item x y e f g (object u x1 m e1 f1 f2 a h r i) (call_refused w y1 d n e2 g1 g2 b k t c q) = let bad = not_both_kinds m n u w e f1 g1 a b h k r t in cc
-  one_item x y e f g (object u x1 m e1 f1 f2 a h r i) (call w y1 arguments line n e2 g1 g2 g3 b k t c v) = let bad = not_both_kinds m n u w e f1 g1 a b h k r t in cc
+  one_item x y e f g (object u x1 m e1 f1 f2 a h r i) (call w y1 arguments line n e2 g1 g2 g3 b k t c v) = let bad =
+      not_both_kinds m n u w e f1 g1 a b h k r t in cc
   one_item x y e f g (name_alone u l x1 m e1 f1 f2 f3 a h r i p s) (itself y1 e2 g1 b k) = let bad = (one_opening (Some m) None u y e f1 g a b h k).2 in cc
   one_item x y e f g (name_alone u l x1 m e1 f1 f2 f3 a h r i p s) (object w y1 n e2 g1 g2 b k t v) = let bad = not_both_kinds n m w u e g1 f1 b a k h t r in cc
   one_item x y e f g (name_alone u l x1 m e1 f1 f2 f3 a h r i p s) (name_alone w z y1 n e2 g1 g2 g3 b k t c q o) =
       let same = one_called (no_call l) (no_call z) m n u w e f1 g1 f2 g2 a b h k i c in
       let found : l ≡ z = (let j = same.2 in cc) in
       (p ∙ (rw same.0 (sym q)), s ∙ (rw (found, same.3) (sym o)))
-  one_item x y e f g (name_alone u l x1 m e1 f1 f2 f3 a h r i p s) (call_refused w y1 d n e2 g1 g2 b k t c q) = let bad = (one_called (no_call l) (refused d) m n u w e f1 g1 f2 g a b h k i c).2 in cc
-  one_item x y e f g (name_alone u l x1 m e1 f1 f2 f3 a h r i p s) (call w y1 arguments line n e2 g1 g2 g3 b k t c v) = let bad = (one_called (no_call l) (fits arguments line) m n u w e f1 g1 f2 g2 a b h k i c).2 in cc
+  one_item x y e f g (name_alone u l x1 m e1 f1 f2 f3 a h r i p s) (call_refused w y1 d n e2 g1 g2 b k t c q) = let bad =
+      (one_called (no_call l) (refused d) m n u w e f1 g1 f2 g a b h k i c).2 in cc
+  one_item x y e f g (name_alone u l x1 m e1 f1 f2 f3 a h r i p s) (call w y1 arguments line n e2 g1 g2 g3 b k t c v) = let bad =
+      (one_called (no_call l) (fits arguments line) m n u w e f1 g1 f2 g2 a b h k i c).2 in cc
   one_item x y e f g (call_refused u x1 d m e1 f1 f2 a h r i p) (itself y1 e2 g1 b k) = let bad = (one_opening (Some m) None u y e f1 g a b h k).2 in cc
   one_item x y e f g (call_refused u x1 d m e1 f1 f2 a h r i p) (object w y1 n e2 g1 g2 b k t v) = let bad = not_both_kinds n m w u e g1 f1 b a k h t r in cc
-  one_item x y e f g (call_refused u x1 d m e1 f1 f2 a h r i p) (name_alone w z y1 n e2 g1 g2 g3 b k t c q s) = let bad = (one_called (refused d) (no_call z) m n u w e f1 g1 f g2 a b h k i c).2 in cc
+  one_item x y e f g (call_refused u x1 d m e1 f1 f2 a h r i p) (name_alone w z y1 n e2 g1 g2 g3 b k t c q s) = let bad =
+      (one_called (refused d) (no_call z) m n u w e f1 g1 f g2 a b h k i c).2 in cc
   one_item x y e f g (call_refused u x1 d m e1 f1 f2 a h r i p) (call_refused w y1 o n e2 g1 g2 b k t c q) =
       let same = one_called (refused d) (refused o) m n u w e f1 g1 f g a b h k i c in
       let fault : d ≡ o = (let j = same.2 in cc) in
       (p ∙ (rw fault (sym q)), same.3)
-  one_item x y e f g (call_refused u x1 d m e1 f1 f2 a h r i p) (call w y1 arguments line n e2 g1 g2 g3 b k t c v) = let bad = (one_called (refused d) (fits arguments line) m n u w e f1 g1 f g2 a b h k i c).2 in cc
+  one_item x y e f g (call_refused u x1 d m e1 f1 f2 a h r i p) (call w y1 arguments line n e2 g1 g2 g3 b k t c v) = let bad =
+      (one_called (refused d) (fits arguments line) m n u w e f1 g1 f g2 a b h k i c).2 in cc
   one_item x y e f g (call u x1 arguments line m e1 f1 f2 f3 a h r i v) (itself y1 e2 g1 b k) = let bad = (one_opening (Some m) None u y e f1 g a b h k).2 in cc
-  one_item x y e f g (call u x1 arguments line m e1 f1 f2 f3 a h r i v) (object w y1 n e2 g1 g2 b k t o) = let bad = not_both_kinds n m w u e g1 f1 b a k h t r in cc
-  one_item x y e f g (call u x1 arguments line m e1 f1 f2 f3 a h r i v) (name_alone w z y1 n e2 g1 g2 g3 b k t c q s) = let bad = (one_called (fits arguments line) (no_call z) m n u w e f1 g1 f2 g2 a b h k i c).2 in cc
-  one_item x y e f g (call u x1 arguments line m e1 f1 f2 f3 a h r i v) (call_refused w y1 d n e2 g1 g2 b k t c q) = let bad = (one_called (fits arguments line) (refused d) m n u w e f1 g1 f2 g a b h k i c).2 in cc
+  one_item x y e f g (call u x1 arguments line m e1 f1 f2 f3 a h r i v) (object w y1 n e2 g1 g2 b k t o) = let bad =
+      not_both_kinds n m w u e g1 f1 b a k h t r in cc
+  one_item x y e f g (call u x1 arguments line m e1 f1 f2 f3 a h r i v) (name_alone w z y1 n e2 g1 g2 g3 b k t c q s) = let bad =
+      (one_called (fits arguments line) (no_call z) m n u w e f1 g1 f2 g2 a b h k i c).2 in cc
+  one_item x y e f g (call u x1 arguments line m e1 f1 f2 f3 a h r i v) (call_refused w y1 d n e2 g1 g2 b k t c q) = let bad =
+      (one_called (fits arguments line) (refused d) m n u w e f1 g1 f2 g a b h k i c).2 in cc
   one_item x y e f g (call u x1 arguments line m e1 f1 f2 f3 a h r i v) (call w y1 others other n e2 g1 g2 g3 b k t c o) =
       let same = one_called (fits arguments line) (fits others other) m n u w e f1 g1 f2 g2 a b h k i c in
       let lists : arguments ≡ others = (let j = same.2 in cc) in

@@ -75,7 +75,8 @@ module _ (A : Answers) where
   taking_holds_none o e f (listed o1 token rest e1 f1 h b is p) = ap (λ g. g.held) p ∙ h
   taking_holds_none o e f (read x o1 reader e1 f1 h b r is p) = ap (λ g. g.held) p ∙ h
 
-  gathering_holds_none : (n : ℕ) (last : Location) (x : Result Gathered Fault) (e f : Expander SourceReader) → Gathers (source_reading A) n last e x f → f.held ≡ None
+  gathering_holds_none : (n : ℕ) (last : Location) (x : Result Gathered Fault) (e f : Expander SourceReader)
+      → Gathers (source_reading A) n last e x f → f.held ≡ None
   gathering_holds_none n last x e f (closed n1 l1 token e1 f1 x1 t h p) = taking_holds_none _ e f t
   gathering_holds_none n last x e f (inside n1 k l1 token e1 g f1 rest x1 t h u p) = gathering_holds_none k token.location rest g f u
   gathering_holds_none n last x e f (overfull n1 l1 token e1 f1 x1 t h p) = taking_holds_none _ e f t
@@ -88,7 +89,8 @@ module _ (A : Answers) where
   call_holds_none m c e f (whole x paren gathered answer e1 g f1 c1 t h u a p) = gathering_holds_none 0 paren (Ok gathered) g f u
 
   -- an end that is found in place of a call is the last
-  call_ends : (m : Definition) (c : Called) (o : Outcome) (e f : Expander SourceReader) → Calls (source_reading A) A m e c f → HoldsLastEnd e → c ≡ no_call o → o ≡ outcome.End → IsOver f
+  call_ends : (m : Definition) (c : Called) (o : Outcome) (e f : Expander SourceReader) → Calls (source_reading A) A m e c f → HoldsLastEnd e
+      → c ≡ no_call o → o ≡ outcome.End → IsOver f
   call_ends m c o e f (alone x e1 f1 c1 t h p) last q is =
       let same : x ≡ o = cc in
       taking_ends x e f t last (same ∙ is)
@@ -96,7 +98,8 @@ module _ (A : Answers) where
   call_ends m c o e f (whole x paren gathered answer e1 g f1 c1 t h u a p) last q is = absurd (called_is_a_call gathered.closing.line answer o (sym p ∙ q))
 
   -- after an item an end that is held is the last, and after the end nothing is left
-  pub item_ends : (o : Outcome) (e f : Expander SourceReader) → Emits (source_reading A) A e o f → HoldsLastEnd e → HoldsLastEnd f × (o ≡ outcome.End → IsOver f)
+  pub item_ends : (o : Outcome) (e f : Expander SourceReader) → Emits (source_reading A) A e o f → HoldsLastEnd e → HoldsLastEnd f
+      × (o ≡ outcome.End → IsOver f)
   item_ends o e f (itself o1 e1 f1 t h) last =
       (holds_nothing f (taking_holds_none o e f t), taking_ends o e f t last)
   item_ends o e f (object x o1 m e1 g f1 t h k i) last =

@@ -11,9 +11,12 @@ abbrev pub after_tokens : List Token → Result Gathered Fault → Result Gather
 after_tokens tokens (Ok rest) = Ok (record rest { tokens = tokens ++ rest.tokens })
 after_tokens tokens (Err fault) = Err fault
 
-pub after_tokens-before : (tokens : List Token) (token : Token) (rest : Result Gathered Fault) → after_tokens tokens (before token rest) ≡ after_tokens (tokens ++ token ∷ []) rest
+pub after_tokens-before : (tokens : List Token) (token : Token) (rest : Result Gathered Fault)
+    → after_tokens tokens (before token rest) ≡ after_tokens (tokens ++ token ∷ []) rest
 after_tokens-before tokens token (Ok rest) = rw append_assoc refl
 after_tokens-before tokens token (Err fault) = refl
 
-pub after_tokens-closed : (tokens : List Token) (place : Location) → after_tokens tokens (Ok (record { tokens = []; closing = place })) ≡ Ok (record { tokens = tokens; closing = place })
-after_tokens-closed tokens place = ap (λ (ts : List Token). let r : Result Gathered Fault = Ok (record { tokens = ts; closing = place }) in r) (append-nil tokens)
+pub after_tokens-closed : (tokens : List Token) (place : Location)
+    → after_tokens tokens (Ok (record { tokens = []; closing = place })) ≡ Ok (record { tokens = tokens; closing = place })
+after_tokens-closed tokens place = ap (λ (ts : List Token). let r : Result Gathered Fault = Ok (record { tokens = ts; closing = place }) in
+    r) (append-nil tokens)

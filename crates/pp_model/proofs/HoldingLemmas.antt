@@ -66,19 +66,24 @@ module _ (Q : Token → Type 0) (L : ℕ → Type 0) where
   argument_holds (argument ∷ arguments) zero all = all.0
   argument_holds (argument ∷ arguments) (suc k) all = argument_holds arguments k all.1
 
-  replacement_holds : (arguments : List (List Token)) (token : Token) (k : Option ℕ) (entries : List Entry) → Each (λ tokens. Each Q tokens) arguments → Q token → HoldInList entries → HoldInList (replacement arguments token k entries)
+  replacement_holds : (arguments : List (List Token)) (token : Token) (k : Option ℕ) (entries : List Entry)
+      → Each (λ tokens. Each Q tokens) arguments → Q token → HoldInList entries → HoldInList (replacement arguments token k entries)
   replacement_holds arguments token None entries all q h = (q, h)
   replacement_holds arguments token (Some k) entries all q h = followed_hold (unwrap_or (slice_get arguments k) []) entries (argument_holds arguments k all) h
 
-  replaced_holds : (parameters : List Name) (arguments : List (List Token)) (body : List Token) (entries : List Entry) → Each (λ tokens. Each Q tokens) arguments → Each Q body → HoldInList entries → HoldInList (replaced parameters arguments body entries)
+  replaced_holds : (parameters : List Name) (arguments : List (List Token)) (body : List Token) (entries : List Entry)
+      → Each (λ tokens. Each Q tokens) arguments → Each Q body → HoldInList entries → HoldInList (replaced parameters arguments body entries)
   replaced_holds parameters arguments [] entries all q h = h
   replaced_holds parameters arguments (token ∷ body) entries all q h =
-      replacement_holds arguments token (parameter_of parameters token.value) (replaced parameters arguments body entries) all q.0 (replaced_holds parameters arguments body entries all q.1 h)
+      replacement_holds arguments token (parameter_of parameters token.value) (replaced parameters arguments body entries) all q.0
+      (replaced_holds parameters arguments body entries all q.1 h)
 
   -- a macro's replacement has it where its body, its arguments and its line have it
-  pub spliced_holds : (name : Name) (definition : Definition) (line : ℕ) (arguments : List (List Token)) (entries : List Entry) → Each Q definition.body → L line → Each (λ tokens. Each Q tokens) arguments → HoldInList entries
+  pub spliced_holds : (name : Name) (definition : Definition) (line : ℕ) (arguments : List (List Token)) (entries : List Entry)
+      → Each Q definition.body → L line → Each (λ tokens. Each Q tokens) arguments → HoldInList entries
       → HoldInList (spliced name definition line arguments entries)
-  spliced_holds name definition line arguments entries body l all h = replaced_holds definition.parameters arguments definition.body (End (record { name = name; line = line }) ∷ entries) all body (l, h)
+  spliced_holds name definition line arguments entries body l all h =
+      replaced_holds definition.parameters arguments definition.body (End (record { name = name; line = line }) ∷ entries) all body (l, h)
 
   cut_holds : (parts : Bool) (token : Token) (cut : Pieces) → Q token → Each Q cut.first → Each (λ tokens. Each Q tokens) cut.others
       → Each Q (cut_before parts token cut).first × Each (λ tokens. Each Q tokens) (cut_before parts token cut).others
@@ -98,7 +103,8 @@ module _ (Q : Token → Type 0) (L : ℕ → Type 0) where
       (cut.0, cut.1)
 
   module _ (closed : AreClosed Q L) (shown_line : ℕ → Option ℕ) (shown : (line n : ℕ) → L line → shown_line line ≡ Some n → L n) where
-    number_holds : (place : Location) (line : ℕ) (found : Option ℕ) → L place.line → L line → shown_line line ≡ found → HoldsOfOutcome Q (line_number place found)
+    number_holds : (place : Location) (line : ℕ) (found : Option ℕ) → L place.line → L line → shown_line line ≡ found
+        → HoldsOfOutcome Q (line_number place found)
     number_holds place line None here l e = tt
     number_holds place line (Some n) here l e = closed.number place n here (shown line n l e)
 
@@ -109,8 +115,10 @@ module _ (Q : Token → Type 0) (L : ℕ → Type 0) where
         line : ℕ
         line = unwrap_or (outermost_line after) token.location.line
 
-        go : (b : Bool) → is_identifier line_name token.value ≡ b → HoldsOfOutcome Q (if b then line_number token.location (shown_line line) else outcome.Token token)
-        go true e = number_holds token.location line (shown_line line) (closed.line token q) (outermost_holds after token.location.line all (closed.line token q)) refl
+        go : (b : Bool) → is_identifier line_name token.value ≡ b
+            → HoldsOfOutcome Q (if b then line_number token.location (shown_line line) else outcome.Token token)
+        go true e = number_holds token.location line (shown_line line) (closed.line token q)
+            (outermost_holds after token.location.line all (closed.line token q)) refl
         go false e = q
 
     pub read_holds : (x : Outcome) → HoldsOfOutcome Q x → HoldsOfOutcome Q (read_outcome shown_line x)

@@ -29,7 +29,8 @@ module _ (Q : Token → Type 0) (L : ℕ → Type 0) where
 
   -- so does what calls come to
   abbrev pub AnswersKeep : Answers → Type 0
-  AnswersKeep A = (definition : Definition) (site : Site) (answer : Result (List (List Token)) Fault) → A definition site answer → HoldInBodies Q site.visible → Each (λ ts. Each Q ts) site.arguments → IfOk answer (λ lists. Each (λ ts. Each Q ts) lists)
+  AnswersKeep A = (definition : Definition) (site : Site) (answer : Result (List (List Token)) Fault) → A definition site answer
+      → HoldInBodies Q site.visible → Each (λ ts. Each Q ts) site.arguments → IfOk answer (λ lists. Each (λ ts. Each Q ts) lists)
 
   -- it holds of what an expander holds, lists and reads
   pub record HoldsOf {R : Type 0} (K : R → Type 0) (e : Expander R) : Type 0 where
@@ -54,27 +55,33 @@ module _ (Q : Token → Type 0) (L : ℕ → Type 0) (closed_under : AreClosed Q
   token_more token (Ok rest) q h = (q, h)
   token_more token (Err fault) q h = tt
 
-  list_more : (tokens : List Token) (rest : Result (List (List Token)) Fault) → Each Q tokens → IfOk rest (λ lists. Each (λ ts. Each Q ts) lists) → IfOk (list_before tokens rest) (λ lists. Each (λ ts. Each Q ts) lists)
+  list_more : (tokens : List Token) (rest : Result (List (List Token)) Fault) → Each Q tokens → IfOk rest (λ lists. Each (λ ts. Each Q ts) lists)
+      → IfOk (list_before tokens rest) (λ lists. Each (λ ts. Each Q ts) lists)
   list_more tokens (Ok rest) q h = (q, h)
   list_more tokens (Err fault) q h = tt
 
-  called_holds : (line : ℕ) (answer : Result (List (List Token)) Fault) → L line → IfOk answer (λ lists. Each (λ ts. Each Q ts) lists) → HoldsOfCalled Q L (called_by line answer)
+  called_holds : (line : ℕ) (answer : Result (List (List Token)) Fault) → L line → IfOk answer (λ lists. Each (λ ts. Each Q ts) lists)
+      → HoldsOfCalled Q L (called_by line answer)
   called_holds line (Ok lists) l h = (h, l)
   called_holds line (Err fault) l h = tt
 
   -- a token opens what is defined, and stands where the macro is opened
-  opened_by : (token : Token) (name : Name) (found : Option Definition) (m : Opening) → opening_by token name found ≡ Some m → (m.token ≡ token) × (found ≡ Some m.definition)
+  opened_by : (token : Token) (name : Name) (found : Option Definition) (m : Opening) → opening_by token name found ≡ Some m → (m.token ≡ token)
+      × (found ≡ Some m.definition)
   opened_by token name (Some definition) m e = (cc, cc)
   opened_by token name None m e = cc
 
   module _ {R : Type 0} (I : Reading R) (K : R → Type 0) (keeps : ReaderKeeps Q L I K) where
-    opened_when : (b : Bool) (e : Expander R) (token : Token) (name : Name) (m : Opening) → (if b then None else opening_by token name (I.visible e.reader name)) ≡ Some m → K e.reader → Q token → Each Q m.definition.body × L m.token.location.line
+    opened_when : (b : Bool) (e : Expander R) (token : Token) (name : Name) (m : Opening)
+        → (if b then None else opening_by token name (I.visible e.reader name)) ≡ Some m → K e.reader → Q token → Each Q m.definition.body
+        × L m.token.location.line
     opened_when true e token name m is k q = cc
     opened_when false e token name m is k q =
         let by = opened_by token name (I.visible e.reader name) m is in
         (keeps.visible e.reader k name m.definition by.1, subst (λ (t : Token). L t.location.line) (sym by.0) (closed_under.line token q))
 
-    opened_value : (e : Expander R) (token : Token) (value : TokenValue) (m : Opening) → opening_of I e token value ≡ Some m → K e.reader → Q token → Each Q m.definition.body × L m.token.location.line
+    opened_value : (e : Expander R) (token : Token) (value : TokenValue) (m : Opening) → opening_of I e token value ≡ Some m → K e.reader → Q token
+        → Each Q m.definition.body × L m.token.location.line
     opened_value e token (Ident name) m is k q = opened_when (I.is_reserved name || is_in name (masked e)) e token name m is k q
     opened_value e token (Integer i) m is k q = cc
     opened_value e token (Float f) m is k q = cc
@@ -83,14 +90,17 @@ module _ (Q : Token → Type 0) (L : ℕ → Type 0) (closed_under : AreClosed Q
     opened_value e token (Extension x) m is k q = cc
     opened_value e token (Pragma p) m is k q = cc
 
-    opened_holds : (e : Expander R) (x : Outcome) (m : Opening) → opening I e x ≡ Some m → HoldsOf Q L K e → HoldsOfOutcome Q x → Each Q m.definition.body × L m.token.location.line
+    opened_holds : (e : Expander R) (x : Outcome) (m : Opening) → opening I e x ≡ Some m → HoldsOf Q L K e → HoldsOfOutcome Q x
+        → Each Q m.definition.body × L m.token.location.line
     opened_holds e (outcome.Token token) m is h q = opened_value e token token.value m is h.reader q
     opened_holds e (outcome.Fault fault) m is h q = cc
     opened_holds e outcome.End m is h q = cc
 
     pub taking_keeps : (o : Outcome) (e f : Expander R) → Takes I e o f → HoldsOf Q L K e → HoldsOfOutcome Q o × HoldsOf Q L K f
-    taking_keeps o e f (held o1 e1 f1 is p) h =
-        (subst (λ (x : Option Outcome). HoldsOfHeld Q x) is h.held, subst (λ (g : Expander R). HoldsOf Q L K g) (sym p) (record { held = tt; list = h.list; reader = h.reader }))
+    taking_keeps o e f (held o1 e1 f1 is p) h = (
+      subst (λ (x : Option Outcome). HoldsOfHeld Q x) is h.held,
+      subst (λ (g : Expander R). HoldsOf Q L K g) (sym p) (record { held = tt; list = h.list; reader = h.reader }),
+    )
     taking_keeps o e f (listed o1 token rest e1 f1 is b q p) h =
         let all : HoldInList Q L (Plain token ∷ rest) = subst (HoldInList Q L) b (after_marks_hold Q L e.list h.list) in (
           subst (HoldsOfOutcome Q) (sym q) (taken_holds Q L closed_under (I.shown_line e.reader) (keeps.shown e.reader h.reader) rest token all.1 all.0),
@@ -102,7 +112,8 @@ module _ (Q : Token → Type 0) (L : ℕ → Type 0) (closed_under : AreClosed Q
           subst (λ (g : Expander R). HoldsOf Q L K g) (sym p) (record { held = h.held; list = tt; reader = more.1 }),
         )
 
-    pub gathering_keeps : (n : ℕ) (last : Location) (x : Result Gathered Fault) (e f : Expander R) → Gathers I n last e x f → HoldsOf Q L K e → IfOk x (HoldsOfGathered Q L) × HoldsOf Q L K f
+    pub gathering_keeps : (n : ℕ) (last : Location) (x : Result Gathered Fault) (e f : Expander R) → Gathers I n last e x f → HoldsOf Q L K e
+        → IfOk x (HoldsOfGathered Q L) × HoldsOf Q L K f
     gathering_keeps n last x e f (closed n1 l1 token e1 f1 x1 t is p) h =
         let taken = taking_keeps _ e f t h in
         (subst (λ (y : Result Gathered Fault). IfOk y (HoldsOfGathered Q L)) (sym p) (tt, closed_under.line token taken.0), taken.1)
@@ -110,9 +121,12 @@ module _ (Q : Token → Type 0) (L : ℕ → Type 0) (closed_under : AreClosed Q
         let taken = taking_keeps (outcome.Token token) e g t h in
         let later = gathering_keeps k token.location rest g f u taken.1 in
         (subst (λ (y : Result Gathered Fault). IfOk y (HoldsOfGathered Q L)) (sym p) (gathered_more token rest taken.0 later.0), later.1)
-    gathering_keeps n last x e f (overfull n1 l1 token e1 f1 x1 t is p) h = (subst (λ (y : Result Gathered Fault). IfOk y (HoldsOfGathered Q L)) (sym p) tt, (taking_keeps _ e f t h).1)
-    gathering_keeps n last x e f (ended n1 l1 e1 f1 x1 t p) h = (subst (λ (y : Result Gathered Fault). IfOk y (HoldsOfGathered Q L)) (sym p) tt, (taking_keeps _ e f t h).1)
-    gathering_keeps n last x e f (failed n1 l1 fault e1 f1 x1 t p) h = (subst (λ (y : Result Gathered Fault). IfOk y (HoldsOfGathered Q L)) (sym p) tt, (taking_keeps _ e f t h).1)
+    gathering_keeps n last x e f (overfull n1 l1 token e1 f1 x1 t is p) h =
+        (subst (λ (y : Result Gathered Fault). IfOk y (HoldsOfGathered Q L)) (sym p) tt, (taking_keeps _ e f t h).1)
+    gathering_keeps n last x e f (ended n1 l1 e1 f1 x1 t p) h =
+        (subst (λ (y : Result Gathered Fault). IfOk y (HoldsOfGathered Q L)) (sym p) tt, (taking_keeps _ e f t h).1)
+    gathering_keeps n last x e f (failed n1 l1 fault e1 f1 x1 t p) h =
+        (subst (λ (y : Result Gathered Fault). IfOk y (HoldsOfGathered Q L)) (sym p) tt, (taking_keeps _ e f t h).1)
 
     module _ (A : Answers) (answers : AnswersKeep Q L A) where
       pub call_keeps : (m : Definition) (c : Called) (e f : Expander R) → Calls I A m e c f → HoldsOf Q L K e → HoldsOfCalled Q L c × HoldsOf Q L K f
@@ -126,8 +140,13 @@ module _ (Q : Token → Type 0) (L : ℕ → Type 0) (closed_under : AreClosed Q
           let lists = answers m _ answer a (keeps.visible f.reader later.1.reader) (arguments_hold Q L gathered.tokens later.0.0) in
           (subst (HoldsOfCalled Q L) (sym p) (called_holds gathered.closing.line answer later.0.1 lists), later.1)
 
-      opening_keeps : (m : Opening) (line : ℕ) (arguments : List (List Token)) (e : Expander R) → Each Q m.definition.body → L line → Each (λ ts. Each Q ts) arguments → HoldsOf Q L K e → HoldsOf Q L K (opened m line arguments e)
-      opening_keeps m line arguments e body l all h = record { held = h.held; list = spliced_holds Q L m.name m.definition line arguments e.list body l all h.list; reader = h.reader }
+      opening_keeps : (m : Opening) (line : ℕ) (arguments : List (List Token)) (e : Expander R) → Each Q m.definition.body → L line
+          → Each (λ ts. Each Q ts) arguments → HoldsOf Q L K e → HoldsOf Q L K (opened m line arguments e)
+      opening_keeps m line arguments e body l all h = record {
+        held = h.held;
+        list = spliced_holds Q L m.name m.definition line arguments e.list body l all h.list;
+        reader = h.reader;
+      }
 
       -- what is given has it, where what is held, listed and read has it
       pub item_keeps : (o : Outcome) (e f : Expander R) → Emits I A e o f → HoldsOf Q L K e → HoldsOfOutcome Q o × HoldsOf Q L K f
@@ -138,8 +157,11 @@ module _ (Q : Token → Type 0) (L : ℕ → Type 0) (closed_under : AreClosed Q
           item_keeps o (opened m m.token.location.line [] g) f i (opening_keeps m m.token.location.line [] g by.0 by.1 tt taken.1)
       item_keeps o e f (name_alone x y o1 m e1 g g1 f1 t is k c p q) h =
           let taken = taking_keeps x e g t h in
-          let called = call_keeps m.definition (no_call y) g g1 c taken.1 in
-          (subst (HoldsOfOutcome Q) (sym p) taken.0, subst (λ (z : Expander R). HoldsOf Q L K z) (sym q) (record { held = called.0; list = called.1.list; reader = called.1.reader }))
+          let called = call_keeps m.definition (no_call y) g g1 c taken.1 in (
+            subst (HoldsOfOutcome Q) (sym p) taken.0,
+            subst (λ (z : Expander R). HoldsOf Q L K z) (sym q)
+                (record { held = called.0; list = called.1.list; reader = called.1.reader }),
+          )
       item_keeps o e f (call_refused x o1 fault m e1 g f1 t is k c p) h =
           (subst (HoldsOfOutcome Q) (sym p) tt, (call_keeps m.definition (refused fault) g f c (taking_keeps x e g t h).1).1)
       item_keeps o e f (call x o1 arguments line m e1 g g1 f1 t is k c i) h =
@@ -182,19 +204,25 @@ module _ (Q : Token → Type 0) (L : ℕ → Type 0) (closed_under : AreClosed Q
 
   -- what lists of tokens come to alone
   abbrev AloneKeeps : Alones → Type 0
-  AloneKeeps deeper = (tokens : List Token) (visible : Definitions) (hidden : List Name) (out : Result (List Token) Fault) → deeper tokens visible hidden out → Each Q tokens → HoldInBodies Q visible → IfOk out (Each Q)
+  AloneKeeps deeper = (tokens : List Token) (visible : Definitions) (hidden : List Name) (out : Result (List Token) Fault)
+      → deeper tokens visible hidden out → Each Q tokens → HoldInBodies Q visible → IfOk out (Each Q)
 
-  each_keeps : (deeper : Alones) → AloneKeeps deeper → (visible : Definitions) (hidden : List Name) (arguments : List (List Token)) (out : Result (List (List Token)) Fault) → Expanded deeper visible hidden arguments out
+  each_keeps : (deeper : Alones) → AloneKeeps deeper → (visible : Definitions) (hidden : List Name) (arguments : List (List Token))
+      (out : Result (List (List Token)) Fault) → Expanded deeper visible hidden arguments out
       → HoldInBodies Q visible → Each (λ ts. Each Q ts) arguments → IfOk out (λ lists. Each (λ ts. Each Q ts) lists)
-  each_keeps deeper keeps visible hidden arguments out (none out1 p) v all = subst (λ (y : Result (List (List Token)) Fault). IfOk y (λ lists. Each (λ ts. Each Q ts) lists)) (sym p) tt
-  each_keeps deeper keeps visible hidden arguments out (first_failed t ts c out1 a p) v all = subst (λ (y : Result (List (List Token)) Fault). IfOk y (λ lists. Each (λ ts. Each Q ts) lists)) (sym p) tt
+  each_keeps deeper keeps visible hidden arguments out (none out1 p) v all =
+      subst (λ (y : Result (List (List Token)) Fault). IfOk y (λ lists. Each (λ ts. Each Q ts) lists)) (sym p) tt
+  each_keeps deeper keeps visible hidden arguments out (first_failed t ts c out1 a p) v all =
+      subst (λ (y : Result (List (List Token)) Fault). IfOk y (λ lists. Each (λ ts. Each Q ts) lists)) (sym p) tt
   each_keeps deeper keeps visible hidden arguments out (more t c ts r out1 a later p) v all =
       subst (λ (y : Result (List (List Token)) Fault). IfOk y (λ lists. Each (λ ts. Each Q ts) lists)) (sym p)
       (list_more c r (keeps t visible hidden (Ok c) a all.0 v) (each_keeps deeper keeps visible hidden ts r later v all.1))
 
-  each_or_refused_keeps : (deeper : Alones) → AloneKeeps deeper → (error : Option PreprocessorError) (site : Site) (out : Result (List (List Token)) Fault) → EachOrRefused deeper error site out
+  each_or_refused_keeps : (deeper : Alones) → AloneKeeps deeper
+      → (error : Option PreprocessorError) (site : Site) (out : Result (List (List Token)) Fault) → EachOrRefused deeper error site out
       → HoldInBodies Q site.visible → Each (λ ts. Each Q ts) site.arguments → IfOk out (λ lists. Each (λ ts. Each Q ts) lists)
-  each_or_refused_keeps deeper keeps (Some error) site out is v all = subst (λ (y : Result (List (List Token)) Fault). IfOk y (λ lists. Each (λ ts. Each Q ts) lists)) (sym is) tt
+  each_or_refused_keeps deeper keeps (Some error) site out is v all =
+      subst (λ (y : Result (List (List Token)) Fault). IfOk y (λ lists. Each (λ ts. Each Q ts) lists)) (sym is) tt
   each_or_refused_keeps deeper keeps None site out is v all = each_keeps deeper keeps site.visible site.open_around site.arguments out is v all
 
   limit_keeps : AnswersKeep Q L answers_at_limit
@@ -203,13 +231,17 @@ module _ (Q : Token → Type 0) (L : ℕ → Type 0) (closed_under : AreClosed Q
   below_keeps : (deeper : Alones) → AloneKeeps deeper → AnswersKeep Q L (answers_below deeper)
   below_keeps deeper keeps definition site out is v all = each_or_refused_keeps deeper keeps (misfit definition.parameters site.arguments) site out is v all
 
-  collected_keeps : (A : Answers) → AnswersKeep Q L A → (tokens : List Token) (visible : Definitions) (hidden : List Name) (out : Result (List Token) Fault) → Collects argument_reading A (reading_of tokens visible hidden) out → Each Q tokens → HoldInBodies Q visible → IfOk out (Each Q)
+  collected_keeps : (A : Answers) → AnswersKeep Q L A → (tokens : List Token) (visible : Definitions) (hidden : List Name)
+      (out : Result (List Token) Fault) → Collects argument_reading A (reading_of tokens visible hidden) out → Each Q tokens → HoldInBodies Q visible
+      → IfOk out (Each Q)
   collected_keeps A answers tokens visible hidden out c all v =
-      list_keeps argument_reading HoldsOfListed listed_keeps A answers out (reading_of tokens visible hidden) c (record { held = tt; list = tt; reader = (all, v) })
+      list_keeps argument_reading HoldsOfListed listed_keeps A answers out (reading_of tokens visible hidden) c
+      (record { held = tt; list = tt; reader = (all, v) })
 
   alone_keeps : (level : ℕ) → AloneKeeps (Alone level)
   alone_keeps zero tokens visible hidden out c = collected_keeps answers_at_limit limit_keeps tokens visible hidden out c
-  alone_keeps (suc level) tokens visible hidden out c = collected_keeps (answers_below (Alone level)) (below_keeps (Alone level) (alone_keeps level)) tokens visible hidden out c
+  alone_keeps (suc level) tokens visible hidden out c = collected_keeps (answers_below (Alone level)) (below_keeps (Alone level)
+      (alone_keeps level)) tokens visible hidden out c
 
   -- what calls come to has it, at every level
   pub answers_keep : (level : ℕ) → AnswersKeep Q L (answers_at level)

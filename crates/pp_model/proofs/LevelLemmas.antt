@@ -25,7 +25,9 @@ one_each deeper one visible hidden arguments x y (more t c ts r x1 a v p) (more 
     let rest = one_each deeper one visible hidden ts r s v w in
     p ∙ (rw (tokens, rest) (sym q))
 
-one_each_or_refusal : (deeper : Alones) → OneArgument deeper → (error : Option PreprocessorError) (site : Site) (x y : Result (List (List Token)) Fault) → EachOrRefused deeper error site x → EachOrRefused deeper error site y → x ≡ y
+one_each_or_refusal : (deeper : Alones) → OneArgument deeper
+    → (error : Option PreprocessorError) (site : Site) (x y : Result (List (List Token)) Fault) → EachOrRefused deeper error site x
+    → EachOrRefused deeper error site y → x ≡ y
 one_each_or_refusal deeper one (Some error) site x y a b = a ∙ sym b
 one_each_or_refusal deeper one None site x y a b = one_each deeper one site.visible site.open_around site.arguments x y a b
 
@@ -37,8 +39,10 @@ one_answer_below deeper one definition site x y a b = one_each_or_refusal deeper
 
 -- an argument that is read alone has one list of tokens, or one first fault
 pub one_argument : (level : ℕ) → OneArgument (Alone level)
-one_argument zero tokens visible hidden x y a b = one_list argument_reading argument_reads_one answers_at_limit one_answer_at_limit x y (reading_of tokens visible hidden) a b
-one_argument (suc level) tokens visible hidden x y a b = one_list argument_reading argument_reads_one (answers_below (Alone level)) (one_answer_below (Alone level) (one_argument level)) x y (reading_of tokens visible hidden) a b
+one_argument zero tokens visible hidden x y a b = one_list argument_reading argument_reads_one answers_at_limit one_answer_at_limit x y
+    (reading_of tokens visible hidden) a b
+one_argument (suc level) tokens visible hidden x y a b = one_list argument_reading argument_reads_one (answers_below (Alone level))
+    (one_answer_below (Alone level) (one_argument level)) x y (reading_of tokens visible hidden) a b
 
 -- a call has one list of expanded arguments, or one fault
 pub one_answer : (level : ℕ) → OneAnswer (answers_at level)

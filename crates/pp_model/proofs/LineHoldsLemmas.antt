@@ -17,7 +17,8 @@ use Rattle.pp_expression.specs.Answers.{◌>>=◌}
 use Rattle.pp_model.specs.DefineLines.{Parameters, new_parameter, after_parameter, after_comma, parameters, has_parameters, definition_at, defined_on}
 use Rattle.pp_model.proofs.PartsLemmas.{line_tokens_is}
 
-if_ok_then : {A B : Type 0} (P : A → Type 0) (Q : B → Type 0) (result : Result A Fault) (next : A → Result B Fault) → IfOk result P → ((a : A) → P a → IfOk (next a) Q) → IfOk (result >>= next) Q
+if_ok_then : {A B : Type 0} (P : A → Type 0) (Q : B → Type 0) (result : Result A Fault) (next : A → Result B Fault) → IfOk result P
+    → ((a : A) → P a → IfOk (next a) Q) → IfOk (result >>= next) Q
 if_ok_then P Q (Ok a) next h more = more a h
 if_ok_then P Q (Err fault) next h more = tt
 
@@ -71,7 +72,8 @@ module _ (Q : Token → Type 0) where
     comma_holds word names [] all = tt
     comma_holds word names (s ∷ rest) all =
         if_ok_then (λ token. ⊤) HoldsAfter s.item _ (any_ok s.item) (λ token h.
-        if_ok_then (λ more. ⊤) HoldsAfter (name_of token >>= new_parameter names token.location) (λ more. after_parameter word more rest) (any_ok (name_of token >>= new_parameter names token.location))
+        if_ok_then (λ more. ⊤) HoldsAfter (name_of token >>= new_parameter names token.location) (λ more. after_parameter word more rest)
+        (any_ok (name_of token >>= new_parameter names token.location))
         (λ more g. parameter_holds word more rest all.1))
 
   parameters_hold : (word : Location) (rest : List Seen) → HoldInItems rest → IfOk (parameters word rest) HoldsAfter
@@ -79,7 +81,8 @@ module _ (Q : Token → Type 0) where
   parameters_hold word (s ∷ rest) all =
       if_ok_then (λ token. ⊤) HoldsAfter s.item _ (any_ok s.item) (λ token h.
       either_ok HoldsAfter (closes_parameters token.value) (Ok (record { names = []; after = rest })) _ all.1
-      (if_ok_then (λ names. ⊤) HoldsAfter (name_of token >>= new_parameter [] token.location) (λ names. after_parameter word names rest) (any_ok (name_of token >>= new_parameter [] token.location))
+      (if_ok_then (λ names. ⊤) HoldsAfter (name_of token >>= new_parameter [] token.location) (λ names. after_parameter word names rest)
+      (any_ok (name_of token >>= new_parameter [] token.location))
       (λ names g. parameter_holds word names rest all.1)))
 
   abbrev HoldsInBody : Definition → Type 0
@@ -89,12 +92,14 @@ module _ (Q : Token → Type 0) where
   definition_holds word rest all =
       either_ok HoldsInBody (has_parameters rest) _ _
       (if_ok_then HoldsAfter HoldsInBody (parameters word (after_first_token rest)) _ (parameters_hold word (after_first_token rest) (after_holds rest all))
-      (λ list h. if_ok_then (Each Q) HoldsInBody (line_tokens list.after) (λ body. Ok (record { function_like = true; parameters = list.names; body = body })) (line_tokens_hold list.after h) (λ body g. g)))
+      (λ list h. if_ok_then (Each Q) HoldsInBody (line_tokens list.after)
+      (λ body. Ok (record { function_like = true; parameters = list.names; body = body })) (line_tokens_hold list.after h) (λ body g. g)))
       (if_ok_then (Each Q) HoldsInBody (line_tokens rest) (λ body. Ok (object_like body)) (line_tokens_hold rest all) (λ body g. g))
 
   -- so has the body that a `#define` line says
   pub defined_holds : (word : Location) (rest : List Seen) → HoldInItems rest → IfOk (defined_on word rest) (λ named. Each Q named.definition.body)
   defined_holds word rest all =
       if_ok_then (λ first. ⊤) (λ named. Each Q named.definition.body) (first_name word rest) _ (any_ok (first_name word rest)) (λ first h.
-      if_ok_then HoldsInBody (λ named. Each Q named.definition.body) (definition_at word (after_first_token rest)) (λ definition. Ok (record { name = first.name; location = first.location; definition = definition }))
+      if_ok_then HoldsInBody (λ named. Each Q named.definition.body) (definition_at word (after_first_token rest))
+      (λ definition. Ok (record { name = first.name; location = first.location; definition = definition }))
       (definition_holds word (after_first_token rest) (after_holds rest all)) (λ definition g. g))

@@ -26,7 +26,8 @@ one_condition A single directive tokens definitions x y a b =
     a.is ∙ rw (words, found) (sym b.is)
 
 -- two evaluations of a line have one value, and with it one number, or none
-one_number_of : (line : Line) (a b : Option ℕ) (v w : Value) → Evaluates line (Ok v) → Evaluates line (Ok w) → as_line_number v.value ≡ a → as_line_number w.value ≡ b → (v ≡ w) × (a ≡ b)
+one_number_of : (line : Line) (a b : Option ℕ) (v w : Value) → Evaluates line (Ok v) → Evaluates line (Ok w) → as_line_number v.value ≡ a
+    → as_line_number w.value ≡ b → (v ≡ w) × (a ≡ b)
 one_number_of line a b v w i j h k =
     let same = one_evaluation line (Ok v) (Ok w) i j in
     let value : v ≡ w = cc in
@@ -53,17 +54,21 @@ one_number directive words x y (faulty c x1 i p) (with_source w m y1 j k l s2 e2
 one_number directive words x y (out_of_range v x1 i h p) (faulty d y1 j q) = let bad = one_evaluation (line_of words) (Ok v) (Err d) i j in cc
 one_number directive words x y (out_of_range v x1 i h p) (out_of_range w y1 j k q) = p ∙ sym q
 one_number directive words x y (out_of_range v x1 i h p) (alone w m y1 j k l q) = let bad = (one_number_of (line_of words) None (Some m) v w i j h k).1 in cc
-one_number directive words x y (out_of_range v x1 i h p) (with_source w m y1 j k l s2 e2 q1) = let bad = (one_number_of (line_of words) None (Some m) v w i j h k).1 in cc
+one_number directive words x y (out_of_range v x1 i h p) (with_source w m y1 j k l s2 e2 q1) = let bad =
+    (one_number_of (line_of words) None (Some m) v w i j h k).1 in cc
 one_number directive words x y (alone v n x1 i h o p) (faulty d y1 j q) = let bad = one_evaluation (line_of words) (Ok v) (Err d) i j in cc
 one_number directive words x y (alone v n x1 i h o p) (out_of_range w y1 j k q) = let bad = (one_number_of (line_of words) (Some n) None v w i j h k).1 in cc
 one_number directive words x y (alone v n x1 i h o p) (alone w m y1 j k l q) =
     let same = (one_number_of (line_of words) (Some n) (Some m) v w i j h k).1 in
     let number : n ≡ m = cc in
     p ∙ rw number (sym q)
-one_number directive words x y (alone v n x1 i h o p) (with_source w m y1 j k l s2 e2 q1) = absurd (not_followed v w (one_number_of (line_of words) (Some n) (Some m) v w i j h k).0 o l)
+one_number directive words x y (alone v n x1 i h o p) (with_source w m y1 j k l s2 e2 q1) =
+    absurd (not_followed v w (one_number_of (line_of words) (Some n) (Some m) v w i j h k).0 o l)
 one_number directive words x y (with_source v n x1 i h o s1 e1 p1) (faulty d y1 j q) = let bad = one_evaluation (line_of words) (Ok v) (Err d) i j in cc
-one_number directive words x y (with_source v n x1 i h o s1 e1 p1) (out_of_range w y1 j k q) = let bad = (one_number_of (line_of words) (Some n) None v w i j h k).1 in cc
-one_number directive words x y (with_source v n x1 i h o s1 e1 p1) (alone w m y1 j k l q) = absurd (not_followed w v (sym (one_number_of (line_of words) (Some n) (Some m) v w i j h k).0) l o)
+one_number directive words x y (with_source v n x1 i h o s1 e1 p1) (out_of_range w y1 j k q) = let bad =
+    (one_number_of (line_of words) (Some n) None v w i j h k).1 in cc
+one_number directive words x y (with_source v n x1 i h o s1 e1 p1) (alone w m y1 j k l q) =
+    absurd (not_followed w v (sym (one_number_of (line_of words) (Some n) (Some m) v w i j h k).0) l o)
 one_number directive words x y (with_source v n x1 i h o s1 e1 p1) (with_source w m y1 j k l s2 e2 q1) =
     let same = one_number_of (line_of words) (Some n) (Some m) v w i j h k in
     let value : v ≡ w = same.0 in

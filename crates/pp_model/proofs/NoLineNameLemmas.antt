@@ -34,11 +34,13 @@ read_is_no_line shown_line (outcome.Fault fault) = refl
 read_is_no_line shown_line outcome.End = refl
 
 -- one more token that is none
-one_more : (token : Token) (rest : Result (List Token) Fault) → is_identifier line_name token.value ≡ false → IfOk rest AreNoLineNames → IfOk (token_before token rest) AreNoLineNames
+one_more : (token : Token) (rest : Result (List Token) Fault) → is_identifier line_name token.value ≡ false → IfOk rest AreNoLineNames
+    → IfOk (token_before token rest) AreNoLineNames
 one_more token (Ok tokens) h all = All-cons (λ t. is_identifier line_name t.value ≡ false) token tokens h all
 one_more token (Err fault) h all = tt
 
-one_gathered_more : (token : Token) (rest : Result Gathered Fault) → is_identifier line_name token.value ≡ false → IfOk rest (λ g. AreNoLineNames g.tokens) → IfOk (before token rest) (λ g. AreNoLineNames g.tokens)
+one_gathered_more : (token : Token) (rest : Result Gathered Fault) → is_identifier line_name token.value ≡ false
+    → IfOk rest (λ g. AreNoLineNames g.tokens) → IfOk (before token rest) (λ g. AreNoLineNames g.tokens)
 one_gathered_more token (Ok gathered) h all = All-cons (λ t. is_identifier line_name t.value ≡ false) token gathered.tokens h all
 one_gathered_more token (Err fault) h all = tt
 
@@ -53,8 +55,10 @@ module _ {R : Type 0} (I : Reading R) where
   taking_shows_none o e f (listed o1 token rest e1 f1 h b is p) none = (rw is (taken_is_no_line (I.shown_line e.reader) rest token), rw (p, h) tt)
   taking_shows_none o e f (read x o1 reader e1 f1 h b r is p) none = (rw is (read_is_no_line (I.shown_line reader) x), rw (p, h) tt)
 
-  pub gathering_shows_none : (n : ℕ) (last : Location) (x : Result Gathered Fault) (e f : Expander R) → Gathers I n last e x f → HoldsNoLineName e → IfOk x (λ g. AreNoLineNames g.tokens) × HoldsNoLineName f
-  gathering_shows_none n last x e f (closed n1 l1 token e1 f1 x1 t h p) none = (rw p (All-nil (λ t. is_identifier line_name t.value ≡ false)), (taking_shows_none _ e f t none).1)
+  pub gathering_shows_none : (n : ℕ) (last : Location) (x : Result Gathered Fault) (e f : Expander R) → Gathers I n last e x f → HoldsNoLineName e
+      → IfOk x (λ g. AreNoLineNames g.tokens) × HoldsNoLineName f
+  gathering_shows_none n last x e f (closed n1 l1 token e1 f1 x1 t h p) none =
+      (rw p (All-nil (λ t. is_identifier line_name t.value ≡ false)), (taking_shows_none _ e f t none).1)
   gathering_shows_none n last x e f (inside n1 k l1 token e1 g f1 rest x1 t h u p) none =
       let taken = taking_shows_none (outcome.Token token) e g t none in
       let more = gathering_shows_none k token.location rest g f u taken.1 in
@@ -63,7 +67,8 @@ module _ {R : Type 0} (I : Reading R) where
   gathering_shows_none n last x e f (ended n1 l1 e1 f1 x1 t p) none = (rw p tt, (taking_shows_none _ e f t none).1)
   gathering_shows_none n last x e f (failed n1 l1 fault e1 f1 x1 t p) none = (rw p tt, (taking_shows_none _ e f t none).1)
 
-  pub call_shows_none : (A : Answers) (d : Definition) (c : Called) (e f : Expander R) → Calls I A d e c f → HoldsNoLineName e → ((o : Outcome) → c ≡ no_call o → is_line_name o ≡ false) × HoldsNoLineName f
+  pub call_shows_none : (A : Answers) (d : Definition) (c : Called) (e f : Expander R) → Calls I A d e c f → HoldsNoLineName e
+      → ((o : Outcome) → c ≡ no_call o → is_line_name o ≡ false) × HoldsNoLineName f
   call_shows_none A d c e f (alone x e1 f1 c1 t h p) none =
       let taken = taking_shows_none x e f t none in
       (λ o q. let is : x ≡ o = cc in (rw is at taken.0), taken.1)
@@ -76,7 +81,8 @@ module _ {R : Type 0} (I : Reading R) where
 
   pub item_shows_none : (A : Answers) (o : Outcome) (e f : Expander R) → Emits I A e o f → HoldsNoLineName e → (is_line_name o ≡ false) × HoldsNoLineName f
   item_shows_none A o e f (itself o1 e1 f1 t h) none = taking_shows_none o e f t none
-  item_shows_none A o e f (object x o1 m e1 g f1 t h k i) none = item_shows_none A o (opened m m.token.location.line [] g) f i (taking_shows_none x e g t none).1
+  item_shows_none A o e f (object x o1 m e1 g f1 t h k i) none =
+      item_shows_none A o (opened m m.token.location.line [] g) f i (taking_shows_none x e g t none).1
   item_shows_none A o e f (name_alone x y o1 m e1 g g1 f1 t h k c p q) none =
       let taken = taking_shows_none x e g t none in
       let called = call_shows_none A m.definition (no_call y) g g1 c taken.1 in
@@ -107,4 +113,5 @@ module _ {R : Type 0} (I : Reading R) where
 
 pub alone_shows_no_line_name : AloneShowsNoLineName
 alone_shows_no_line_name zero tokens visible hidden x c = list_shows_none argument_reading answers_at_limit x (reading_of tokens visible hidden) c tt
-alone_shows_no_line_name (suc level) tokens visible hidden x c = list_shows_none argument_reading (answers_below (Alone level)) x (reading_of tokens visible hidden) c tt
+alone_shows_no_line_name (suc level) tokens visible hidden x c =
+    list_shows_none argument_reading (answers_below (Alone level)) x (reading_of tokens visible hidden) c tt

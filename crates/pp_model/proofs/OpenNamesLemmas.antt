@@ -67,16 +67,22 @@ open_followed_by : (tokens : List Token) (entries : List Entry) → open_names (
 open_followed_by [] entries = refl
 open_followed_by (token ∷ tokens) entries = open_followed_by tokens entries
 
-open_replacement : (arguments : List (List Token)) (token : Token) (position : Option ℕ) (entries : List Entry) → open_names (replacement arguments token position entries) ≡ open_names entries
+open_replacement : (arguments : List (List Token)) (token : Token) (position : Option ℕ) (entries : List Entry)
+    → open_names (replacement arguments token position entries) ≡ open_names entries
 open_replacement arguments token None entries = refl
 open_replacement arguments token (Some k) entries = open_followed_by (unwrap_or (slice_get arguments k) []) entries
 
-open_replaced : (parameters : List Name) (arguments : List (List Token)) (body : List Token) (entries : List Entry) → open_names (replaced parameters arguments body entries) ≡ open_names entries
+open_replaced : (parameters : List Name) (arguments : List (List Token)) (body : List Token) (entries : List Entry)
+    → open_names (replaced parameters arguments body entries) ≡ open_names entries
 open_replaced parameters arguments [] entries = refl
-open_replaced parameters arguments (token ∷ body) entries = open_replacement arguments token (parameter_of parameters token.value) (replaced parameters arguments body entries) ∙ open_replaced parameters arguments body entries
+open_replaced parameters arguments (token ∷ body) entries =
+    open_replacement arguments token (parameter_of parameters token.value) (replaced parameters arguments body entries)
+    ∙ open_replaced parameters arguments body entries
 
-pub open_spliced : (name : Name) (definition : Definition) (line : ℕ) (arguments : List (List Token)) (entries : List Entry) → open_names (spliced name definition line arguments entries) ≡ name ∷ open_names entries
-open_spliced name definition line arguments entries = open_replaced definition.parameters arguments definition.body (End (record { name = name; line = line }) ∷ entries)
+pub open_spliced : (name : Name) (definition : Definition) (line : ℕ) (arguments : List (List Token)) (entries : List Entry)
+    → open_names (spliced name definition line arguments entries) ≡ name ∷ open_names entries
+open_spliced name definition line arguments entries = open_replaced definition.parameters arguments definition.body
+    (End (record { name = name; line = line }) ∷ entries)
 
 -- what is known of a taken token that opens a macro
 pub record IsOpening {R : Type 0} (I : Reading R) (e : Expander R) (o : Outcome) (m : Opening) : Type 0 where
@@ -87,7 +93,9 @@ pub record IsOpening {R : Type 0} (I : Reading R) (e : Expander R) (o : Outcome)
   pub defined : I.visible e.reader m.name ≡ Some m.definition
 
 module _ {R : Type 0} (I : Reading R) (e : Expander R) where
-  opening_by_name : (token : Token) (name : Name) (m : Opening) → token.value ≡ Ident name → I.is_reserved name ≡ false → is_in name (masked e) ≡ false → (found : Option Definition) → I.visible e.reader name ≡ found → opening_by token name found ≡ Some m → IsOpening I e (outcome.Token token) m
+  opening_by_name : (token : Token) (name : Name) (m : Opening) → token.value ≡ Ident name → I.is_reserved name ≡ false
+      → is_in name (masked e) ≡ false → (found : Option Definition) → I.visible e.reader name ≡ found → opening_by token name found ≡ Some m
+      → IsOpening I e (outcome.Token token) m
   opening_by_name token name m named free closed None defined h = cc
   opening_by_name token name m named free closed (Some definition) defined h =
       let same : record { token = token; name = name; definition = definition } ≡ m = cc in

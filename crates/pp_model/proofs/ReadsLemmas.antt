@@ -23,7 +23,8 @@ use Rattle.pp_model.proofs.LineValueLemmas.{one_condition, one_line_number}
 abbrev pub DefineComesTo : Named → Option Definition → (after r : SourceReader) → Option Outcome → SourceReader → Type 0
 DefineComesTo named None after r o t = (o ≡ None) × (t ≡ defining named after)
 DefineComesTo named (Some old) after r o t =
-    (IsSameDefinition old named.definition × (o ≡ None) × (t ≡ after)) ⊎ ((IsSameDefinition old named.definition → ⊥) × (o ≡ Some (outcome.Fault (DefineRedefined, named.location))) × (t ≡ after))
+    (IsSameDefinition old named.definition × (o ≡ None) × (t ≡ after))
+    ⊎ ((IsSameDefinition old named.definition → ⊥) × (o ≡ Some (outcome.Fault (DefineRedefined, named.location))) × (t ≡ after))
 
 -- a condition with this result comes to this;
 abbrev ConditionComesTo : Result Bool Fault → SourceReader → Option Outcome → SourceReader → Type 0
@@ -40,8 +41,10 @@ abbrev ComesTo : Answers → Step → (after r : SourceReader) → Option Outcom
 ComesTo A step.Passed after r o t = (o ≡ None) × (t ≡ after)
 ComesTo A (step.Given x) after r o t = (o ≡ Some x) × (t ≡ after)
 ComesTo A (step.Defines named) after r o t = DefineComesTo named (r.definitions named.name) after r o t
-ComesTo A (step.Condition word tokens) after r o t = (result : Result Bool Fault) × IsCondition A word tokens r.definitions result × ConditionComesTo result r o t
-ComesTo A (step.LineNumber word tokens) after r o t = (result : Result ℕ Fault) × IsLineNumber A word tokens r.definitions result × LineNumberComesTo word result r o t
+ComesTo A (step.Condition word tokens) after r o t = (result : Result Bool Fault) × IsCondition A word tokens r.definitions result
+    × ConditionComesTo result r o t
+ComesTo A (step.LineNumber word tokens) after r o t = (result : Result ℕ Fault) × IsLineNumber A word tokens r.definitions result
+    × LineNumberComesTo word result r o t
 
 -- so a step says what its act comes to
 step_comes_to : (A : Answers) (r : SourceReader) (o : Option Outcome) (t : SourceReader) → Steps A r o t → ComesTo A (act r).step (act r).after r o t
@@ -51,10 +54,12 @@ step_comes_to A r o t (defines named o1 r1 t1 h k p q) =
     let there : DefineComesTo named (r.definitions named.name) (act r).after r o t = subst (λ d. DefineComesTo named d (act r).after r o t) (sym k) (p, q) in
     subst (λ s. ComesTo A s (act r).after r o t) (sym h) there
 step_comes_to A r o t (repeats named old o1 r1 t1 h k same p q) =
-    let there : DefineComesTo named (r.definitions named.name) (act r).after r o t = subst (λ d. DefineComesTo named d (act r).after r o t) (sym k) (inl (same, p, q)) in
+    let there : DefineComesTo named (r.definitions named.name) (act r).after r o t =
+    subst (λ d. DefineComesTo named d (act r).after r o t) (sym k) (inl (same, p, q)) in
     subst (λ s. ComesTo A s (act r).after r o t) (sym h) there
 step_comes_to A r o t (redefines named old o1 r1 t1 h k other p q) =
-    let there : DefineComesTo named (r.definitions named.name) (act r).after r o t = subst (λ d. DefineComesTo named d (act r).after r o t) (sym k) (inr (other, p, q)) in
+    let there : DefineComesTo named (r.definitions named.name) (act r).after r o t =
+    subst (λ d. DefineComesTo named d (act r).after r o t) (sym k) (inr (other, p, q)) in
     subst (λ s. ComesTo A s (act r).after r o t) (sym h) there
 step_comes_to A r o t (decides word tokens holds o1 r1 t1 h is p q) = subst (λ s. ComesTo A s (act r).after r o t) (sym h) (Ok holds, is, (p, q))
 step_comes_to A r o t (undecided word tokens fault o1 r1 t1 h is p q) = subst (λ s. ComesTo A s (act r).after r o t) (sym h) (Err fault, is, (p, q))
@@ -65,23 +70,27 @@ step_comes_to A r o t (unnumbered word tokens fault o1 r1 t1 h is p q) = subst (
 one_pair : {X Y : Type 0} {x y z : X} {s t u : Y} → (x ≡ z) × (s ≡ u) → (y ≡ z) × (t ≡ u) → (x ≡ y) × (s ≡ t)
 one_pair a b = (a.0 ∙ sym b.0, a.1 ∙ sym b.1)
 
-one_define : (named : Named) (defined : Option Definition) (after r : SourceReader) (x y : Option Outcome) (s t : SourceReader) → DefineComesTo named defined after r x s → DefineComesTo named defined after r y t → (x ≡ y) × (s ≡ t)
+one_define : (named : Named) (defined : Option Definition) (after r : SourceReader) (x y : Option Outcome) (s t : SourceReader)
+    → DefineComesTo named defined after r x s → DefineComesTo named defined after r y t → (x ≡ y) × (s ≡ t)
 one_define named None after r x y s t a b = one_pair a b
 one_define named (Some old) after r x y s t (inl a) (inl b) = (a.1 ∙ sym b.1, a.2 ∙ sym b.2)
 one_define named (Some old) after r x y s t (inl a) (inr b) = absurd (b.0 a.0)
 one_define named (Some old) after r x y s t (inr a) (inl b) = absurd (a.0 b.0)
 one_define named (Some old) after r x y s t (inr a) (inr b) = (a.1 ∙ sym b.1, a.2 ∙ sym b.2)
 
-one_decision : (c : Result Bool Fault) (r : SourceReader) (x y : Option Outcome) (s t : SourceReader) → ConditionComesTo c r x s → ConditionComesTo c r y t → (x ≡ y) × (s ≡ t)
+one_decision : (c : Result Bool Fault) (r : SourceReader) (x y : Option Outcome) (s t : SourceReader) → ConditionComesTo c r x s
+    → ConditionComesTo c r y t → (x ≡ y) × (s ≡ t)
 one_decision (Ok holds) r x y s t a b = one_pair a b
 one_decision (Err fault) r x y s t a b = one_pair a b
 
-one_renumbering : (word : Location) (c : Result ℕ Fault) (r : SourceReader) (x y : Option Outcome) (s t : SourceReader) → LineNumberComesTo word c r x s → LineNumberComesTo word c r y t → (x ≡ y) × (s ≡ t)
+one_renumbering : (word : Location) (c : Result ℕ Fault) (r : SourceReader) (x y : Option Outcome) (s t : SourceReader)
+    → LineNumberComesTo word c r x s → LineNumberComesTo word c r y t → (x ≡ y) × (s ≡ t)
 one_renumbering word (Ok n) r x y s t a b = one_pair a b
 one_renumbering word (Err fault) r x y s t a b = one_pair a b
 
 module _ (A : Answers) (single : OneAnswer A) where
-  one_outcome : (did : Step) (after r : SourceReader) (x y : Option Outcome) (s t : SourceReader) → ComesTo A did after r x s → ComesTo A did after r y t → (x ≡ y) × (s ≡ t)
+  one_outcome : (did : Step) (after r : SourceReader) (x y : Option Outcome) (s t : SourceReader) → ComesTo A did after r x s
+      → ComesTo A did after r y t → (x ≡ y) × (s ≡ t)
   one_outcome step.Passed after r x y s t a b = one_pair a b
   one_outcome (step.Given z) after r x y s t a b = one_pair a b
   one_outcome (step.Defines named) after r x y s t a b = one_define named (r.definitions named.name) after r x y s t a b
@@ -109,11 +118,13 @@ module _ (A : Answers) (single : OneAnswer A) where
       source_reads_one u x y s t h k1
 
 -- where the act gives something, so does the step
-pub gives_that : (A : Answers) (x : Outcome) (r : SourceReader) (o : Option Outcome) (t : SourceReader) → (act r).step ≡ step.Given x → Steps A r o t → (o ≡ Some x) × (t ≡ (act r).after)
+pub gives_that : (A : Answers) (x : Outcome) (r : SourceReader) (o : Option Outcome) (t : SourceReader) → (act r).step ≡ step.Given x → Steps A r o t
+    → (o ≡ Some x) × (t ≡ (act r).after)
 gives_that A x r o t h s = subst (λ z. ComesTo A z (act r).after r o t) h (step_comes_to A r o t s)
 
 -- where it defines a name, the step comes to what the old definition says
-pub defines_that : (A : Answers) (named : Named) (old : Option Definition) (r : SourceReader) (o : Option Outcome) (t : SourceReader) → (act r).step ≡ step.Defines named → r.definitions named.name ≡ old → Steps A r o t → DefineComesTo named old (act r).after r o t
+pub defines_that : (A : Answers) (named : Named) (old : Option Definition) (r : SourceReader) (o : Option Outcome) (t : SourceReader)
+    → (act r).step ≡ step.Defines named → r.definitions named.name ≡ old → Steps A r o t → DefineComesTo named old (act r).after r o t
 defines_that A named old r o t h k s =
     let there : DefineComesTo named (r.definitions named.name) (act r).after r o t = subst (λ z. ComesTo A z (act r).after r o t) h (step_comes_to A r o t s) in
     subst (λ z. DefineComesTo named z (act r).after r o t) k there

@@ -39,7 +39,8 @@ define_leaves r = act_holds (LeavesDefinitions r) r (live_leaves r) (end_leaves 
 abbrev definitions : SourceReader → Definitions
 definitions r = r.definitions
 
-checked : (named : Named) (old : Definition) (after r t : SourceReader) (o : Option Outcome) → after.definitions ≡ r.definitions → DefineComesTo named (Some old) after r o t → Redefined named old r o t
+checked : (named : Named) (old : Definition) (after r t : SourceReader) (o : Option Outcome) → after.definitions ≡ r.definitions
+    → DefineComesTo named (Some old) after r o t → Redefined named old r o t
 checked named old after r t o left (inl same) = record {
   repeated = λ h. same.1;
   refused = λ other. absurd (other same.0);

@@ -105,17 +105,21 @@ either_ok : {X : Type 0} (P : X → Type 0) (b : Bool) (x y : Result X Fault) �
 either_ok P true x y h k = h
 either_ok P false x y h k = k
 
-token_before_good : (token : Token) (later : Result (List Token) Fault) → IsGood token → IfOk later (Each IsGood) → IfOk (token_before token later) (Each IsGood)
+token_before_good : (token : Token) (later : Result (List Token) Fault) → IsGood token → IfOk later (Each IsGood)
+    → IfOk (token_before token later) (Each IsGood)
 token_before_good token (Ok tokens) q h = (q, h)
 token_before_good token (Err fault) q h = tt
 
-converted_good : (converted : Result Token Fault) (later : Result (List Token) Fault) → IfOk converted IsGood → IfOk later (Each IsGood) → IfOk (converted >>= λ first. token_before first later) (Each IsGood)
+converted_good : (converted : Result Token Fault) (later : Result (List Token) Fault) → IfOk converted IsGood → IfOk later (Each IsGood)
+    → IfOk (converted >>= λ first. token_before first later) (Each IsGood)
 converted_good (Ok token) later h all = token_before_good token later h all
 converted_good (Err fault) later h all = tt
 
-content_from_good : (item : Lexeme) (later : Result (List Token) Fault) → HoldsOfLexeme IsGood item → IfOk later (Each IsGood) → IfOk (content_from item later) (Each IsGood)
+content_from_good : (item : Lexeme) (later : Result (List Token) Fault) → HoldsOfLexeme IsGood item → IfOk later (Each IsGood)
+    → IfOk (content_from item later) (Each IsGood)
 content_from_good (Err fault) later h all = tt
-content_from_good (Ok token) later h all = either_ok (Each IsGood) (is_newline token.value) later (conversion token >>= λ first. token_before first later) all (converted_good (conversion token) later h all)
+content_from_good (Ok token) later h all = either_ok (Each IsGood) (is_newline token.value) later
+    (conversion token >>= λ first. token_before first later) all (converted_good (conversion token) later h all)
 
 -- the tokens of an added content are good
 content_good : (items : List Seen) → HoldInItems IsGood items → IfOk (content_tokens items) (Each IsGood)
@@ -129,8 +133,10 @@ given_good outcome.End later q all = all
 
 lines_hold : (total : ℕ) (items : List Item) → total < 2 ^ 32 - 1 → All (λ i. HasLineWithin total i.item) items → HasLines (map seen items)
 lines_hold total [] short all = tt
-lines_hold total (i ∷ items) short all =
-    (line_holds i.item (All-head (λ j. HasLineWithin total j.item) i items all), lines_hold total items short (All-tail (λ j. HasLineWithin total j.item) i items all))
+lines_hold total (i ∷ items) short all = (
+  line_holds i.item (All-head (λ j. HasLineWithin total j.item) i items all),
+  lines_hold total items short (All-tail (λ j. HasLineWithin total j.item) i items all),
+)
   where
     line_holds : (item : Lexeme) → HasLineWithin total item → IfOk item (λ token. IsLine token.location.line)
     line_holds (Ok token) h = omega (arith, h.1, short)
@@ -154,28 +160,44 @@ module _ (level : ℕ) where
   added_good content tokens t e = subst (λ (r : Result (List Token) Fault). IfOk r (Each IsGood)) e (content_good (items_of content) (text_good content t))
 
   -- each token that a run gives is good
-  given_are_good : (e : Expander SourceReader) (calls : List Call) (replies : List Reply) → Runs (by_rules (answers_at level)) e calls replies → All HasText calls → HoldsOf IsGood IsLine K e → Each IsGood (given_tokens replies)
+  given_are_good : (e : Expander SourceReader) (calls : List Call) (replies : List Reply) → Runs (by_rules (answers_at level)) e calls replies
+      → All HasText calls → HoldsOf IsGood IsLine K e → Each IsGood (given_tokens replies)
   given_are_good e calls replies (done e1 r1 p) texts h = subst (λ (rs : List Reply). Each IsGood (given_tokens rs)) (sym p) tt
   given_are_good e calls replies (added name content tokens e1 more rest r1 is runs p) texts h =
       let body = added_good content tokens (All-head HasText (add_define name content) more texts) is in
-      let after : HoldsOf IsGood IsLine K (with_added (chars name) tokens e) = record { held = h.held; list = h.list; reader = (h.reader.0, defined_now_holds IsGood IsLine good_closed e.reader.definitions (chars name) (object_like tokens) h.reader.1 body) } in
-      subst (λ (rs : List Reply). Each IsGood (given_tokens rs)) (sym p) (given_are_good (with_added (chars name) tokens e) more rest runs (All-tail HasText (add_define name content) more texts) after)
+      let after : HoldsOf IsGood IsLine K (with_added (chars name) tokens e) =
+      record {
+        held = h.held;
+        list = h.list;
+        reader = (
+          h.reader.0,
+          defined_now_holds IsGood IsLine good_closed e.reader.definitions (chars name) (object_like tokens) h.reader.1 body,
+        );
+      } in
+      subst (λ (rs : List Reply). Each IsGood (given_tokens rs)) (sym p)
+      (given_are_good (with_added (chars name) tokens e) more rest runs (All-tail HasText (add_define name content) more texts) after)
   given_are_good e calls replies (refused name content fault e1 more rest r1 is runs p) texts h =
-      subst (λ (rs : List Reply). Each IsGood (given_tokens rs)) (sym p) (given_are_good e more rest runs (All-tail HasText (add_define name content) more texts) h)
+      subst (λ (rs : List Reply). Each IsGood (given_tokens rs)) (sym p)
+      (given_are_good e more rest runs (All-tail HasText (add_define name content) more texts) h)
   given_are_good e calls replies (given o e1 f more rest r1 item is runs p) texts h =
-      let after = item_keeps IsGood IsLine good_closed (source_reading (answers_at level)) K keeps (answers_at level) (answers_keep IsGood IsLine good_closed level) o e f item h in
-      subst (λ (rs : List Reply). Each IsGood (given_tokens rs)) (sym p) (given_good o (given_tokens rest) after.0 (given_are_good f more rest runs (All-tail HasText next more texts) after.1))
+      let after = item_keeps IsGood IsLine good_closed (source_reading (answers_at level)) K keeps (answers_at level)
+      (answers_keep IsGood IsLine good_closed level) o e f item h in
+      subst (λ (rs : List Reply). Each IsGood (given_tokens rs)) (sym p)
+      (given_good o (given_tokens rest) after.0 (given_are_good f more rest runs (All-tail HasText next more texts) after.1))
   given_are_good e calls replies (failed fault e1 f more r1 item p) texts h = subst (λ (rs : List Reply). Each IsGood (given_tokens rs)) (sym p) tt
 
-  run_is_good : (text : List ℕ) (calls : List Call) (replies : List Reply) → IsText text → All HasText calls → Runs (by_rules (answers_at level)) (start (items_of text)) calls replies → Each IsGood (given_tokens replies)
+  run_is_good : (text : List ℕ) (calls : List Call) (replies : List Reply) → IsText text → All HasText calls
+      → Runs (by_rules (answers_at level)) (start (items_of text)) calls replies → Each IsGood (given_tokens replies)
   run_is_good text calls replies t texts runs =
-      given_are_good (start (items_of text)) calls replies runs texts (record { held = tt; list = tt; reader = (text_good text t, λ name definition defined. cc) })
+      given_are_good (start (items_of text)) calls replies runs texts
+      (record { held = tt; list = tt; reader = (text_good text t, λ name definition defined. cc) })
 
   -- no `__LINE__` is among the tokens that are given
   abbrev IsNoLine : Token → Type 0
   IsNoLine token = is_identifier line_name token.value ≡ false
 
-  no_line_more : (answer : Reply) (later : List Token) → gives_line_name answer ≡ false → Each IsNoLine later → Each IsNoLine (cons_option (given_token answer) later)
+  no_line_more : (answer : Reply) (later : List Token) → gives_line_name answer ≡ false → Each IsNoLine later
+      → Each IsNoLine (cons_option (given_token answer) later)
   no_line_more (reply.Given (outcome.Token token)) later e all = (e, all)
   no_line_more (reply.Given (outcome.Fault fault)) later e all = all
   no_line_more (reply.Given outcome.End) later e all = all
@@ -185,12 +207,16 @@ module _ (level : ℕ) where
   no_line_given : (replies : List Reply) → All (λ answer. gives_line_name answer ≡ false) replies → Each IsNoLine (given_tokens replies)
   no_line_given [] all = tt
   no_line_given (answer ∷ replies) all =
-      no_line_more answer (given_tokens replies) (All-head (λ a. gives_line_name a ≡ false) answer replies all) (no_line_given replies (All-tail (λ a. gives_line_name a ≡ false) answer replies all))
+      no_line_more answer (given_tokens replies) (All-head (λ a. gives_line_name a ≡ false) answer replies all)
+      (no_line_given replies (All-tail (λ a. gives_line_name a ≡ false) answer replies all))
 
-  plain_values : (tokens : List Token) → Each IsGood tokens → Each IsNoLine tokens → All (λ token. is_ordinary token.value ≡ true) tokens → Each IsPlain (values_of tokens)
+  plain_values : (tokens : List Token) → Each IsGood tokens → Each IsNoLine tokens → All (λ token. is_ordinary token.value ≡ true) tokens
+      → Each IsPlain (values_of tokens)
   plain_values [] good none plain = tt
-  plain_values (token ∷ tokens) good none plain =
-      ((good.0.0 (All-head (λ t. is_ordinary t.value ≡ true) token tokens plain), none.0), plain_values tokens good.1 none.1 (All-tail (λ t. is_ordinary t.value ≡ true) token tokens plain))
+  plain_values (token ∷ tokens) good none plain = (
+    (good.0.0 (All-head (λ t. is_ordinary t.value ≡ true) token tokens plain), none.0),
+    plain_values tokens good.1 none.1 (All-tail (λ t. is_ordinary t.value ≡ true) token tokens plain),
+  )
 
   spellable : (values : List TokenValue) → Each IsPlain values → All IsSpellable values
   spellable [] all = All-nil IsSpellable
@@ -205,7 +231,8 @@ module _ (level : ℕ) where
   no_hash_value (Extension x) h = absurd h
   no_hash_value (Pragma p) h = absurd h
 
-  no_hash_before : (values : List TokenValue) (last : List LexerTokenValue) → Each IsPlain values → Each (λ v. is_hash v ≡ false) last → Each (λ v. is_hash v ≡ false) (map lexer_value values ++ last)
+  no_hash_before : (values : List TokenValue) (last : List LexerTokenValue) → Each IsPlain values → Each (λ v. is_hash v ≡ false) last
+      → Each (λ v. is_hash v ≡ false) (map lexer_value values ++ last)
   no_hash_before [] last all none = none
   no_hash_before (value ∷ values) last all none = (no_hash_value value all.0.0, no_hash_before values last all.1 none)
 
@@ -213,7 +240,8 @@ module _ (level : ℕ) where
   ending_has_none [] = tt
   ending_has_none (value ∷ values) = (refl, tt)
 
-  no_hash_items : (items : List Seen) (values : List LexerTokenValue) → map (λ s. item_value s.item) items ≡ map Ok values → Each (λ v. is_hash v ≡ false) values → Each IsNoHash items
+  no_hash_items : (items : List Seen) (values : List LexerTokenValue) → map (λ s. item_value s.item) items ≡ map Ok values
+      → Each (λ v. is_hash v ≡ false) values → Each IsNoHash items
   no_hash_items [] values e none = tt
   no_hash_items (s ∷ rest) [] e none = cc
   no_hash_items (s ∷ rest) (value ∷ values) e none =
@@ -234,11 +262,13 @@ module _ (level : ℕ) where
       record {
         tokens = g.tokens;
         same = g.same;
-        run = subst (λ (x : Expander SourceReader). Runs (by_rules (answers_at level)) x (calls_for g.tokens) (replies_with g.tokens)) (sym (starts_there items none)) g.run;
+        run = subst (λ (x : Expander SourceReader). Runs (by_rules (answers_at level)) x (calls_for g.tokens) (replies_with g.tokens))
+            (sym (starts_there items none)) g.run;
       }
 
   -- The text that spells the plain tokens of a run gives their values again.
   pub runs_read_afresh : RunsAreReadAfresh (answers_at level)
   runs_read_afresh text calls replies t texts runs plain =
       read_afresh (values_of (given_tokens replies))
-      (plain_values (given_tokens replies) (run_is_good text calls replies t texts runs) (no_line_given replies (run_shows_no_line_name (answers_at level) (items_of text) calls replies runs)) plain)
+      (plain_values (given_tokens replies) (run_is_good text calls replies t texts runs)
+      (no_line_given replies (run_shows_no_line_name (answers_at level) (items_of text) calls replies runs)) plain)

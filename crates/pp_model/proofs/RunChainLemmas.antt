@@ -11,11 +11,14 @@ use Rattle.pp_model.specs.declared.outcome.Outcome.TheVariants as outcome
 
 module _ (C : Comings) where
   -- equal calls and replies make the same run
-  run_of : (e : Expander SourceReader) (calls same_calls : List Call) (replies same_replies : List Reply) → calls ≡ same_calls → replies ≡ same_replies → Runs C e same_calls same_replies → Runs C e calls replies
-  run_of e calls same_calls replies same_replies c r run = subst (λ (rs : List Reply). Runs C e calls rs) (sym r) (subst (λ (cs : List Call). Runs C e cs same_replies) (sym c) run)
+  run_of : (e : Expander SourceReader) (calls same_calls : List Call) (replies same_replies : List Reply) → calls ≡ same_calls
+      → replies ≡ same_replies → Runs C e same_calls same_replies → Runs C e calls replies
+  run_of e calls same_calls replies same_replies c r run = subst (λ (rs : List Reply). Runs C e calls rs) (sym r)
+      (subst (λ (cs : List Call). Runs C e cs same_replies) (sym c) run)
 
   -- one call before a run
-  call_before : (e f : Expander SourceReader) (call : Call) (answer : Reply) (later : List Call) (rest : List Reply) → AnswersIn C e call answer f → Runs C f later rest → Runs C e (call ∷ later) (answer ∷ rest)
+  call_before : (e f : Expander SourceReader) (call : Call) (answer : Reply) (later : List Call) (rest : List Reply) → AnswersIn C e call answer f
+      → Runs C f later rest → Runs C e (call ∷ later) (answer ∷ rest)
   call_before e f call answer later rest (adds name content tokens c1 a1 e1 f1 is c a p) run =
       run_of e (call ∷ later) _ (answer ∷ rest) _ (ap (λ x. x ∷ later) c) (ap (λ x. x ∷ rest) a)
       (added name content tokens e later rest (reply.Added ∷ rest) is (subst (λ (x : Expander SourceReader). Runs C x later rest) p run) refl)
@@ -23,12 +26,15 @@ module _ (C : Comings) where
       run_of e (call ∷ later) _ (answer ∷ rest) _ (ap (λ x. x ∷ later) c) (ap (λ x. x ∷ rest) a)
       (refused name content fault e later rest (reply.Refused fault ∷ rest) is (subst (λ (x : Expander SourceReader). Runs C x later rest) p run) refl)
   call_before e f call answer later rest (gives o c1 a1 e1 f1 item plain c a) run =
-      run_of e (call ∷ later) _ (answer ∷ rest) _ (ap (λ x. x ∷ later) c) (ap (λ x. x ∷ rest) a) (given o e f later rest (reply.Given o ∷ rest) item plain run refl)
+      run_of e (call ∷ later) _ (answer ∷ rest) _ (ap (λ x. x ∷ later) c) (ap (λ x. x ∷ rest) a)
+      (given o e f later rest (reply.Given o ∷ rest) item plain run refl)
 
   -- calls that follow one another before a run
-  chain_before : (e f : Expander SourceReader) (calls later : List Call) (replies rest : List Reply) → Chain C e calls replies f → Runs C f later rest → Runs C e (calls ++ later) (replies ++ rest)
+  chain_before : (e f : Expander SourceReader) (calls later : List Call) (replies rest : List Reply) → Chain C e calls replies f
+      → Runs C f later rest → Runs C e (calls ++ later) (replies ++ rest)
   chain_before e f calls later replies rest (none e1 f1 c1 r1 c r p) run =
-      run_of e (calls ++ later) later (replies ++ rest) rest (ap (λ x. x ++ later) c) (ap (λ x. x ++ rest) r) (subst (λ (x : Expander SourceReader). Runs C x later rest) p run)
+      run_of e (calls ++ later) later (replies ++ rest) rest (ap (λ x. x ++ later) c) (ap (λ x. x ++ rest) r)
+      (subst (λ (x : Expander SourceReader). Runs C x later rest) p run)
   chain_before e f calls later replies rest (one_more e1 m f1 before c1 call answered r1 answer chain one c r) run =
       run_of e (calls ++ later) (before ++ call ∷ later) (replies ++ rest) (answered ++ answer ∷ rest)
       (ap (λ x. x ++ later) c ∙ append_assoc before (call ∷ []) later) (ap (λ x. x ++ rest) r ∙ append_assoc answered (answer ∷ []) rest)
@@ -37,13 +43,16 @@ module _ (C : Comings) where
   -- calls that follow one another are a run,
   pub chain_runs : (e f : Expander SourceReader) (calls : List Call) (replies : List Reply) → Chain C e calls replies f → Runs C e calls replies
   chain_runs e f calls replies chain =
-      run_of e calls (calls ++ []) replies (replies ++ []) (sym (append-nil calls)) (sym (append-nil replies)) (chain_before e f calls [] replies [] chain (done f [] refl))
+      run_of e calls (calls ++ []) replies (replies ++ []) (sym (append-nil calls)) (sym (append-nil replies))
+      (chain_before e f calls [] replies [] chain (done f [] refl))
 
   -- so they are where further calls are left after an error item,
-  pub chain_runs_to_error : (e f g : Expander SourceReader) (calls later : List Call) (replies : List Reply) (fault : Fault) → Chain C e calls replies f → C f (outcome.Fault fault) g
+  pub chain_runs_to_error : (e f g : Expander SourceReader) (calls later : List Call) (replies : List Reply) (fault : Fault)
+      → Chain C e calls replies f → C f (outcome.Fault fault) g
       → Runs C e (calls ++ next ∷ later) (replies ++ reply.Given (outcome.Fault fault) ∷ [])
   chain_runs_to_error e f g calls later replies fault chain item =
-      chain_before e f calls (next ∷ later) replies (reply.Given (outcome.Fault fault) ∷ []) chain (failed fault f g later (reply.Given (outcome.Fault fault) ∷ []) item refl)
+      chain_before e f calls (next ∷ later) replies (reply.Given (outcome.Fault fault) ∷ []) chain
+      (failed fault f g later (reply.Given (outcome.Fault fault) ∷ []) item refl)
 
 -- and so it is by the definitions
 pub chains_are_runs : (A : Answers) → ChainsAreRuns A

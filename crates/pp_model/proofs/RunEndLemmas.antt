@@ -27,7 +27,11 @@ goes_not_on (first ∷ former) later answer h = cc
 -- a definition that is added leaves the end
 over_with_added : (name : _) (tokens : _) (e : Expander SourceReader) → IsOver e → IsOver (with_added name tokens e)
 over_with_added name tokens e over =
-    record { none_held = over.none_held; none_listed = over.none_listed; at_end = record { nothing_left = over.at_end.nothing_left; all_reported = over.at_end.all_reported } }
+    record {
+      none_held = over.none_held;
+      none_listed = over.none_listed;
+      at_end = record { nothing_left = over.at_end.nothing_left; all_reported = over.at_end.all_reported };
+    }
 
 module _ (A : Answers) where
   last_end_with_added : (name : _) (tokens : _) (e : Expander SourceReader) → HoldsLastEnd e → HoldsLastEnd (with_added name tokens e)
@@ -54,7 +58,8 @@ module _ (A : Answers) where
       (item_when_over A o g h item (stays_over f g more over)).0
 
   -- where nothing is left no reply is an item
-  no_item_when_over : (e : Expander SourceReader) (calls : List Call) (replies : List Reply) → Runs (by_rules A) e calls replies → IsOver e → All IsNoItem replies
+  no_item_when_over : (e : Expander SourceReader) (calls : List Call) (replies : List Reply) → Runs (by_rules A) e calls replies → IsOver e
+      → All IsNoItem replies
   no_item_when_over e calls replies (done e1 r1 p) over = rw p (All-nil IsNoItem)
   no_item_when_over e calls replies (added name content tokens e1 later rest r1 h more p) over =
       rw p (All-cons IsNoItem reply.Added rest refl (no_item_when_over (with_added _ tokens e) later rest more (over_with_added _ tokens e over)))
@@ -68,7 +73,8 @@ module _ (A : Answers) where
       cc
 
   -- so after the end none is
-  no_item_after : (e : Expander SourceReader) (calls : List Call) (replies former later : List Reply) → Runs (by_rules A) e calls replies → HoldsLastEnd e → replies ≡ former ++ (reply.Given outcome.End ∷ later) → All IsNoItem later
+  no_item_after : (e : Expander SourceReader) (calls : List Call) (replies former later : List Reply) → Runs (by_rules A) e calls replies
+      → HoldsLastEnd e → replies ≡ former ++ (reply.Given outcome.End ∷ later) → All IsNoItem later
   no_item_after e calls replies former later (done e1 r1 p) last is = absurd (goes_not_on former later (reply.Given outcome.End) (sym p ∙ is))
   no_item_after e calls replies [] later (added name content tokens e1 cs rest r1 h more p) last is = cc
   no_item_after e calls replies (first ∷ former) later (added name content tokens e1 cs rest r1 h more p) last is =

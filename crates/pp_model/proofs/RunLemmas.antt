@@ -36,8 +36,10 @@ module _ (C : Comings) (one_next : (o w : Outcome) (e f g : Expander SourceReade
       let same = one_next o w e f g a b in
       let there : Runs C f cs s = rw same.1 j in
       p ∙ rw (same.0, one_replies_of f cs r s i there) (sym q)
-  one_replies_of e calls x y (given o e1 f cs r x1 a h i p) (failed d e2 g ds y1 b q) = let bad = not_faulty o d (one_next o (outcome.Fault d) e f g a b).0 h in cc
-  one_replies_of e calls x y (failed c e1 f cs x1 a p) (given w e2 g ds s y1 b k j q) = let bad = not_faulty w c (one_next w (outcome.Fault c) e g f b a).0 k in cc
+  one_replies_of e calls x y (given o e1 f cs r x1 a h i p) (failed d e2 g ds y1 b q) = let bad =
+      not_faulty o d (one_next o (outcome.Fault d) e f g a b).0 h in cc
+  one_replies_of e calls x y (failed c e1 f cs x1 a p) (given w e2 g ds s y1 b k j q) = let bad =
+      not_faulty w c (one_next w (outcome.Fault c) e g f b a).0 k in cc
   one_replies_of e calls x y (failed c e1 f cs x1 a p) (failed d e2 g ds y1 b q) =
       let same = (one_next (outcome.Fault c) (outcome.Fault d) e f g a b).0 in
       let fault : c ≡ d = cc in

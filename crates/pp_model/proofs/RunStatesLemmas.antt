@@ -30,7 +30,8 @@ module _ (A : Answers) where
   pub run_keeps_marks_apart : RunKeepsMarksApart A
   run_keeps_marks_apart source e reached = keeps_apart (start source) e reached tt
 
-  replies_show_none : (e : Expander SourceReader) (calls : List Call) (replies : List Reply) → Runs (by_rules A) e calls replies → HoldsNoLineName e → All IsNoLineName replies
+  replies_show_none : (e : Expander SourceReader) (calls : List Call) (replies : List Reply) → Runs (by_rules A) e calls replies → HoldsNoLineName e
+      → All IsNoLineName replies
   replies_show_none e calls replies (done e1 r1 p) none = rw p (All-nil IsNoLineName)
   replies_show_none e calls replies (added name content tokens e1 later rest r1 h more p) none =
       rw p (All-cons IsNoLineName reply.Added rest refl (replies_show_none (with_added _ tokens e) later rest more none))

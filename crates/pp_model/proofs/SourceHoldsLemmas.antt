@@ -49,8 +49,10 @@ module _ (Q : Token → Type 0) (L : ℕ → Type 0) (closed : AreClosed Q L) wh
   HoldsOfSight (sight.Hash location) = ⊤
   HoldsOfSight (sight.NoWord fault) = ⊤
 
-  word_value : (location : Location) (value : LexerTokenValue) (blank at_start : Bool) → HoldsOfLexeme Q (Ok (record { value = value; location = location; leading_whitespace = blank; start_of_line = at_start }))
-      → HoldsOfSight (named_directive (record { value = value; location = location; leading_whitespace = blank; start_of_line = at_start }) (identifier_of value))
+  word_value : (location : Location) (value : LexerTokenValue) (blank at_start : Bool)
+      → HoldsOfLexeme Q (Ok (record { value = value; location = location; leading_whitespace = blank; start_of_line = at_start }))
+      → HoldsOfSight (named_directive (record { value = value; location = location; leading_whitespace = blank; start_of_line = at_start })
+      (identifier_of value))
   word_value location Hash blank at_start h = tt
   word_value location NewLine blank at_start h = tt
   word_value location (LexerIdent name) blank at_start h = closed.line _ h
@@ -66,7 +68,8 @@ module _ (Q : Token → Type 0) (L : ℕ → Type 0) (closed : AreClosed Q L) wh
   word_first location [] all = tt
   word_first location (s ∷ rest) all = word_item s.item all.0
 
-  sight_value : (location : Location) (value : LexerTokenValue) (blank at_start : Bool) (rest : List Seen) → HoldsOfLexeme Q (Ok (record { value = value; location = location; leading_whitespace = blank; start_of_line = at_start })) → HoldInItems Q rest
+  sight_value : (location : Location) (value : LexerTokenValue) (blank at_start : Bool) (rest : List Seen)
+      → HoldsOfLexeme Q (Ok (record { value = value; location = location; leading_whitespace = blank; start_of_line = at_start })) → HoldInItems Q rest
       → HoldsOfSight (token_sight (record { value = value; location = location; leading_whitespace = blank; start_of_line = at_start }) rest)
   sight_value location Hash blank true rest h all = word_first location rest all
   sight_value location Hash blank false rest h all = tt
@@ -109,7 +112,8 @@ module _ (Q : Token → Type 0) (L : ℕ → Type 0) (closed : AreClosed Q L) wh
       go true e = cc
       go false e = all other definition e
 
-  pub defined_now_holds : (definitions : Definitions) (name : Name) (new : Definition) → HoldInBodies Q definitions → Each Q new.body → HoldInBodies Q (changed definitions name (Some new))
+  pub defined_now_holds : (definitions : Definitions) (name : Name) (new : Definition) → HoldInBodies Q definitions → Each Q new.body
+      → HoldInBodies Q (changed definitions name (Some new))
   defined_now_holds definitions name new all q other definition e = go (is_same_name other name) e
     where
       go : (b : Bool) → (if b then Some new else definitions other) ≡ Some definition → Each Q definition.body
@@ -145,21 +149,31 @@ module _ (Q : Token → Type 0) (L : ℕ → Type 0) (closed : AreClosed Q L) wh
     passed_holds : (after : SourceReader) → HoldInBodies Q after.definitions → HoldsOfAct (passed after)
     passed_holds after h = record { token = λ token e. cc; body = λ named e. cc; bodies = h }
 
-    define_by : (line : Result Named Fault) → IfOk line (λ named. Each Q named.definition.body) → HoldsOfAct (acted line r (λ named. record { step = step.Defines named; after = after_line r }))
-    define_by (Ok said) h = record { token = λ token e. cc; body = λ named e. subst (λ (x : Named). Each Q x.definition.body) (same_named said named e) h; bodies = bodies }
+    define_by : (line : Result Named Fault) → IfOk line (λ named. Each Q named.definition.body)
+        → HoldsOfAct (acted line r (λ named. record { step = step.Defines named; after = after_line r }))
+    define_by (Ok said) h = record {
+      token = λ token e. cc;
+      body =
+          λ named e. subst (λ (x : Named). Each Q x.definition.body) (same_named said named e) h;
+      bodies = bodies;
+    }
     define_by (Err fault) h = dead.fault fault
 
-    name_by : (line : Result Name Fault) (after : Name → SourceReader) → ((name : Name) → HoldInBodies Q (after name).definitions) → HoldsOfAct (acted line r (λ name. passed (after name)))
+    name_by : (line : Result Name Fault) (after : Name → SourceReader) → ((name : Name) → HoldInBodies Q (after name).definitions)
+        → HoldsOfAct (acted line r (λ name. passed (after name)))
     name_by line after h = value_holds HoldsOfAct r dead line (λ name. passed (after name)) (λ name. passed_holds (after name) (h name))
 
-    item_by : (value : List Token → TokenValue) (word : Location) → ((tokens : List Token) → is_ordinary (value tokens) ≡ false) → L word.line → HoldsOfAct (line_item value word r)
+    item_by : (value : List Token → TokenValue) (word : Location) → ((tokens : List Token) → is_ordinary (value tokens) ≡ false) → L word.line
+        → HoldsOfAct (line_item value word r)
     item_by value word other l =
         value_holds HoldsOfAct r dead (line_tokens (after_word r)) (λ tokens. given (record { value = value tokens; location = word }) (after_line r))
-        (λ tokens. given_holds (record { value = value tokens; location = word }) (after_line r) (items_hold (record { value = value tokens; location = word }) (other tokens) l) refl)
+        (λ tokens. given_holds (record { value = value tokens; location = word }) (after_line r)
+        (items_hold (record { value = value tokens; location = word }) (other tokens) l) refl)
 
     live_directive_holds : (directive : Directive) (word : Location) → L word.line → HoldsOfAct (live_directive directive word r)
     live_directive_holds d.Define word l = define_by (defined_on word (after_word r)) (defined_holds Q word (after_word r) after)
-    live_directive_holds d.Undef word l = name_by (only_name word (after_word r)) (λ name. record (after_line r) { definitions = changed r.definitions name None }) (λ name. undefined_holds r.definitions name bodies)
+    live_directive_holds d.Undef word l = name_by (only_name word (after_word r)) (λ name. record (after_line r)
+        { definitions = changed r.definitions name None }) (λ name. undefined_holds r.definitions name bodies)
     live_directive_holds d.If word l = condition_holds HoldsOfAct r dead word
     live_directive_holds d.Ifdef word l = name_by (only_name word (after_word r)) (λ name. decided r (is_defined_now r name)) (λ name. bodies)
     live_directive_holds d.Ifndef word l = name_by (only_name word (after_word r)) (λ name. decided r (not (is_defined_now r name))) (λ name. bodies)
@@ -167,7 +181,8 @@ module _ (Q : Token → Type 0) (L : ℕ → Type 0) (closed : AreClosed Q L) wh
     live_directive_holds d.Else word l = else_line_holds HoldsOfAct r dead word
     live_directive_holds d.Endif word l = endif_holds HoldsOfAct r dead (block_here r) word
     live_directive_holds d.Error word l = dead.fault _
-    live_directive_holds d.Line word l = value_holds HoldsOfAct r dead (line_tokens (after_word r)) (λ tokens. record { step = step.LineNumber word tokens; after = r }) (λ tokens. record { token = λ token e. cc; body = λ named e. cc; bodies = bodies })
+    live_directive_holds d.Line word l = value_holds HoldsOfAct r dead (line_tokens (after_word r))
+        (λ tokens. record { step = step.LineNumber word tokens; after = r }) (λ tokens. record { token = λ token e. cc; body = λ named e. cc; bodies = bodies })
     live_directive_holds d.Version word l = item_by _ word (λ tokens. refl) l
     live_directive_holds d.Extension word l = item_by _ word (λ tokens. refl) l
     live_directive_holds d.Pragma word l = item_by _ word (λ tokens. refl) l
@@ -185,7 +200,8 @@ module _ (Q : Token → Type 0) (L : ℕ → Type 0) (closed : AreClosed Q L) wh
     act_holds : HoldsOfAct (act r)
     act_holds =
         let shown = sight_of (drop r.position r.items) in
-        either_holds HoldsOfAct (is_live r.items r.truths r.position) (live_act shown r) (dead_act shown r) (live_holds shown (sight_holds (drop r.position r.items) (drop_holds r.position r.items all)))
+        either_holds HoldsOfAct (is_live r.items r.truths r.position) (live_act shown r) (dead_act shown r)
+        (live_holds shown (sight_holds (drop r.position r.items) (drop_holds r.position r.items all)))
         (dead_text_holds HoldsOfAct r dead end shown)
 
   -- it holds of a source's items and of the bodies of what is defined
@@ -203,12 +219,15 @@ module _ (Q : Token → Type 0) (L : ℕ → Type 0) (closed : AreClosed Q L) wh
         let a = act_holds items_hold r h.0 h.1 in
         (subst (λ (x : Option Outcome). IfSome x (HoldsOfOutcome Q)) (sym p) tt, subst (λ (x : SourceReader). HoldInBodies Q x.definitions) (sym q) a.bodies)
     step_bodies o r t (gives x o1 r1 t1 e p q) h =
-        let a = act_holds items_hold r h.0 h.1 in
-        (subst (λ (y : Option Outcome). IfSome y (HoldsOfOutcome Q)) (sym p) (outcome_holds (act r) x a e), subst (λ (y : SourceReader). HoldInBodies Q y.definitions) (sym q) a.bodies)
+        let a = act_holds items_hold r h.0 h.1 in (
+          subst (λ (y : Option Outcome). IfSome y (HoldsOfOutcome Q)) (sym p) (outcome_holds (act r) x a e),
+          subst (λ (y : SourceReader). HoldInBodies Q y.definitions) (sym q) a.bodies,
+        )
     step_bodies o r t (defines named o1 r1 t1 e k p q) h =
         let a = act_holds items_hold r h.0 h.1 in (
           subst (λ (x : Option Outcome). IfSome x (HoldsOfOutcome Q)) (sym p) tt,
-          subst (λ (x : SourceReader). HoldInBodies Q x.definitions) (sym q) (defined_now_holds (act r).after.definitions named.name named.definition a.bodies (a.body named e)),
+          subst (λ (x : SourceReader). HoldInBodies Q x.definitions) (sym q)
+              (defined_now_holds (act r).after.definitions named.name named.definition a.bodies (a.body named e)),
         )
     step_bodies o r t (repeats named old o1 r1 t1 e k same p q) h =
         let a = act_holds items_hold r h.0 h.1 in

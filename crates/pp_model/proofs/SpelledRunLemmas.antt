@@ -55,7 +55,8 @@ quiet_value position location (LexerInteger i) blank at_start rest e = refl
 quiet_value position location (LexerFloat f) blank at_start rest e = refl
 quiet_value position location (LexerPunct p) blank at_start rest e = refl
 
-quiet_item : (position : ℕ) (item : Lexeme) (rest : List Seen) (value : LexerTokenValue) → item_value item ≡ Ok value → is_hash value ≡ false → line_at position (item_sight item rest) ≡ None
+quiet_item : (position : ℕ) (item : Lexeme) (rest : List Seen) (value : LexerTokenValue) → item_value item ≡ Ok value → is_hash value ≡ false
+    → line_at position (item_sight item rest) ≡ None
 quiet_item position (Ok token) rest value e none =
     quiet_value position token.location token.value token.leading_whitespace token.start_of_line rest (ap is_hash (same_value token value e) ∙ none)
 quiet_item position (Err fault) rest value e none = refl
@@ -64,7 +65,8 @@ quiet_item position (Err fault) rest value e none = refl
 no_block_lines : (position : ℕ) (items : List Seen) → Each IsNoHash items → block_lines position items ≡ []
 no_block_lines position [] all = refl
 no_block_lines position (s ∷ rest) all =
-    ap (λ line. cons_option line (block_lines (position + 1) rest)) (quiet_item position s.item rest all.0.0 all.0.1 all.0.2) ∙ no_block_lines (position + 1) rest all.1
+    ap (λ line. cons_option line (block_lines (position + 1) rest)) (quiet_item position s.item rest all.0.0 all.0.1 all.0.2)
+    ∙ no_block_lines (position + 1) rest all.1
 
 front_holds : (n : ℕ) (items : List Seen) → Each IsNoHash items → Each IsNoHash (take n items)
 front_holds zero [] all = tt
@@ -84,14 +86,16 @@ state_at items position = record { held = None; list = []; reader = reader_at it
 
 pub starts_there : (items : List Seen) → Each IsNoHash items → start items ≡ state_at items 0
 starts_there items all =
-    ap (λ (n : ℕ). record { held = None; list = []; reader = record (reader_at items 0) { unfinished = n }; hidden = [] }) (ap length (no_blocks items (length items) all))
+    ap (λ (n : ℕ). record { held = None; list = []; reader = record (reader_at items 0) { unfinished = n }; hidden = [] })
+    (ap length (no_blocks items (length items) all))
 
 -- a token of a plain value, which is not `__LINE__`
 abbrev pub IsPlain : TokenValue → Type 0
 IsPlain value = IsSpellable value × (is_identifier line_name value ≡ false)
 
 module _ (A : Answers) (items : List Seen) (all : Each IsNoHash items) where
-  opens_nothing : (position : ℕ) (value : TokenValue) (location : Location) → opening (source_reading A) (state_at items position) (outcome.Token (record { value = value; location = location })) ≡ None
+  opens_nothing : (position : ℕ) (value : TokenValue) (location : Location)
+      → opening (source_reading A) (state_at items position) (outcome.Token (record { value = value; location = location })) ≡ None
   opens_nothing position (Ident name) location = refl
   opens_nothing position (Integer i) location = refl
   opens_nothing position (Float f) location = refl
@@ -103,30 +107,37 @@ module _ (A : Answers) (items : List Seen) (all : Each IsNoHash items) where
   live_there : (position : ℕ) → is_live items [] position ≡ true
   live_there position = ap (list_all (is_branch_live [])) (no_blocks items position all)
 
-  act_there : (position : ℕ) (shown : Sight) → sight_of (drop position items) ≡ shown → act (reader_at items position) ≡ live_act shown (reader_at items position)
+  act_there : (position : ℕ) (shown : Sight) → sight_of (drop position items) ≡ shown
+      → act (reader_at items position) ≡ live_act shown (reader_at items position)
   act_there position shown e =
       let r = reader_at items position in
-      ap (λ live. if live then live_act (sight_of (drop position items)) r else dead_act (sight_of (drop position items)) r) (live_there position) ∙ ap (λ s. live_act s r) e
+      ap (λ live. if live then live_act (sight_of (drop position items)) r else dead_act (sight_of (drop position items)) r) (live_there position)
+      ∙ ap (λ s. live_act s r) e
 
   -- what comes first of this text is taken
-  taken_there : (position : ℕ) (x o : Outcome) (after : ℕ) → Reads A (reader_at items position) x (reader_at items after) → o ≡ read_outcome (shown_line (reader_at items after)) x → Takes (source_reading A) (state_at items position) o (state_at items after)
+  taken_there : (position : ℕ) (x o : Outcome) (after : ℕ) → Reads A (reader_at items position) x (reader_at items after)
+      → o ≡ read_outcome (shown_line (reader_at items after)) x → Takes (source_reading A) (state_at items position) o (state_at items after)
   taken_there position x o after r is = read x o (reader_at items after) (state_at items position) (state_at items after) refl refl r is refl
 
   taken_plain : (shown : ℕ → Option ℕ) (value : TokenValue) (location : Location) → is_identifier line_name value ≡ false
       → outcome.Token (record { value = value; location = location }) ≡ taken_token shown [] (record { value = value; location = location })
   taken_plain shown value location e =
-      ap (λ b. if b then line_number location (shown (unwrap_or (outermost_line []) location.line)) else outcome.Token (record { value = value; location = location })) (sym e)
+      ap (λ b. if b then line_number location (shown (unwrap_or (outermost_line []) location.line)) else outcome.Token
+      (record { value = value; location = location })) (sym e)
 
   -- a token gives itself
-  gives_token : (position : ℕ) (value : TokenValue) (location : Location) → sight_of (drop position items) ≡ sight.Token (record { value = value; location = location }) → is_identifier line_name value ≡ false
+  gives_token : (position : ℕ) (value : TokenValue) (location : Location)
+      → sight_of (drop position items) ≡ sight.Token (record { value = value; location = location }) → is_identifier line_name value ≡ false
       → Emits (source_reading A) A (state_at items position) (outcome.Token (record { value = value; location = location })) (state_at items (position + 1))
   gives_token position value location e plain =
       let token : Token = record { value = value; location = location } in
       let a = act_there position (sight.Token token) e in
       let r = reader_at items position in
-      let s : Steps A r (Some (outcome.Token token)) (reader_at items (position + 1)) = gives (outcome.Token token) (Some (outcome.Token token)) r (reader_at items (position + 1)) (ap (λ x. x.step) a) refl (sym (ap (λ x. x.after) a)) in
+      let s : Steps A r (Some (outcome.Token token)) (reader_at items (position + 1)) =
+      gives (outcome.Token token) (Some (outcome.Token token)) r (reader_at items (position + 1)) (ap (λ x. x.step) a) refl (sym (ap (λ x. x.after) a)) in
       itself (outcome.Token token) (state_at items position) (state_at items (position + 1))
-      (taken_there position (outcome.Token token) (outcome.Token token) (position + 1) (here (outcome.Token token) r (reader_at items (position + 1)) s) (taken_plain (shown_line (reader_at items (position + 1))) value location plain))
+      (taken_there position (outcome.Token token) (outcome.Token token) (position + 1)
+      (here (outcome.Token token) r (reader_at items (position + 1)) s) (taken_plain (shown_line (reader_at items (position + 1))) value location plain))
       (opens_nothing (position + 1) value location)
 
   ended_there : innermost (take 0 (blocks_at items (length items))) ≡ None
@@ -135,18 +146,23 @@ module _ (A : Answers) (items : List Seen) (all : Each IsNoHash items) where
   reads_end : (position : ℕ) → drop position items ≡ [] → Reads A (reader_at items position) outcome.End (reader_at items position)
   reads_end position e =
       let r = reader_at items position in
-      let a : act r ≡ record { step = step.Given outcome.End; after = r } = act_there position sight.End (ap sight_of e) ∙ ap (λ block. ended_by block r) ended_there in
+      let a : act r ≡ record { step = step.Given outcome.End; after = r } = act_there position sight.End (ap sight_of e)
+      ∙ ap (λ block. ended_by block r) ended_there in
       here outcome.End r r (gives outcome.End (Some outcome.End) r r (ap (λ x. x.step) a) refl (sym (ap (λ x. x.after) a)))
 
   -- after the last token a newline may stand
-  reads_newline : (position : ℕ) → sight_of (drop position items) ≡ sight.NewLine → drop (position + 1) items ≡ [] → Reads A (reader_at items position) outcome.End (reader_at items (position + 1))
+  reads_newline : (position : ℕ) → sight_of (drop position items) ≡ sight.NewLine → drop (position + 1) items ≡ []
+      → Reads A (reader_at items position) outcome.End (reader_at items (position + 1))
   reads_newline position e last =
       let r = reader_at items position in
       let a = act_there position sight.NewLine e in
-      later outcome.End r (reader_at items (position + 1)) (reader_at items (position + 1)) (passes None r (reader_at items (position + 1)) (ap (λ x. x.step) a) refl (sym (ap (λ x. x.after) a))) (reads_end (position + 1) last)
+      later outcome.End r (reader_at items (position + 1)) (reader_at items (position + 1))
+      (passes None r (reader_at items (position + 1)) (ap (λ x. x.step) a) refl (sym (ap (λ x. x.after) a))) (reads_end (position + 1) last)
 
-  gives_end : (position after : ℕ) → Reads A (reader_at items position) outcome.End (reader_at items after) → Emits (source_reading A) A (state_at items position) outcome.End (state_at items after)
-  gives_end position after r = itself outcome.End (state_at items position) (state_at items after) (taken_there position outcome.End outcome.End after r refl) refl
+  gives_end : (position after : ℕ) → Reads A (reader_at items position) outcome.End (reader_at items after)
+      → Emits (source_reading A) A (state_at items position) outcome.End (state_at items after)
+  gives_end position after r = itself outcome.End (state_at items position) (state_at items after)
+      (taken_there position outcome.End outcome.End after r refl) refl
 
   -- from a position on the run gives these values
   pub record GivesFrom (position : ℕ) (values : List TokenValue) : Type 0 where
@@ -158,7 +174,8 @@ module _ (A : Answers) (items : List Seen) (all : Each IsNoHash items) where
   ends_run position after r = record {
     tokens = [];
     same = refl;
-    run = given outcome.End (state_at items position) (state_at items after) [] [] (reply.Given outcome.End ∷ []) (gives_end position after r) refl (done (state_at items after) [] refl) refl;
+    run = given outcome.End (state_at items position) (state_at items after) [] [] (reply.Given outcome.End ∷ []) (gives_end position after r) refl
+        (done (state_at items after) [] refl) refl;
   }
 
   after_one : (position : ℕ) (s : Seen) (rest : List Seen) → drop position items ≡ s ∷ rest → drop (position + 1) items ≡ rest
@@ -171,8 +188,10 @@ module _ (A : Answers) (items : List Seen) (all : Each IsNoHash items) where
   none_there [] e = refl
   none_there (s ∷ rest) e = cc
 
-  plain_value : (location : Location) (value : LexerTokenValue) (blank at_start : Bool) (rest : List Seen) (v : TokenValue) → value ≡ lexer_value v → IsSpellable v
-      → token_sight (record { value = value; location = location; leading_whitespace = blank; start_of_line = at_start }) rest ≡ sight.Token (record { value = v; location = location })
+  plain_value : (location : Location) (value : LexerTokenValue) (blank at_start : Bool) (rest : List Seen) (v : TokenValue) → value ≡ lexer_value v
+      → IsSpellable v
+      → token_sight (record { value = value; location = location; leading_whitespace = blank; start_of_line = at_start }) rest ≡ sight.Token
+      (record { value = v; location = location })
   plain_value location value blank at_start rest (Ident name) e h = rw e refl
   plain_value location value blank at_start rest (Integer i) e h = rw e refl
   plain_value location value blank at_start rest (Float f) e h = rw e refl
@@ -185,7 +204,11 @@ module _ (A : Answers) (items : List Seen) (all : Each IsNoHash items) where
   ShowsToken item rest v = (location : Location) × (item_sight item rest ≡ sight.Token (record { value = v; location = location }))
 
   plain_item : (item : Lexeme) (rest : List Seen) (v : TokenValue) → item_value item ≡ Ok (lexer_value v) → IsSpellable v → ShowsToken item rest v
-  plain_item (Ok token) rest v e h = (token.location, plain_value token.location token.value token.leading_whitespace token.start_of_line rest v (same_value token (lexer_value v) e) h)
+  plain_item (Ok token) rest v e h = (
+    token.location,
+    plain_value token.location token.value token.leading_whitespace token.start_of_line rest v
+        (same_value token (lexer_value v) e) h,
+  )
   plain_item (Err fault) rest v e h = cc
 
   newline_value : (location : Location) (value : LexerTokenValue) (blank at_start : Bool) (rest : List Seen) → value ≡ NewLine
@@ -201,20 +224,24 @@ module _ (A : Answers) (items : List Seen) (all : Each IsNoHash items) where
   newline_last position (s ∷ rest) e is =
       let one : item_value s.item ≡ Ok NewLine = cc in
       let none : map (λ t. item_value t.item) rest ≡ [] = cc in
-      ends_run position (position + 1) (reads_newline position (ap sight_of e ∙ newline_item s.item rest one) (after_one position s rest e ∙ none_there rest none))
+      ends_run position (position + 1) (reads_newline position (ap sight_of e ∙ newline_item s.item rest one)
+      (after_one position s rest e ∙ none_there rest none))
 
-  gives_first : (position : ℕ) (value : TokenValue) (values : List TokenValue) (location : Location) → sight_of (drop position items) ≡ sight.Token (record { value = value; location = location }) → is_identifier line_name value ≡ false
+  gives_first : (position : ℕ) (value : TokenValue) (values : List TokenValue) (location : Location)
+      → sight_of (drop position items) ≡ sight.Token (record { value = value; location = location }) → is_identifier line_name value ≡ false
       → GivesFrom (position + 1) values → GivesFrom position (value ∷ values)
   gives_first position value values location e plain g =
       let token : Token = record { value = value; location = location } in
       record {
         tokens = token ∷ g.tokens;
         same = ap (λ later. value ∷ later) g.same;
-        run = given (outcome.Token token) (state_at items position) (state_at items (position + 1)) (calls_for g.tokens) (replies_with g.tokens) (replies_with (token ∷ g.tokens)) (gives_token position value location e plain) refl g.run refl;
+        run = given (outcome.Token token) (state_at items position) (state_at items (position + 1)) (calls_for g.tokens) (replies_with g.tokens)
+            (replies_with (token ∷ g.tokens)) (gives_token position value location e plain) refl g.run refl;
       }
 
   -- such a text gives its values from each position on
-  pub gives_from : (values : List TokenValue) (last : List LexerTokenValue) (position : ℕ) (rest : List Seen) → drop position items ≡ rest → map (λ s. item_value s.item) rest ≡ map Ok (map lexer_value values ++ last)
+  pub gives_from : (values : List TokenValue) (last : List LexerTokenValue) (position : ℕ) (rest : List Seen) → drop position items ≡ rest
+      → map (λ s. item_value s.item) rest ≡ map Ok (map lexer_value values ++ last)
       → (last ≡ []) ⊎ (last ≡ NewLine ∷ []) → Each IsPlain values → GivesFrom position values
   gives_from [] last position rest e is (inl none) plain = ends_run position position (reads_end position (e ∙ none_there rest (is ∙ ap (map Ok) none)))
   gives_from [] last position rest e is (inr newline) plain = newline_last position rest e (is ∙ ap (map Ok) newline)
@@ -223,4 +250,5 @@ module _ (A : Answers) (items : List Seen) (all : Each IsNoHash items) where
       let one : item_value s.item ≡ Ok (lexer_value value) = cc in
       let more : map (λ t. item_value t.item) rest ≡ map Ok (map lexer_value values ++ last) = cc in
       let shown = plain_item s.item rest value one plain.0.0 in
-      gives_first position value values shown.0 (ap sight_of e ∙ shown.1) plain.0.1 (gives_from values last (position + 1) rest (after_one position s rest e) more end plain.1)
+      gives_first position value values shown.0 (ap sight_of e ∙ shown.1) plain.0.1
+      (gives_from values last (position + 1) rest (after_one position s rest e) more end plain.1)

@@ -57,32 +57,39 @@ module _ (A : Answers) (r after : SourceReader) where
   pub step_gives : (x : Outcome) → act r ≡ comes (step.Given x) after → Steps A r (Some x) after
   step_gives x e = gives x (Some x) r after (ap (λ (a : Acted). a.step) e) refl (sym (ap (λ (a : Acted). a.after) e))
 
-  defines_by : (named : Named) (o : Option Outcome) (t : SourceReader) (d : Option Definition) → act r ≡ comes (step.Defines named) after → r.definitions named.name ≡ d → Defining named d after o t → Steps A r o t
-  defines_by named o t None e is (p, q) = defines named o r t (ap (λ (a : Acted). a.step) e) is p (q ∙ ap (λ (x : SourceReader). defining named x) (sym (ap (λ (a : Acted). a.after) e)))
+  defines_by : (named : Named) (o : Option Outcome) (t : SourceReader) (d : Option Definition) → act r ≡ comes (step.Defines named) after
+      → r.definitions named.name ≡ d → Defining named d after o t → Steps A r o t
+  defines_by named o t None e is (p, q) = defines named o r t (ap (λ (a : Acted). a.step) e) is p (q
+      ∙ ap (λ (x : SourceReader). defining named x) (sym (ap (λ (a : Acted). a.after) e)))
   defines_by named o t (Some old) e is (inl h) = repeats named old o r t (ap (λ (a : Acted). a.step) e) is h.0 h.1 (h.2 ∙ sym (ap (λ (a : Acted). a.after) e))
   defines_by named o t (Some old) e is (inr h) = redefines named old o r t (ap (λ (a : Acted). a.step) e) is h.0 h.1 (h.2 ∙ sym (ap (λ (a : Acted). a.after) e))
 
-  pub step_defines : (named : Named) (o : Option Outcome) (t : SourceReader) → act r ≡ comes (step.Defines named) after → Defining named (after.definitions named.name) after o t → Steps A r o t
+  pub step_defines : (named : Named) (o : Option Outcome) (t : SourceReader) → act r ≡ comes (step.Defines named) after
+      → Defining named (after.definitions named.name) after o t → Steps A r o t
   step_defines named o t e by =
       let left : (act r).after.definitions ≡ r.definitions = define_leaves r named (ap (λ (a : Acted). a.step) e) in
       let same : after.definitions ≡ r.definitions = sym (ap (λ (a : Acted). a.after.definitions) e) ∙ left in
       defines_by named o t (after.definitions named.name) e (sym (ap (λ (d : Definitions). d named.name) same)) by
 
-  decides_by : (word : Location) (tokens : List Token) (result : Result Bool Fault) (o : Option Outcome) (t : SourceReader) → (act r).step ≡ step.Condition word tokens → IsCondition A word tokens r.definitions result → DecidesBy result r o t → Steps A r o t
+  decides_by : (word : Location) (tokens : List Token) (result : Result Bool Fault) (o : Option Outcome) (t : SourceReader)
+      → (act r).step ≡ step.Condition word tokens → IsCondition A word tokens r.definitions result → DecidesBy result r o t → Steps A r o t
   decides_by word tokens (Ok holds) o t e is (p, q) = decides word tokens holds o r t e is p q
   decides_by word tokens (Err fault) o t e is (p, q) = undecided word tokens fault o r t e is p q
 
-  pub step_decides : (word : Location) (tokens : List Token) (o : Option Outcome) (t : SourceReader) → act r ≡ comes (step.Condition word tokens) after → Deciding A word tokens after o t → Steps A r o t
+  pub step_decides : (word : Location) (tokens : List Token) (o : Option Outcome) (t : SourceReader)
+      → act r ≡ comes (step.Condition word tokens) after → Deciding A word tokens after o t → Steps A r o t
   step_decides word tokens o t e by =
       let at : (act r).step ≡ step.Condition word tokens = ap (λ (a : Acted). a.step) e in
       let same : after ≡ r = sym (ap (λ (a : Acted). a.after) e) ∙ (act_waits r).condition word tokens at in
       decides_by word tokens by.result o t at (rw same at by.is) (rw same at by.comes)
 
-  renumbers_by : (word : Location) (tokens : List Token) (result : Result ℕ Fault) (o : Option Outcome) (t : SourceReader) → (act r).step ≡ step.LineNumber word tokens → IsLineNumber A word tokens r.definitions result → RenumbersBy word result r o t → Steps A r o t
+  renumbers_by : (word : Location) (tokens : List Token) (result : Result ℕ Fault) (o : Option Outcome) (t : SourceReader)
+      → (act r).step ≡ step.LineNumber word tokens → IsLineNumber A word tokens r.definitions result → RenumbersBy word result r o t → Steps A r o t
   renumbers_by word tokens (Ok n) o t e is (p, q) = renumbers word tokens n o r t e is p q
   renumbers_by word tokens (Err fault) o t e is (p, q) = unnumbered word tokens fault o r t e is p q
 
-  pub step_renumbers : (word : Location) (tokens : List Token) (o : Option Outcome) (t : SourceReader) → act r ≡ comes (step.LineNumber word tokens) after → Renumbering A word tokens after o t → Steps A r o t
+  pub step_renumbers : (word : Location) (tokens : List Token) (o : Option Outcome) (t : SourceReader)
+      → act r ≡ comes (step.LineNumber word tokens) after → Renumbering A word tokens after o t → Steps A r o t
   step_renumbers word tokens o t e by =
       let at : (act r).step ≡ step.LineNumber word tokens = ap (λ (a : Acted). a.step) e in
       let same : after ≡ r = sym (ap (λ (a : Acted). a.after) e) ∙ (act_waits r).number word tokens at in

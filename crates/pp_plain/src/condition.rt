@@ -88,7 +88,8 @@ fn unwanted_word(alloc: Global, word: &Word) -> Result<Fault, Stop>
 
 // The fault of a `defined` with its operand, or else that of a line that ends too early.
 fn fault_of_operand(alloc: Global, directive: Location, word: &Word) -> Result<Fault, Stop>
-    ensures { IfOk result (λ fault. fault ≡ parts.fault_of_operand (spec.ended_early directive) word.now) }
+    ensures { IfOk result (λ fault. fault
+        ≡ parts.fault_of_operand (spec.ended_early directive) word.now) }
 {
     match word {
         Word::Defined(_, Err(fault)) => copy_of(alloc, fault),
@@ -142,7 +143,8 @@ fn holds_alone(
     words: &Words,
     evaluation: Result<Value, Found>,
 ) -> Result<bool, Halt>
-    ensures { Meets result (spec.alone_on_line directive words.now (λ value. not (is_zero value)) evaluation) }
+    ensures { Meets result (spec.alone_on_line directive words.now
+        (λ value. not (is_zero value)) evaluation) }
 {
     match evaluation {
         Ok(value) => {
@@ -189,7 +191,8 @@ pub fn condition(
     levels: u32,
     budget: &mut Budget,
 ) -> Result<bool, Halt>
-    ensures reads { Satisfies result (spec.IsCondition (answers_at levels) directive tokens (meaning_of definitions.now)) }
+    ensures reads { Satisfies result (spec.IsCondition (answers_at levels) directive tokens
+        (meaning_of definitions.now)) }
     ensures budget { budget.new.steps ≤ budget.old.steps }
 {
     let kind = LineKind::Condition;
@@ -251,7 +254,8 @@ pub fn line_number(
     levels: u32,
     budget: &mut Budget,
 ) -> Result<u32, Halt>
-    ensures reads { Satisfies result (spec.IsLineNumber (answers_at levels) directive tokens (meaning_of definitions.now)) }
+    ensures reads { Satisfies result (spec.IsLineNumber (answers_at levels) directive tokens
+        (meaning_of definitions.now)) }
     ensures budget { budget.new.steps ≤ budget.old.steps }
 {
     let kind = LineKind::LineNumber;

@@ -37,7 +37,8 @@ impl<'a> Model for ParameterList<'a> {
 
 // The parameters with one more, whose name this token is to be.
 fn parameter_here(alloc: Global, names: NameList, token: &lexer::Token) -> Result<NameList, Halt>
-    ensures { Meets result (parts.parameter_here names token.now (conversions.identifier_of token.now.value)) }
+    ensures { Meets result (parts.parameter_here names token.now
+        (conversions.identifier_of token.now.value)) }
 {
     let Some(name) = identifier_of(alloc, &token.value)? else {
         return Err(Halt::Fault(refused_token(alloc, token)?));

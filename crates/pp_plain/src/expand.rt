@@ -71,7 +71,8 @@ pub fn expand_arguments(
     levels: u32,
     budget: &mut Budget,
 ) -> Result<Result<TokenLists, Fault>, Stop>
-    ensures each { IfOk result (λ answer. Each (Alone levels) (meaning_of visible.now) hidden.now arguments.now answer) }
+    ensures each { IfOk result (λ answer. Each (Alone levels)
+        (meaning_of visible.now) hidden.now arguments.now answer) }
     ensures budget { budget.new.steps ≤ budget.old.steps }
 {
     let mut expanded = Vec::new(alloc);
@@ -94,7 +95,8 @@ pub fn expand_argument(
     levels: u32,
     budget: &mut Budget,
 ) -> Result<Result<TokenList, Fault>, Stop>
-    ensures alone { IfOk result (λ expanded. Alone levels tokens.now (meaning_of visible.now) hidden.now expanded) }
+    ensures alone { IfOk result (λ expanded. Alone levels tokens.now
+        (meaning_of visible.now) hidden.now expanded) }
     ensures budget { budget.new.steps ≤ budget.old.steps }
 {
     let mut expander = argument_expander(alloc, tokens, visible, hidden)?;
@@ -111,7 +113,8 @@ fn collect(
     levels: u32,
     budget: &mut Budget,
 ) -> Result<Result<TokenList, Fault>, Stop>
-    ensures collects { IfOk result (λ expanded. Collects argument_reading (answers_at levels) (seen list_state expander.old) expanded) }
+    ensures collects { IfOk result (λ expanded. Collects argument_reading (answers_at levels)
+        (seen list_state expander.old) expanded) }
     ensures budget { budget.new.steps ≤ budget.old.steps }
 {
     let mut items = Vec::new(alloc);
@@ -132,7 +135,8 @@ fn argument_expander<'a>(
     visible: &'a Definitions,
     hidden: &[Text],
 ) -> Result<Expander<ArgumentReader<'a>>, AllocError>
-    ensures { IfOk result (λ expander. seen list_state expander ≡ reading_of tokens.now (meaning_of visible.now) hidden.now) }
+    ensures { IfOk result (λ expander. seen list_state expander
+        ≡ reading_of tokens.now (meaning_of visible.now) hidden.now) }
 {
     let reader = ArgumentReader {
         tokens: copy_tokens(alloc, tokens)?,
@@ -148,7 +152,8 @@ fn emit_alone(
     levels: u32,
     budget: &mut Budget,
 ) -> Result<Outcome, Stop>
-    ensures emits { IfOk result (λ outcome. Emits argument_reading (answers_at levels) (seen list_state expander.old) outcome (seen list_state expander.new)) }
+    ensures emits { IfOk result (λ outcome. Emits argument_reading (answers_at levels)
+        (seen list_state expander.old) outcome (seen list_state expander.new)) }
     ensures budget { budget.new.steps ≤ budget.old.steps }
 {
     'turns: loop {
@@ -174,7 +179,8 @@ pub fn emit<R: Reader>(
     levels: u32,
     budget: &mut Budget,
 ) -> Result<Outcome, Stop>
-    ensures emits { IfOk result (λ outcome. Emits R.reading (answers_at levels) (seen R.state expander.old) outcome (seen R.state expander.new)) }
+    ensures emits { IfOk result (λ outcome. Emits R.reading (answers_at levels)
+        (seen R.state expander.old) outcome (seen R.state expander.new)) }
     ensures budget { budget.new.steps ≤ budget.old.steps }
 {
     'turns: loop {

@@ -191,7 +191,8 @@ impl<R: Reader> Expander<R> {
 
     /// The next outcome, before it is looked up.
     pub fn take(&mut self, budget: &mut Budget) -> Result<Outcome, Stop>
-        ensures takes { IfOk result (λ outcome. Takes R.reading (seen R.state self.old) outcome (seen R.state self.new)) }
+        ensures takes { IfOk result (λ outcome. Takes R.reading (seen R.state self.old) outcome
+            (seen R.state self.new)) }
         ensures budget { budget.new.steps ≤ budget.old.steps }
     {
         if let Some(outcome) = self.held.take() {
@@ -245,7 +246,8 @@ impl<R: Reader> Expander<R> {
         line: u32,
         arguments: &TokenLists,
     ) -> Result<(), AllocError>
-        ensures { OnOk result (seen R.state self.new ≡ opened opening line arguments.now (seen R.state self.old)) }
+        ensures { OnOk result (seen R.state self.new
+            ≡ opened opening line arguments.now (seen R.state self.old)) }
     {
         let Opening {
             token: _token,
@@ -268,7 +270,8 @@ impl<R: Reader> Expander<R> {
         call: Call,
         answer: Result<TokenLists, Fault>,
     ) -> Result<Option<Fault>, AllocError>
-        ensures { IfOk result (λ fault. Resolves call answer (seen R.state self.old) fault (seen R.state self.new)) }
+        ensures { IfOk result (λ fault. Resolves call answer (seen R.state self.old) fault
+            (seen R.state self.new)) }
     {
         match answer {
             Ok(arguments) => {
@@ -286,7 +289,8 @@ impl<R: Reader> Expander<R> {
         paren: Location,
         budget: &mut Budget,
     ) -> Result<Result<Gathered, Fault>, Stop>
-        ensures gathers { IfOk result (λ gathered. Gathers R.reading 0 paren (seen R.state self.old) gathered (seen R.state self.new)) }
+        ensures gathers { IfOk result (λ gathered. Gathers R.reading 0 paren
+            (seen R.state self.old) gathered (seen R.state self.new)) }
         ensures budget { budget.new.steps ≤ budget.old.steps }
     {
         let mut tokens = Vec::new(self.alloc);
@@ -314,7 +318,8 @@ impl<R: Reader> Expander<R> {
 
     /// Takes the `(` of a call, or holds what stands in its place.
     fn take_paren(&mut self, budget: &mut Budget) -> Result<Option<Location>, Stop>
-        ensures takes { IfOk result (λ paren. TakesParen R.reading (seen R.state self.old) paren (seen R.state self.new)) }
+        ensures takes { IfOk result (λ paren. TakesParen R.reading (seen R.state self.old) paren
+            (seen R.state self.new)) }
         ensures budget { budget.new.steps ≤ budget.old.steps }
     {
         let found = self.take(budget)?;
@@ -332,7 +337,8 @@ impl<R: Reader> Expander<R> {
 
     /// What stands after the name of a macro with parameters.
     fn find_call(&mut self, budget: &mut Budget) -> Result<Found, Stop>
-        ensures finds { IfOk result (λ found. Finds R.reading (seen R.state self.old) found (seen R.state self.new)) }
+        ensures finds { IfOk result (λ found. Finds R.reading (seen R.state self.old) found
+            (seen R.state self.new)) }
         ensures budget { budget.new.steps ≤ budget.old.steps }
     {
         let Some(paren) = self.take_paren(budget)? else {
@@ -354,7 +360,8 @@ impl<R: Reader> Expander<R> {
 
     /// One turn of reading.
     pub fn turn(&mut self, budget: &mut Budget) -> Result<Turn, Stop>
-        ensures turns { IfOk result (λ turn. Turns R.reading (seen R.state self.old) turn (seen R.state self.new)) }
+        ensures turns { IfOk result (λ turn. Turns R.reading (seen R.state self.old) turn
+            (seen R.state self.new)) }
         ensures budget { budget.new.steps ≤ budget.old.steps }
     {
         let taken = self.take(budget)?;
@@ -375,7 +382,8 @@ impl<R: Reader> Expander<R> {
         opening: Opening,
         budget: &mut Budget,
     ) -> Result<Turn, Stop>
-        ensures turns { IfOk result (λ turn. TurnsAt R.reading taken opening (seen R.state self.old) turn (seen R.state self.new)) }
+        ensures turns { IfOk result (λ turn. TurnsAt R.reading taken opening
+            (seen R.state self.old) turn (seen R.state self.new)) }
         ensures budget { budget.new.steps ≤ budget.old.steps }
     {
         if !is_function_like(&opening) {
@@ -394,7 +402,8 @@ impl<R: Reader> Expander<R> {
 
     /// Replaces a macro without parameters.
     fn replace(&mut self, opening: Opening) -> Result<(), AllocError>
-        ensures { OnOk result (seen R.state self.new ≡ opened opening opening.token.location.line [] (seen R.state self.old)) }
+        ensures { OnOk result (seen R.state self.new
+            ≡ opened opening opening.token.location.line [] (seen R.state self.old)) }
     {
         let line = line_of(&opening);
         let none = TokenLists {

@@ -125,7 +125,8 @@ fn unwanted_word(kind: LineKind, directive: Location, outcome: Outcome) -> Fault
 
 /// The name of an identifier, or the fault of anything else where a part of `defined` is wanted.
 fn name_or_fault(directive: Location, outcome: Outcome) -> Result<Text, Fault>
-    ensures { MatchResult result (λ name. name_in outcome ≡ Some name) (λ fault. (name_in outcome ≡ None) × (fault ≡ unwanted directive outcome)) }
+    ensures { MatchResult result (λ name. name_in outcome ≡ Some name)
+        (λ fault. (name_in outcome ≡ None) × (fault ≡ unwanted directive outcome)) }
 {
     match outcome {
         Outcome::Token(token) => {
@@ -176,7 +177,8 @@ fn closed_operand(
     levels: u32,
     budget: &mut Budget,
 ) -> Result<Result<bool, Fault>, Stop>
-    ensures closes { IfOk result (λ answer. Closes kind directive (answers_at levels) name.now (seen line_state expander.old) answer (seen line_state expander.new)) }
+    ensures closes { IfOk result (λ answer. Closes kind directive (answers_at levels) name.now
+        (seen line_state expander.old) answer (seen line_state expander.new)) }
     ensures budget { budget.new.steps ≤ budget.old.steps }
 {
     let found = emit(expander, levels, budget)?;
@@ -196,7 +198,9 @@ fn operand_in_parentheses(
     levels: u32,
     budget: &mut Budget,
 ) -> Result<Result<bool, Fault>, Stop>
-    ensures parenthesized { IfOk result (λ answer. Parenthesized kind directive (answers_at levels) (seen line_state expander.old) answer (seen line_state expander.new)) }
+    ensures parenthesized { IfOk result
+        (λ answer. Parenthesized kind directive (answers_at levels)
+        (seen line_state expander.old) answer (seen line_state expander.new)) }
     ensures budget { budget.new.steps ≤ budget.old.steps }
 {
     let found = expander.take(budget)?;
@@ -214,7 +218,8 @@ fn operand(
     levels: u32,
     budget: &mut Budget,
 ) -> Result<Result<bool, Fault>, Stop>
-    ensures operand { IfOk result (λ answer. Operand kind directive (answers_at levels) (seen line_state expander.old) answer (seen line_state expander.new)) }
+    ensures operand { IfOk result (λ answer. Operand kind directive (answers_at levels)
+        (seen line_state expander.old) answer (seen line_state expander.new)) }
     ensures budget { budget.new.steps ≤ budget.old.steps }
 {
     let found = expander.take(budget)?;
@@ -236,7 +241,8 @@ fn read_words(
     levels: u32,
     budget: &mut Budget,
 ) -> Result<Words, Stop>
-    ensures words { IfOk result (λ words. LineWords kind directive (answers_at levels) (seen line_state expander.old) words) }
+    ensures words { IfOk result (λ words. LineWords kind directive (answers_at levels)
+        (seen line_state expander.old) words) }
     ensures budget { budget.new.steps ≤ budget.old.steps }
 {
     let mut words = Vec::new(expander.alloc);
@@ -282,7 +288,8 @@ pub fn line_words(
     levels: u32,
     budget: &mut Budget,
 ) -> Result<Words, Stop>
-    ensures words { IfOk result (λ words. LineWords kind directive (answers_at levels) (reading_of tokens.items (meaning_of definitions.now) []) words) }
+    ensures words { IfOk result (λ words. LineWords kind directive (answers_at levels)
+        (reading_of tokens.items (meaning_of definitions.now) []) words) }
     ensures budget { budget.new.steps ≤ budget.old.steps }
 {
     let reader = LineReader {

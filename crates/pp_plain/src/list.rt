@@ -15,7 +15,8 @@ use std::alloc::{AllocError, Global};
 
 /// Takes the first item.
 pub fn take_first<T>(items: &mut Vec<T>) -> Option<T>
-    ensures { MatchOption result ((items.old.items ≡ []) × (items.new.items ≡ [])) (λ first. items.old.items ≡ first ∷ items.new.items) }
+    ensures { MatchOption result ((items.old.items ≡ [])
+        × (items.new.items ≡ [])) (λ first. items.old.items ≡ first ∷ items.new.items) }
 {
     if items.is_empty() {
         None
@@ -26,7 +27,9 @@ pub fn take_first<T>(items: &mut Vec<T>) -> Option<T>
 
 /// Takes the first token, with the end marks before it.
 pub fn take_token(list: &mut Vec<Entry>) -> Option<Token>
-    ensures { MatchOption result ((after_marks list.old.items ≡ []) × (list.new.items ≡ [])) (λ token. after_marks list.old.items ≡ Entry.Plain token ∷ list.new.items) }
+    ensures { MatchOption result ((after_marks list.old.items ≡ [])
+        × (list.new.items ≡ [])) (λ token. after_marks list.old.items
+        ≡ Entry.Plain token ∷ list.new.items) }
 {
     while let Some(entry) = take_first(list) {
         if let Entry::Plain(token) = entry {
@@ -64,7 +67,8 @@ pub fn open_names(alloc: Global, list: &[Entry]) -> Result<Vec<Text>, AllocError
 
 /// Puts copies of the tokens at the end.
 fn push_tokens(alloc: Global, list: &mut Vec<Entry>, tokens: &[Token]) -> Result<(), AllocError>
-    ensures { OnOk result ((rest : List Item) → list.new.items ++ rest ≡ list.old.items ++ followed_by tokens.now rest) }
+    ensures { OnOk result ((rest : List Item) → list.new.items ++ rest
+        ≡ list.old.items ++ followed_by tokens.now rest) }
 {
     for token in tokens {
         list.push(Entry::Plain(copy_token(alloc, token)?))?;
@@ -97,7 +101,8 @@ fn push_replacement(
     parameter: Option<usize>,
     arguments: &[TokenList],
 ) -> Result<(), AllocError>
-    ensures { OnOk result ((rest : List Item) → list.new.items ++ rest ≡ list.old.items ++ replacement arguments.now token.now parameter rest) }
+    ensures { OnOk result ((rest : List Item) → list.new.items ++ rest
+        ≡ list.old.items ++ replacement arguments.now token.now parameter rest) }
 {
     let Some(position) = parameter else {
         list.push(Entry::Plain(copy_token(alloc, token)?))?;
@@ -117,7 +122,8 @@ fn push_replaced(
     arguments: &[TokenList],
     body: &[Token],
 ) -> Result<(), AllocError>
-    ensures { OnOk result ((rest : List Item) → list.new.items ++ rest ≡ list.old.items ++ replaced parameters.now arguments.now body.now rest) }
+    ensures { OnOk result ((rest : List Item) → list.new.items ++ rest
+        ≡ list.old.items ++ replaced parameters.now arguments.now body.now rest) }
 {
     for token in body {
         let parameter = parameter_of(parameters, &token.value);
@@ -135,7 +141,8 @@ pub fn splice(
     line: u32,
     arguments: &TokenLists,
 ) -> Result<(), AllocError>
-    ensures { OnOk result (list.new.items ≡ spliced name definition.now line arguments.now list.old.items) }
+    ensures { OnOk result (list.new.items
+        ≡ spliced name definition.now line arguments.now list.old.items) }
 {
     let mut front = Vec::new(alloc);
     push_replaced(

@@ -23,7 +23,8 @@ pub trait Reader {
 
     /// What it gives next.
     fn read(&mut self, budget: &mut Budget) -> Result<Outcome, Stop>
-        ensures reads { IfOk result (λ outcome. reading.Reads (state self.old) outcome (state self.new)) }
+        ensures reads { IfOk result (λ outcome. reading.Reads (state self.old) outcome
+            (state self.new)) }
         ensures budget { budget.new.steps ≤ budget.old.steps };
 
     /// The definitions that it sees.

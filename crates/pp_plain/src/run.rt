@@ -125,7 +125,9 @@ fn add_define(
     content: &str,
 ) -> Result<Reply, Stop>
     requires { length content.now < 2 ^ 32 - 1 }
-    ensures { IfOk result (λ reply. Replying (answers_at expansion_limit) (seen source_state expander.old) (spec.add_define name.now content.now) reply (seen source_state expander.new)) }
+    ensures { IfOk result (λ reply. Replying (answers_at expansion_limit)
+        (seen source_state expander.old) (spec.add_define name.now content.now) reply
+        (seen source_state expander.new)) }
 {
     match added_body(alloc, content) {
         Ok(body) => {
@@ -145,7 +147,9 @@ fn reply_to(
     budget: &mut Budget,
 ) -> Result<Reply, Stop>
     requires { HasRoom call.now }
-    ensures { IfOk result (λ reply. Replying (answers_at expansion_limit) (seen source_state expander.old) (call_of call.now) reply (seen source_state expander.new)) }
+    ensures { IfOk result (λ reply. Replying (answers_at expansion_limit)
+        (seen source_state expander.old) (call_of call.now) reply
+        (seen source_state expander.new)) }
 {
     match call {
         Call::AddDefine(name, content) => add_define(alloc, expander, name, content),
@@ -178,7 +182,8 @@ fn replies(
     budget: &mut Budget,
 ) -> Result<Vec<Reply>, Stop>
     requires { All HasRoom calls.now }
-    ensures { IfOk result (λ replies. spec.Runs (spec.by_rules (answers_at expansion_limit)) (seen source_state expander.old) (map call_of calls.now) replies.items) }
+    ensures { IfOk result (λ replies. spec.Runs (spec.by_rules (answers_at expansion_limit))
+        (seen source_state expander.old) (map call_of calls.now) replies.items) }
 {
     let Some((call, others)) = calls.split_first() else {
         return Ok(Vec::new(alloc));
@@ -223,7 +228,8 @@ pub fn run(
 ) -> Result<Option<Vec<Reply>>, AllocError>
     requires size { length source.now < 2 ^ 32 - 1 }
     requires contents { All HasRoom calls.now }
-    ensures { IfOk result (λ answer. IfSome answer (λ replies. spec.IsRun source.now (map call_of calls.now) replies.items)) }
+    ensures { IfOk result (λ answer. IfSome answer
+        (λ replies. spec.IsRun source.now (map call_of calls.now) replies.items)) }
 {
     let mut budget = Budget { steps };
     match run_within(alloc, source, calls, &mut budget) {

@@ -15,7 +15,8 @@ use std::alloc::Global;
 
 // What a directive's `#` with this token after it is.
 fn named_directive(alloc: Global, token: &lexer::Token) -> Result<Sight, Stop>
-    ensures is { IfOk result (λ sight. sight ≡ spec.named_directive token.now (conversions.identifier_of token.now.value)) }
+    ensures is { IfOk result (λ sight. sight
+        ≡ spec.named_directive token.now (conversions.identifier_of token.now.value)) }
     ensures seen { IfOk result (λ sight. spec.least_items sight ≤ 2) }
 {
     match identifier_of(alloc, &token.value)? {

@@ -40,7 +40,9 @@ fn fault_outcome(fault: Fault) -> Option<Outcome>
 impl<'a> Source<'a> {
     // Defines the name, unless it has another definition already.
     fn define(&mut self, named: Named) -> Result<Option<Outcome>, Stop>
-        ensures { IfOk result (λ o. Defining named (meaning_of self.old.reader.changes named.name) (reader_of self.old.reader) o (reader_of self.new.reader)) }
+        ensures { IfOk result (λ o. Defining named
+            (meaning_of self.old.reader.changes named.name) (reader_of self.old.reader) o
+            (reader_of self.new.reader)) }
     {
         match self.reader.definitions.find(&named.name) {
             None => {
@@ -62,7 +64,8 @@ impl<'a> Source<'a> {
         budget: &mut Budget,
     ) -> Result<Option<Outcome>, Stop>
         requires { self.old.reader.position + 2 ≤ length self.old.reader.items }
-        ensures decides { IfOk result (λ o. Deciding (answers_at expansion_limit) word tokens (reader_of self.old.reader) o (reader_of self.new.reader)) }
+        ensures decides { IfOk result (λ o. Deciding (answers_at expansion_limit) word tokens
+            (reader_of self.old.reader) o (reader_of self.new.reader)) }
         ensures budget { budget.new.steps ≤ budget.old.steps }
     {
         let definitions = &self.reader.definitions;
@@ -91,7 +94,9 @@ impl<'a> Source<'a> {
         budget: &mut Budget,
     ) -> Result<Option<Outcome>, Stop>
         requires { self.old.reader.position + 2 ≤ length self.old.reader.items }
-        ensures renumbers { IfOk result (λ o. Renumbering (answers_at expansion_limit) word tokens (reader_of self.old.reader) o (reader_of self.new.reader)) }
+        ensures renumbers { IfOk result
+            (λ o. Renumbering (answers_at expansion_limit) word tokens
+            (reader_of self.old.reader) o (reader_of self.new.reader)) }
         ensures budget { budget.new.steps ≤ budget.old.steps }
     {
         let definitions = &self.reader.definitions;
@@ -114,7 +119,8 @@ impl<'a> Source<'a> {
 
     // One token or line of the source.
     fn step(&mut self, budget: &mut Budget) -> Result<Option<Outcome>, Stop>
-        ensures steps { IfOk result (λ o. Steps (answers_at expansion_limit) (reader_of self.old.reader) o (reader_of self.new.reader)) }
+        ensures steps { IfOk result (λ o. Steps (answers_at expansion_limit)
+            (reader_of self.old.reader) o (reader_of self.new.reader)) }
         ensures budget { budget.new.steps ≤ budget.old.steps }
     {
         match self.reader.act(self.alloc)? {

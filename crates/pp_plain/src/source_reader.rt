@@ -155,7 +155,8 @@ impl<'a> SourceReader<'a> {
     // Gathers a `#line`.
     fn line_number(&mut self, alloc: Global, word: Location) -> Result<Step, Halt>
         requires { self.old.position + 2 ≤ length self.old.items }
-        ensures acts { ActsAs result (parts.line_number word (reader_of self.old)) (reader_of self.new) }
+        ensures acts { ActsAs result (parts.line_number word (reader_of self.old))
+            (reader_of self.new) }
         ensures line { HasLineIfOk result self.new }
     {
         let tokens = line_tokens(alloc, self.after_word())?;
@@ -210,7 +211,8 @@ impl<'a> SourceReader<'a> {
 
     // Whether the line on which the block begins is live.
     fn are_surroundings_live(&self, alloc: Global, block: &Block) -> Result<bool, Stop>
-        ensures { IfOk result (λ live. live ≡ are_surroundings_live self.now.items self.now.truths block.now) }
+        ensures { IfOk result (λ live. live
+            ≡ are_surroundings_live self.now.items self.now.truths block.now) }
     {
         is_live(alloc, self.items, &self.truths, block.first.position)
     }
@@ -223,7 +225,8 @@ impl<'a> SourceReader<'a> {
         word: Location,
     ) -> Result<Step, Halt>
         requires { self.old.position + 2 ≤ length self.old.items }
-        ensures acts { ActsAs result (spec.elif_in (option_copied block.entry) word (reader_of self.old)) (reader_of self.new) }
+        ensures acts { ActsAs result (spec.elif_in (option_copied block.entry) word
+            (reader_of self.old)) (reader_of self.new) }
         ensures line { HasLineIfOk result self.new }
     {
         let Some(block) = block else {
@@ -246,7 +249,9 @@ impl<'a> SourceReader<'a> {
         word: Location,
     ) -> Result<Step, Halt>
         requires { self.old.position + 2 ≤ length self.old.items }
-        ensures acts { ActsAs result (spec.only_word word (reader_of self.old) (spec.else_in (option_copied block.entry) word (reader_of self.old))) (reader_of self.new) }
+        ensures acts { ActsAs result (spec.only_word word (reader_of self.old)
+            (spec.else_in (option_copied block.entry) word
+            (reader_of self.old))) (reader_of self.new) }
         ensures line { HasLineIfOk result self.new }
     {
         ended_line(alloc, word, self.after_word())?;
@@ -268,7 +273,8 @@ impl<'a> SourceReader<'a> {
         word: Location,
     ) -> Result<Step, Halt>
         requires { self.old.position + 2 ≤ length self.old.items }
-        ensures acts { ActsAs result (spec.endif_in (option_copied block.entry) word (reader_of self.old)) (reader_of self.new) }
+        ensures acts { ActsAs result (spec.endif_in (option_copied block.entry) word
+            (reader_of self.old)) (reader_of self.new) }
         ensures line { HasLineIfOk result self.new }
     {
         let Some(block) = block else {
@@ -374,7 +380,8 @@ impl<'a> SourceReader<'a> {
         word: Location,
     ) -> Result<Step, Halt>
         requires { self.old.position + 2 ≤ length self.old.items }
-        ensures acts { ActsAs result (spec.live_directive directive word (reader_of self.old)) (reader_of self.new) }
+        ensures acts { ActsAs result (spec.live_directive directive word (reader_of self.old))
+            (reader_of self.new) }
         ensures line { HasLineIfOk result self.new }
     {
         match directive {
@@ -403,7 +410,8 @@ impl<'a> SourceReader<'a> {
         word: Location,
     ) -> Result<Step, Halt>
         requires { self.old.position + 2 ≤ length self.old.items }
-        ensures acts { ActsAs result (spec.dead_directive directive word (reader_of self.old)) (reader_of self.new) }
+        ensures acts { ActsAs result (spec.dead_directive directive word (reader_of self.old))
+            (reader_of self.new) }
         ensures line { HasLineIfOk result self.new }
     {
         match directive {

@@ -19,10 +19,12 @@ adds_none e = none e [] e refl refl
 adds_all : (ds others : List Definition) (e f g : State) → Adds e ds f → Adds f others g → Adds e (ds ++ others) g
 adds_all ds others e f g (none e1 ds1 f1 p q) adds = subst (λ these. Adds e (these ++ others) g) (sym p) (subst (λ s. Adds s others g) q adds)
 adds_all ds others e f g (first d tokens rest e1 ds1 f1 has more p) adds =
-    first d tokens (rest ++ others) e (ds ++ others) g has (adds_all rest others (with_added (chars d.0.now) tokens e) f g more adds) (ap (λ these. these ++ others) p)
+    first d tokens (rest ++ others) e (ds ++ others) g has (adds_all rest others (with_added (chars d.0.now) tokens e) f g more adds)
+    (ap (λ these. these ++ others) p)
 
 -- a definition that a call answers with no error is added
-pub added_one : (d : Definition) (old new : Preprocessing) (answer : Result (Unit {0}) Fault) (done : Unit {0}) → answer ≡ Ok done → length d.1.now < 2 ^ 32 - 1 → IsAdded old d.0.now d.1.now answer new → AreAdded old (d ∷ []) new
+pub added_one : (d : Definition) (old new : Preprocessing) (answer : Result (Unit {0}) Fault) (done : Unit {0}) → answer ≡ Ok done
+    → length d.1.now < 2 ^ 32 - 1 → IsAdded old d.0.now d.1.now answer new → AreAdded old (d ∷ []) new
 added_one d old new answer done e short (refused given same) = cc
 added_one d old new answer done e short (faulty fault has given same) = cc
 added_one d old new answer done e short (added tokens has given h) =
@@ -42,7 +44,8 @@ added_none p = record {
 }
 
 -- one more after others
-added_more : (ds : List Definition) (d : Definition) (old mid new : Preprocessing) → AreAdded old ds mid → AreAdded mid (d ∷ []) new → AreAdded old (ds ++ (d ∷ [])) new
+added_more : (ds : List Definition) (d : Definition) (old mid new : Preprocessing) → AreAdded old ds mid → AreAdded mid (d ∷ []) new
+    → AreAdded old (ds ++ (d ∷ [])) new
 added_more ds d old mid new a b = record {
   accepted = All-push IsAccepted ds d a.accepted (All-head IsAccepted d [] b.accepted);
   stands = λ state stands.
@@ -53,5 +56,6 @@ added_more ds d old mid new a b = record {
 }
 
 -- and so one after another of a list
-pub added_next : (ds : List Definition) (i : ℕ) (other : Definition) (old mid new : Preprocessing) → i < length ds → AreAdded old (take i ds) mid → AreAdded mid (get_or ds i other ∷ []) new → AreAdded old (take (i + 1) ds) new
+pub added_next : (ds : List Definition) (i : ℕ) (other : Definition) (old mid new : Preprocessing) → i < length ds → AreAdded old (take i ds) mid
+    → AreAdded mid (get_or ds i other ∷ []) new → AreAdded old (take (i + 1) ds) new
 added_next ds i other old mid new within a b = rw (take_more ds i other within) (added_more (take i ds) (get_or ds i other) old mid new a b)

@@ -37,7 +37,8 @@ line_ordinary [] h b = absurd h
 line_ordinary (t ∷ ts) h b = All-cons IsOrdinaryToken t ts b (rw b at h)
 
 -- lines stay apart after another first line that begins alike
-apart_alike : (line other : List Token) (lines : List (List Token)) → begins_ordinary other ≡ begins_ordinary line → AreApart (line ∷ lines) → AreApart (other ∷ lines)
+apart_alike : (line other : List Token) (lines : List (List Token)) → begins_ordinary other ≡ begins_ordinary line → AreApart (line ∷ lines)
+    → AreApart (other ∷ lines)
 apart_alike line other [] e h = tt
 apart_alike line other (next ∷ lines) e (h, hs) = (ap (λ b. b && begins_ordinary next) e ∙ h, hs)
 
@@ -51,7 +52,8 @@ module _ (t : Token) (line : List Token) (lines : List (List Token)) (each : All
   another : (is_ordinary t.value && begins_ordinary line) ≡ false → All IsLine ((t ∷ []) ∷ line ∷ lines) × AreApart ((t ∷ []) ∷ line ∷ lines)
   another e = (All-cons IsLine (t ∷ []) (line ∷ lines) (single t) each, (e, apart))
 
-  lines_before : (a b : Bool) → is_ordinary t.value ≡ a → begins_ordinary line ≡ b → All IsLine (put_before t (line ∷ lines)) × AreApart (put_before t (line ∷ lines))
+  lines_before : (a b : Bool) → is_ordinary t.value ≡ a → begins_ordinary line ≡ b → All IsLine (put_before t (line ∷ lines))
+      × AreApart (put_before t (line ∷ lines))
   lines_before true true e f = rw (e, f) (longer e f)
   lines_before true false e f = let both : (is_ordinary t.value && begins_ordinary line) ≡ false = rw (e, f) refl in rw both (another both)
   lines_before false b e f = let both : (is_ordinary t.value && begins_ordinary line) ≡ false = rw e refl in rw both (another both)
@@ -69,12 +71,14 @@ row_of [] = refl
 row_of (t ∷ ts) = row_before t (lines_of ts) ∙ ap (λ rest. t ∷ rest) (row_of ts)
 
 -- the lines of a line in front of others
-line_in_front : (t : Token) (ts rest : List Token) (lines : List (List Token)) → lines_of rest ≡ lines → IsLine (t ∷ ts) → AreApart ((t ∷ ts) ∷ lines) → lines_of ((t ∷ ts) ++ rest) ≡ (t ∷ ts) ∷ lines
+line_in_front : (t : Token) (ts rest : List Token) (lines : List (List Token)) → lines_of rest ≡ lines → IsLine (t ∷ ts)
+    → AreApart ((t ∷ ts) ∷ lines) → lines_of ((t ∷ ts) ++ rest) ≡ (t ∷ ts) ∷ lines
 line_in_front t [] rest [] e h apart = ap (λ lines. put_before t lines) e
 line_in_front t [] rest (line ∷ lines) e h apart = ap (λ lines. put_before t lines) e ∙ rw (apart.0) refl
 line_in_front t (u ∷ us) rest lines e h apart = in_front (is_ordinary t.value) refl (line_in_front u us rest lines e)
   where
-    in_front : (b : Bool) → is_ordinary t.value ≡ b → (IsLine (u ∷ us) → AreApart ((u ∷ us) ∷ lines) → lines_of ((u ∷ us) ++ rest) ≡ (u ∷ us) ∷ lines) → lines_of ((t ∷ u ∷ us) ++ rest) ≡ (t ∷ u ∷ us) ∷ lines
+    in_front : (b : Bool) → is_ordinary t.value ≡ b → (IsLine (u ∷ us) → AreApart ((u ∷ us) ∷ lines)
+        → lines_of ((u ∷ us) ++ rest) ≡ (u ∷ us) ∷ lines) → lines_of ((t ∷ u ∷ us) ++ rest) ≡ (t ∷ u ∷ us) ∷ lines
     in_front true a after =
         let others : AllOrdinary (u ∷ us) = rw a at h in
         let b : is_ordinary u.value ≡ true = All-head IsOrdinaryToken u us others in
@@ -87,7 +91,8 @@ again : (lines : List (List Token)) → All IsLine lines → AreApart lines → 
 again [] each apart = refl
 again ([] ∷ lines) each apart = absurd (All-head IsLine [] lines each)
 again ((t ∷ ts) ∷ lines) each apart =
-    line_in_front t ts (in_a_row lines) lines (again lines (All-tail IsLine (t ∷ ts) lines each) (rest_apart (t ∷ ts) lines apart)) (All-head IsLine (t ∷ ts) lines each) apart
+    line_in_front t ts (in_a_row lines) lines (again lines (All-tail IsLine (t ∷ ts) lines each) (rest_apart (t ∷ ts) lines apart))
+    (All-head IsLine (t ∷ ts) lines each) apart
   where
     rest_apart : (line : List Token) (lines : List (List Token)) → AreApart (line ∷ lines) → AreApart lines
     rest_apart line [] h = tt

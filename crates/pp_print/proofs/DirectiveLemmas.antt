@@ -43,19 +43,22 @@ entry_texts : (tokens : List Token) → AllOrdinary tokens → map entry_text (p
 entry_texts [] h = refl
 entry_texts (t ∷ ts) h =
     let ordinary : IsTrue (is_ordinary t.value) = All-head (λ (x : Token). IsTrue (is_ordinary x.value)) t ts h in
-    rw (holds_none t.value ordinary, leaf_spelled t.value) (ap (λ texts. spelling t.value ∷ texts) (entry_texts ts (All-tail (λ (x : Token). IsTrue (is_ordinary x.value)) t ts h)))
+    rw (holds_none t.value ordinary, leaf_spelled t.value) (ap (λ texts. spelling t.value ∷ texts)
+    (entry_texts ts (All-tail (λ (x : Token). IsTrue (is_ordinary x.value)) t ts h)))
 
 -- and so is their text
 pub spelled-entries : (tokens : List Token) → AllOrdinary tokens → spelled_entries (preorder tokens) ≡ spelled_text (values_of tokens)
 spelled-entries tokens h = ap (λ texts. join_with_byte 32 texts) (entry_texts tokens h)
 
 -- a word alone
-pub word_alone : (word : List ℕ) (tokens : List Token) (entries : List Entry) → IsUtf8 word → preorder tokens ≡ entries → length tokens ≡ 0 → word ≡ encode_utf8_all (with_tokens (chars word) entries)
+pub word_alone : (word : List ℕ) (tokens : List Token) (entries : List Entry) → IsUtf8 word → preorder tokens ≡ entries → length tokens ≡ 0
+    → word ≡ encode_utf8_all (with_tokens (chars word) entries)
 word_alone word [] entries u e none = sym (ap (λ es. encode_utf8_all (with_tokens (chars word) es)) (sym e) ∙ encodes-chars word u)
 word_alone word (t ∷ ts) entries u e none = absurd (omega arith)
 
 -- a word, a space and the tokens after it
-pub word_and_tokens : (word : List ℕ) (tokens : List Token) (entries : List Entry) → IsUtf8 word → preorder tokens ≡ entries → AllOrdinary tokens → 0 < length tokens
+pub word_and_tokens : (word : List ℕ) (tokens : List Token) (entries : List Entry) → IsUtf8 word → preorder tokens ≡ entries → AllOrdinary tokens
+    → 0 < length tokens
     → word ++ (32 ∷ encode_utf8_all (spelled_text (values_of tokens))) ≡ encode_utf8_all (with_tokens (chars word) entries)
 word_and_tokens word [] entries u e h some = absurd (omega arith)
 word_and_tokens word (t ∷ ts) entries u e h some =
@@ -69,14 +72,17 @@ word_and_tokens word (t ∷ ts) entries u e h some =
 
 -- the text of each kind of directive item
 module _ (value : TokenValue) where
-  pub version_text : (item : VersionItem) → value ≡ Version item → encode_utf8_all (with_tokens (chars (codes "#version")) item.tokens) ≡ encode_utf8_all (directive_text value)
+  pub version_text : (item : VersionItem) → value ≡ Version item
+      → encode_utf8_all (with_tokens (chars (codes "#version")) item.tokens) ≡ encode_utf8_all (directive_text value)
   unfolding chars
   version_text item e = sym (ap (λ v. encode_utf8_all (directive_text v)) e)
 
-  pub extension_text : (item : ExtensionItem) → value ≡ Extension item → encode_utf8_all (with_tokens (chars (codes "#extension")) item.tokens) ≡ encode_utf8_all (directive_text value)
+  pub extension_text : (item : ExtensionItem) → value ≡ Extension item
+      → encode_utf8_all (with_tokens (chars (codes "#extension")) item.tokens) ≡ encode_utf8_all (directive_text value)
   unfolding chars
   extension_text item e = sym (ap (λ v. encode_utf8_all (directive_text v)) e)
 
-  pub pragma_text : (item : PragmaItem) → value ≡ Pragma item → encode_utf8_all (with_tokens (chars (codes "#pragma")) item.tokens) ≡ encode_utf8_all (directive_text value)
+  pub pragma_text : (item : PragmaItem) → value ≡ Pragma item
+      → encode_utf8_all (with_tokens (chars (codes "#pragma")) item.tokens) ≡ encode_utf8_all (directive_text value)
   unfolding chars
   pragma_text item e = sym (ap (λ v. encode_utf8_all (directive_text v)) e)

@@ -23,7 +23,8 @@ same_end (Stopped error location) (Stopped fault place) e =
     ap (λ (x : Fault). Stopped (x.0) (x.1)) item
 
 -- what is left of a run after tokens that come first
-pub gives_rest : (tokens all : List Token) (end : RunEnd) (e f g h : State) → Gives e tokens f → Gives e all g → Comes g (last_outcome end) h → (more : List Token) × (all ≡ tokens ++ more) × Gives f more g
+pub gives_rest : (tokens all : List Token) (end : RunEnd) (e f g h : State) → Gives e tokens f → Gives e all g → Comes g (last_outcome end) h
+    → (more : List Token) × (all ≡ tokens ++ more) × Gives f more g
 gives_rest tokens all end e f g h (nothing ts e1 f1 p q) given ends =
     (all, ap (λ ts. ts ++ all) (sym p), subst (λ s. Gives s all g) (sym q) given)
 gives_rest tokens all end e f g h (first t rest ts e1 m f1 c more p) (nothing us e2 g1 q r) ends =
@@ -36,7 +37,8 @@ gives_rest tokens all end e f g h (first t rest ts e1 m f1 c more p) (first u ot
     (left.0, q ∙ ap (λ ts. u ∷ ts) left.1 ∙ ap (λ x. x ∷ (rest ++ left.0)) token ∙ ap (λ ts. ts ++ left.0) (sym p), left.2)
 
 -- after the last token there is none
-none_left : (more : List Token) (end other : RunEnd) (f g x y : State) → Gives f more g → Comes f (last_outcome end) x → Comes g (last_outcome other) y → (more ≡ []) × (end ≡ other)
+none_left : (more : List Token) (end other : RunEnd) (f g x y : State) → Gives f more g → Comes f (last_outcome end) x
+    → Comes g (last_outcome other) y → (more ≡ []) × (end ≡ other)
 none_left more end other f g x y (nothing ts f1 g1 p q) ends others =
     let there : Comes f (last_outcome other) y = subst (λ s. Comes s (last_outcome other) y) q others in
     (p, same_end end other (one_comes (last_outcome end) (last_outcome other) f x y ends there).0)
@@ -44,14 +46,16 @@ none_left more end other f g x y (first t rest ts f1 m g1 c given p) ends others
     absurd (not_last t end (one_comes (outcome.Token t) (last_outcome end) f m x c ends).0)
 
 -- a state has one run
-pub one_run_from : (e : State) (tokens others : List Token) (end other : RunEnd) → EndsFrom e tokens end → EndsFrom e others other → (tokens ≡ others) × (end ≡ other)
+pub one_run_from : (e : State) (tokens others : List Token) (end other : RunEnd) → EndsFrom e tokens end → EndsFrom e others other
+    → (tokens ≡ others) × (end ≡ other)
 one_run_from e tokens others end other a b =
     let left = gives_rest tokens others other e a.before b.before b.after a.gives b.gives b.ends in
     let none = none_left left.0 end other a.before b.before a.after b.after left.2 a.ends b.ends in
     (sym (left.1 ∙ ap (λ more. tokens ++ more) none.0 ∙ append-nil tokens), none.1)
 
 -- which the tokens that come first begin
-pub first_tokens_from : (e : State) (tokens all : List Token) (end : RunEnd) → AreFirstFrom e tokens → EndsFrom e all end → (more : List Token) × (all ≡ tokens ++ more)
+pub first_tokens_from : (e : State) (tokens all : List Token) (end : RunEnd) → AreFirstFrom e tokens → EndsFrom e all end → (more : List Token)
+    × (all ≡ tokens ++ more)
 first_tokens_from e tokens all end a b =
     let left = gives_rest tokens all end e a.after b.before b.after a.gives b.gives b.ends in
     (left.0, left.1)

@@ -19,16 +19,26 @@ module _ (old new : Preprocessing) (ready : is_spent old ≡ false) where
   given_token t h = elim (unspent (is_spent old) _ _ ready h.gives) [ inl refused ↦ let e = refused.item in cc | inr given ↦ given ]
 
   -- it came next, and the preprocessor stands for the state after it
-  pub next_token : (t : Token) → IsNextItem old (Some (Ok t)) new → (state : State) → Stands old state → (after : State) × Comes state (outcome.Token t) after × Stands new after
+  pub next_token : (t : Token) → IsNextItem old (Some (Ok t)) new → (state : State) → Stands old state → (after : State)
+      × Comes state (outcome.Token t) after × Stands new after
   next_token t h state stands = let item = (given_token t h).item state stands in (item.after, item.emits, item.goes_on)
 
   pub token_keeps_ready : (t : Token) → IsNextItem old (Some (Ok t)) new → is_spent new ≡ false
   token_keeps_ready t h = (given_token t h).spent
 
   -- an error came next, unless memory was refused
-  pub next_error : (fault : Fault) → IsNextItem old (Some (Err fault)) new → fault.0 ≢ OutOfMemory → (state : State) → Stands old state → (after : State) × Comes state (outcome.Fault fault) after
-  next_error fault h wanted state stands = elim (unspent (is_spent old) _ _ ready h.gives) [ inl refused ↦ absurd (wanted (let e = refused.item in cc)) | inr given ↦ let item = given.item state stands in (item.after, item.emits) ]
+  pub next_error : (fault : Fault) → IsNextItem old (Some (Err fault)) new → fault.0 ≢ OutOfMemory → (state : State) → Stands old state
+      → (after : State) × Comes state (outcome.Fault fault) after
+  next_error fault h wanted state stands = elim (unspent (is_spent old) _ _ ready h.gives) [
+    | inl refused ↦ absurd
+        (wanted (let e = refused.item in cc))
+    | inr given ↦ let item = given.item state stands in (item.after, item.emits)
+  ]
 
   -- the end came next
   pub next_none : IsNextItem old None new → (state : State) → Stands old state → (after : State) × Comes state outcome.End after
-  next_none h state stands = elim (unspent (is_spent old) _ _ ready h.gives) [ inl refused ↦ let e = refused.item in cc | inr given ↦ let item = given.item state stands in (item.after, item.emits) ]
+  next_none h state stands = elim (unspent (is_spent old) _ _ ready h.gives) [
+    | inl refused ↦ let e = refused.item in
+        cc
+    | inr given ↦ let item = given.item state stands in (item.after, item.emits)
+  ]

@@ -31,7 +31,8 @@ all_right : {X : Type 0} (P : X → Type 0) (xs ys : List X) → All P (xs ++ ys
 all_right P xs ys h = All-same P ys (drop (length xs) (xs ++ ys)) (sym (drop-append_seam xs ys)) (All-drop P (length xs) (xs ++ ys) h)
 
 -- tokens are ordinary where all their entries are
-pub all_ordinary : (tokens : List Token) → All (λ entry. IsTrue (is_ordinary_leaf entry.leaf)) (preorder tokens) → All (λ t. IsTrue (is_ordinary t.value)) tokens
+pub all_ordinary : (tokens : List Token) → All (λ entry. IsTrue (is_ordinary_leaf entry.leaf)) (preorder tokens)
+    → All (λ t. IsTrue (is_ordinary t.value)) tokens
 all_ordinary [] h = All-nil IsOrdinaryToken
 all_ordinary (t ∷ ts) h =
     let front : IsTrue (is_ordinary_leaf (leaf_of t.value)) = All-head IsOrdinaryEntry _ _ h in

@@ -25,8 +25,10 @@ pub spaced : (text : List ℕ) → encode_utf8_all (32 ∷ text) ≡ 32 ∷ enco
 spaced text = ap (λ space. space ++ encode_utf8_all text) (encode_ascii 32 (lit< tt))
 
 -- an ordinary token in front of others
-in_front : (t u : Token) (us : List Token) → encode_utf8_all (spelled_text (values_of (t ∷ u ∷ us))) ≡ word_of t ++ (32 ∷ encode_utf8_all (spelled_text (values_of (u ∷ us))))
-in_front t u us = encodes-append (spelling t.value) (32 ∷ spelled_text (values_of (u ∷ us))) ∙ ap (λ rest. word_of t ++ rest) (spaced (spelled_text (values_of (u ∷ us))))
+in_front : (t u : Token) (us : List Token) → encode_utf8_all (spelled_text (values_of (t ∷ u ∷ us))) ≡ word_of t ++ (32 ∷ encode_utf8_all
+    (spelled_text (values_of (u ∷ us))))
+in_front t u us = encodes-append (spelling t.value) (32 ∷ spelled_text (values_of (u ∷ us)))
+    ∙ ap (λ rest. word_of t ++ rest) (spaced (spelled_text (values_of (u ∷ us))))
 
 module _ (t : Token) (ordinary : is_ordinary t.value ≡ true) where
   begins_at : (u : Token) (us : List Token) (lines : List (List Token)) (b : Bool) → is_ordinary u.value ≡ b
@@ -61,7 +63,8 @@ module _ (t : Token) (directive : is_ordinary t.value ≡ false) where
   stands (line ∷ lines) = simp directive
 
   -- and ends the line that has been begun
-  ends : (begun : List ℕ) (lines : List (List Token)) → after_line begun (put_before t lines) ≡ begun ∷ encode_utf8_all (directive_text t.value) ∷ map bytes_of lines
+  ends : (begun : List ℕ) (lines : List (List Token)) → after_line begun (put_before t lines) ≡ begun ∷ encode_utf8_all
+      (directive_text t.value) ∷ map bytes_of lines
   ends begun [] = simp directive
   ends begun (line ∷ lines) = simp directive
 

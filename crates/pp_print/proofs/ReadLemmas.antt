@@ -4,7 +4,8 @@ use Rattle.std.specs.Io.{StartsWith, appended_bytes}
 use Rattle.std.specs.Io.KnownBytes.{Consumes, IsAtEnd}
 
 -- what was read before and what a further read appended were read together
-pub consumes_more : (a b c : Option (List ℕ)) (old new : List ℕ) → Consumes a b old → StartsWith new old → Consumes b c (appended_bytes old new) → Consumes a c new
+pub consumes_more : (a b c : Option (List ℕ)) (old new : List ℕ) → Consumes a b old → StartsWith new old → Consumes b c (appended_bytes old new)
+    → Consumes a c new
 consumes_more None b c old new first starts second = tt
 consumes_more (Some xs) None c old new first starts second = absurd first
 consumes_more (Some xs) (Some ys) None old new first starts second = absurd second

@@ -27,8 +27,10 @@ pub record IsPrinting (start : State) (items : Preprocessing) (line : Option (Li
   pub written : Appends old new (written_lines done)
 
 -- lines that are written after others
-appends_lines : (a b c : Option (List ℕ)) (first second : List (List ℕ)) → Appends a b (written_lines first) → Appends b c (written_lines second) → Appends a c (written_lines (first ++ second))
-appends_lines a b c first second f s = rw (flat_map-append (λ (line : List ℕ). line ++ (10 ∷ [])) first second) (appends_more a b c (written_lines first) (written_lines second) f s)
+appends_lines : (a b c : Option (List ℕ)) (first second : List (List ℕ)) → Appends a b (written_lines first) → Appends b c (written_lines second)
+    → Appends a c (written_lines (first ++ second))
+appends_lines a b c first second f s = rw (flat_map-append (λ (line : List ℕ). line ++ (10 ∷ [])) first second) (appends_more a b c
+    (written_lines first) (written_lines second) f s)
 
 -- nothing is printed before the first item
 pub printing_starts : (start : State) (items : Preprocessing) (known : Option (List ℕ)) → Stands items start → IsPrinting start items None known known
@@ -44,7 +46,8 @@ printing_starts start items known stands = record {
 
 module _ (start : State) (items : Preprocessing) (line old mid new : Option (List ℕ)) (p : IsPrinting start items line old mid) where
   -- a token is printed: it goes to the line, or ends it
-  pub printing_goes_on : (left : Preprocessing) (t : Token) (after : State) (longer : Option (List ℕ)) → Comes p.state (outcome.Token t) after → Stands left after → longer ≡ line_after line t.value → Appends mid new (written_lines (ended_lines line t.value))
+  pub printing_goes_on : (left : Preprocessing) (t : Token) (after : State) (longer : Option (List ℕ)) → Comes p.state (outcome.Token t) after
+      → Stands left after → longer ≡ line_after line t.value → Appends mid new (written_lines (ended_lines line t.value))
       → IsPrinting start left longer old new
   printing_goes_on left t after longer comes stands f w = rw f (record {
     tokens = p.tokens ++ (t ∷ []);
@@ -52,7 +55,8 @@ module _ (start : State) (items : Preprocessing) (line old mid new : Option (Lis
     given = gives_more p.tokens t start p.state after p.given comes;
     stands = stands;
     done = p.done ++ ended_lines line t.value;
-    lines = λ more. ap output_lines (append_assoc p.tokens (t ∷ []) more) ∙ p.lines (t ∷ more) ∙ sym (append_assoc p.done (ended_lines line t.value) (lines_from (line_after line t.value) more));
+    lines = λ more. ap output_lines (append_assoc p.tokens (t ∷ []) more) ∙ p.lines (t ∷ more)
+        ∙ sym (append_assoc p.done (ended_lines line t.value) (lines_from (line_after line t.value) more));
     written = appends_lines old mid new p.done (ended_lines line t.value) p.written w;
   })
 
@@ -63,7 +67,8 @@ module _ (start : State) (items : Preprocessing) (line old mid new : Option (Lis
       rw whole (appends_lines old mid new p.done (begun_line line) p.written w)
 
   -- at the end, or an error, all before it is printed
-  pub printing_ends : (end : RunEnd) (after : State) → Comes p.state (last_outcome end) after → Appends mid new (written_lines (begun_line line)) → IsPrinted (EndsFrom start) end old new
+  pub printing_ends : (end : RunEnd) (after : State) → Comes p.state (last_outcome end) after → Appends mid new (written_lines (begun_line line))
+      → IsPrinted (EndsFrom start) end old new
   printing_ends end after comes w = record {
     tokens = p.tokens;
     run = record { before = p.state; gives = p.given; after = after; ends = comes };
@@ -71,7 +76,8 @@ module _ (start : State) (items : Preprocessing) (line old mid new : Option (Lis
   }
 
 -- what is printed so far begins the output
-pub printing_begun : (start : State) (items : Preprocessing) (line old new : Option (List ℕ)) → IsPrinting start items line old new → IsBegun (AreFirstFrom start) old new
+pub printing_begun : (start : State) (items : Preprocessing) (line old new : Option (List ℕ)) → IsPrinting start items line old new
+    → IsBegun (AreFirstFrom start) old new
 printing_begun start items line old new p = record {
   tokens = p.tokens;
   first = record { after = p.state; gives = p.given };

@@ -22,6 +22,7 @@ found c word None differs = (λ h. search rules, λ h. absurd (lacks c word diff
 found c word (Some x) (whole, differs) = (λ _. holds c word x.0.now x.1.now whole, λ _. search rules)
 
 -- the parts are those round the first separator
-pub cut : (c : ℕ) (word : List ℕ) (r : Option (Bor (List ℕ) × Bor (List ℕ))) → IsSplit c word r → IfSome r (λ parts. IsCutAtFirst c word parts.0.now parts.1.now)
+pub cut : (c : ℕ) (word : List ℕ) (r : Option (Bor (List ℕ) × Bor (List ℕ))) → IsSplit c word r
+    → IfSome r (λ parts. IsCutAtFirst c word parts.0.now parts.1.now)
 cut c word None differs = tt
 cut c word (Some x) (whole, differs) = record { whole = whole; first = lacks c x.0.now differs }

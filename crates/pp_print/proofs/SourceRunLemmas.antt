@@ -27,23 +27,27 @@ one_state ds e f g (first d tokens rest e1 ds1 f1 has more p) (first other other
     let these : others ≡ tokens = cc in
     let there : with_added (chars other.0.now) others e ≡ with_added (chars d.0.now) tokens e =
     ap (λ (x : Definition). with_added (chars x.0.now) others e) same ∙ ap (λ ts. with_added (chars d.0.now) ts e) these in
-    one_state rest (with_added (chars d.0.now) tokens e) f g more (subst (λ s. Adds s rest g) there (subst (λ ds. Adds (with_added (chars other.0.now) others e) ds g) those again))
+    one_state rest (with_added (chars d.0.now) tokens e) f g more
+    (subst (λ s. Adds s rest g) there (subst (λ ds. Adds (with_added (chars other.0.now) others e) ds g) those again))
 
 module _ (source : List ℕ) (ds : List Definition) where
   -- a source and definitions have one run
-  pub one_run_of : (tokens others : List Token) (end other : RunEnd) → IsRunOf source ds tokens end → IsRunOf source ds others other → (tokens ≡ others) × (end ≡ other)
+  pub one_run_of : (tokens others : List Token) (end other : RunEnd) → IsRunOf source ds tokens end → IsRunOf source ds others other
+      → (tokens ≡ others) × (end ≡ other)
   one_run_of tokens others end other a b =
       let same = one_state ds (start_of source) b.state a.state b.adds a.adds in
       one_run_from a.state tokens others end other a.run (subst (λ s. EndsFrom s others other) same b.run)
 
   -- which the tokens that come first begin
-  pub first_tokens_of : (tokens all : List Token) (end : RunEnd) → AreFirstOf source ds tokens → IsRunOf source ds all end → (more : List Token) × (all ≡ tokens ++ more)
+  pub first_tokens_of : (tokens all : List Token) (end : RunEnd) → AreFirstOf source ds tokens → IsRunOf source ds all end → (more : List Token)
+      × (all ≡ tokens ++ more)
   first_tokens_of tokens all end a b =
       let same = one_state ds (start_of source) b.state a.state b.adds a.adds in
       first_tokens_from a.state tokens all end a.first (subst (λ s. EndsFrom s all end) same b.run)
 
 -- the source was read, and the definitions were added to a preprocessor of it
-module _ (known : Option (List ℕ)) (source : List ℕ) (ds : List Definition) (fresh items : Preprocessing) (read : IfSome known (λ bytes. source ≡ bytes)) (stands : Stands fresh (start_of source)) (added : AreAdded fresh ds items)
+module _ (known : Option (List ℕ)) (source : List ℕ) (ds : List Definition)
+    (fresh items : Preprocessing) (read : IfSome known (λ bytes. source ≡ bytes)) (stands : Stands fresh (start_of source)) (added : AreAdded fresh ds items)
     (old new : Option (List ℕ)) where
   -- what holds of the bytes that were read holds of the source's, where these are known
   of_source : (P : List ℕ → Type 0) → P source → IfSome known P
@@ -56,8 +60,10 @@ module _ (known : Option (List ℕ)) (source : List ℕ) (ds : List Definition) 
       record { tokens = p.tokens; run = record { state = state.0; adds = state.1; run = p.run }; written = p.written }
 
   -- what is printed of its items is printed of their run
-  pub printed_of : (r : Result RunEnd RunFault) → IfOk r (λ end. ArePrinted items end old new) → IfOk r (λ end. IfSome known (λ bytes. IsPrinted (IsRunOf bytes ds) end old new))
-  printed_of r h = IfOk-weaker r (λ end. ArePrinted items end old new) (λ end. IfSome known (λ bytes. IsPrinted (IsRunOf bytes ds) end old new)) (λ end printed. of_source (λ bytes. IsPrinted (IsRunOf bytes ds) end old new) (printed_at end printed)) h
+  pub printed_of : (r : Result RunEnd RunFault) → IfOk r (λ end. ArePrinted items end old new)
+      → IfOk r (λ end. IfSome known (λ bytes. IsPrinted (IsRunOf bytes ds) end old new))
+  printed_of r h = IfOk-weaker r (λ end. ArePrinted items end old new) (λ end. IfSome known (λ bytes. IsPrinted (IsRunOf bytes ds) end old new))
+      (λ end printed. of_source (λ bytes. IsPrinted (IsRunOf bytes ds) end old new) (printed_at end printed)) h
 
   begun_at : AreBegun items old new → IsBegun (AreFirstOf source ds) old new
   begun_at begun =

@@ -14,7 +14,8 @@ IfOk-equal f (Ok x) a b e h = h ∙ e
 IfOk-equal f (Err _) a b e h = h
 
 -- how the line of an error in the source is made of its parts
-pub error_parts : (name name' start end : List ℕ) → name ≡ name' → codes "error " ++ (name ++ (codes " " ++ (start ++ (codes " " ++ end)))) ≡ codes "error " ++ name' ++ codes " " ++ start ++ codes " " ++ end
+pub error_parts : (name name' start end : List ℕ) → name ≡ name'
+    → codes "error " ++ (name ++ (codes " " ++ (start ++ (codes " " ++ end)))) ≡ codes "error " ++ name' ++ codes " " ++ start ++ codes " " ++ end
 error_parts name name' start end e = ap (λ n. codes "error " ++ (n ++ (codes " " ++ (start ++ (codes " " ++ end))))) e ∙ simp append_assoc
 
 -- a fault that is passed on
@@ -24,15 +25,22 @@ same_fault r (Err z) x y e h f = let same : z ≡ y = cc in cc
 
 -- characters that were pushed onto a text are bytes that were
 bytes_pushed : (old new word : List ℕ) → IsUtf8 old → IsUtf8 new → chars new ≡ chars old ++ word → new ≡ old ++ encode_utf8_all word
-bytes_pushed old new word u v e = sym (encodes-chars new v) ∙ ap encode_utf8_all e ∙ encodes-append (chars old) word ∙ ap (λ bytes. bytes ++ encode_utf8_all word) (encodes-chars old u)
+bytes_pushed old new word u v e = sym (encodes-chars new v) ∙ ap encode_utf8_all e ∙ encodes-append (chars old) word
+    ∙ ap (λ bytes. bytes ++ encode_utf8_all word) (encodes-chars old u)
 
 -- an ordinary token as a line's first word
-pub first_word : (value : TokenValue) (line : Option (List ℕ)) (old new : List ℕ) → IsTrue (is_ordinary value) → line ≡ None → old ≡ [] → IsUtf8 old → IsUtf8 new → chars new ≡ chars old ++ spelling value → Some new ≡ line_after line value
-first_word value line old new ordinary e none u v h = rw (ordinary, e) (ap Some (bytes_pushed old new (spelling value) u v h ∙ ap (λ bytes. bytes ++ encode_utf8_all (spelling value)) none))
+pub first_word : (value : TokenValue) (line : Option (List ℕ)) (old new : List ℕ) → IsTrue (is_ordinary value) → line ≡ None → old ≡ [] → IsUtf8 old
+    → IsUtf8 new → chars new ≡ chars old ++ spelling value → Some new ≡ line_after line value
+first_word value line old new ordinary e none u v h = rw (
+  ordinary,
+  e,
+) (ap Some (bytes_pushed old new (spelling value) u v h ∙ ap (λ bytes. bytes ++ encode_utf8_all (spelling value)) none))
 
 -- and as a further one, after a space
-pub further_word : {A E : Type 0} (r : Result A E) (value : TokenValue) (line : Option (List ℕ)) (old mid new : List ℕ) → IsTrue (is_ordinary value) → line ≡ Some old → mid ≡ old ++ (32 ∷ []) → IsUtf8 mid → IsUtf8 new
+pub further_word : {A E : Type 0} (r : Result A E) (value : TokenValue) (line : Option (List ℕ)) (old mid new : List ℕ) → IsTrue (is_ordinary value)
+    → line ≡ Some old → mid ≡ old ++ (32 ∷ []) → IsUtf8 mid → IsUtf8 new
     → OnOk r (chars new ≡ chars mid ++ spelling value) → OnOk r (Some new ≡ line_after line value)
 further_word (Ok a) value line old mid new ordinary e space u v h =
-    rw (ordinary, e) (ap Some (bytes_pushed mid new (spelling value) u v h ∙ ap (λ bytes. bytes ++ encode_utf8_all (spelling value)) space ∙ append_assoc old (32 ∷ []) (encode_utf8_all (spelling value))))
+    rw (ordinary, e) (ap Some (bytes_pushed mid new (spelling value) u v h ∙ ap (λ bytes. bytes ++ encode_utf8_all (spelling value)) space
+    ∙ append_assoc old (32 ∷ []) (encode_utf8_all (spelling value))))
 further_word (Err _) value line old mid new ordinary e space u v h = tt

@@ -19,4 +19,5 @@ appends_more (Some xs) (Some ys) (Some zs) first second f s = s ∙ ap (λ w. w 
 pub written_more : (bytes done rest : List ℕ) (n : ℕ) → bytes ≡ done ++ rest → bytes ≡ (done ++ take n rest) ++ take (length rest - n) (drop n rest)
 written_more bytes done rest n e =
     let left : take (length rest - n) (drop n rest) ≡ drop n rest = take_all _ (drop n rest) (omega (arith, length-drop n rest)) in
-    e ∙ ap (λ w. done ++ w) (sym (take-append-drop n rest)) ∙ sym (append_assoc done (take n rest) (drop n rest)) ∙ ap (λ w. (done ++ take n rest) ++ w) (sym left)
+    e ∙ ap (λ w. done ++ w) (sym (take-append-drop n rest)) ∙ sym (append_assoc done (take n rest) (drop n rest))
+    ∙ ap (λ w. (done ++ take n rest) ++ w) (sym left)

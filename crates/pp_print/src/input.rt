@@ -19,10 +19,12 @@ const CHUNK: usize = 16384;
 /// fails, where there are as many bytes, and where they aren't UTF-8.
 pub fn read_source<R: Source>(alloc: Global, reader: &mut R) -> Result<String, RunFault>
     requires { R.failed reader.old ≡ false }
-    ensures read { IfOk result (λ source. IfSome (R.remaining reader.old) (λ bytes. string_bytes source ≡ bytes)) }
+    ensures read { IfOk result (λ source. IfSome (R.remaining reader.old)
+        (λ bytes. string_bytes source ≡ bytes)) }
     ensures short { IfOk result (λ source. string_len source < 2 ^ 32 - 1) }
     ensures ok { OnOk result (R.failed reader.new ≡ false) }
-    ensures err { IfErr result (λ fault. IsReadFault fault (R.failed reader.new) (R.remaining reader.old)) }
+    ensures err { IfErr result (λ fault. IsReadFault fault (R.failed reader.new)
+        (R.remaining reader.old)) }
 {
     let bytes = read_bytes(alloc, reader)?;
     match String::from_utf8(bytes) {
@@ -34,10 +36,12 @@ pub fn read_source<R: Source>(alloc: Global, reader: &mut R) -> Result<String, R
 // Reads all bytes, but no more than 2^32 - 1.
 fn read_bytes<R: Source>(alloc: Global, reader: &mut R) -> Result<Vec<u8>, RunFault>
     requires { R.failed reader.old ≡ false }
-    ensures read { IfOk result (λ source. IfSome (R.remaining reader.old) (λ bytes. source.items ≡ bytes)) }
+    ensures read { IfOk result (λ source. IfSome (R.remaining reader.old)
+        (λ bytes. source.items ≡ bytes)) }
     ensures short { IfOk result (λ source. vec_len source < 2 ^ 32 - 1) }
     ensures ok { OnOk result (R.failed reader.new ≡ false) }
-    ensures err { IfErr result (λ fault. IsReadFault fault (R.failed reader.new) (R.remaining reader.old)) }
+    ensures err { IfErr result (λ fault. IsReadFault fault (R.failed reader.new)
+        (R.remaining reader.old)) }
 {
     let mut bytes = Vec::new(alloc);
     let mut chunk = [0u8; CHUNK];
@@ -62,9 +66,11 @@ fn read_some<R: Source>(
     ensures appends { OnOk result (StartsWith bytes.new.items bytes.old.items) }
     ensures read { OnOk result (Consumes (R.remaining reader.old) (R.remaining reader.new)
         (appended_bytes bytes.old.items bytes.new.items)) }
-    ensures end { IfOk result (λ count. count ≡ 0 → 0 < length buffer.old → IsAtEnd (R.remaining reader.new)) }
+    ensures end { IfOk result (λ count. count ≡ 0 → 0 < length buffer.old
+        → IsAtEnd (R.remaining reader.new)) }
     ensures ok { OnOk result (R.failed reader.new ≡ false) }
-    ensures err { IfErr result (λ fault. IsDeviceFault RunFault.ReadFailed fault (R.failed reader.new)) }
+    ensures err { IfErr result (λ fault. IsDeviceFault RunFault.ReadFailed fault
+        (R.failed reader.new)) }
 {
     match reader.read(buffer) {
         Ok(count) => {

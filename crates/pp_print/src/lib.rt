@@ -56,7 +56,8 @@ pub fn run<R: Source, W: Sink>(
     ensures printed { IfOk result (λ end. IfSome (R.remaining reader.old) (λ source.
         IsPrinted (IsRunOf source defs.now) end (W.contents writer.old) (W.contents writer.new))) }
     ensures begun { IsErrOf result RunFault.OutOfMemory → IfSome (R.remaining reader.old) (λ source.
-        (writer.new ≡ writer.old) ⊎ IsBegun (AreFirstOf source defs.now) (W.contents writer.old) (W.contents writer.new)) }
+        (writer.new ≡ writer.old) ⊎ IsBegun (AreFirstOf source defs.now) (W.contents writer.old)
+        (W.contents writer.new)) }
 {
     let source = input::read_source(alloc, reader)?;
     let text = source.as_str();

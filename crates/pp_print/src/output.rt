@@ -29,11 +29,14 @@ pub fn print_items<W: Sink>(
 ) -> Result<RunEnd, RunFault>
     requires ready { W.failed writer.old ≡ false }
     requires unspent { is_spent items ≡ false }
-    ensures printed { IfOk result (λ end. ArePrinted items.entry end (W.contents writer.old) (W.contents writer.new)) }
-    ensures begun { IsErrOf result RunFault.OutOfMemory → AreBegun items.entry (W.contents writer.old) (W.contents writer.new) }
+    ensures printed { IfOk result (λ end. ArePrinted items.entry end (W.contents writer.old)
+        (W.contents writer.new)) }
+    ensures begun { IsErrOf result RunFault.OutOfMemory
+        → AreBegun items.entry (W.contents writer.old) (W.contents writer.new) }
     ensures stopped { IfOk result IsStoppedBySource }
     ensures ok { OnOk result (W.failed writer.new ≡ false) }
-    ensures err { IfErr result (λ fault. IsDeviceFault RunFault.WriteFailed fault (W.failed writer.new)) }
+    ensures err { IfErr result (λ fault. IsDeviceFault RunFault.WriteFailed fault
+        (W.failed writer.new)) }
 {
     // A run of tokens that may go on. It is kept as text, which is smaller than its tokens.
     let mut line = None;
@@ -61,12 +64,14 @@ fn print_token<W: Sink>(
 ) -> Result<(), RunFault>
     requires item { HoldsOrdinary token.value }
     requires ready { W.failed writer.old ≡ false }
-    ensures line { OnOk result (option_map string_bytes line.new ≡ line_after (option_map string_bytes line.old) token.value) }
+    ensures line { OnOk result (option_map string_bytes line.new
+        ≡ line_after (option_map string_bytes line.old) token.value) }
     ensures written { OnOk result (Appends (W.contents writer.old) (W.contents writer.new)
         (written_lines (ended_lines (option_map string_bytes line.old) token.value))) }
     ensures refused { IsErrOf result RunFault.OutOfMemory → writer.new ≡ writer.old }
     ensures ok { OnOk result (W.failed writer.new ≡ false) }
-    ensures err { IfErr result (λ fault. IsDeviceFault RunFault.WriteFailed fault (W.failed writer.new)) }
+    ensures err { IfErr result (λ fault. IsDeviceFault RunFault.WriteFailed fault
+        (W.failed writer.new)) }
 {
     if token.is_ordinary() {
         push_word(alloc, line, &token.value)?;
@@ -86,7 +91,8 @@ fn print_line<W: Sink>(alloc: Global, line: Option<String>, writer: &mut W) -> R
         (written_lines (begun_line (option_map string_bytes line)))) }
     ensures refused { IsErrOf result RunFault.OutOfMemory → writer.new ≡ writer.old }
     ensures ok { OnOk result (W.failed writer.new ≡ false) }
-    ensures err { IfErr result (λ fault. IsDeviceFault RunFault.WriteFailed fault (W.failed writer.new)) }
+    ensures err { IfErr result (λ fault. IsDeviceFault RunFault.WriteFailed fault
+        (W.failed writer.new)) }
 {
     let text = end_line(alloc, line)?;
     write_all(text.as_bytes(), writer)
@@ -95,7 +101,8 @@ fn print_line<W: Sink>(alloc: Global, line: Option<String>, writer: &mut W) -> R
 // Takes an ordinary token into the line: as its first word, or after a space.
 fn push_word(alloc: Global, line: &mut Option<String>, value: &TokenValue) -> Result<(), AllocError>
     requires { IsTrue (is_ordinary value.now) }
-    ensures { OnOk result (option_map string_bytes line.new ≡ line_after (option_map string_bytes line.old) value.now) }
+    ensures { OnOk result (option_map string_bytes line.new
+        ≡ line_after (option_map string_bytes line.old) value.now) }
 {
     match line {
         Some(words) => {
@@ -113,7 +120,8 @@ fn push_word(alloc: Global, line: &mut Option<String>, value: &TokenValue) -> Re
 
 // The line with its newline, or no text where no line was begun.
 fn end_line(alloc: Global, line: Option<String>) -> Result<String, AllocError>
-    ensures { IfOk result (λ text. string_bytes text ≡ written_lines (begun_line (option_map string_bytes line))) }
+    ensures { IfOk result (λ text. string_bytes text
+        ≡ written_lines (begun_line (option_map string_bytes line))) }
 {
     let Some(mut text) = line else {
         return Ok(String::new(alloc));
@@ -140,7 +148,8 @@ fn spell_directive(alloc: Global, value: &TokenValue) -> Result<String, RunFault
 // The word, and after it a space and the spelled tokens if there are any.
 fn with_tokens(alloc: Global, word: &str, tokens: &Tokens) -> Result<String, RunFault>
     requires { All (λ entry. IsTrue (is_ordinary_leaf entry.leaf)) tokens.now }
-    ensures ok { IfOk result (λ text. string_bytes text ≡ encode_utf8_all (with_tokens (chars word.now) tokens.now)) }
+    ensures ok { IfOk result (λ text. string_bytes text
+        ≡ encode_utf8_all (with_tokens (chars word.now) tokens.now)) }
     ensures err { IfErr result (λ fault. fault ≡ RunFault.OutOfMemory) }
 {
     let tokens = tokens.as_slice();
@@ -158,7 +167,8 @@ fn with_tokens(alloc: Global, word: &str, tokens: &Tokens) -> Result<String, Run
 // The tokens as text, with one space between two.
 fn spell(alloc: Global, tokens: &[Token]) -> Result<String, RunFault>
     requires { AllOrdinary tokens.now }
-    ensures ok { IfOk result (λ text. string_bytes text ≡ encode_utf8_all (spelled_text (values_of tokens.now))) }
+    ensures ok { IfOk result (λ text. string_bytes text
+        ≡ encode_utf8_all (spelled_text (values_of tokens.now))) }
     ensures err { IfErr result (λ fault. fault ≡ RunFault.OutOfMemory) }
 {
     match spell_tokens(alloc, tokens) {
@@ -172,7 +182,8 @@ fn write_all<W: Sink>(bytes: &[u8], writer: &mut W) -> Result<(), RunFault>
     requires { W.failed writer.old ≡ false }
     ensures written { OnOk result (Appends (W.contents writer.old) (W.contents writer.new) bytes.now) }
     ensures ok { OnOk result (W.failed writer.new ≡ false) }
-    ensures err { IfErr result (λ fault. (fault ≡ RunFault.WriteFailed) × (W.failed writer.new ≡ true)) }
+    ensures err { IfErr result (λ fault. (fault ≡ RunFault.WriteFailed)
+        × (W.failed writer.new ≡ true)) }
 {
     let mut rest = bytes;
     while !rest.is_empty() {

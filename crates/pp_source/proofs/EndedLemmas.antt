@@ -15,7 +15,8 @@ abbrev AreEndedFrom : Flags → List Seen → Type 0
 AreEndedFrom f items = AreEnded items × (f.start_of_line ≡ false → items ≢ [])
 
 ended_end : (spaced at_start comments : Bool) (last : Spot)
-    → AreEndedFrom (record { leading_whitespace = spaced; start_of_line = at_start; had_comments = comments }) (newline_seen (record { leading_whitespace = spaced; start_of_line = at_start; had_comments = comments }) last)
+    → AreEndedFrom (record { leading_whitespace = spaced; start_of_line = at_start; had_comments = comments })
+    (newline_seen (record { leading_whitespace = spaced; start_of_line = at_start; had_comments = comments }) last)
 ended_end spaced true comments last = (tt, λ h. absurd (let bad : true ≡ false = h in cc))
 ended_end spaced false comments last = ((λ h. absurd (let bad : true ≡ false = h in cc), tt), λ h e. cc)
 

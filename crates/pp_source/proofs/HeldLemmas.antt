@@ -19,7 +19,8 @@ IsOrdinaryToken token = IsTrue (is_ordinary token.value)
 one_entry : (entry : Entry) → IsOrdinaryEntry entry → All IsOrdinaryEntry (entry ∷ [])
 one_entry entry h = All-cons IsOrdinaryEntry entry [] h (All-nil IsOrdinaryEntry)
 
-entries_ordinary : (value : TokenValue) (location : Location) → IsTrue (is_ordinary value) → All IsOrdinaryEntry (entries_of (record { value = value; location = location }))
+entries_ordinary : (value : TokenValue) (location : Location) → IsTrue (is_ordinary value)
+    → All IsOrdinaryEntry (entries_of (record { value = value; location = location }))
 entries_ordinary (Ident name) location h = one_entry _ h
 entries_ordinary (Integer n) location h = one_entry _ h
 entries_ordinary (Float f) location h = one_entry _ h
@@ -29,7 +30,8 @@ entries_ordinary (Extension e) location h = cc
 entries_ordinary (Pragma p) location h = cc
 
 -- the entries of ordinary tokens are ordinary
-pub preorder_ordinary : (tokens : List Token) → All (λ token. IsTrue (is_ordinary token.value)) tokens → All (λ entry. IsTrue (is_ordinary_leaf entry.leaf)) (preorder tokens)
+pub preorder_ordinary : (tokens : List Token) → All (λ token. IsTrue (is_ordinary token.value)) tokens
+    → All (λ entry. IsTrue (is_ordinary_leaf entry.leaf)) (preorder tokens)
 preorder_ordinary [] h = All-nil IsOrdinaryEntry
 preorder_ordinary (token ∷ tokens) h =
     All-append IsOrdinaryEntry (entries_of token) (preorder tokens)

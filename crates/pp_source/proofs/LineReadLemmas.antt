@@ -29,15 +29,20 @@ use Rattle.pp_expansion.specs.declared.halt.Halt.TheVariants as halt
 
 module _ (levels : ℕ) (definitions : List Defined) (m : Machine) (l : Listing) where
   -- the fault of a step, unless memory was refused
-  pub reads_fault : {T : Type 0} (P : Result T Fault → Expander Listed → Type 0) (h : Halt) (n : Machine) (k : Listing) (fault : Fault) → h ≡ halt_of fault → (is_out_of_memory fault.0 ≡ false → (f : Expander Listed) × P (Err fault) f) → Reads {T = T} levels definitions m l P (Err h) n k
-  reads_fault {T} P h n k fault is passes = subst (λ (x : Halt). Reads {T = T} levels definitions m l P (Err x) n k) (sym is) (go (is_out_of_memory fault.0) refl)
+  pub reads_fault : {T : Type 0} (P : Result T Fault → Expander Listed → Type 0) (h : Halt) (n : Machine) (k : Listing) (fault : Fault)
+      → h ≡ halt_of fault → (is_out_of_memory fault.0 ≡ false → (f : Expander Listed) × P (Err fault) f) → Reads {T = T} levels definitions m l P (Err h) n k
+  reads_fault {T} P h n k fault is passes = subst (λ (x : Halt). Reads {T = T} levels definitions m l P (Err x) n k) (sym is)
+      (go (is_out_of_memory fault.0) refl)
     where
       go : (b : Bool) → is_out_of_memory fault.0 ≡ b → Reads {T = T} levels definitions m l P (Err (if b then halt.OutOfMemory else halt.Fault fault)) n k
       go true e = tt
       go false e = passes e
 
   -- what was read before has a fault, which is that of the whole
-  pub reads_broken : {T U : Type 0} (P : Result T Fault → Expander Listed → Type 0) (Q : Result U Fault → Expander Listed → Type 0) (h : Halt) (n p : Machine) (k q : Listing) (r : Result U Halt) → r ≡ Err h → ((fault : Fault) (f : Expander Listed) → P (Err fault) f → Q (Err fault) f) → Reads {T = T} levels definitions m l P (Err h) n k → Reads {T = U} levels definitions m l Q r p q
+  pub reads_broken : {T U : Type 0} (P : Result T Fault → Expander Listed → Type 0) (Q : Result U Fault → Expander Listed → Type 0)
+      (h : Halt) (n p : Machine) (k q : Listing) (r : Result U Halt) → r ≡ Err h
+      → ((fault : Fault) (f : Expander Listed) → P (Err fault) f → Q (Err fault) f) → Reads {T = T} levels definitions m l P (Err h) n k
+      → Reads {T = U} levels definitions m l Q r p q
   reads_broken {T} {U} P Q h n p k q r is on reads = subst (λ (x : Result U Halt). Reads {T = U} levels definitions m l Q x p q) (sym is) (go h reads)
     where
       go : (h : Halt) → Reads {T = T} levels definitions m l P (Err h) n k → Reads {T = U} levels definitions m l Q (Err h) p q
@@ -45,15 +50,21 @@ module _ (levels : ℕ) (definitions : List Defined) (m : Machine) (l : Listing)
       go halt.OutOfMemory reads = tt
 
   -- what is read after something that was read
-  pub reads_then : {T : Type 0} (P Q : Result T Fault → Expander Listed → Type 0) (n p : Machine) (k q : Listing) (r : Result T Halt) → ReadsOn levels definitions m l n k → ((x : Result T Fault) (f : Expander Listed) → P x f → Q x f) → Reads {T = T} levels definitions n k P r p q → Reads {T = T} levels definitions m l Q r p q
-  reads_then P Q n p k q (Ok value) before on (read, after) = (on (Ok value) _ read, record { stands = after.stands; least = le_trans after.least before.least })
+  pub reads_then : {T : Type 0} (P Q : Result T Fault → Expander Listed → Type 0) (n p : Machine) (k q : Listing) (r : Result T Halt)
+      → ReadsOn levels definitions m l n k → ((x : Result T Fault) (f : Expander Listed) → P x f → Q x f)
+      → Reads {T = T} levels definitions n k P r p q → Reads {T = T} levels definitions m l Q r p q
+  reads_then P Q n p k q (Ok value) before on (read, after) =
+      (on (Ok value) _ read, record { stands = after.stands; least = le_trans after.least before.least })
   reads_then P Q n p k q (Err (halt.Fault fault)) before on (f, read) = (f, on (Err fault) f read)
   reads_then P Q n p k q (Err halt.OutOfMemory) before on reads = tt
 
 -- what is taken next has a fault, or memory was refused
-pub taken_fault : (levels : ℕ) (definitions : List Defined) (m : Machine) (l : Listing) → IsOnLine definitions m l → (n : Machine) (k : Listing) (fault : Fault) (h : Halt) → TakesNext m (of_list l) (Err (Error fault)) n (of_list k) → h ≡ halt_of fault → ReadsTaken levels definitions m l (Err h) n k
+pub taken_fault : (levels : ℕ) (definitions : List Defined) (m : Machine) (l : Listing) → IsOnLine definitions m l
+    → (n : Machine) (k : Listing) (fault : Fault) (h : Halt) → TakesNext m (of_list l) (Err (Error fault)) n (of_list k) → h ≡ halt_of fault
+    → ReadsTaken levels definitions m l (Err h) n k
 taken_fault levels definitions m l on n k fault h next is =
-    reads_fault levels definitions m l (λ (item : Result (Option Token) Fault) (f : Expander Listed). Takes line_reading (expander_of m l) (outcome_of_item item) f) h n k fault is
+    reads_fault levels definitions m l (λ (item : Result (Option Token) Fault) (f : Expander Listed). Takes line_reading (expander_of m l)
+    (outcome_of_item item) f) h n k fault is
     (λ reported. let read = next_read levels definitions m n l k on (Err (Error fault)) next reported in (expander_of n k, read.0))
 
 -- What the search for the next item has reached: the items from here on are those from the beginning on.
@@ -65,11 +76,13 @@ pub record ItemsOn (levels : ℕ) (definitions : List Defined) (m : Machine) (l 
 pub items_start : (levels : ℕ) (definitions : List Defined) (m : Machine) (l : Listing) → IsOnLine definitions m l → ItemsOn levels definitions m l m l
 items_start levels definitions m l on = record { goes_on = λ o g emits. emits; stands = on; least = omega arith }
 
-module _ (levels : ℕ) (definitions : List Defined) (m : Machine) (l : Listing) (n : Machine) (k : Listing) (on : ItemsOn levels definitions m l n k) (p : Machine) (q : Listing) where
+module _ (levels : ℕ) (definitions : List Defined) (m : Machine) (l : Listing) (n : Machine) (k : Listing) (on : ItemsOn levels definitions m l n k)
+    (p : Machine) (q : Listing) where
   itself : (step : Step Taken) → TurnsOrRefuses n (of_list k) step p (of_list q) → wants_taken step ≡ false → TurnsTo n (of_list k) step p (of_list q)
   itself step turns reported = turned n p (of_list k) (of_list q) step turns reported
 
-  pub items_token : (token : Token) → TurnsOrRefuses n (of_list k) (Ok (taken.Token token)) p (of_list q) → ReadsItem levels definitions m l (Ok (Some token)) p q
+  pub items_token : (token : Token) → TurnsOrRefuses n (of_list k) (Ok (taken.Token token)) p (of_list q)
+      → ReadsItem levels definitions m l (Ok (Some token)) p q
   items_token token turns =
       let h = token_read levels definitions n p k q on.stands token (itself (Ok (taken.Token token)) turns refl) in
       let less : IsWorkLess levels n k p q = h.2 in
@@ -98,10 +111,13 @@ module _ (levels : ℕ) (definitions : List Defined) (m : Machine) (l : Listing)
   pub items_pause_less : TurnsOrRefuses n (of_list k) (Err Continue) p (of_list q) → IsWorkLess levels n k p q
   items_pause_less turns = (pause_read levels definitions n p k q on.stands (itself (Err Continue) turns refl)).2
 
-  pub items_fault : (fault : Fault) (h : Halt) → TurnsOrRefuses n (of_list k) (Err (Error fault)) p (of_list q) → h ≡ halt_of fault → ReadsItem levels definitions m l (Err h) p q
+  pub items_fault : (fault : Fault) (h : Halt) → TurnsOrRefuses n (of_list k) (Err (Error fault)) p (of_list q) → h ≡ halt_of fault
+      → ReadsItem levels definitions m l (Err h) p q
   items_fault fault h turns is =
-      reads_fault levels definitions m l (λ (item : Result (Option Token) Fault) (f : Expander Listed). Emits line_reading (answers_at levels) (expander_of m l) (outcome_of_item item) f) h p q fault is
-      (λ reported. let read = fault_read levels definitions n p k q on.stands fault (itself (Err (Error fault)) turns reported) reported in (read.0, on.goes_on (outcome.Fault fault) read.0 read.1))
+      reads_fault levels definitions m l (λ (item : Result (Option Token) Fault) (f : Expander Listed). Emits line_reading (answers_at levels)
+      (expander_of m l) (outcome_of_item item) f) h p q fault is
+      (λ reported. let read = fault_read levels definitions n p k q on.stands fault (itself (Err (Error fault)) turns reported) reported in
+      (read.0, on.goes_on (outcome.Fault fault) read.0 read.1))
 
   module _ (c : PendingCall) (turns : TurnsOrRefuses n (of_list k) (Ok (taken.Call c)) p (of_list q)) where
     call : TurnsTo n (of_list k) (Ok (taken.Call c)) p (of_list q)
@@ -115,7 +131,8 @@ module _ (levels : ℕ) (definitions : List Defined) (m : Machine) (l : Listing)
     pub items_call_less : (u : Machine) → IsOpened levels definitions (names_of p.frames ++ []) c p u → IsWorkLess levels n k u q
     items_call_less u opened = (call_read levels definitions n p k q on.stands c call u opened).2
 
-    pub items_call_fault : (u : Machine) (h : Halt) (r : Result (Option Token) Halt) → Finishes levels definitions [] c p (Err h) u → r ≡ Err h → ReadsItem levels definitions m l r u q
+    pub items_call_fault : (u : Machine) (h : Halt) (r : Result (Option Token) Halt) → Finishes levels definitions [] c p (Err h) u → r ≡ Err h
+        → ReadsItem levels definitions m l r u q
     items_call_fault u h r finishes is = subst (λ (x : Result (Option Token) Halt). ReadsItem levels definitions m l x u q) (sym is) (go h finishes)
       where
         go : (h : Halt) → Finishes levels definitions [] c p (Err h) u → ReadsItem levels definitions m l (Err h) u q

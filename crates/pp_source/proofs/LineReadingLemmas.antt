@@ -18,7 +18,8 @@ abbrev pub tokens_before : List Token → Result (List Token) Fault → Result (
 tokens_before tokens (Ok rest) = Ok (tokens ++ rest)
 tokens_before tokens (Err fault) = Err fault
 
-pub tokens_before-push : (tokens : List Token) (token : Token) (rest : Result (List Token) Fault) → tokens_before (tokens ++ token ∷ []) rest ≡ tokens_before tokens (token_before token rest)
+pub tokens_before-push : (tokens : List Token) (token : Token) (rest : Result (List Token) Fault)
+    → tokens_before (tokens ++ token ∷ []) rest ≡ tokens_before tokens (token_before token rest)
 tokens_before-push tokens token (Ok rest) = rw append_assoc refl
 tokens_before-push tokens token (Err fault) = refl
 
@@ -32,7 +33,8 @@ drop_fewer rest after n e = omega (arith, ap length e, length-drop n rest)
 -- a line after one of its tokens
 module _ (s : Seen) (rest : List Seen) where
   tokens_by : (ends : Bool) (first : Result Token Fault)
-      → (if ends then Ok [] else (first >>= λ token. token_before token (line_tokens rest))) ≡ ((if ends then Ok None else (first >>= some_token)) >>= λ next. tokens_after next rest)
+      → (if ends then Ok [] else (first >>= λ token. token_before token (line_tokens rest))) ≡
+      ((if ends then Ok None else (first >>= some_token)) >>= λ next. tokens_after next rest)
   tokens_by true first = refl
   tokens_by false (Ok token) = refl
   tokens_by false (Err fault) = refl
@@ -43,12 +45,16 @@ module _ (s : Seen) (rest : List Seen) where
   place_by false (Ok token) next e = let is : next ≡ Some token = cc in rw is (drop_past (line_length rest) s rest)
   place_by false (Err fault) next e = cc
 
-tokens_after_item : (item : Lexeme) (had : Bool) (rest : List Seen) → line_tokens (record { item = item; had_comments = had } ∷ rest) ≡ (next_line_token (record { item = item; had_comments = had } ∷ rest) >>= λ next. tokens_after next rest)
+tokens_after_item : (item : Lexeme) (had : Bool) (rest : List Seen)
+    → line_tokens (record { item = item; had_comments = had } ∷ rest) ≡
+    (next_line_token (record { item = item; had_comments = had } ∷ rest) >>= λ next. tokens_after next rest)
 tokens_after_item (Err fault) had rest = refl
 tokens_after_item (Ok token) had rest = tokens_by (record { item = Ok token; had_comments = had }) rest (is_newline token.value) (conversion token)
 
-place_after_item : (item : Lexeme) (had : Bool) (rest : List Seen) (next : Option Token) → next_line_token (record { item = item; had_comments = had } ∷ rest) ≡ Ok next
-    → drop (line_length (record { item = item; had_comments = had } ∷ rest)) (record { item = item; had_comments = had } ∷ rest) ≡ drop (length_after next rest) rest
+place_after_item : (item : Lexeme) (had : Bool) (rest : List Seen) (next : Option Token)
+    → next_line_token (record { item = item; had_comments = had } ∷ rest) ≡ Ok next
+    → drop (line_length (record { item = item; had_comments = had } ∷ rest)) (record { item = item; had_comments = had } ∷ rest) ≡ drop
+    (length_after next rest) rest
 place_after_item (Err fault) had rest next e = cc
 place_after_item (Ok token) had rest next e = place_by (record { item = Ok token; had_comments = had }) rest (is_newline token.value) (conversion token) next e
 
@@ -58,7 +64,8 @@ line_tokens-next [] = refl
 line_tokens-next (s ∷ rest) = tokens_after_item s.item s.had_comments rest
 
 -- and the line ends where those after it end
-pub line_place-next : (rest : List Seen) (next : Option Token) → next_line_token rest ≡ Ok next → drop (line_length rest) rest ≡ drop (length_after next (drop 1 rest)) (drop 1 rest)
+pub line_place-next : (rest : List Seen) (next : Option Token) → next_line_token rest ≡ Ok next
+    → drop (line_length rest) rest ≡ drop (length_after next (drop 1 rest)) (drop 1 rest)
 line_place-next [] next e = let is : next ≡ None = cc in rw is refl
 line_place-next (s ∷ rest) next e = place_after_item s.item s.had_comments rest next e
 
@@ -69,10 +76,12 @@ wanted_items (Some token) = 1
 
 -- one token more of a line is read
 module _ (rest after : List Seen) (next : Option Token) (e : next_line_token rest ≡ Ok next) (d : after ≡ drop 1 rest) where
-  pub whole_more : (tokens new : List Token) (token : Token) (whole : Result (List Token) Fault) → tokens_before tokens (tokens_after (Some token) rest) ≡ whole → new ≡ tokens ++ token ∷ [] → tokens_before new (tokens_after next after) ≡ whole
+  pub whole_more : (tokens new : List Token) (token : Token) (whole : Result (List Token) Fault)
+      → tokens_before tokens (tokens_after (Some token) rest) ≡ whole → new ≡ tokens ++ token ∷ [] → tokens_before new (tokens_after next after) ≡ whole
   whole_more tokens new token whole h n =
       let goes_on : line_tokens rest ≡ tokens_after next (drop 1 rest) = line_tokens-next rest ∙ ap (λ r. r >>= λ more. tokens_after more (drop 1 rest)) e in
-      rw (n, d) (tokens_before-push tokens token (tokens_after next (drop 1 rest)) ∙ ap (λ more. tokens_before tokens (token_before token more)) (sym goes_on) ∙ h)
+      rw (n, d) (tokens_before-push tokens token (tokens_after next (drop 1 rest))
+      ∙ ap (λ more. tokens_before tokens (token_before token more)) (sym goes_on) ∙ h)
 
   pub place_more : (end : List Seen) → drop (line_length rest) rest ≡ end → drop (length_after next after) after ≡ end
   place_more end h = rw d (sym (line_place-next rest next e) ∙ h)
@@ -83,11 +92,13 @@ skips_by : (ends : Bool) (later : Option Fault) → ◌≡◌ {A = Result Bool F
 skips_by true later e = cc
 skips_by false later e = refl
 
-skip_place_by : (s : Seen) (rest : List Seen) (ends : Bool) → ◌≡◌ {A = Result Bool Fault} (Ok (not ends)) (Ok true) → drop (if ends then 1 else 1 + line_length rest) (s ∷ rest) ≡ drop (line_length rest) rest
+skip_place_by : (s : Seen) (rest : List Seen) (ends : Bool) → ◌≡◌ {A = Result Bool Fault} (Ok (not ends)) (Ok true)
+    → drop (if ends then 1 else 1 + line_length rest) (s ∷ rest) ≡ drop (line_length rest) rest
 skip_place_by s rest true e = cc
 skip_place_by s rest false e = drop_past (line_length rest) s rest
 
-skips_item : (item : Lexeme) (had : Bool) (rest : List Seen) → goes_on_after item ≡ Ok true → skipped_line (record { item = item; had_comments = had } ∷ rest) ≡ skipped_line rest
+skips_item : (item : Lexeme) (had : Bool) (rest : List Seen) → goes_on_after item ≡ Ok true
+    → skipped_line (record { item = item; had_comments = had } ∷ rest) ≡ skipped_line rest
 skips_item (Err fault) had rest e = cc
 skips_item (Ok token) had rest e = skips_by (is_newline token.value) (line_fault rest) e
 
@@ -105,7 +116,9 @@ skipped_place [] after e d = cc
 skipped_place (s ∷ rest) after e d = rw d (sym (skip_place_item s.item s.had_comments rest e))
 
 -- a part of a line is taken after another
-pub takes_after : {A : Type 0} (result : Result A Halt) (first more total : ℕ) (old mid new : SourceLexed) → HasTaken first old mid → TakesItems more mid result new → drop total old.rest ≡ drop more mid.rest → TakesItems total old result new
+pub takes_after : {A : Type 0} (result : Result A Halt) (first more total : ℕ) (old mid new : SourceLexed) → HasTaken first old mid
+    → TakesItems more mid result new → drop total old.rest ≡ drop more mid.rest → TakesItems total old result new
 takes_after (Ok value) first more total old mid new m t e = record { rest = t.rest ∙ sym e; spent = t.spent }
-takes_after (Err (halt.Fault fault)) first more total old mid new m t e = record { rest = omega (arith, t.rest, drop_fewer old.rest mid.rest first m.rest); spent = t.spent }
+takes_after (Err (halt.Fault fault)) first more total old mid new m t e =
+    record { rest = omega (arith, t.rest, drop_fewer old.rest mid.rest first m.rest); spent = t.spent }
 takes_after (Err halt.OutOfMemory) first more total old mid new m t e = t

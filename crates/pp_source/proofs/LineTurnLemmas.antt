@@ -58,7 +58,8 @@ taken_quiet (Err exit) fs s list h = h
 taken_quiet (Ok token) fs (of_source source) list h = absurd list
 taken_quiet (Ok token) fs (of_list l) list h = go (is_identifier line_name token.value)
   where
-    go : (b : Bool) → IsNoFault (step_of_outcome (if b then line_number token.location (Some (unwrap_or (outermost_frame_line fs) token.location.line)) else outcome.Token token))
+    go : (b : Bool) → IsNoFault (step_of_outcome (if b then line_number token.location
+        (Some (unwrap_or (outermost_frame_line fs) token.location.line)) else outcome.Token token))
     go true = tt
     go false = tt
 
@@ -105,8 +106,10 @@ step_frees : (m n : Machine) (r s : Reader) (step : Step Token) → StepsTaking 
 step_frees m n r s step (held step1 m1 n1 r1 s1 is at same) = ap (λ (k : Machine). k.held) at
 step_frees m n r s step (moved move step1 m1 n1 r1 s1 free moves is freed) = freed
 
-step_quiet : (m n : Machine) (r s : Reader) (step : Step Token) → IsList r → IsHeld m.held → StepsTaking m r step n s → wants_memory step ≡ false → IsQuiet step s
-step_quiet m n r s step list holds (held step1 m1 n1 r1 s1 is at same) reported = record { quiet = held_quiet step (subst IsHeld is holds); list = rw same list }
+step_quiet : (m n : Machine) (r s : Reader) (step : Step Token) → IsList r → IsHeld m.held → StepsTaking m r step n s → wants_memory step ≡ false
+    → IsQuiet step s
+step_quiet m n r s step list holds (held step1 m1 n1 r1 s1 is at same) reported =
+    record { quiet = held_quiet step (subst IsHeld is holds); list = rw same list }
 step_quiet m n r s step list holds (moved move step1 m1 n1 r1 s1 free moves is freed) reported =
     let h = moves_quiet m.frames n.frames r s move list moves (move_reported move n.frames s (rw is at reported)) in
     record { quiet = rw is (taken_quiet move n.frames s h.list h.quiet); list = h.list }
@@ -138,7 +141,8 @@ not_refused (Err Continue) h = refl
 not_refused (Err Finished) h = refl
 not_refused (Err (Error fault)) h = h
 
-sought_holds : (token : Token) (name : Name) (definition : Definition) (c : Sought) (step : Step Taken) (n p q : Machine) (s t : Reader) → IsList s → n.held ≡ None → Seeks n s c p t → Finds token name definition c step p q → HoldsAfter step q
+sought_holds : (token : Token) (name : Name) (definition : Definition) (c : Sought) (step : Step Taken) (n p q : Machine) (s t : Reader) → IsList s
+    → n.held ≡ None → Seeks n s c p t → Finds token name definition c step p q → HoldsAfter step q
 sought_holds token name definition c step n p q s t list free (alone next n1 p1 s1 t1 c1 taken_next none reported is) found =
     let found' : Finds token name definition (no_call next) step p q = subst (λ (x : Sought). Finds token name definition x step p q) is found in
     let quiet = next_quiet n p s t next list (free_held n.held free) taken_next (not_refused next reported) in
@@ -153,9 +157,11 @@ sought_holds token name definition c step n p q s t list free (called next paren
 turn_holds : (m n : Machine) (r s : Reader) (step : Step Taken) → IsList r → IsHeld m.held → TurnsTo m r step n s → HoldsAfter step n
 turn_holds m n r s step list holds (passes exit step1 m1 n1 r1 s1 steps is) = free_after step n (step_frees m n r s (Err exit) steps)
 turn_holds m n r s step list holds (gives token step1 m1 n1 r1 s1 steps none is) = free_after step n (step_frees m n r s (Ok token) steps)
-turn_holds m p r s step list holds (object token name definition step1 m1 n p1 r1 s1 steps some plain is at) = free_after step p (ap (λ (k : Machine). k.held) at ∙ step_frees m n r s (Ok token) steps)
+turn_holds m p r s step list holds (object token name definition step1 m1 n p1 r1 s1 steps some plain is at) =
+    free_after step p (ap (λ (k : Machine). k.held) at ∙ step_frees m n r s (Ok token) steps)
 turn_holds m q r t step list holds (seeks token name definition c step1 m1 n p q1 r1 s t1 steps some function sought found) =
-    sought_holds token name definition c step n p q s t (step_quiet m n r s (Ok token) list holds steps refl).list (step_frees m n r s (Ok token) steps) sought found
+    sought_holds token name definition c step n p q s t (step_quiet m n r s (Ok token) list holds steps refl).list
+    (step_frees m n r s (Ok token) steps) sought found
 
 -- the end is taken where a turn comes to it
 end_taken : (m n : Machine) (r s : Reader) (step : Step Taken) → step ≡ Err Finished → TurnsTo m r step n s → StepsTaking m r (Err Finished) n s
@@ -173,14 +179,16 @@ end_taken m q r t step e (seeks token name definition c step1 m1 n p q1 r1 s t1 
     no_end (gathered paren g) h = let is = h.0 in cc
 
 module _ (definitions : List Defined) where
-  held_stands : (o : Option (Step Token)) (l : Listing) (x : Listed) → IsHeld o → IsListed true definitions [] (of_list l) x → StandsHeld line_reading (IsListed true definitions []) [] o (of_list l) x
+  held_stands : (o : Option (Step Token)) (l : Listing) (x : Listed) → IsHeld o → IsListed true definitions [] (of_list l) x
+      → StandsHeld line_reading (IsListed true definitions []) [] o (of_list l) x
   held_stands None l x h listed = listed
   held_stands (Some (Ok token)) l x h listed = listed
   held_stands (Some (Err Finished)) l x h listed = listed
   held_stands (Some (Err Continue)) l x h listed = absurd h
   held_stands (Some (Err (Error fault))) l x h listed = absurd h
 
-  stands_held : (o : Option (Step Token)) (l : Listing) (x : Listed) → IsHeld o → StandsHeld line_reading (IsListed true definitions []) [] o (of_list l) x → IsListed true definitions [] (of_list l) x
+  stands_held : (o : Option (Step Token)) (l : Listing) (x : Listed) → IsHeld o
+      → StandsHeld line_reading (IsListed true definitions []) [] o (of_list l) x → IsListed true definitions [] (of_list l) x
   stands_held None l x h listed = listed
   stands_held (Some (Ok token)) l x h listed = listed
   stands_held (Some (Err Finished)) l x h listed = listed
@@ -188,10 +196,17 @@ module _ (definitions : List Defined) where
   stands_held (Some (Err (Error fault))) l x h listed = absurd h
 
   stands_here : (m : Machine) (l : Listing) → IsOnLine definitions m l → StandsListed true definitions [] m l (expander_of m l)
-  stands_here m l on = record { holds = refl; list = refl; reader = held_stands m.held l (expander_of m l).reader on.holds (refl, on.unhidden, on.line, on.defined); names = refl }
+  stands_here m l on = record {
+    holds = refl;
+    list = refl;
+    reader =
+        held_stands m.held l (expander_of m l).reader on.holds (refl, on.unhidden, on.line, on.defined);
+    names = refl;
+  }
 
   -- where the code stands is where the definitions stand
-  here : (n : Machine) (k : Listing) (f : Expander Listed) → StandsListed true definitions [] n k f → IsHeld n.held → IsSound n (of_list k) → (f ≡ expander_of n k) × IsOnLine definitions n k
+  here : (n : Machine) (k : Listing) (f : Expander Listed) → StandsListed true definitions [] n k f → IsHeld n.held → IsSound n (of_list k)
+      → (f ≡ expander_of n k) × IsOnLine definitions n k
   here n k f stands holds sound =
       let listed = stands_held n.held k f.reader holds stands.reader in
       let e = expander_of n k in (
@@ -204,14 +219,19 @@ module _ (definitions : List Defined) where
 
 -- the items from here on are those from the beginning on
 abbrev pub GoesOn : ℕ → Machine → Listing → Machine → Listing → Type 0
-GoesOn levels m l n k = (o : Outcome) (g : Expander Listed) → Emits line_reading (answers_at levels) (expander_of n k) o g → Emits line_reading (answers_at levels) (expander_of m l) o g
+GoesOn levels m l n k = (o : Outcome) (g : Expander Listed) → Emits line_reading (answers_at levels) (expander_of n k) o g
+    → Emits line_reading (answers_at levels) (expander_of m l) o g
 
 module _ (levels : ℕ) (definitions : List Defined) (m n : Machine) (l k : Listing) (on : IsOnLine definitions m l) where
-  leads : (step : Step Taken) → TurnsTo m (of_list l) step n (of_list k) → wants_taken step ≡ false → LeadsTo line_reading (IsListed true definitions []) [] (list_simulates true definitions []) (list_shows true definitions []) (list_sees true definitions []) (answers_at levels) step (expander_of m l) n (of_list k)
-  leads step turns reported = listed_leads true definitions [] (answers_at levels) m n l k step (expander_of m l) (stands_here definitions m l on) turns reported
+  leads : (step : Step Taken) → TurnsTo m (of_list l) step n (of_list k) → wants_taken step ≡ false
+      → LeadsTo line_reading (IsListed true definitions []) [] (list_simulates true definitions []) (list_shows true definitions
+      []) (list_sees true definitions []) (answers_at levels) step (expander_of m l) n (of_list k)
+  leads step turns reported = listed_leads true definitions [] (answers_at levels) m n l k step (expander_of m l)
+      (stands_here definitions m l on) turns reported
 
   -- a token
-  pub token_read : (token : Token) → TurnsTo m (of_list l) (Ok (taken.Token token)) n (of_list k) → Emits line_reading (answers_at levels) (expander_of m l) (outcome.Token token) (expander_of n k) × IsOnLine definitions n k × IsWorkLess levels m l n k
+  pub token_read : (token : Token) → TurnsTo m (of_list l) (Ok (taken.Token token)) n (of_list k)
+      → Emits line_reading (answers_at levels) (expander_of m l) (outcome.Token token) (expander_of n k) × IsOnLine definitions n k × IsWorkLess levels m l n k
   token_read token turns =
       let h = leads (Ok (taken.Token token)) turns refl in
       let less : IsLess levels m (of_list l) n (of_list k) = turn_falls levels m (of_list l) on.sound (Ok (taken.Token token)) n (of_list k) turns refl in
@@ -227,66 +247,94 @@ module _ (levels : ℕ) (definitions : List Defined) (m n : Machine) (l k : List
       (λ o g emits. h.2 o g (subst (λ (f : Expander Listed). Emits line_reading (answers_at levels) f o g) (sym at.0) emits), at.1, less.falls)
 
   -- the end
-  pub end_read : TurnsTo m (of_list l) (Err Finished) n (of_list k) → Emits line_reading (answers_at levels) (expander_of m l) outcome.End (expander_of n k) × ReadsOn levels definitions m l n k
+  pub end_read : TurnsTo m (of_list l) (Err Finished) n (of_list k)
+      → Emits line_reading (answers_at levels) (expander_of m l) outcome.End (expander_of n k) × ReadsOn levels definitions m l n k
   end_read turns =
       let h = leads (Err Finished) turns refl in
       let sound : IsSound n (of_list k) = turn_falls levels m (of_list l) on.sound (Err Finished) n (of_list k) turns refl in
       let at = here definitions n k h.0 h.2 (turn_holds m n (of_list l) (of_list k) (Err Finished) tt on.holds turns) sound in
       let r = of_list l in
       let level = frame_steps_level (most_bodies r) (most_open r) levels in
-      let spent = step_spends (frame_of levels r) (most_open r) level (Err Finished) m n r (of_list k) (end_taken m n r (of_list k) (Err Finished) refl turns) refl in
-      let less : work_of levels n (of_list k) ≤ work_of levels m r = no_more_work levels m n r (of_list k) spent.tightens (rw spent.spends (no_more (frame_of levels r) (most_open r) level (regions m r))) in
+      let spent = step_spends (frame_of levels r) (most_open r) level (Err Finished) m n r (of_list k)
+      (end_taken m n r (of_list k) (Err Finished) refl turns) refl in
+      let less : work_of levels n (of_list k) ≤ work_of levels m r =
+      no_more_work levels m n r (of_list k) spent.tightens (rw spent.spends (no_more (frame_of levels r) (most_open r) level (regions m r))) in
       (subst (λ (f : Expander Listed). Emits line_reading (answers_at levels) (expander_of m l) outcome.End f) at.0 h.1, record { stands = at.1; least = less })
 
   -- a fault
-  pub fault_read : (fault : Fault) → TurnsTo m (of_list l) (Err (Error fault)) n (of_list k) → is_out_of_memory fault.0 ≡ false → (f : Expander Listed) × Emits line_reading (answers_at levels) (expander_of m l) (outcome.Fault fault) f
+  pub fault_read : (fault : Fault) → TurnsTo m (of_list l) (Err (Error fault)) n (of_list k) → is_out_of_memory fault.0 ≡ false
+      → (f : Expander Listed) × Emits line_reading (answers_at levels) (expander_of m l) (outcome.Fault fault) f
   fault_read fault turns reported = leads (Err (Error fault)) turns reported
 
   module _ (c : PendingCall) (turns : TurnsTo m (of_list l) (Ok (taken.Call c)) n (of_list k)) where
     pending : IsPending levels m (of_list l) c n (of_list k)
     pending = turn_falls levels m (of_list l) on.sound (Ok (taken.Call c)) n (of_list k) turns refl
 
-    led : LeadsTo line_reading (IsListed true definitions []) [] (list_simulates true definitions []) (list_shows true definitions []) (list_sees true definitions []) (answers_at levels) (Ok (taken.Call c)) (expander_of m l) n (of_list k)
+    led : LeadsTo line_reading (IsListed true definitions []) [] (list_simulates true definitions []) (list_shows true definitions
+        []) (list_sees true definitions []) (answers_at levels) (Ok (taken.Call c)) (expander_of m l) n (of_list k)
     led = leads (Ok (taken.Call c)) turns refl
 
     site : site_of line_reading led.0 c.paren c.tokens ≡ site_at c definitions (names_of n.frames ++ [])
     site = site_same true definitions [] n k c led.0 led.1 pending.free
 
     -- a call that has a fault
-    pub call_fault_read : (fault : Fault) → answers_at levels c.definition (site_at c definitions (names_of n.frames ++ [])) (Err fault) → (f : Expander Listed) × Emits line_reading (answers_at levels) (expander_of m l) (outcome.Fault fault) f
+    pub call_fault_read : (fault : Fault) → answers_at levels c.definition (site_at c definitions (names_of n.frames ++ [])) (Err fault)
+        → (f : Expander Listed) × Emits line_reading (answers_at levels) (expander_of m l) (outcome.Fault fault) f
     call_fault_read fault answers = (led.0, led.2 fault (subst (λ (x : Site). answers_at levels c.definition x (Err fault)) (sym site) answers))
 
     -- a call whose frame opened
-    pub call_read : (p : Machine) → IsOpened levels definitions (names_of n.frames ++ []) c n p → GoesOn levels m l p k × IsOnLine definitions p k × IsWorkLess levels m l p k
+    pub call_read : (p : Machine) → IsOpened levels definitions (names_of n.frames ++ []) c n p → GoesOn levels m l p k × IsOnLine definitions p k
+        × IsWorkLess levels m l p k
     call_read p opened =
-        let less : IsLess levels m (of_list l) p (of_list k) = opened_less true definitions [] levels m n l k c p pending (stands_listed true definitions [] n k led.0 led.1 pending.free).3 opened in
+        let less : IsLess levels m (of_list l) p (of_list k) =
+        opened_less true definitions [] levels m n l k c p pending (stands_listed true definitions [] n k led.0 led.1 pending.free).3 opened in
         let f : Expander Listed = record led.0 { list = spliced c.name c.definition c.closing.line opened.arguments led.0.list } in
         let stood : StandsListed true definitions [] n k led.0 = led.1 in
-        let stands : StandsListed true definitions [] p k f = subst (λ (q : Machine). StandsListed true definitions [] q k f) (sym opened.opens) (record { holds = stood.holds; list = ap (spliced c.name c.definition c.closing.line opened.arguments) stood.list; reader = stood.reader; names = stood.names }) in
+        let stands : StandsListed true definitions [] p k f =
+        subst (λ (q : Machine). StandsListed true definitions [] q k f) (sym opened.opens)
+        (record {
+          holds = stood.holds;
+          list = ap (spliced c.name c.definition c.closing.line opened.arguments) stood.list;
+          reader = stood.reader;
+          names = stood.names;
+        }) in
         let at = here definitions p k f stands (free_held p.held (ap (λ (q : Machine). q.held) opened.opens ∙ pending.free)) less.sound in (
-          λ o g emits. led.3 opened.arguments (subst (λ (x : Site). answers_at levels c.definition x (Ok opened.arguments)) (sym site) opened.answers) o g (subst (λ (e : Expander Listed). Emits line_reading (answers_at levels) e o g) (sym at.0) emits),
+          λ o g emits. led.3 opened.arguments (subst (λ (x : Site). answers_at levels c.definition x (Ok opened.arguments))
+              (sym site) opened.answers) o g (subst (λ (e : Expander Listed). Emits line_reading (answers_at levels) e o g) (sym at.0) emits),
           at.1,
           less.falls,
         )
 
   -- what is taken next
-  pub next_read : (step : Step Token) → TakesNext m (of_list l) step n (of_list k) → wants_memory step ≡ false → Takes line_reading (expander_of m l) (outcome_of_step step) (expander_of n k) × ReadsOn levels definitions m l n k
+  pub next_read : (step : Step Token) → TakesNext m (of_list l) step n (of_list k) → wants_memory step ≡ false
+      → Takes line_reading (expander_of m l) (outcome_of_step step) (expander_of n k) × ReadsOn levels definitions m l n k
   next_read step next reported =
       let r = of_list l in
       let s = of_list k in
       let level = frame_steps_level (most_bodies r) (most_open r) levels in
-      let h = next_simulates line_reading (IsListed true definitions []) [] (list_simulates true definitions []) (list_shows true definitions []) m n r s step (expander_of m l) (stands_here definitions m l on) next reported in
+      let h = next_simulates line_reading (IsListed true definitions []) [] (list_simulates true definitions []) (list_shows true definitions
+      []) m n r s step (expander_of m l) (stands_here definitions m l on) next reported in
       let quiet = next_quiet m n r s step tt on.holds next reported in
       let sound : IsSound n s = next_sound None step m n r s next reported on.sound in
       let free : n.held ≡ None = (next_spends (frame_of levels r) (most_open r) level step m n r s next reported).free in
       let left = next_left (frame_of levels r) (most_open r) level step m n r s next reported in
       let holding : Machine = record n { held = Some step } in
-      let at = here definitions holding k (record h.0 { held = Some (outcome_of_step step) }) h.2 (quiet_held step quiet.quiet (next_no_pause m n r s step next)) sound in
+      let at = here definitions holding k (record h.0 { held = Some (outcome_of_step step) }) h.2
+      (quiet_held step quiet.quiet (next_no_pause m n r s step next)) sound in
       let same : h.0 ≡ expander_of n k =
       ap (λ (o : Option Outcome). record h.0 { held = o }) h.3
       ∙ ap (λ (e : Expander Listed). record e { held = None }) at.0
       ∙ ap (λ (o : Option (Step Token)). record (expander_of holding k) { held = option_map outcome_of_step o }) (sym free) in
       let stood : IsOnLine definitions holding k = at.1 in (
         subst (λ (f : Expander Listed). Takes line_reading (expander_of m l) (outcome_of_step step) f) same h.1,
-        record { stands = record { sound = sound; holds = free_held n.held free; line = stood.line; unhidden = stood.unhidden; defined = stood.defined }; least = no_more_work levels m n r s left.tightens left.spends },
+        record {
+          stands = record {
+            sound = sound;
+            holds = free_held n.held free;
+            line = stood.line;
+            unhidden = stood.unhidden;
+            defined = stood.defined;
+          };
+          least = no_more_work levels m n r s left.tightens left.spends;
+        },
       )

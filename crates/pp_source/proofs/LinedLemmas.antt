@@ -40,7 +40,8 @@ hash_within (Float f) at_start h = refl
 hash_within (Punct p) at_start h = refl
 
 -- within a line no item is the number sign of a directive
-no_directive : (f : Flags) (first last : Spot) (r : Result TokenValue PreprocessorError) → f.start_of_line ≡ false → is_directive_hash (lexeme_seen f first last r) ≡ false
+no_directive : (f : Flags) (first last : Spot) (r : Result TokenValue PreprocessorError) → f.start_of_line ≡ false
+    → is_directive_hash (lexeme_seen f first last r) ≡ false
 no_directive f first last (Ok value) h = hash_within value f.start_of_line h
 no_directive f first last (Err fault) h = refl
 
@@ -49,7 +50,8 @@ abbrev AreLinedFrom : Flags → List Seen → Type 0
 AreLinedFrom f items = AreLined items × (f.start_of_line ≡ false → BeginsNoDirective items)
 
 lined_end : (spaced at_start comments : Bool) (last : Spot)
-    → AreLinedFrom (record { leading_whitespace = spaced; start_of_line = at_start; had_comments = comments }) (newline_seen (record { leading_whitespace = spaced; start_of_line = at_start; had_comments = comments }) last)
+    → AreLinedFrom (record { leading_whitespace = spaced; start_of_line = at_start; had_comments = comments })
+    (newline_seen (record { leading_whitespace = spaced; start_of_line = at_start; had_comments = comments }) last)
 lined_end spaced true comments last = (tt, λ h. tt)
 lined_end spaced false comments last = ((λ h. tt, tt), λ h. refl)
 

@@ -18,28 +18,45 @@ use Rattle.pp_source.proofs.UnnotedLemmas.{directive_unnoted}
 abbrev pub remembering : Source → Source
 remembering source = record source { has_directive = true }
 
-noted_after : (taken : ℕ) (old after : Source) (still_open : List OpenBlock) → IsAfter taken unnoted still_open old after → IsAfter taken directive_line still_open old (remembering after)
-noted_after taken old after still_open b = record { rest = b.rest; blocks = b.blocks; line_offset = b.line_offset; spent = b.spent; has_text = b.has_text; has_directive = refl }
+noted_after : (taken : ℕ) (old after : Source) (still_open : List OpenBlock) → IsAfter taken unnoted still_open old after
+    → IsAfter taken directive_line still_open old (remembering after)
+noted_after taken old after still_open b = record {
+  rest = b.rest;
+  blocks = b.blocks;
+  line_offset = b.line_offset;
+  spent = b.spent;
+  has_text = b.has_text;
+  has_directive = refl;
+}
 
 module _ (taken : ℕ) (old after : Source) (given : Option Token) where
   after_noted : (still_open : List OpenBlock) → IsAfter taken unnoted still_open old after → IsAfter taken directive_line still_open old (remembering after)
   after_noted still_open b = noted_after taken old after still_open b
 
-  defines_noted : (named : Named) (before : Option Definition) → DefinesOver named before taken unnoted old (as_pause given) after → DefinesOver named before taken directive_line old (as_pause given) (remembering after)
+  defines_noted : (named : Named) (before : Option Definition) → DefinesOver named before taken unnoted old (as_pause given) after
+      → DefinesOver named before taken directive_line old (as_pause given) (remembering after)
   defines_noted named None h = (h.0, after_noted _ h.1, h.2)
   defines_noted named (Some before) (inl h) = inl (h.0, h.1, after_noted _ h.2, h.3)
   defines_noted named (Some before) (inr h) = absurd (pause_no_fault given _ h.1)
 
-  decides_noted : (word : Location) (tokens : List Token) (blocks : Bool → List OpenBlock) → Decides word tokens blocks taken unnoted old (as_pause given) after → Decides word tokens blocks taken directive_line old (as_pause given) (remembering after)
+  decides_noted : (word : Location) (tokens : List Token) (blocks : Bool → List OpenBlock)
+      → Decides word tokens blocks taken unnoted old (as_pause given) after
+      → Decides word tokens blocks taken directive_line old (as_pause given) (remembering after)
   decides_noted word tokens blocks (holds value condition h) = holds value condition (h.0, after_noted _ h.1, h.2)
   decides_noted word tokens blocks (faulty fault condition failed left) = absurd (pause_no_fault given fault failed)
 
-  renumbers_noted : (word : Location) (tokens : List Token) → Renumbers word tokens taken unnoted old (as_pause given) after → Renumbers word tokens taken directive_line old (as_pause given) (remembering after)
-  renumbers_noted word tokens (numbers n number h) = numbers n number (h.0, noted_after taken (record old { line_offset = pos n -ℤ pos word.line }) after old.blocks h.1, h.2)
+  renumbers_noted : (word : Location) (tokens : List Token) → Renumbers word tokens taken unnoted old (as_pause given) after
+      → Renumbers word tokens taken directive_line old (as_pause given) (remembering after)
+  renumbers_noted word tokens (numbers n number h) = numbers n number (
+    h.0,
+    noted_after taken (record old { line_offset = pos n -ℤ pos word.line }) after old.blocks h.1,
+    h.2,
+  )
   renumbers_noted word tokens (unnumbered fault number failed left) = absurd (pause_no_fault given fault failed)
 
   -- what a directive does is the same then
-  pub effect_noted : (effect : Effect) → HasEffect effect taken unnoted old (as_pause given) after → HasEffect effect taken directive_line old (as_pause given) (remembering after)
+  pub effect_noted : (effect : Effect) → HasEffect effect taken unnoted old (as_pause given) after
+      → HasEffect effect taken directive_line old (as_pause given) (remembering after)
   effect_noted (gives token) h = (h.0, after_noted _ h.1, h.2)
   effect_noted (gives_item item word) h = (h.0, after_noted _ h.1, h.2)
   effect_noted (fails fault) h = absurd (pause_no_fault given fault h.0)
@@ -57,11 +74,15 @@ module _ (taken : ℕ) (old after : Source) (given : Option Token) where
   effect_noted (renumbers word tokens) h = renumbers_noted word tokens h
 
 -- what a directive does after its number sign, where the word was read
-pub word_read : (definitions : List Defined) (blocks : List OpenBlock) (line_offset : ℤ) (has_text has_directive : Bool) (old mid : SourceLexed) → mid.rest ≡ drop 1 old.rest → (live : Bool) (block : Option OpenBlock) (directive : Directive) (word : Location)
-    (given : Option Token) (after : Source) → Makes (directive_move live block directive word mid.rest) (source_of mid definitions blocks line_offset has_text has_directive) (as_pause given) after
-    → Makes (taking_more 1 (directive_move live block directive word mid.rest)) (source_of old definitions blocks line_offset has_text has_directive) (as_pause given) (remembering after)
+pub word_read : (definitions : List Defined) (blocks : List OpenBlock) (line_offset : ℤ) (has_text has_directive : Bool) (old mid : SourceLexed)
+    → mid.rest ≡ drop 1 old.rest → (live : Bool) (block : Option OpenBlock) (directive : Directive) (word : Location)
+    (given : Option Token) (after : Source) → Makes (directive_move live block directive word mid.rest)
+    (source_of mid definitions blocks line_offset has_text has_directive) (as_pause given) after
+    → Makes (taking_more 1 (directive_move live block directive word mid.rest)) (source_of old definitions blocks line_offset has_text has_directive)
+    (as_pause given) (remembering after)
 word_read definitions blocks line_offset has_text has_directive old mid taken live block directive word given after h =
     let move = directive_move live block directive word mid.rest in
-    let plain = subst (λ (note : Note). HasEffect move.effect move.taken note (source_of mid definitions blocks line_offset has_text has_directive) (as_pause given) after) (directive_unnoted word mid.rest block live directive) h in
+    let plain = subst (λ (note : Note). HasEffect move.effect move.taken note (source_of mid definitions blocks line_offset has_text has_directive)
+    (as_pause given) after) (directive_unnoted word mid.rest block live directive) h in
     effect_noted (1 + move.taken) (source_of old definitions blocks line_offset has_text has_directive) after given move.effect
     (effect_after definitions blocks line_offset has_text has_directive old mid 1 move.taken (1 + move.taken) refl taken unnoted given after move.effect plain)

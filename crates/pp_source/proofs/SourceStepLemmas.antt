@@ -37,7 +37,8 @@ match_false : (P Q : Type 0) (b : Bool) → b ≡ false → Q → MatchBool b P 
 match_false P Q true e q = cc
 match_false P Q false e q = q
 
-steps_unspent : (old : Source) (step : Step Token) (new : Source) → old.spent ≡ false → IsRefusedStep old step ⊎ Makes (move_of old.blocks old.rest) old step new → StepsSource old step new
+steps_unspent : (old : Source) (step : Step Token) (new : Source) → old.spent ≡ false → IsRefusedStep old step
+    ⊎ Makes (move_of old.blocks old.rest) old step new → StepsSource old step new
 steps_unspent old step new e h = match_false _ _ old.spent e h
 
 -- the token that comes first is what is shown
@@ -45,11 +46,14 @@ token_shown : (rest : List Seen) (token : LexerToken) → next_token rest ≡ Ok
 token_shown [] token e = cc
 token_shown (s ∷ rest) token e = item_shown s.item s.had_comments rest token e
   where
-    item_shown : (item : Lexeme) (had : Bool) (rest : List Seen) (token : LexerToken) → next_token (record { item = item; had_comments = had } ∷ rest) ≡ Ok (Some token) → sight_of (record { item = item; had_comments = had } ∷ rest) ≡ token_sight token rest
+    item_shown : (item : Lexeme) (had : Bool) (rest : List Seen) (token : LexerToken)
+        → next_token (record { item = item; had_comments = had } ∷ rest) ≡ Ok (Some token)
+        → sight_of (record { item = item; had_comments = had } ∷ rest) ≡ token_sight token rest
     item_shown (Err fault) had rest token e = cc
     item_shown (Ok other) had rest token e = let same : other ≡ token = cc in ap (λ t. token_sight t rest) same
 
-hash_sight : (token : LexerToken) (rest : List Seen) → token.value ≡ Hash → token.start_of_line ≡ true → token_sight token rest ≡ directive_sight (first_token token.location rest)
+hash_sight : (token : LexerToken) (rest : List Seen) → token.value ≡ Hash → token.start_of_line ≡ true
+    → token_sight token rest ≡ directive_sight (first_token token.location rest)
 hash_sight token rest v s = rw (v, s) refl
 
 -- what a directive comes to after its number sign, by the token after it
@@ -58,26 +62,37 @@ word_move_by live block first after =
     if live then live_word_move block (first >>= λ token. name_of token >>= λ name. Ok (record { name = name; location = token.location })) after
     else dead_word_move block first after
 
-module _ (definitions : List Defined) (blocks : List OpenBlock) (line_offset : ℤ) (has_text has_directive : Bool) (old mid : SourceLexed) (new : Source) (taken : mid.rest ≡ drop 1 old.rest) (fewer : length mid.rest < length old.rest) where
+module _ (definitions : List Defined) (blocks : List OpenBlock)
+    (line_offset : ℤ) (has_text has_directive : Bool) (old mid : SourceLexed) (new : Source) (taken : mid.rest ≡ drop 1 old.rest)
+    (fewer : length mid.rest < length old.rest) where
   -- what a move means after the number sign is a step of the source, or memory was refused
   abbrev StepsBy : Result (Option Token) Halt → Move → Type 0
-  StepsBy result move = IsRefusedStep (source_of old definitions blocks line_offset has_text has_directive) (step_of result) ⊎ Makes move (source_of old definitions blocks line_offset has_text has_directive) (step_of result) new
+  StepsBy result move = IsRefusedStep (source_of old definitions blocks line_offset has_text has_directive) (step_of result)
+      ⊎ Makes move (source_of old definitions blocks line_offset has_text has_directive) (step_of result) new
 
-  acts_make : (effect : Effect) (more total : ℕ) (note : Note) → total ≡ 1 + more → (result : Result (Option Token) Halt) → Gives (record { effect = effect; taken = more; note = note }) (source_of mid definitions blocks line_offset has_text has_directive) result new
+  acts_make : (effect : Effect) (more total : ℕ) (note : Note) → total ≡ 1 + more → (result : Result (Option Token) Halt)
+      → Gives (record { effect = effect; taken = more; note = note }) (source_of mid definitions blocks line_offset has_text has_directive) result new
       → StepsBy result (record { effect = effect; taken = total; note = note })
-  acts_make effect more total note sum (Ok given) h = inr (gives_after definitions blocks line_offset has_text has_directive old mid 1 more total sum taken note effect (Ok given) new h)
-  acts_make effect more total note sum (Err (halt.Fault fault)) h = inr (fault_makes definitions blocks line_offset has_text has_directive old mid new fault fewer h.1 effect total note h.0)
+  acts_make effect more total note sum (Ok given) h =
+      inr (gives_after definitions blocks line_offset has_text has_directive old mid 1 more total sum taken note effect (Ok given) new h)
+  acts_make effect more total note sum (Err (halt.Fault fault)) h =
+      inr (fault_makes definitions blocks line_offset has_text has_directive old mid new fault fewer h.1 effect total note h.0)
   acts_make effect more total note sum (Err halt.OutOfMemory) h = inl (record { some_left = λ e. absurd (omega (arith, ap length e)); fault = refl })
 
   directive_makes : (live : Bool) (block : Option OpenBlock) (name : Name) (word : Location) (result : Result (Option Token) Halt)
-      → Gives (taking_more 1 (directive_move live block (directive_of name) word (drop 1 mid.rest))) (source_of mid definitions blocks line_offset has_text has_directive) result new → StepsBy result (taking_more 2 (directive_move live block (directive_of name) word (drop 2 old.rest)))
+      → Gives (taking_more 1 (directive_move live block (directive_of name) word (drop 1 mid.rest)))
+      (source_of mid definitions blocks line_offset has_text has_directive) result new
+      → StepsBy result (taking_more 2 (directive_move live block (directive_of name) word (drop 2 old.rest)))
   directive_makes live block name word result h =
       let move = directive_move live block (directive_of name) word (drop 2 old.rest) in
       let after : drop 1 mid.rest ≡ drop 2 old.rest = ap (drop 1) taken ∙ drop-drop 1 1 old.rest in
       acts_make move.effect (1 + move.taken) (2 + move.taken) directive_line (omega arith) result
-      (subst (λ (rest : List Seen). Gives (taking_more 1 (directive_move live block (directive_of name) word rest)) (source_of mid definitions blocks line_offset has_text has_directive) result new) after h)
+      (subst (λ (rest : List Seen). Gives (taking_more 1 (directive_move live block (directive_of name) word rest))
+      (source_of mid definitions blocks line_offset has_text has_directive) result new) after h)
 
-  live_makes : (block : Option OpenBlock) (token : LexerToken) (name : Option Name) (result : Result (Option Token) Halt) → Gives (live_word_move block (name_or_refused token name) (drop 1 mid.rest)) (source_of mid definitions blocks line_offset has_text has_directive) result new
+  live_makes : (block : Option OpenBlock) (token : LexerToken) (name : Option Name) (result : Result (Option Token) Halt)
+      → Gives (live_word_move block (name_or_refused token name) (drop 1 mid.rest))
+      (source_of mid definitions blocks line_offset has_text has_directive) result new
       → StepsBy result (move_at true block (named_directive token name) old.rest)
   live_makes block token None result h = acts_make (fails (refused_token token)) 0 1 unnoted refl result h
   live_makes block token (Some name) result h = directive_makes true block name token.location result h
@@ -93,12 +108,14 @@ module _ (definitions : List Defined) (blocks : List OpenBlock) (line_offset : �
   named_gives block token result h =
       subst (λ (word : Result Placed Fault). GivesBy result (live_word_move block word (drop 1 mid.rest))) (name_or_refused_is token) h
 
-  dead_makes : (block : Option OpenBlock) (token : LexerToken) (name : Option Name) (result : Result (Option Token) Halt) → Gives (dead_name_move block token.location name (drop 1 mid.rest)) (source_of mid definitions blocks line_offset has_text has_directive) result new
+  dead_makes : (block : Option OpenBlock) (token : LexerToken) (name : Option Name) (result : Result (Option Token) Halt)
+      → Gives (dead_name_move block token.location name (drop 1 mid.rest)) (source_of mid definitions blocks line_offset has_text has_directive) result new
       → StepsBy result (move_at false block (named_directive token name) old.rest)
   dead_makes block token None result h = acts_make passes 1 2 unnoted refl result h
   dead_makes block token (Some name) result h = directive_makes false block name token.location result h
 
-  word_makes : (live : Bool) (block : Option OpenBlock) (first : Result LexerToken Fault) (result : Result (Option Token) Halt) → Gives (word_move_by live block first (drop 1 mid.rest)) (source_of mid definitions blocks line_offset has_text has_directive) result new
+  word_makes : (live : Bool) (block : Option OpenBlock) (first : Result LexerToken Fault) (result : Result (Option Token) Halt)
+      → Gives (word_move_by live block first (drop 1 mid.rest)) (source_of mid definitions blocks line_offset has_text has_directive) result new
       → StepsBy result (move_at live block (directive_sight first) old.rest)
   word_makes true block (Ok token) result h = live_makes block token (identifier_of token.value) result (named_gives block token result h)
   word_makes true block (Err fault) result h = acts_make (fails fault) 0 1 unnoted refl result h
@@ -115,8 +132,10 @@ gives_token (Some other) token e f = cc
 gives_token None token e f = cc
 
 -- the lexer gave a token, which is after the source now
-module _ (definitions : List Defined) (blocks : List OpenBlock) (line_offset : ℤ) (has_text has_directive : Bool) (old mid : SourceLexed) (next : Option LexerToken) (token : LexerToken) (is : next ≡ Some token)
-    (spent : old.spent ≡ true → ◌≡◌ {A = Result (Option LexerToken) Halt} (Ok next) (Ok None) × (mid ≡ old)) (gave : old.spent ≡ false → next_token old.rest ≡ Ok next) (took : old.spent ≡ false → HasTaken 1 old mid) where
+module _ (definitions : List Defined) (blocks : List OpenBlock)
+    (line_offset : ℤ) (has_text has_directive : Bool) (old mid : SourceLexed) (next : Option LexerToken) (token : LexerToken) (is : next ≡ Some token)
+    (spent : old.spent ≡ true → ◌≡◌ {A = Result (Option LexerToken) Halt} (Ok next) (Ok None) × (mid ≡ old))
+    (gave : old.spent ≡ false → next_token old.rest ≡ Ok next) (took : old.spent ≡ false → HasTaken 1 old mid) where
   unspent : old.spent ≡ false
   unspent = false_from_ne_true old.spent (λ all. gives_token next token is (spent all).0)
 
@@ -127,20 +146,27 @@ module _ (definitions : List Defined) (blocks : List OpenBlock) (line_offset : �
   shown : sight_of old.rest ≡ token_sight token mid.rest
   shown = token_shown old.rest token gave_token ∙ ap (token_sight token) (sym (took unspent).rest)
 
-  steps_by : (step : Step Token) (new : Source) → IsRefusedStep (source_of old definitions blocks line_offset has_text has_directive) step ⊎ Makes (move_at (is_live_in (last_block blocks)) (last_block blocks) (token_sight token mid.rest) old.rest) (source_of old definitions blocks line_offset has_text has_directive) step new
+  steps_by : (step : Step Token) (new : Source) → IsRefusedStep (source_of old definitions blocks line_offset has_text has_directive) step
+      ⊎ Makes (move_at (is_live_in (last_block blocks)) (last_block blocks) (token_sight token mid.rest) old.rest)
+      (source_of old definitions blocks line_offset has_text has_directive) step new
       → StepsSource (source_of old definitions blocks line_offset has_text has_directive) step new
   steps_by step new h = steps_unspent (source_of old definitions blocks line_offset has_text has_directive) step new unspent (rw shown h)
 
   pub step_directive : (result : Result (Option Token) Halt) (new : Source) → token.value ≡ Hash → token.start_of_line ≡ true
-      → Gives (word_move (is_live_in (last_block blocks)) (last_block blocks) token.location mid.rest) (source_of mid definitions blocks line_offset has_text has_directive) result new → StepsSource (source_of old definitions blocks line_offset has_text has_directive) (step_of result) new
+      → Gives (word_move (is_live_in (last_block blocks)) (last_block blocks) token.location mid.rest)
+      (source_of mid definitions blocks line_offset has_text has_directive) result new
+      → StepsSource (source_of old definitions blocks line_offset has_text has_directive) (step_of result) new
   step_directive result new v s acts =
       let taken = (took unspent).rest in
-      let made = word_makes definitions blocks line_offset has_text has_directive old mid new taken (fewer_after old.rest mid.rest token gave_token taken) (is_live_in (last_block blocks)) (last_block blocks) (first_token token.location mid.rest) result acts in
+      let made = word_makes definitions blocks line_offset has_text has_directive old mid new taken
+      (fewer_after old.rest mid.rest token gave_token taken) (is_live_in (last_block blocks)) (last_block blocks)
+      (first_token token.location mid.rest) result acts in
       steps_by (step_of result) new (rw (hash_sight token mid.rest v s) made)
 
 -- the lexer gave nothing, and stands where it stood
 module _ (definitions : List Defined) (blocks : List OpenBlock) (line_offset : ℤ) (has_text has_directive : Bool) (old mid : SourceLexed) where
-  same_source : mid.rest ≡ old.rest → mid.places ≡ old.places → mid.error_place ≡ old.error_place → mid.spent ≡ old.spent → source_of mid definitions blocks line_offset has_text has_directive ≡ source_of old definitions blocks line_offset has_text has_directive
+  same_source : mid.rest ≡ old.rest → mid.places ≡ old.places → mid.error_place ≡ old.error_place → mid.spent ≡ old.spent
+      → source_of mid definitions blocks line_offset has_text has_directive ≡ source_of old definitions blocks line_offset has_text has_directive
   same_source rest places error_place spent = rw (rest, places, error_place, spent) refl
 
   nothing_left : (rest : List Seen) → ◌≡◌ {A = Result (Option LexerToken) Fault} (next_token rest) (Ok None) → rest ≡ []
@@ -151,14 +177,18 @@ module _ (definitions : List Defined) (blocks : List OpenBlock) (line_offset : �
       go (Ok token) e = cc
       go (Err fault) e = cc
 
-  pub step_ends : (next : Option LexerToken) → next ≡ None → (old.spent ≡ true → ◌≡◌ {A = Result (Option LexerToken) Halt} (Ok next) (Ok None) × (mid ≡ old)) → (old.spent ≡ false → next_token old.rest ≡ Ok next) → (old.spent ≡ false → HasTaken 1 old mid)
-      → EndStays (Ok next) old mid → (step : Step Token) (new : Source) → StepsSource (source_of mid definitions blocks line_offset has_text has_directive) step new → StepsSource (source_of old definitions blocks line_offset has_text has_directive) step new
+  pub step_ends : (next : Option LexerToken) → next ≡ None → (old.spent ≡ true → ◌≡◌ {A = Result (Option LexerToken) Halt} (Ok next) (Ok None)
+      × (mid ≡ old)) → (old.spent ≡ false → next_token old.rest ≡ Ok next) → (old.spent ≡ false → HasTaken 1 old mid)
+      → EndStays (Ok next) old mid → (step : Step Token) (new : Source)
+      → StepsSource (source_of mid definitions blocks line_offset has_text has_directive) step new
+      → StepsSource (source_of old definitions blocks line_offset has_text has_directive) step new
   step_ends next none spent gave took ended step new h = subst (λ (s : Source). StepsSource s step new) (go old.spent refl) h
     where
       stays : (mid.places ≡ old.places) × (mid.error_place ≡ old.error_place)
       stays = rw none at ended
 
-      go : (b : Bool) → old.spent ≡ b → source_of mid definitions blocks line_offset has_text has_directive ≡ source_of old definitions blocks line_offset has_text has_directive
+      go : (b : Bool) → old.spent ≡ b
+          → source_of mid definitions blocks line_offset has_text has_directive ≡ source_of old definitions blocks line_offset has_text has_directive
       go true e = ap (λ (l : SourceLexed). source_of l definitions blocks line_offset has_text has_directive) (spent e).1
       go false e =
           let empty = nothing_left old.rest (gave e ∙ ap (λ (o : Option LexerToken). Ok o) none) in

@@ -39,7 +39,8 @@ module _ (word : Location) (after : List Seen) where
   elif_unnoted None = refl
   elif_unnoted (Some block) =
       either_unnoted block.with_else (failing (ElifAfterElse, word)) _ refl
-      (either_unnoted (skips_branches block) (skip_move (parts (block_skipped block)) after) (line_move (line_tokens after) (parts_if block word) (line_length after))
+      (either_unnoted (skips_branches block) (skip_move (parts (block_skipped block)) after)
+      (line_move (line_tokens after) (parts_if block word) (line_length after))
       (skipped_unnoted (parts (block_skipped block))) (line_unnoted (line_tokens after) (parts_if block word) (line_length after)))
 
   endif_unnoted : (block : Option OpenBlock) → IsUnnoted (endif_move block word after)

@@ -86,7 +86,8 @@ impl<'a> DirectiveProcessor<'a> {
 
     /// What the name stands for.
     pub fn find(&self, name: &str) -> Option<&Rc<Define>>
-        ensures { option_map (λ d. d.now.value) result ≡ meaning_of self.now.definitions (chars name.now) }
+        ensures { option_map (λ d. d.now.value) result
+            ≡ meaning_of self.now.definitions (chars name.now) }
     {
         self.definitions.find(name)
     }
@@ -118,7 +119,8 @@ impl<'a> DirectiveProcessor<'a> {
     /// Where that is refused, nothing changes.
     pub fn set_content(&mut self, name: &str, content: &str) -> Result<(), Halt>
         requires { length content.now < 2 ^ 32 - 1 }
-        ensures { SetsContent (chars name.now) (content_tokens (items_of content.now)) self.old result self.new }
+        ensures { SetsContent (chars name.now)
+            (content_tokens (items_of content.now)) self.old result self.new }
     {
         let body = content_tokens(self.alloc, content)?;
         let define = Rc::new(self.alloc, Define::object_like(self.alloc, body))?;
@@ -155,7 +157,8 @@ impl<'a> DirectiveProcessor<'a> {
     // Does what a `#define` line says, after its word.
     fn define(&mut self, word: Location) -> Result<(), Halt>
         requires { self.old.spent ≡ false }
-        ensures acts { Acts (moves.directive_move true (last_block self.old.blocks) d.Define word self.old.rest) self.old result self.new }
+        ensures acts { Acts (moves.directive_move true
+            (last_block self.old.blocks) d.Define word self.old.rest) self.old result self.new }
         ensures errors { Reports result (unreported_of self.old) (unreported_of self.new) }
     {
         let line = define_line(self.alloc, word, &mut self.lexer)?;
@@ -165,7 +168,8 @@ impl<'a> DirectiveProcessor<'a> {
     // Does what an `#undef` line says, after its word.
     fn undef(&mut self, word: Location) -> Result<(), Halt>
         requires { self.old.spent ≡ false }
-        ensures acts { Acts (moves.line_move (only_name word self.old.rest) moves.undefines (line_length self.old.rest)) self.old result self.new }
+        ensures acts { Acts (moves.line_move (only_name word self.old.rest) moves.undefines
+            (line_length self.old.rest)) self.old result self.new }
         ensures errors { Reports result (unreported_of self.old) (unreported_of self.new) }
     {
         let name = only_name(word, &mut self.lexer)?;
@@ -176,7 +180,8 @@ impl<'a> DirectiveProcessor<'a> {
     // Opens a block where the name on the line is defined, or where it isn't.
     fn open_where(&mut self, wanted: bool, word: Location) -> Result<(), Halt>
         requires { self.old.spent ≡ false }
-        ensures acts { Acts (moves.line_move (only_name word self.old.rest) (moves.opens_where wanted word) (line_length self.old.rest)) self.old result self.new }
+        ensures acts { Acts (moves.line_move (only_name word self.old.rest)
+            (moves.opens_where wanted word) (line_length self.old.rest)) self.old result self.new }
         ensures errors { Reports result (unreported_of self.old) (unreported_of self.new) }
     {
         let name = only_name(word, &mut self.lexer)?;
@@ -190,7 +195,8 @@ impl<'a> DirectiveProcessor<'a> {
     // Opens a block where the condition on the line holds.
     fn open_if(&mut self, word: Location) -> Result<(), Halt>
         requires { self.old.spent ≡ false }
-        ensures acts { Acts (moves.line_move (line_tokens self.old.rest) (moves.opens_if word) (line_length self.old.rest)) self.old result self.new }
+        ensures acts { Acts (moves.line_move (line_tokens self.old.rest) (moves.opens_if word)
+            (line_length self.old.rest)) self.old result self.new }
         ensures errors { Reports result (unreported_of self.old) (unreported_of self.new) }
     {
         let tokens = rest_of_line(self.alloc, &mut self.lexer)?;
@@ -202,7 +208,8 @@ impl<'a> DirectiveProcessor<'a> {
     // Opens a block in dead text, whatever stands on its line.
     fn open_unread(&mut self, word: Location) -> Result<(), Halt>
         requires { self.old.spent ≡ false }
-        ensures acts { Acts (moves.skip_move (moves.opens_unread word) self.old.rest) self.old result self.new }
+        ensures acts { Acts
+            (moves.skip_move (moves.opens_unread word) self.old.rest) self.old result self.new }
         ensures errors { Reports result (unreported_of self.old) (unreported_of self.new) }
     {
         self.blocks.push(OpenBlock::unread(word))?;
@@ -213,7 +220,8 @@ impl<'a> DirectiveProcessor<'a> {
     fn skip_branch(&mut self, block: OpenBlock) -> Result<(), Halt>
         requires unspent { self.old.spent ≡ false }
         requires innermost { last_block self.old.blocks ≡ Some block }
-        ensures acts { Acts (moves.skip_move (moves.parts (block_skipped block)) self.old.rest) self.old result self.new }
+        ensures acts { Acts
+            (moves.skip_move (moves.parts (block_skipped block)) self.old.rest) self.old result self.new }
         ensures errors { Reports result (unreported_of self.old) (unreported_of self.new) }
     {
         skip_line(&mut self.lexer)?;
@@ -225,7 +233,8 @@ impl<'a> DirectiveProcessor<'a> {
     fn part_if(&mut self, block: OpenBlock, word: Location) -> Result<(), Halt>
         requires unspent { self.old.spent ≡ false }
         requires innermost { last_block self.old.blocks ≡ Some block }
-        ensures acts { Acts (moves.line_move (line_tokens self.old.rest) (moves.parts_if block word) (line_length self.old.rest)) self.old result self.new }
+        ensures acts { Acts (moves.line_move (line_tokens self.old.rest)
+            (moves.parts_if block word) (line_length self.old.rest)) self.old result self.new }
         ensures errors { Reports result (unreported_of self.old) (unreported_of self.new) }
     {
         let tokens = rest_of_line(self.alloc, &mut self.lexer)?;
@@ -237,7 +246,8 @@ impl<'a> DirectiveProcessor<'a> {
     // Does what an `#elif` line says, after its word.
     fn elif_line(&mut self, word: Location) -> Result<(), Halt>
         requires { self.old.spent ≡ false }
-        ensures acts { Acts (moves.elif_move (last_block self.old.blocks) word self.old.rest) self.old result self.new }
+        ensures acts { Acts
+            (moves.elif_move (last_block self.old.blocks) word self.old.rest) self.old result self.new }
         ensures errors { Reports result (unreported_of self.old) (unreported_of self.new) }
     {
         let Some(block) = self.blocks.last() else {
@@ -255,7 +265,8 @@ impl<'a> DirectiveProcessor<'a> {
     // Does what an `#else` line says, after its word.
     fn else_line(&mut self, word: Location) -> Result<(), Halt>
         requires { self.old.spent ≡ false }
-        ensures acts { Acts (moves.else_move (last_block self.old.blocks) word self.old.rest) self.old result self.new }
+        ensures acts { Acts
+            (moves.else_move (last_block self.old.blocks) word self.old.rest) self.old result self.new }
         ensures errors { Reports result (unreported_of self.old) (unreported_of self.new) }
     {
         ended_line(word, &mut self.lexer)?;
@@ -272,7 +283,8 @@ impl<'a> DirectiveProcessor<'a> {
     // Does what an `#endif` line says, after its word: the block closes, whatever else stands on the line.
     fn endif_line(&mut self, word: Location) -> Result<(), Halt>
         requires { self.old.spent ≡ false }
-        ensures acts { Acts (moves.endif_move (last_block self.old.blocks) word self.old.rest) self.old result self.new }
+        ensures acts { Acts
+            (moves.endif_move (last_block self.old.blocks) word self.old.rest) self.old result self.new }
         ensures errors { Reports result (unreported_of self.old) (unreported_of self.new) }
     {
         let Some(block) = self.blocks.pop() else {
@@ -291,7 +303,8 @@ impl<'a> DirectiveProcessor<'a> {
     // Does what a `#line` line says, after its word: the next lines are numbered from there.
     fn number_lines(&mut self, word: Location) -> Result<(), Halt>
         requires { self.old.spent ≡ false }
-        ensures acts { Acts (moves.line_move (line_tokens self.old.rest) (moves.renumbers word) (line_length self.old.rest)) self.old result self.new }
+        ensures acts { Acts (moves.line_move (line_tokens self.old.rest) (moves.renumbers word)
+            (line_length self.old.rest)) self.old result self.new }
         ensures errors { Reports result (unreported_of self.old) (unreported_of self.new) }
     {
         let tokens = rest_of_line(self.alloc, &mut self.lexer)?;
@@ -313,7 +326,8 @@ impl<'a> DirectiveProcessor<'a> {
     fn version(&mut self, word: Location) -> Result<Token, Halt>
         requires unspent { self.old.spent ≡ false }
         requires left { self.old.rest ≢ [] }
-        ensures acts { ActsAs (λ token. Ok token) (moves.live_move (last_block self.old.blocks) d.Version word self.old.rest) self.old result self.new }
+        ensures acts { ActsAs (λ token. Ok token)
+            (moves.live_move (last_block self.old.blocks) d.Version word self.old.rest) self.old result self.new }
         ensures holds { IfOk result (λ token. HoldsOrdinary token.value) }
         ensures errors { Reports result (unreported_of self.old) (unreported_of self.new) }
     {
@@ -333,7 +347,8 @@ impl<'a> DirectiveProcessor<'a> {
     fn extension(&mut self, word: Location) -> Result<Token, Halt>
         requires unspent { self.old.spent ≡ false }
         requires left { self.old.rest ≢ [] }
-        ensures acts { ActsAs (λ token. Ok token) (moves.live_move (last_block self.old.blocks) d.Extension word self.old.rest) self.old result self.new }
+        ensures acts { ActsAs (λ token. Ok token)
+            (moves.live_move (last_block self.old.blocks) d.Extension word self.old.rest) self.old result self.new }
         ensures holds { IfOk result (λ token. HoldsOrdinary token.value) }
         ensures errors { Reports result (unreported_of self.old) (unreported_of self.new) }
     {
@@ -352,7 +367,8 @@ impl<'a> DirectiveProcessor<'a> {
     fn pragma(&mut self, word: Location) -> Result<Token, Halt>
         requires unspent { self.old.spent ≡ false }
         requires left { self.old.rest ≢ [] }
-        ensures acts { ActsAs (λ token. Ok token) (moves.live_move (last_block self.old.blocks) d.Pragma word self.old.rest) self.old result self.new }
+        ensures acts { ActsAs (λ token. Ok token)
+            (moves.live_move (last_block self.old.blocks) d.Pragma word self.old.rest) self.old result self.new }
         ensures holds { IfOk result (λ token. HoldsOrdinary token.value) }
         ensures errors { Reports result (unreported_of self.old) (unreported_of self.new) }
     {
@@ -367,7 +383,8 @@ impl<'a> DirectiveProcessor<'a> {
     fn act_live(&mut self, directive: Directive, word: Location) -> Result<(), Halt>
         requires unspent { self.old.spent ≡ false }
         requires silent { is_item directive ≡ false }
-        ensures acts { Acts (moves.directive_move true (last_block self.old.blocks) directive word self.old.rest) self.old result self.new }
+        ensures acts { Acts (moves.directive_move true
+            (last_block self.old.blocks) directive word self.old.rest) self.old result self.new }
         ensures errors { Reports result (unreported_of self.old) (unreported_of self.new) }
     {
         match directive {
@@ -389,7 +406,8 @@ impl<'a> DirectiveProcessor<'a> {
     fn give_live(&mut self, directive: Directive, word: Location) -> Result<Option<Token>, Halt>
         requires unspent { self.old.spent ≡ false }
         requires left { self.old.rest ≢ [] }
-        ensures gives { Gives (moves.directive_move true (last_block self.old.blocks) directive word self.old.rest) self.old result self.new }
+        ensures gives { Gives (moves.directive_move true
+            (last_block self.old.blocks) directive word self.old.rest) self.old result self.new }
         ensures holds { IfOk result (λ given. IfSome given (λ token. HoldsOrdinary token.value)) }
         ensures errors { Reports result (unreported_of self.old) (unreported_of self.new) }
     {
@@ -407,7 +425,8 @@ impl<'a> DirectiveProcessor<'a> {
     // Does what a directive says in dead text, after its word.
     fn act_dead(&mut self, directive: Directive, word: Location) -> Result<(), Halt>
         requires { self.old.spent ≡ false }
-        ensures acts { Acts (moves.directive_move false (last_block self.old.blocks) directive word self.old.rest) self.old result self.new }
+        ensures acts { Acts (moves.directive_move false
+            (last_block self.old.blocks) directive word self.old.rest) self.old result self.new }
         ensures errors { Reports result (unreported_of self.old) (unreported_of self.new) }
     {
         match directive {
@@ -423,7 +442,8 @@ impl<'a> DirectiveProcessor<'a> {
     // What a directive gives in live text, after its number sign.
     fn read_live(&mut self, hash: Location) -> Result<Option<Token>, Halt>
         requires { self.old.spent ≡ false }
-        ensures gives { Gives (live_word_move (last_block self.old.blocks) (first_name hash self.old.rest) (drop 1 self.old.rest)) self.old result self.new }
+        ensures gives { Gives (live_word_move (last_block self.old.blocks)
+            (first_name hash self.old.rest) (drop 1 self.old.rest)) self.old result self.new }
         ensures holds { IfOk result (λ given. IfSome given (λ token. HoldsOrdinary token.value)) }
         ensures errors { Reports result (unreported_of self.old) (unreported_of self.new) }
     {
@@ -436,7 +456,8 @@ impl<'a> DirectiveProcessor<'a> {
     // Does what a directive says in dead text, after its number sign. Where no word stands there, nothing is said.
     fn read_dead(&mut self, hash: Location) -> Result<(), Halt>
         requires { self.old.spent ≡ false }
-        ensures acts { Acts (dead_word_move (last_block self.old.blocks) (first_token hash self.old.rest) (drop 1 self.old.rest)) self.old result self.new }
+        ensures acts { Acts (dead_word_move (last_block self.old.blocks)
+            (first_token hash self.old.rest) (drop 1 self.old.rest)) self.old result self.new }
         ensures errors { Reports result (unreported_of self.old) (unreported_of self.new) }
     {
         let token = first_token(hash, &mut self.lexer)?;
@@ -454,7 +475,8 @@ impl<'a> DirectiveProcessor<'a> {
     // What a directive gives, after its number sign.
     fn read_directive(&mut self, hash: Location) -> Result<Option<Token>, Halt>
         requires { self.old.spent ≡ false }
-        ensures gives { Gives (word_move (is_live_in (last_block self.old.blocks)) (last_block self.old.blocks) hash self.old.rest) self.old result self.new }
+        ensures gives { Gives (word_move (is_live_in (last_block self.old.blocks))
+            (last_block self.old.blocks) hash self.old.rest) self.old result self.new }
         ensures holds { IfOk result (λ given. IfSome given (λ token. HoldsOrdinary token.value)) }
         ensures errors { Reports result (unreported_of self.old) (unreported_of self.new) }
     {

@@ -326,7 +326,8 @@ impl<'a> IfParser<'a> {
         requires holds { AllHoldOrdinary tokens.items }
         requires same { self.now.definitions.now ≡ definitions.now }
         requires alone { around.now ≡ [] }
-        ensures { IfOk result (AreWordsOfLine self.now.kind self.now.directive self.now.levels tokens.items definitions.now) }
+        ensures { IfOk result
+            (AreWordsOfLine self.now.kind self.now.directive self.now.levels tokens.items definitions.now) }
     {
         let lexer = ListLexer::line(tokens, definitions, &*around);
         let mut line = LineExpander {

@@ -160,7 +160,8 @@ fn holds_alone(
     words: &Words,
     evaluation: Result<Value, Found>,
 ) -> Result<bool, Halt>
-    ensures { Satisfies result (λ r. r ≡ alone_on_line directive words.now (λ value. not (is_zero value)) evaluation) }
+    ensures { Satisfies result (λ r. r ≡ alone_on_line directive words.now
+        (λ value. not (is_zero value)) evaluation) }
 {
     match evaluation {
         Ok(value) => {
@@ -179,7 +180,8 @@ fn number_alone(
     evaluation: Result<Value, Found>,
     number: u32,
 ) -> Result<u32, Halt>
-    ensures { Satisfies result (λ r. r ≡ alone_on_line directive words.now (λ value. number) evaluation) }
+    ensures { Satisfies result (λ r. r ≡ alone_on_line directive words.now
+        (λ value. number) evaluation) }
 {
     match evaluation {
         Ok(value) => {
@@ -209,7 +211,8 @@ pub fn condition(
     definitions: &Definitions,
 ) -> Result<bool, Halt>
     requires { AllHoldOrdinary tokens.items }
-    ensures { Satisfies result (IsCondition (answers_at expansion_limit) directive tokens.items (meaning_of definitions.now)) }
+    ensures { Satisfies result (IsCondition (answers_at expansion_limit) directive tokens.items
+        (meaning_of definitions.now)) }
 {
     let kind = LineKind::Condition;
     let levels = expansion_limit();
@@ -265,7 +268,8 @@ pub fn line_number(
     definitions: &Definitions,
 ) -> Result<u32, Halt>
     requires { AllHoldOrdinary tokens.items }
-    ensures { Satisfies result (IsLineNumber (answers_at expansion_limit) directive tokens.items (meaning_of definitions.now)) }
+    ensures { Satisfies result (IsLineNumber (answers_at expansion_limit) directive tokens.items
+        (meaning_of definitions.now)) }
 {
     let kind = LineKind::LineNumber;
     let levels = expansion_limit();

@@ -171,7 +171,8 @@ pub fn next_line_token(lexer: &mut SourceLexer<'_>) -> Result<Option<Token>, Hal
     ensures takes { spec.TakesItems 1 lexer.old result lexer.new }
     ensures errors { Reports result (unreported_at lexer.old) (unreported_at lexer.new) }
     ensures ordinary { spec.IsOrdinaryIfOk result }
-    ensures comments { IfOk result (λ next. lexer.new.had_comments ≡ comments_before lexer.old.rest lexer.old.at_end) }
+    ensures comments { IfOk result (λ next. lexer.new.had_comments
+        ≡ comments_before lexer.old.rest lexer.old.at_end) }
     ensures left { IfOk result (λ next. IfSome next (λ t. lexer.new.rest ≢ [])) }
 {
     line_token(lexer.next_token()?)
@@ -194,9 +195,11 @@ pub fn line_tokens_from(
     requires ordinary { IfSome first (λ t. IsTrue (is_ordinary t.value)) }
     requires left { IfSome first (λ t. lexer.old.rest ≢ []) }
     ensures is { spec.Meets (λ tokens. tokens.items) result (spec.tokens_after first lexer.old.rest) }
-    ensures takes { spec.TakesItems (spec.length_after first lexer.old.rest) lexer.old result lexer.new }
+    ensures takes { spec.TakesItems
+        (spec.length_after first lexer.old.rest) lexer.old result lexer.new }
     ensures errors { Reports result (unreported_at lexer.old) (unreported_at lexer.new) }
-    ensures comments { IfOk result (λ tokens. lexer.new.had_comments ≡ spec.comments_after first lexer.old.rest lexer.old.had_comments) }
+    ensures comments { IfOk result (λ tokens. lexer.new.had_comments
+        ≡ spec.comments_after first lexer.old.rest lexer.old.had_comments) }
     ensures ordinary { IfOk result (λ tokens. All (λ t. IsTrue (is_ordinary t.value)) tokens.items) }
 {
     let mut tokens = Vec::new(alloc);
@@ -214,7 +217,8 @@ pub fn rest_of_line(alloc: Global, lexer: &mut SourceLexer<'_>) -> Result<Vec<To
     ensures is { spec.Meets (λ tokens. tokens.items) result (line_tokens lexer.old.rest) }
     ensures takes { spec.TakesItems (line_length lexer.old.rest) lexer.old result lexer.new }
     ensures errors { Reports result (unreported_at lexer.old) (unreported_at lexer.new) }
-    ensures comments { IfOk result (λ tokens. lexer.old.rest ≢ [] → lexer.new.had_comments ≡ comments_before_end lexer.old.rest) }
+    ensures comments { IfOk result (λ tokens. lexer.old.rest ≢ [] → lexer.new.had_comments
+        ≡ comments_before_end lexer.old.rest) }
     ensures ordinary { IfOk result (λ tokens. All (λ t. IsTrue (is_ordinary t.value)) tokens.items) }
 {
     let first = next_line_token(lexer)?;
@@ -228,8 +232,10 @@ pub fn line_tokens(alloc: Global, lexer: &mut SourceLexer<'_>) -> Result<Tokens,
     ensures is { spec.Meets (λ t. t) result (line_entries lexer.old.rest) }
     ensures takes { spec.TakesItems (line_length lexer.old.rest) lexer.old result lexer.new }
     ensures errors { Reports result (unreported_at lexer.old) (unreported_at lexer.new) }
-    ensures comments { IfOk result (λ tokens. lexer.new.had_comments ≡ comments_before_end lexer.old.rest) }
-    ensures ordinary { IfOk result (λ tokens. All (λ entry. IsTrue (is_ordinary_leaf entry.leaf)) tokens) }
+    ensures comments { IfOk result (λ tokens. lexer.new.had_comments
+        ≡ comments_before_end lexer.old.rest) }
+    ensures ordinary { IfOk result
+        (λ tokens. All (λ entry. IsTrue (is_ordinary_leaf entry.leaf)) tokens) }
 {
     let first = next_line_token(lexer)?;
     let tokens = line_tokens_from(alloc, first, lexer)?;

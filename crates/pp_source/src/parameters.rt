@@ -25,7 +25,8 @@ fn is_among(names: &[Text], name: &Text) -> bool
 // The name of one more parameter, which comes next.
 fn one_parameter(names: &[Text], word: Location, lexer: &mut SourceLexer<'_>) -> Result<Text, Halt>
     requires { lexer.old.spent ≡ false }
-    ensures is { spec.Meets (λ name. names.now ++ name ∷ []) result (one_parameter word names.now lexer.old.rest) }
+    ensures is { spec.Meets (λ name. names.now ++ name ∷ []) result
+        (one_parameter word names.now lexer.old.rest) }
     ensures takes { spec.TakesItems 1 lexer.old result lexer.new }
     ensures errors { Reports result (unreported_at lexer.old) (unreported_at lexer.new) }
 {

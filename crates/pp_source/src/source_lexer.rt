@@ -32,7 +32,8 @@ impl<'a> Model for SourceLexer<'a> {
 
     ghost view = { λ s. record { rest = s.lexer.rest; places = s.lexer.places; error_place = s.error_place; had_comments = s.lexer.had_comments; at_end = s.lexer.at_end; spent = s.spent } };
 
-    ghost invariant = { λ s. s.spent ≡ false → (s.lexer.spent ≡ false) × AreEnded s.lexer.rest × HavePlaces s.lexer.rest s.lexer.places };
+    ghost invariant = { λ s. s.spent ≡ false → (s.lexer.spent ≡ false) × AreEnded s.lexer.rest
+        × HavePlaces s.lexer.rest s.lexer.places };
 }
 
 impl<'a> SourceLexer<'a> {
@@ -77,10 +78,12 @@ impl<'a> SourceLexer<'a> {
 
     /// The next token, or nothing at the end. A spent lexer is at its end, and stays as it is.
     pub fn next_token(&mut self) -> Result<Option<lexer::Token>, Halt>
-        ensures is { self.old.spent ≡ false → spec.Meets (λ t. t) result (spec.next_token self.old.rest) }
+        ensures is { self.old.spent ≡ false
+            → spec.Meets (λ t. t) result (spec.next_token self.old.rest) }
         ensures takes { self.old.spent ≡ false → spec.TakesItems 1 self.old result self.new }
         ensures fault { self.old.spent ≡ false → spec.FaultTakesSome result self.old self.new }
-        ensures comments { IfOk result (λ token. self.old.spent ≡ false → self.new.had_comments ≡ comments_before self.old.rest self.old.at_end) }
+        ensures comments { IfOk result (λ token. self.old.spent ≡ false → self.new.had_comments
+            ≡ comments_before self.old.rest self.old.at_end) }
         ensures left { IfOk result (λ token. spec.LeavesSome token self.new.rest) }
         ensures ended { EndStays result self.old self.new }
         ensures errors { Reports result (unreported_at self.old) (unreported_at self.new) }

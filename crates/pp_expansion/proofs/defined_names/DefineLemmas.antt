@@ -12,7 +12,8 @@ use Rattle.pp_lexer.specs.contracts.token.TokenValuePartialEq.TheImpl.{eq-value 
 use Rattle.pp_lexer.proofs.values.EqualityLemmas.{value_decides}
 
 -- the values of each two tokens are equal where the lists of the values are
-pub values_decide : (xs ys : List Token) → length xs ≡ length ys → Decides (list_all (λ (p : Token × Token). value_eq.it p.0.value p.1.value) (zip xs ys)) (values_of xs ≡ values_of ys)
+pub values_decide : (xs ys : List Token) → length xs ≡ length ys
+    → Decides (list_all (λ (p : Token × Token). value_eq.it p.0.value p.1.value) (zip xs ys)) (values_of xs ≡ values_of ys)
 values_decide [] [] e = (λ _. refl, λ _. refl)
 values_decide (x ∷ xs) [] e = absurd (omega arith)
 values_decide [] (y ∷ ys) e = absurd (omega arith)
@@ -20,7 +21,8 @@ values_decide (x ∷ xs) (y ∷ ys) e =
     Decides-like _ (λ p. cc) (λ same. (cc, cc)) (Decides-and _ _ (value_decides x.value y.value) (values_decide xs ys (omega arith)))
 
 -- the same of a test that comes to that
-pub values_tested : (r : Bool) (xs ys : List Token) → length xs ≡ length ys → r ≡ list_all (λ (p : Token × Token). value_eq.it p.0.value p.1.value) (zip xs ys) → Decides r (values_of xs ≡ values_of ys)
+pub values_tested : (r : Bool) (xs ys : List Token) → length xs ≡ length ys
+    → r ≡ list_all (λ (p : Token × Token). value_eq.it p.0.value p.1.value) (zip xs ys) → Decides r (values_of xs ≡ values_of ys)
 values_tested r xs ys n e = rw e (values_decide xs ys n)
 
 -- two lists of names are the same where `==` says so

@@ -50,10 +50,12 @@ module _ {K X : Type 0} (name_of : K → Name) (value_of : X → Definition) whe
 
   pub meaning_of-defined : (es : List (K × X)) (name : Name) → meaning_of (defined es) name ≡ option_map value_of (lookup (has_name name_of name) es)
   meaning_of-defined [] name = refl
-  meaning_of-defined (e ∷ es) name = found_or_later value_of (has_name name_of name e.0) e.1 (meaning_of (defined es) name) (lookup (has_name name_of name) es) (meaning_of-defined es name)
+  meaning_of-defined (e ∷ es) name = found_or_later value_of (has_name name_of name e.0) e.1 (meaning_of (defined es) name)
+      (lookup (has_name name_of name) es) (meaning_of-defined es name)
 
   -- what a test of the keys finds, where it finds those of this name
-  pub found_by : (name : Name) (test : K → Bool) → ((k : K) → test k ≡ has_name name_of name k) → (es : List (K × X)) → meaning_of (defined es) name ≡ option_map value_of (lookup test es)
+  pub found_by : (name : Name) (test : K → Bool) → ((k : K) → test k ≡ has_name name_of name k) → (es : List (K × X))
+      → meaning_of (defined es) name ≡ option_map value_of (lookup test es)
   found_by name test tests es = meaning_of-defined es name ∙ ap (option_map value_of) (sym (lookup_alike test (has_name name_of name) tests es))
 
   abbrev body_length : X → ℕ
@@ -64,7 +66,8 @@ module _ {K X : Type 0} (name_of : K → Name) (value_of : X → Definition) whe
   body_tokens-defined (e ∷ es) = rw (sum_by-cons body_length e.1 (values_of es)) (ap (λ n. body_length e.1 + n) (body_tokens-defined es))
 
   -- a change at the keys of one name
-  module _ (eq : K → K → Bool) (same : (x y : K) → eq x y ≡ is_same_name (name_of x) (name_of y)) (name : Name) (test : K → Bool) (tests : (k : K) → test k ≡ has_name name_of name k) where
+  module _ (eq : K → K → Bool) (same : (x y : K) → eq x y ≡ is_same_name (name_of x) (name_of y))
+      (name : Name) (test : K → Bool) (tests : (k : K) → test k ≡ has_name name_of name k) where
     tests_keys : (other : Name) → IsKeyTest eq (has_name name_of other)
     tests_keys other x y h = ap (λ n. is_same_name n (name_of y)) (names_same other (name_of x) h) ∙ sym (same x y)
 
@@ -72,18 +75,21 @@ module _ {K X : Type 0} (name_of : K → Name) (value_of : X → Definition) whe
     are_apart other apart k h = ap (is_same_name other) (sym (names_same name (name_of k) (sym (tests k) ∙ h))) ∙ apart
 
     module _ (old new : List (K × X)) (change : Option X) (found : lookup test new ≡ change) (keeps : KeepsOthers eq test old new) where
-      changed_if : (other : Name) (b : Bool) → is_same_name other name ≡ b → meaning_of (defined new) other ≡ (if b then option_map value_of change else meaning_of (defined old) other)
+      changed_if : (other : Name) (b : Bool) → is_same_name other name ≡ b
+          → meaning_of (defined new) other ≡ (if b then option_map value_of change else meaning_of (defined old) other)
       unfolding KeepsOthers
       changed_if other true e = rw (names_same other name e) (found_by name test tests new ∙ ap (option_map value_of) found)
       changed_if other false e =
-          meaning_of-defined new other ∙ ap (option_map value_of) (keeps (has_name name_of other) (tests_keys other) (are_apart other e)) ∙ sym (meaning_of-defined old other)
+          meaning_of-defined new other ∙ ap (option_map value_of) (keeps (has_name name_of other) (tests_keys other) (are_apart other e))
+          ∙ sym (meaning_of-defined old other)
 
       pub meaning_of-changed : meaning_of (defined new) ≡ changed (meaning_of (defined old)) name (option_map value_of change)
       meaning_of-changed = λ i other. changed_if other (is_same_name other name) refl i
 
   module _ (cmp : K → K → Ordering) (same : (x y : K) → eq_by_cmp cmp x y ≡ is_same_name (name_of x) (name_of y)) (m n : BTreeMap K X) where
     -- a key is set
-    pub is_set : IsTotalOrder cmp → IsStrictlySortedBy cmp (keys_of m.entries) → (k : K) (x : X) (old : Option X) → old ≡ tree.get cmp m k → tree.Updates cmp m n k (Some x) → n.entries ≡ insert_entry cmp m.entries k x → length n.entries ≡ length m.entries + (if is_some old then 0 else 1)
+    pub is_set : IsTotalOrder cmp → IsStrictlySortedBy cmp (keys_of m.entries) → (k : K) (x : X) (old : Option X) → old ≡ tree.get cmp m k
+        → tree.Updates cmp m n k (Some x) → n.entries ≡ insert_entry cmp m.entries k x → length n.entries ≡ length m.entries + (if is_some old then 0 else 1)
         → IsChanged (name_of k) (Some (value_of x)) (defined m.entries) (defined n.entries)
     is_set total sorted k x old was updates puts len =
         let sums = sum_by-insert_entry body_length total m.entries k x sorted in
@@ -98,7 +104,8 @@ module _ {K X : Type 0} (name_of : K → Name) (value_of : X → Definition) whe
         }
 
     -- the keys of a name are removed
-    pub is_removed : (name : Name) (compare : K → Ordering) → ((k : K) → is_at compare k ≡ has_name name_of name k) → tree.UpdatesBy cmp compare m n None → n.entries ≡ remove_entry (is_at compare) m.entries → length n.entries ≤ length m.entries
+    pub is_removed : (name : Name) (compare : K → Ordering) → ((k : K) → is_at compare k ≡ has_name name_of name k)
+        → tree.UpdatesBy cmp compare m n None → n.entries ≡ remove_entry (is_at compare) m.entries → length n.entries ≤ length m.entries
         → IsChanged name None (defined m.entries) (defined n.entries)
     is_removed name compare tests updates taken len =
         let left = ap (λ (es : List (K × X)). sum_by body_length (values_of es)) taken in
@@ -117,12 +124,14 @@ abbrev pub text_name : {Z : Type 0} → String Z → Name
 text_name key = chars (string_bytes key)
 
 pub texts_same : {Z : Type 0} (x y : String Z) → eq_by_cmp string_cmp x y ≡ is_same_name (text_name x) (text_name y)
-texts_same x y = is_eq-slice_cmp (string_bytes x) (string_bytes y) ∙ chars_tested (string_bytes x) (string_bytes y) (IsUtf8-string_bytes x) (IsUtf8-string_bytes y)
+texts_same x y = is_eq-slice_cmp (string_bytes x) (string_bytes y)
+    ∙ chars_tested (string_bytes x) (string_bytes y) (IsUtf8-string_bytes x) (IsUtf8-string_bytes y)
 
 pub text_tests : {Z : Type 0} (bs : List ℕ) → IsUtf8 bs → (k : String Z) → is_eq (slice_cmp nat_cmp bs (string_bytes k)) ≡ has_name text_name (chars bs) k
 text_tests bs u k = is_eq-slice_cmp bs (string_bytes k) ∙ chars_tested bs (string_bytes k) u (IsUtf8-string_bytes k)
 
 -- what is found of a map, shown as its definition
-pub shown : {X : Type 0} (value_of : X → Definition) (r : Option (Bor X)) (o : Option X) → option_copied r ≡ o → option_map (λ d. value_of d.now) r ≡ option_map value_of o
+pub shown : {X : Type 0} (value_of : X → Definition) (r : Option (Bor X)) (o : Option X) → option_copied r ≡ o
+    → option_map (λ d. value_of d.now) r ≡ option_map value_of o
 shown value_of (Some d) o e = ap (option_map value_of) e
 shown value_of None o e = ap (option_map value_of) e

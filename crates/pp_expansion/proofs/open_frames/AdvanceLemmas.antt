@@ -24,9 +24,17 @@ some_steps_left f = omega (arith, body_steps_some f.parameters f.arguments f.bod
 
 -- a frame with these parts
 abbrev frame : Name → ℕ → List Name → List Token → List (List Token) → Option (List Token) → Layer
-frame name line parameters body arguments reading = record { name = name; line = line; parameters = parameters; body = body; arguments = arguments; reading = reading }
+frame name line parameters body arguments reading = record {
+  name = name;
+  line = line;
+  parameters = parameters;
+  body = body;
+  arguments = arguments;
+  reading = reading;
+}
 
-token_lowers : (name : Name) (line : ℕ) (parameters : List Name) (token : Token) (rest : List Token) (arguments : List (List Token)) (p : Option ℕ) → parameter_of parameters token.value ≡ p
+token_lowers : (name : Name) (line : ℕ) (parameters : List Name) (token : Token) (rest : List Token) (arguments : List (List Token)) (p : Option ℕ)
+    → parameter_of parameters token.value ≡ p
     → Advances (frame name line parameters (token ∷ rest) arguments None) (body_token (frame name line parameters (token ∷ rest) arguments None) token rest p)
 token_lowers name line parameters token rest arguments None e =
     let s : token_steps arguments (parameter_of parameters token.value) ≡ 1 = ap (token_steps arguments) e in
@@ -40,7 +48,8 @@ frame_lowers : (name : Name) (line : ℕ) (parameters : List Name) (body : List 
 frame_lowers name line parameters body arguments (Some (token ∷ rest)) = record { lower = omega arith; name = refl }
 frame_lowers name line parameters body arguments (Some []) = record { lower = omega arith; name = refl }
 frame_lowers name line parameters [] arguments None = tt
-frame_lowers name line parameters (token ∷ rest) arguments None = token_lowers name line parameters token rest arguments (parameter_of parameters token.value) refl
+frame_lowers name line parameters (token ∷ rest) arguments None =
+    token_lowers name line parameters token rest arguments (parameter_of parameters token.value) refl
 
 -- each step of a frame is so
 pub advance_lowers : (f : Layer) → IfSome (advance f) (Advances f)
@@ -56,11 +65,13 @@ body_steps_least parameters [] = omega arith
 body_steps_least parameters (token ∷ rest) = omega (arith, token_steps_least (parameter_of parameters token.value), body_steps_least parameters rest)
 
 -- a body is among those that are defined
-pub body_within : (definitions : List Defined) (name : Name) (definition : Definition) → meaning_of definitions name ≡ Some definition → length definition.body ≤ body_tokens definitions
+pub body_within : (definitions : List Defined) (name : Name) (definition : Definition) → meaning_of definitions name ≡ Some definition
+    → length definition.body ≤ body_tokens definitions
 body_within [] name definition e = absurd (let bad : None ≡ Some definition = e in cc)
 body_within (d ∷ ds) name definition e = go (is_same_name name d.name) refl (body_within ds name definition)
   where
-    go : (b : Bool) → is_same_name name d.name ≡ b → (meaning_of ds name ≡ Some definition → length definition.body ≤ body_tokens ds) → length definition.body ≤ body_tokens (d ∷ ds)
+    go : (b : Bool) → is_same_name name d.name ≡ b → (meaning_of ds name ≡ Some definition → length definition.body ≤ body_tokens ds)
+        → length definition.body ≤ body_tokens (d ∷ ds)
     go true same below =
         let here : Some d.definition ≡ Some definition = rw same at e in
         let is : d.definition ≡ definition = cc in

@@ -18,11 +18,13 @@ module _ {X : Type 0} (fact : List Entry → X) (blind : (token : Token) (entrie
   blind_followed [] entries = refl
   blind_followed (token ∷ tokens) entries = blind token (followed_by tokens entries) ∙ blind_followed tokens entries
 
-  blind_replacement : (arguments : List (List Token)) (token : Token) (k : Option ℕ) (entries : List Entry) → fact (replacement arguments token k entries) ≡ fact entries
+  blind_replacement : (arguments : List (List Token)) (token : Token) (k : Option ℕ) (entries : List Entry)
+      → fact (replacement arguments token k entries) ≡ fact entries
   blind_replacement arguments token None entries = blind token entries
   blind_replacement arguments token (Some k) entries = blind_followed (argument_at arguments k) entries
 
-  blind_replaced : (parameters : List Name) (arguments : List (List Token)) (body : List Token) (entries : List Entry) → fact (replaced parameters arguments body entries) ≡ fact entries
+  blind_replaced : (parameters : List Name) (arguments : List (List Token)) (body : List Token) (entries : List Entry)
+      → fact (replaced parameters arguments body entries) ≡ fact entries
   blind_replaced parameters arguments [] entries = refl
   blind_replaced parameters arguments (token ∷ body) entries =
       blind_replacement arguments token (parameter_of parameters token.value) (replaced parameters arguments body entries)
@@ -54,16 +56,28 @@ StepsList (Err Continue) old new = after_marks old ≡ after_marks new
 StepsList (Err Finished) old new = ⊥
 StepsList (Err (Error fault)) old new = ⊥
 
-body_steps : (f : Layer) (token : Token) (rest : List Token) (k : Option ℕ) (fs : List Layer) → let a = frame_move fs (Some (body_token (record f { reading = None }) token rest k)) in StepsList a.gives (replacement f.arguments token k (replaced f.parameters f.arguments rest (End (record { name = f.name; line = f.line }) ∷ flat fs))) (flat a.after)
+body_steps : (f : Layer) (token : Token) (rest : List Token) (k : Option ℕ) (fs : List Layer) → let a =
+    frame_move fs (Some (body_token (record f { reading = None }) token rest k)) in
+    StepsList a.gives (replacement f.arguments token k (replaced f.parameters f.arguments rest
+    (End (record { name = f.name; line = f.line }) ∷ flat fs))) (flat a.after)
 body_steps f token rest None fs = refl
 body_steps f token rest (Some k) fs = refl
 
-layer_steps : (name : Name) (line : ℕ) (parameters : List Name) (body : List Token) (arguments : List (List Token)) (reading : Option (List Token)) (fs : List Layer) → let f : Layer = record { name = name; line = line; parameters = parameters; body = body; arguments = arguments; reading = reading } in StepsList (frame_move fs (advance f)).gives (flat (f ∷ fs)) (flat (frame_move fs (advance f)).after)
+layer_steps : (name : Name) (line : ℕ) (parameters : List Name) (body : List Token) (arguments : List (List Token)) (reading : Option (List Token))
+    (fs : List Layer) → let f : Layer = record {
+      name = name;
+      line = line;
+      parameters = parameters;
+      body = body;
+      arguments = arguments;
+      reading = reading;
+    } in StepsList (frame_move fs (advance f)).gives (flat (f ∷ fs)) (flat (frame_move fs (advance f)).after)
 layer_steps name line parameters body arguments (Some (token ∷ tokens)) fs = refl
 layer_steps name line parameters body arguments (Some []) fs = refl
 layer_steps name line parameters [] arguments None fs = refl
 layer_steps name line parameters (token ∷ rest) arguments None fs =
-    body_steps (record { name = name; line = line; parameters = parameters; body = token ∷ rest; arguments = arguments; reading = None }) token rest (parameter_of parameters token.value) fs
+    body_steps (record { name = name; line = line; parameters = parameters; body = token ∷ rest; arguments = arguments; reading = None }) token rest
+    (parameter_of parameters token.value) fs
 
 -- each step of the frames is one of the list
 pub frame_steps : (f : Layer) (fs : List Layer) → StepsList (frame_move fs (advance f)).gives (flat (f ∷ fs)) (flat (frame_move fs (advance f)).after)

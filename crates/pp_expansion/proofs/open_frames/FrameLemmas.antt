@@ -24,10 +24,12 @@ drop-none xs k e = elim (slice_get_cases xs k).1 [ inl w ↦ cc | inr w ↦ drop
 
 -- what a frame answers is its step, unless memory is refused; a frame at its end pauses
 abbrev pub ReportsStep : Option Advance → Step Token → Layer → Type 0
-ReportsStep advanced step new = (step ≡ Err (Error out_of_memory)) ⊎ MatchOption advanced (step ≡ Err Continue) (λ a. (step ≡ as_pause a.gives) × (new ≡ a.after))
+ReportsStep advanced step new = (step ≡ Err (Error out_of_memory))
+    ⊎ MatchOption advanced (step ≡ Err Continue) (λ a. (step ≡ as_pause a.gives) × (new ≡ a.after))
 
 -- a copy of the token is given
-pub advances_to : (advanced : Option Advance) (token : Token) (step : Step Token) (new : Layer) → advanced ≡ Some (record { gives = Some token; after = new }) → (step ≡ Err (Error out_of_memory)) ⊎ (step ≡ Ok token) → ReportsStep advanced step new
+pub advances_to : (advanced : Option Advance) (token : Token) (step : Step Token) (new : Layer)
+    → advanced ≡ Some (record { gives = Some token; after = new }) → (step ≡ Err (Error out_of_memory)) ⊎ (step ≡ Ok token) → ReportsStep advanced step new
 advances_to advanced token step new e (inl refused) = inl refused
 advances_to advanced token step new e (inr given) = inr (rw e (given, refl))
 
@@ -40,10 +42,12 @@ pub finishes : (advanced : Option Advance) (new : Layer) → advanced ≡ None �
 finishes advanced new e = inr (rw e refl)
 
 -- a frame that reads no argument is at its end where its body has no token left
-body_ends : (f : Layer) (body : List Token) (position : ℕ) → f.reading ≡ None → f.body ≡ drop position body → length body ≤ position → is_none (advance f) ≡ true
+body_ends : (f : Layer) (body : List Token) (position : ℕ) → f.reading ≡ None → f.body ≡ drop position body → length body ≤ position
+    → is_none (advance f) ≡ true
 body_ends f body position e is low = rw (e, is, drop_all position body low) refl
 
-body_goes : (f : Layer) (body : List Token) (position : ℕ) → f.reading ≡ None → f.body ≡ drop position body → position < length body → is_none (advance f) ≡ false
+body_goes : (f : Layer) (body : List Token) (position : ℕ) → f.reading ≡ None → f.body ≡ drop position body → position < length body
+    → is_none (advance f) ≡ false
 body_goes f body position e is more = go body (drop position body) refl
   where
     go : (all left : List Token) → drop position body ≡ left → is_none (advance f) ≡ false
@@ -51,9 +55,11 @@ body_goes f body position e is more = go body (drop position body) refl
     go all (token ∷ rest) some = rw (e, is, some) refl
 
 -- which of the two
-pub body_spent : (f : Layer) (body : List Token) (position : ℕ) → f.reading ≡ None → f.body ≡ drop position body → leb (length body) position ≡ is_none (advance f)
+pub body_spent : (f : Layer) (body : List Token) (position : ℕ) → f.reading ≡ None → f.body ≡ drop position body
+    → leb (length body) position ≡ is_none (advance f)
 body_spent f body position e is = go (leb_tells (length body) position)
   where
-    go : ((leb (length body) position ≡ true) × (length body ≤ position)) ⊎ ((leb (length body) position ≡ false) × (position < length body)) → leb (length body) position ≡ is_none (advance f)
+    go : ((leb (length body) position ≡ true) × (length body ≤ position)) ⊎ ((leb (length body) position ≡ false) × (position < length body))
+        → leb (length body) position ≡ is_none (advance f)
     go (inl (ends, low)) = ends ∙ sym (body_ends f body position e is low)
     go (inr (goes, more)) = goes ∙ sym (body_goes f body position e is more)

@@ -41,7 +41,8 @@ names_of-append (f ∷ fs) gs = ap (λ names. f.name ∷ names) (names_of-append
 pub names_of-reverse : (fs : List Layer) → names_of (reverse fs) ≡ reverse (names_of fs)
 names_of-reverse [] = refl
 names_of-reverse (f ∷ fs) =
-    ap names_of (reverse-append (f ∷ []) fs) ∙ names_of-append (reverse fs) (f ∷ []) ∙ ap (λ names. names ++ f.name ∷ []) (names_of-reverse fs) ∙ sym (reverse-append (f.name ∷ []) (names_of fs))
+    ap names_of (reverse-append (f ∷ []) fs) ∙ names_of-append (reverse fs) (f ∷ []) ∙ ap (λ names. names ++ f.name ∷ []) (names_of-reverse fs)
+    ∙ sym (reverse-append (f.name ∷ []) (names_of fs))
 
 -- the outermost frame is the first that was opened
 outermost_at_end : (fs : List Layer) (f : Layer) → outermost_frame_line (fs ++ f ∷ []) ≡ Some f.line
@@ -74,13 +75,15 @@ reverse_set_last xs v some =
     rw (e, get_or-set_same, take-set) at h
 
 -- a step of the innermost frame, which stays open
-frame_moves : (advanced : Option Advance) (fs : List Layer) (v : Layer) (step : Step Token) → is_none advanced ≡ false → ReportsStep advanced step v → ((step ≡ (frame_move fs advanced).gives) × (v ∷ fs ≡ (frame_move fs advanced).after)) ⊎ (step ≡ Err (Error out_of_memory))
+frame_moves : (advanced : Option Advance) (fs : List Layer) (v : Layer) (step : Step Token) → is_none advanced ≡ false → ReportsStep advanced step v
+    → ((step ≡ (frame_move fs advanced).gives) × (v ∷ fs ≡ (frame_move fs advanced).after)) ⊎ (step ≡ Err (Error out_of_memory))
 frame_moves advanced fs v step goes (inl refused) = inr refused
 frame_moves (Some a) fs v step goes (inr (given, after)) = inl (given, ap (λ w. w ∷ fs) after)
 frame_moves None fs v step goes (inr none) = cc
 
 -- a step of the last of them is a step of the frames
-pub last_moves : (fs : List Layer) (f v : Layer) (step : Step Token) (reader : Reader) (n : ℕ) → n ≡ length fs → 0 < n → f ≡ get_or fs (n - 1) f → is_none (advance f) ≡ false → ReportsStep (advance f) step v → Moves (reverse fs) reader step (reverse (set fs (n - 1) v)) reader
+pub last_moves : (fs : List Layer) (f v : Layer) (step : Step Token) (reader : Reader) (n : ℕ) → n ≡ length fs → 0 < n → f ≡ get_or fs (n - 1) f
+    → is_none (advance f) ≡ false → ReportsStep (advance f) step v → Moves (reverse fs) reader step (reverse (set fs (n - 1) v)) reader
 last_moves fs f v step reader n e some last goes advances =
     let more = rw e at some in
     let is = rw e at last in
@@ -97,16 +100,22 @@ frame_ends (Some a) fs after ends is = cc
 frame_ends None fs after ends is = inl (refl, is)
 
 -- the last of them is closed
-pub last_closes : (fs after : List Layer) (f : Layer) (reader : Reader) (n : ℕ) → n ≡ length fs → 0 < n → f ≡ get_or fs (n - 1) f → is_none (advance f) ≡ true → after ≡ drop 1 (reverse (set fs (n - 1) f))
+pub last_closes : (fs after : List Layer) (f : Layer) (reader : Reader) (n : ℕ) → n ≡ length fs → 0 < n → f ≡ get_or fs (n - 1) f
+    → is_none (advance f) ≡ true → after ≡ drop 1 (reverse (set fs (n - 1) f))
     → Moves (reverse fs) reader (Err Continue) after reader
 last_closes fs after f reader n e some last ends is =
     let more = rw e at some in
     let at_end = rw e at last in
     let left = rw e at is in
-    rw (reverse_last fs f more, ← at_end) (refl, frame_ends (advance f) (reverse (take (length fs - 1) fs)) after ends (left ∙ ap (drop 1) (reverse_set_last fs f more)))
+    rw (reverse_last fs f more, ← at_end) (
+      refl,
+      frame_ends (advance f) (reverse (take (length fs - 1) fs)) after ends
+          (left ∙ ap (drop 1) (reverse_set_last fs f more)),
+    )
 
 -- a step keeps the names
-pub names_kept : (fs : List Layer) (f v : Layer) (n : ℕ) → n ≡ length fs → 0 < n → f ≡ get_or fs (n - 1) f → v.name ≡ f.name → names_of (reverse (set fs (n - 1) v)) ≡ names_of (reverse fs)
+pub names_kept : (fs : List Layer) (f v : Layer) (n : ℕ) → n ≡ length fs → 0 < n → f ≡ get_or fs (n - 1) f → v.name ≡ f.name
+    → names_of (reverse (set fs (n - 1) v)) ≡ names_of (reverse fs)
 names_kept fs f v n e some last named =
     let more = rw e at some in
     let at_end = rw e at last in

@@ -25,7 +25,8 @@ not_in_without x name (other ∷ names) h =
     let p = either_false (is_same_name x other) (is_in x names) h in
     go (is_same_name other name) refl p.0 (not_in_without x name names p.1)
   where
-    go : (b : Bool) → is_same_name other name ≡ b → is_same_name x other ≡ false → is_in x (without name names) ≡ false → is_in x (without name (other ∷ names)) ≡ false
+    go : (b : Bool) → is_same_name other name ≡ b → is_same_name x other ≡ false → is_in x (without name names) ≡ false
+        → is_in x (without name (other ∷ names)) ≡ false
     go true e p q = rw e q
     go false e p q = rw e (both_false (is_same_name x other) (is_in x (without name names)) p q)
 
@@ -53,7 +54,8 @@ length_without : (name : Name) (names : List Name) → AreApart names → length
 length_without name [] h = omega arith
 length_without name (other ∷ names) h = go (is_same_name other name) refl (length_without name names h.1)
   where
-    go : (b : Bool) → is_same_name other name ≡ b → length names ≤ suc (length (without name names)) → length (other ∷ names) ≤ suc (length (without name (other ∷ names)))
+    go : (b : Bool) → is_same_name other name ≡ b → length names ≤ suc (length (without name names))
+        → length (other ∷ names) ≤ suc (length (without name (other ∷ names)))
     go true e p =
         let same : other ≡ name = same_text other name (sym e) in
         let absent : is_in name names ≡ false = rw (← same) h.0 in
@@ -73,7 +75,8 @@ defined_without d ds [] h = λ k x low. absurd (omega arith)
 defined_without d ds (other ∷ names) h =
     go (is_same_name other d.name) refl (All-head (IsDefined (d ∷ ds)) other names h) (defined_without d ds names (All-tail (IsDefined (d ∷ ds)) other names h))
   where
-    go : (b : Bool) → is_same_name other d.name ≡ b → IsDefined (d ∷ ds) other → AreDefined ds (without d.name names) → AreDefined ds (without d.name (other ∷ names))
+    go : (b : Bool) → is_same_name other d.name ≡ b → IsDefined (d ∷ ds) other → AreDefined ds (without d.name names)
+        → AreDefined ds (without d.name (other ∷ names))
     go true e p q = rw e q
     go false e p q =
         let here : IsDefined ds other = rw e at p in
@@ -84,7 +87,8 @@ pub apart_names_few : (definitions : List Defined) (names : List Name) → AreAp
 apart_names_few [] [] h g = omega arith
 apart_names_few [] (name ∷ names) h g = let p : IsDefined [] name = All-head (IsDefined []) name names g in absurd (cc)
 apart_names_few (d ∷ ds) names h g =
-    let few : length (without d.name names) ≤ length ds = apart_names_few ds (without d.name names) (apart_without d.name names h) (defined_without d ds names g) in
+    let few : length (without d.name names) ≤ length ds = apart_names_few ds (without d.name names) (apart_without d.name names h)
+    (defined_without d ds names g) in
     omega (arith, length_without d.name names h)
 
 pub length_names : (frames : List Layer) → length (names_of frames) ≡ length frames

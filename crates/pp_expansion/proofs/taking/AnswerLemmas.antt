@@ -19,30 +19,43 @@ use Rattle.pp_expansion.specs.inner.Reach.{frame_steps}
 use Rattle.pp_expansion.proofs.work.ReachLemmas.{most_level, frame_steps_level}
 
 -- a fault is passed on, where it is the fault of the whole
-pub satisfies_exit : {A : Type 0} (r : Result A Halt) (h : Halt) (P : Result A Fault → Type 0) → r ≡ Err h → ((fault : Fault) → h ≡ halt.Fault fault → P (Err fault)) → Satisfies r P
+pub satisfies_exit : {A : Type 0} (r : Result A Halt) (h : Halt) (P : Result A Fault → Type 0) → r ≡ Err h
+    → ((fault : Fault) → h ≡ halt.Fault fault → P (Err fault)) → Satisfies r P
 satisfies_exit {A} r (halt.Fault fault) P is passes = subst (λ (x : Result A Halt). Satisfies x P) (sym is) (passes fault refl)
 satisfies_exit {A} r halt.OutOfMemory P is passes = subst (λ (x : Result A Halt). Satisfies x P) (sym is) tt
 
 pub fault_of : {A : Type 0} (h : Halt) (fault : Fault) (P : Result A Fault → Type 0) → h ≡ halt.Fault fault → Satisfies {A = A} (Err h) P → P (Err fault)
 fault_of {A} h fault P e s = let k : Satisfies {A = A} (Err (halt.Fault fault)) P = subst (λ (x : Halt). Satisfies {A = A} (Err x) P) e s in k
 
-pub finish_fault : (levels : ℕ) (definitions : List Defined) (hidden : List Name) (call : PendingCall) (old new : Machine) (h : Halt) (fault : Fault) → h ≡ halt.Fault fault → Finishes levels definitions hidden call old (Err h) new
+pub finish_fault : (levels : ℕ) (definitions : List Defined) (hidden : List Name) (call : PendingCall) (old new : Machine) (h : Halt) (fault : Fault)
+    → h ≡ halt.Fault fault → Finishes levels definitions hidden call old (Err h) new
     → answers_at levels call.definition (site_at call definitions (names_of old.frames ++ hidden)) (Err fault)
 finish_fault levels definitions hidden call old new h fault e s =
-    let k : Finishes levels definitions hidden call old (Err (halt.Fault fault)) new = subst (λ (x : Halt). Finishes levels definitions hidden call old (Err x) new) e s in k.0
+    let k : Finishes levels definitions hidden call old (Err (halt.Fault fault)) new =
+    subst (λ (x : Halt). Finishes levels definitions hidden call old (Err x) new) e s in k.0
 
 -- no piece is longer than the tokens
-pub pieces_short : (n : ℕ) (tokens : List Token) → (length (pieces n tokens).first ≤ length tokens) × All (λ (a : List Token). length a ≤ length tokens) (pieces n tokens).others
+pub pieces_short : (n : ℕ) (tokens : List Token) → (length (pieces n tokens).first ≤ length tokens)
+    × All (λ (a : List Token). length a ≤ length tokens) (pieces n tokens).others
 pieces_short n [] = (omega arith, All-nil (λ (a : List Token). length a ≤ 0))
-pieces_short n (token ∷ tokens) = cut (is_comma token.value && (n == 0)) (pieces (nesting_after n token.value) tokens) (pieces_short (nesting_after n token.value) tokens)
+pieces_short n (token ∷ tokens) = cut (is_comma token.value && (n == 0)) (pieces (nesting_after n token.value) tokens)
+    (pieces_short (nesting_after n token.value) tokens)
   where
-    cut : (b : Bool) (ps : Pieces) → (length ps.first ≤ length tokens) × All (λ (a : List Token). length a ≤ length tokens) ps.others → (length (cut_before b token ps).first ≤ length (token ∷ tokens)) × All (λ (a : List Token). length a ≤ length (token ∷ tokens)) (cut_before b token ps).others
-    cut true ps h = (omega arith, All-cons (λ (a : List Token). length a ≤ length (token ∷ tokens)) ps.first ps.others (let k = h.0 in omega arith) (λ k d inside. let low = h.1 k d inside in omega arith))
+    cut : (b : Bool) (ps : Pieces) → (length ps.first ≤ length tokens) × All (λ (a : List Token). length a ≤ length tokens) ps.others
+        → (length (cut_before b token ps).first ≤ length (token ∷ tokens))
+        × All (λ (a : List Token). length a ≤ length (token ∷ tokens)) (cut_before b token ps).others
+    cut true ps h = (
+      omega arith,
+      All-cons (λ (a : List Token). length a ≤ length (token ∷ tokens)) ps.first ps.others (let k = h.0 in
+          omega arith) (λ k d inside. let low = h.1 k d inside in omega arith),
+    )
     cut false ps h = (let k = h.0 in omega arith, λ k d inside. let low = h.1 k d inside in omega arith)
 
 -- a frame opens
-pub opens_frame : (levels : ℕ) (definitions : List Defined) (around : List Name) (call : PendingCall) (old new : Machine) (arguments : List (List Token)) → levels ≢ 0 → misfit call.definition.parameters (arguments_of call.tokens) ≡ None
-    → Each (Alone (levels - 1)) (meaning_of definitions) around (arguments_of call.tokens) (Ok arguments) → AreShort (levels - 1) definitions (arguments_of call.tokens) arguments
+pub opens_frame : (levels : ℕ) (definitions : List Defined) (around : List Name)
+    (call : PendingCall) (old new : Machine) (arguments : List (List Token)) → levels ≢ 0 → misfit call.definition.parameters (arguments_of call.tokens) ≡ None
+    → Each (Alone (levels - 1)) (meaning_of definitions) around (arguments_of call.tokens) (Ok arguments)
+    → AreShort (levels - 1) definitions (arguments_of call.tokens) arguments
     → new ≡ record old { frames = layer call.name call.closing.line call.definition arguments ∷ old.frames } → IsOpened levels definitions around call old new
 opens_frame zero definitions around call old new arguments some fits each short is = absurd (some refl)
 opens_frame (suc levels) definitions around call old new arguments some fits each short is =
@@ -50,17 +63,23 @@ opens_frame (suc levels) definitions around call old new arguments some fits eac
     let here = pieces_short 0 call.tokens in
     record {
       arguments = arguments;
-      answers = subst (λ (o : Option PreprocessorError). EachOrRefused (Alone levels) o (site_at call definitions around) (Ok arguments)) (sym fits) (subst (λ (l : ℕ). Each (Alone l) (meaning_of definitions) around (arguments_of call.tokens) (Ok arguments)) one each);
-      least = short (length call.tokens) (All-cons (λ (a : List Token). length a ≤ length call.tokens) (pieces 0 call.tokens).first (pieces 0 call.tokens).others here.0 here.1);
+      answers = subst (λ (o : Option PreprocessorError). EachOrRefused (Alone levels) o (site_at call definitions around) (Ok arguments)) (sym fits)
+          (subst (λ (l : ℕ). Each (Alone l) (meaning_of definitions) around (arguments_of call.tokens) (Ok arguments)) one each);
+      least = short (length call.tokens) (All-cons (λ (a : List Token). length a ≤ length call.tokens) (pieces 0 call.tokens).first
+          (pieces 0 call.tokens).others here.0 here.1);
       opens = is;
     }
 
 -- one more list, no longer than it may be
-pub short_more : (most : ℕ) (lists more : List (List Token)) (list : List Token) → All (λ (a : List Token). length a ≤ most) lists → length list ≤ most → more ≡ lists ++ list ∷ [] → All (λ (a : List Token). length a ≤ most) more
-short_more most lists more list all low is = rw is (All-append (λ (a : List Token). length a ≤ most) lists (list ∷ []) all (All-cons (λ (a : List Token). length a ≤ most) list [] low (All-nil (λ (a : List Token). length a ≤ most))))
+pub short_more : (most : ℕ) (lists more : List (List Token)) (list : List Token) → All (λ (a : List Token). length a ≤ most) lists
+    → length list ≤ most → more ≡ lists ++ list ∷ [] → All (λ (a : List Token). length a ≤ most) more
+short_more most lists more list all low is = rw is (All-append (λ (a : List Token). length a ≤ most) lists (list ∷ []) all
+    (All-cons (λ (a : List Token). length a ≤ most) list [] low (All-nil (λ (a : List Token). length a ≤ most))))
 
 -- what an argument came to, where no argument has more tokens than this
-pub short_list : (levels : ℕ) (definitions : List Defined) (n : ℕ) (tokens list : List Token) → length tokens ≤ n → length list ≤ most_alone levels definitions (length tokens) → length list ≤ most_alone levels definitions n
+pub short_list : (levels : ℕ) (definitions : List Defined) (n : ℕ) (tokens list : List Token) → length tokens ≤ n
+    → length list ≤ most_alone levels definitions (length tokens) → length list ≤ most_alone levels definitions n
 short_list levels definitions n tokens list few low =
     let names = length definitions + 1 in
-    le_trans low (most_level (frame_steps (body_tokens definitions) names levels) names (frame_steps_level (body_tokens definitions) names levels) (length tokens) n few)
+    le_trans low (most_level (frame_steps (body_tokens definitions) names levels) names (frame_steps_level (body_tokens definitions) names levels)
+    (length tokens) n few)

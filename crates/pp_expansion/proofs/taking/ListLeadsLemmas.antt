@@ -28,14 +28,18 @@ use Rattle.pp_expansion.proofs.work.WorkFallsLemmas.{start_work}
 use Rattle.pp_expansion.proofs.taking.ListedLeadsLemmas.{IsListed, list_simulates, list_shows, list_sees, StandsListed, listed_leads, stands_listed, site_same, opened_less}
 
 -- What the loop over an argument has reached: the items so far, and a state from which the rest comes.
-pub record Reached (levels : ℕ) (definitions : List Defined) (hidden : List Name) (tokens : List Token) (m : Machine) (l : Listing) (items : List Token) : Type 0 where
+pub record Reached (levels : ℕ) (definitions : List Defined) (hidden : List Name) (tokens : List Token)
+    (m : Machine) (l : Listing) (items : List Token) : Type 0 where
   pub state : Expander Listed
   pub stands : StandsListed false definitions hidden m l state
   pub sound : IsSound m (of_list l)
-  pub goes_on : (out : Result (List Token) Fault) → Collects argument_reading (answers_at levels) state out → Alone levels tokens (meaning_of definitions) hidden (after_items items out)
+  pub goes_on : (out : Result (List Token) Fault) → Collects argument_reading (answers_at levels) state out
+      → Alone levels tokens (meaning_of definitions) hidden (after_items items out)
   pub least : length items + work_of levels m (of_list l) ≤ most_alone levels definitions (length tokens)
 
-pub reached_start : (levels : ℕ) (definitions : List Defined) (hidden : List Name) (tokens items : List Token) (m : Machine) (l : Listing) → m ≡ record { held = None; frames = [] } → l ≡ record { tokens = tokens; definitions = definitions; hidden = hidden; is_line = false } → items ≡ [] → Reached levels definitions hidden tokens m l items
+pub reached_start : (levels : ℕ) (definitions : List Defined) (hidden : List Name) (tokens items : List Token) (m : Machine) (l : Listing)
+    → m ≡ record { held = None; frames = [] } → l ≡ record { tokens = tokens; definitions = definitions; hidden = hidden; is_line = false }
+    → items ≡ [] → Reached levels definitions hidden tokens m l items
 reached_start levels definitions hidden tokens items m l e f g =
     let start : Listing = record { tokens = tokens; definitions = definitions; hidden = hidden; is_line = false } in
     rw (e, f, g) (record {
@@ -50,9 +54,11 @@ reached_start levels definitions hidden tokens items m l e f g =
     no_items (Ok rest) = refl
     no_items (Err fault) = refl
 
-module _ (levels : ℕ) (definitions : List Defined) (hidden : List Name) (tokens : List Token) (m : Machine) (l : Listing) (items : List Token) (r : Reached levels definitions hidden tokens m l items) (n : Machine) (k : Listing) where
+module _ (levels : ℕ) (definitions : List Defined) (hidden : List Name) (tokens : List Token) (m : Machine) (l : Listing) (items : List Token)
+    (r : Reached levels definitions hidden tokens m l items) (n : Machine) (k : Listing) where
   -- a token is one more item
-  pub reached_token : (token : Token) (more : List Token) → TurnsTo m (of_list l) (Ok (taken.Token token)) n (of_list k) → more ≡ items ++ token ∷ [] → Reached levels definitions hidden tokens n k more
+  pub reached_token : (token : Token) (more : List Token) → TurnsTo m (of_list l) (Ok (taken.Token token)) n (of_list k) → more ≡ items ++ token ∷ []
+      → Reached levels definitions hidden tokens n k more
   reached_token token more turns is =
       let h = listed_leads false definitions hidden (answers_at levels) m n l k (Ok (taken.Token token)) r.state r.stands turns refl in
       let f : IsLess levels m (of_list l) n (of_list k) = turn_falls levels m (of_list l) r.sound (Ok (taken.Token token)) n (of_list k) turns refl in
@@ -60,14 +66,18 @@ module _ (levels : ℕ) (definitions : List Defined) (hidden : List Name) (token
         state = h.0;
         stands = h.2;
         sound = f.sound;
-        goes_on = λ out collects. rw (← after_items-before items token out) (r.goes_on (token_before token out) (item token out (token_before token out) r.state h.0 h.1 collects refl));
+        goes_on = λ out collects. rw (← after_items-before items token out)
+            (r.goes_on (token_before token out) (item token out (token_before token out) r.state h.0 h.1 collects refl));
         least = omega (arith, r.least, f.falls, length-append items (token ∷ []));
       })
 
   pub token_less : (token : Token) → TurnsTo m (of_list l) (Ok (taken.Token token)) n (of_list k) → work_of levels n (of_list k) < work_of levels m (of_list l)
-  token_less token turns = let f : IsLess levels m (of_list l) n (of_list k) = turn_falls levels m (of_list l) r.sound (Ok (taken.Token token)) n (of_list k) turns refl in f.falls
+  token_less token turns = let f : IsLess levels m (of_list l) n (of_list k) =
+      turn_falls levels m (of_list l) r.sound (Ok (taken.Token token)) n (of_list k) turns refl in f.falls
 
-  emits_keeps : (e f : Expander Listed) → ((o : Outcome) (g : Expander Listed) → Emits argument_reading (answers_at levels) f o g → Emits argument_reading (answers_at levels) e o g) → (out : Result (List Token) Fault) → Collects argument_reading (answers_at levels) f out → Collects argument_reading (answers_at levels) e out
+  emits_keeps : (e f : Expander Listed) → ((o : Outcome) (g : Expander Listed) → Emits argument_reading (answers_at levels) f o g
+      → Emits argument_reading (answers_at levels) e o g) → (out : Result (List Token) Fault) → Collects argument_reading (answers_at levels) f out
+      → Collects argument_reading (answers_at levels) e out
   emits_keeps e f on out (done f1 g out1 emits is) = done e g out (on outcome.End g emits) is
   emits_keeps e f on out (failed fault f1 g out1 emits is) = failed fault e g out (on (outcome.Fault fault) g emits) is
   emits_keeps e f on out (item token rest out1 f1 g emits collects is) = item token rest out e g (on (outcome.Token token) g emits) collects is
@@ -85,7 +95,8 @@ module _ (levels : ℕ) (definitions : List Defined) (hidden : List Name) (token
       }
 
   pub pause_less : TurnsTo m (of_list l) (Err Continue) n (of_list k) → work_of levels n (of_list k) < work_of levels m (of_list l)
-  pause_less turns = let f : IsLess levels m (of_list l) n (of_list k) = turn_falls levels m (of_list l) r.sound (Err Continue) n (of_list k) turns refl in f.falls
+  pause_less turns = let f : IsLess levels m (of_list l) n (of_list k) =
+      turn_falls levels m (of_list l) r.sound (Err Continue) n (of_list k) turns refl in f.falls
 
   -- the end
   pub reached_end : TurnsTo m (of_list l) (Err Finished) n (of_list k) → Alone levels tokens (meaning_of definitions) hidden (Ok items)
@@ -97,7 +108,8 @@ module _ (levels : ℕ) (definitions : List Defined) (hidden : List Name) (token
   reached_short = omega (arith, r.least)
 
   -- a fault
-  pub reached_fault : (fault : Fault) → TurnsTo m (of_list l) (Err (Error fault)) n (of_list k) → is_out_of_memory fault.0 ≡ false → Alone levels tokens (meaning_of definitions) hidden (Err fault)
+  pub reached_fault : (fault : Fault) → TurnsTo m (of_list l) (Err (Error fault)) n (of_list k) → is_out_of_memory fault.0 ≡ false
+      → Alone levels tokens (meaning_of definitions) hidden (Err fault)
   reached_fault fault turns reported =
       let h = listed_leads false definitions hidden (answers_at levels) m n l k (Err (Error fault)) r.state r.stands turns reported in
       r.goes_on (Err fault) (failed fault r.state h.0 (Err fault) h.1 refl)
@@ -106,18 +118,25 @@ module _ (levels : ℕ) (definitions : List Defined) (hidden : List Name) (token
   pending c turns = turn_falls levels m (of_list l) r.sound (Ok (taken.Call c)) n (of_list k) turns refl
 
   -- a call that has a fault
-  pub reached_call_fault : (c : PendingCall) (fault : Fault) → TurnsTo m (of_list l) (Ok (taken.Call c)) n (of_list k) → answers_at levels c.definition (site_at c definitions (names_of n.frames ++ hidden)) (Err fault) → Alone levels tokens (meaning_of definitions) hidden (Err fault)
+  pub reached_call_fault : (c : PendingCall) (fault : Fault) → TurnsTo m (of_list l) (Ok (taken.Call c)) n (of_list k)
+      → answers_at levels c.definition (site_at c definitions (names_of n.frames ++ hidden)) (Err fault)
+      → Alone levels tokens (meaning_of definitions) hidden (Err fault)
   reached_call_fault c fault turns answers =
       let h = listed_leads false definitions hidden (answers_at levels) m n l k (Ok (taken.Call c)) r.state r.stands turns refl in
-      r.goes_on (Err fault) (failed fault r.state h.0 (Err fault) (h.2 fault (subst (λ (x : Site). answers_at levels c.definition x (Err fault)) (sym (site_same false definitions hidden n k c h.0 h.1 (pending c turns).free)) answers)) refl)
+      r.goes_on (Err fault) (failed fault r.state h.0 (Err fault)
+      (h.2 fault (subst (λ (x : Site). answers_at levels c.definition x (Err fault))
+      (sym (site_same false definitions hidden n k c h.0 h.1 (pending c turns).free)) answers)) refl)
 
   -- a call whose frame opened
-  module _ (c : PendingCall) (turns : TurnsTo m (of_list l) (Ok (taken.Call c)) n (of_list k)) (p : Machine) (opened : IsOpened levels definitions (names_of n.frames ++ hidden) c n p) where
-    led : LeadsTo argument_reading (IsListed false definitions hidden) hidden (list_simulates false definitions hidden) (list_shows false definitions hidden) (list_sees false definitions hidden) (answers_at levels) (Ok (taken.Call c)) r.state n (of_list k)
+  module _ (c : PendingCall) (turns : TurnsTo m (of_list l) (Ok (taken.Call c)) n (of_list k))
+      (p : Machine) (opened : IsOpened levels definitions (names_of n.frames ++ hidden) c n p) where
+    led : LeadsTo argument_reading (IsListed false definitions hidden) hidden (list_simulates false definitions hidden)
+        (list_shows false definitions hidden) (list_sees false definitions hidden) (answers_at levels) (Ok (taken.Call c)) r.state n (of_list k)
     led = listed_leads false definitions hidden (answers_at levels) m n l k (Ok (taken.Call c)) r.state r.stands turns refl
 
     less : IsLess levels m (of_list l) p (of_list k)
-    less = opened_less false definitions hidden levels m n l k c p (pending c turns) (stands_listed false definitions hidden n k led.0 led.1 (pending c turns).free).3 opened
+    less = opened_less false definitions hidden levels m n l k c p (pending c turns)
+        (stands_listed false definitions hidden n k led.0 led.1 (pending c turns).free).3 opened
 
     pub call_less : work_of levels p (of_list k) < work_of levels m (of_list l)
     call_less = less.falls
@@ -128,8 +147,16 @@ module _ (levels : ℕ) (definitions : List Defined) (hidden : List Name) (token
         let stands : StandsListed false definitions hidden n k led.0 = led.1 in
         record {
           state = f;
-          stands = subst (λ (q : Machine). StandsListed false definitions hidden q k f) (sym opened.opens) (record { holds = stands.holds; list = ap (spliced c.name c.definition c.closing.line opened.arguments) stands.list; reader = stands.reader; names = stands.names });
+          stands = subst (λ (q : Machine). StandsListed false definitions hidden q k f) (sym opened.opens)
+              (record {
+                holds = stands.holds;
+                list = ap (spliced c.name c.definition c.closing.line opened.arguments) stands.list;
+                reader = stands.reader;
+                names = stands.names;
+              });
           sound = less.sound;
-          goes_on = λ out collects. r.goes_on out (emits_keeps r.state f (led.3 opened.arguments (subst (λ (x : Site). answers_at levels c.definition x (Ok opened.arguments)) (sym (site_same false definitions hidden n k c led.0 led.1 (pending c turns).free)) opened.answers)) out collects);
+          goes_on = λ out collects. r.goes_on out (emits_keeps r.state f
+              (led.3 opened.arguments (subst (λ (x : Site). answers_at levels c.definition x (Ok opened.arguments))
+              (sym (site_same false definitions hidden n k c led.0 led.1 (pending c turns).free)) opened.answers)) out collects);
           least = omega (arith, r.least, less.falls);
         }

@@ -26,19 +26,34 @@ use Rattle.pp_expansion.proofs.taking.TurnLeadsLemmas.{LeadsTo, turn_leads, want
 
 -- how a list is read: an argument, or a line, where `defined` is an operator
 abbrev pub listed_reading : Bool → Reading Listed
-listed_reading is_line = record { Reads = ReadsListed; visible = λ reader. reader.visible; shown_line = λ reader line. Some line; is_reserved = λ name. is_line && is_same_name name defined_name }
+listed_reading is_line = record {
+  Reads = ReadsListed;
+  visible = λ reader. reader.visible;
+  shown_line = λ reader line. Some line;
+  is_reserved = λ name. is_line && is_same_name name defined_name;
+}
 
 module _ (is_line : Bool) (definitions : List Defined) (hidden : List Name) where
   -- a list that is read, where these names are defined and hidden
   abbrev pub IsListed : Reader → Listed → Type 0
   IsListed (of_source source) x = ⊥
-  IsListed (of_list l) x = (x ≡ record { tokens = l.tokens; visible = meaning_of l.definitions }) × (l.hidden ≡ hidden) × (l.is_line ≡ is_line) × (l.definitions ≡ definitions)
+  IsListed (of_list l) x = (x ≡ record { tokens = l.tokens; visible = meaning_of l.definitions }) × (l.hidden ≡ hidden) × (l.is_line ≡ is_line)
+      × (l.definitions ≡ definitions)
 
-  after : (old new : Listing) (x : Listed) (tokens : List Token) → x.tokens ≡ tokens → x ≡ record { tokens = old.tokens; visible = meaning_of old.definitions } → old.hidden ≡ hidden → old.is_line ≡ is_line → old.definitions ≡ definitions → new ≡ record old { tokens = after_listed tokens } → IsListed (of_list new) (record x { tokens = after_listed x.tokens })
+  after : (old new : Listing) (x : Listed) (tokens : List Token) → x.tokens ≡ tokens
+      → x ≡ record { tokens = old.tokens; visible = meaning_of old.definitions } → old.hidden ≡ hidden → old.is_line ≡ is_line
+      → old.definitions ≡ definitions → new ≡ record old { tokens = after_listed tokens } → IsListed (of_list new) (record x { tokens = after_listed x.tokens })
   after old new x tokens e is names plain same at =
-      rw at (ap (λ (ts : List Token). record x { tokens = after_listed ts }) e ∙ ap (λ (z : Listed). record z { tokens = after_listed tokens }) is, names, plain, same)
+      rw at (
+        ap (λ (ts : List Token). record x { tokens = after_listed ts }) e
+            ∙ ap (λ (z : Listed). record z { tokens = after_listed tokens }) is,
+        names,
+        plain,
+        same,
+      )
 
-  listed_simulates : (tokens : List Token) (old new : Listing) (x : Listed) (step : Step Token) → old.tokens ≡ tokens → IsListed (of_list old) x → step ≡ listed_step tokens → new ≡ record old { tokens = after_listed tokens } → ReadsTo (listed_reading is_line) IsListed hidden step x (of_list new)
+  listed_simulates : (tokens : List Token) (old new : Listing) (x : Listed) (step : Step Token) → old.tokens ≡ tokens → IsListed (of_list old) x
+      → step ≡ listed_step tokens → new ≡ record old { tokens = after_listed tokens } → ReadsTo (listed_reading is_line) IsListed hidden step x (of_list new)
   listed_simulates [] old new x step e (is, names, plain, same) gives at =
       let y : Listed = record x { tokens = after_listed x.tokens } in
       let tokens : x.tokens ≡ [] = ap (λ (z : Listed). z.tokens) is ∙ e in
@@ -48,7 +63,8 @@ module _ (is_line : Bool) (definitions : List Defined) (hidden : List Name) wher
       let tokens : x.tokens ≡ token ∷ rest = ap (λ (z : Listed). z.tokens) is ∙ e in
       rw gives (y, (sym (ap first_listed tokens), refl), after old new x (token ∷ rest) tokens is names plain same at)
 
-  pub list_simulates : (r s : Reader) (x : Listed) (step : Step Token) → IsListed r x → Reads r step s → wants_memory step ≡ false → ReadsTo (listed_reading is_line) IsListed hidden step x s
+  pub list_simulates : (r s : Reader) (x : Listed) (step : Step Token) → IsListed r x → Reads r step s → wants_memory step ≡ false
+      → ReadsTo (listed_reading is_line) IsListed hidden step x s
   list_simulates (of_list old) (of_list new) x step listed (inl h) reported = listed_simulates old.tokens old new x step refl listed h.0 h.1
   list_simulates (of_list old) (of_list new) x step listed (inr h) reported = absurd (let bad : true ≡ false = rw h at reported in cc)
   list_simulates (of_list old) (of_source new) x step listed h reported = absurd h
@@ -58,36 +74,45 @@ module _ (is_line : Bool) (definitions : List Defined) (hidden : List Name) wher
   list_shows (of_source source) y line h = absurd h
   list_shows (of_list l) y line h = refl
 
-  pub list_sees : (s : Reader) (y : Listed) (name : Name) → IsListed s y → visible s name ≡ (if (listed_reading is_line).is_reserved name || is_in name hidden then None else (listed_reading is_line).visible y name)
+  pub list_sees : (s : Reader) (y : Listed) (name : Name) → IsListed s y
+      → visible s name ≡ (if (listed_reading is_line).is_reserved name || is_in name hidden then None else (listed_reading is_line).visible y name)
   list_sees (of_source source) y name h = absurd h
   list_sees (of_list l) y name (is, names, plain, same) = rw (plain, names, is) refl
 
   abbrev pub StandsListed : Machine → Listing → Expander Listed → Type 0
   StandsListed m l e = StandsIn (listed_reading is_line) IsListed hidden m (of_list l) e
 
-  pub listed_leads : (A : Answers) (m n : Machine) (l k : Listing) (step : Step Taken) (e : Expander Listed) → StandsListed m l e → TurnsTo m (of_list l) step n (of_list k) → wants_taken step ≡ false → LeadsTo (listed_reading is_line) IsListed hidden list_simulates list_shows list_sees A step e n (of_list k)
-  listed_leads A m n l k step e stands turns reported = turn_leads (listed_reading is_line) IsListed hidden list_simulates list_shows list_sees A m n (of_list l) (of_list k) step e stands turns reported
+  pub listed_leads : (A : Answers) (m n : Machine) (l k : Listing) (step : Step Taken) (e : Expander Listed) → StandsListed m l e
+      → TurnsTo m (of_list l) step n (of_list k) → wants_taken step ≡ false
+      → LeadsTo (listed_reading is_line) IsListed hidden list_simulates list_shows list_sees A step e n (of_list k)
+  listed_leads A m n l k step e stands turns reported = turn_leads (listed_reading is_line) IsListed hidden list_simulates list_shows list_sees A m n
+      (of_list l) (of_list k) step e stands turns reported
 
   pub stands_listed : (n : Machine) (k : Listing) (f : Expander Listed) → StandsListed n k f → n.held ≡ None → IsListed (of_list k) f.reader
-  stands_listed n k f stands free = subst (λ (o : Option (Step Token)). StandsHeld (listed_reading is_line) IsListed hidden o (of_list k) f.reader) free stands.reader
+  stands_listed n k f stands free = subst (λ (o : Option (Step Token)). StandsHeld (listed_reading is_line) IsListed hidden o
+      (of_list k) f.reader) free stands.reader
 
   -- where a call stands
-  pub site_same : (n : Machine) (k : Listing) (c : PendingCall) (f : Expander Listed) → StandsListed n k f → n.held ≡ None → site_of (listed_reading is_line) f c.paren c.tokens ≡ site_at c definitions (names_of n.frames ++ hidden)
+  pub site_same : (n : Machine) (k : Listing) (c : PendingCall) (f : Expander Listed) → StandsListed n k f → n.held ≡ None
+      → site_of (listed_reading is_line) f c.paren c.tokens ≡ site_at c definitions (names_of n.frames ++ hidden)
   site_same n k c f stands free =
       let listed = stands_listed n k f stands free in
       let seen : f.reader.visible ≡ meaning_of definitions = ap (λ (x : Listed). x.visible) listed.0 ∙ ap meaning_of listed.3 in
       let around : masked f ≡ names_of n.frames ++ hidden =
-      ap (λ (es : List Entry). open_names es ++ f.hidden) stands.list ∙ ap (λ (hs : List Name). open_names (flat n.frames) ++ hs) stands.names ∙ ap (λ (ns : List Name). ns ++ hidden) (open_flat n.frames) in
+      ap (λ (es : List Entry). open_names es ++ f.hidden) stands.list ∙ ap (λ (hs : List Name). open_names (flat n.frames) ++ hs) stands.names
+      ∙ ap (λ (ns : List Name). ns ++ hidden) (open_flat n.frames) in
       ap (λ (d : Definitions). record { paren = c.paren; arguments = arguments_of c.tokens; visible = d; open_around = masked f }) seen
       ∙ ap (λ (ns : List Name). record { paren = c.paren; arguments = arguments_of c.tokens; visible = meaning_of definitions; open_around = ns }) around
 
   -- after a call whose frame opened less is left
-  pub opened_less : (levels : ℕ) (m n : Machine) (l k : Listing) → (c : PendingCall) (p : Machine) → IsPending levels m (of_list l) c n (of_list k) → k.definitions ≡ definitions → IsOpened levels definitions (names_of n.frames ++ hidden) c n p → IsLess levels m (of_list l) p (of_list k)
+  pub opened_less : (levels : ℕ) (m n : Machine) (l k : Listing) → (c : PendingCall) (p : Machine) → IsPending levels m (of_list l) c n (of_list k)
+      → k.definitions ≡ definitions → IsOpened levels definitions (names_of n.frames ++ hidden) c n p → IsLess levels m (of_list l) p (of_list k)
   opened_less zero m n l k c p pend same opened = absurd (let bad : Ok opened.arguments ≡ Err _ = opened.answers in cc)
   opened_less (suc lower) m n l k c p pend same opened =
       let one : suc lower - 1 ≡ lower = omega arith in
       let least : All (λ (a : List Token). length a ≤ most_alone lower k.definitions (length c.tokens)) opened.arguments = rw (same, ← one) opened.least in
-      let at : p ≡ record { held = None; frames = layer c.name c.closing.line c.definition opened.arguments ∷ n.frames } = opened.opens ∙ ap (λ (h : Option (Step Token)). record { held = h; frames = layer c.name c.closing.line c.definition opened.arguments ∷ n.frames }) pend.free in
+      let at : p ≡ record { held = None; frames = layer c.name c.closing.line c.definition opened.arguments ∷ n.frames } = opened.opens
+      ∙ ap (λ (h : Option (Step Token)). record { held = h; frames = layer c.name c.closing.line c.definition opened.arguments ∷ n.frames }) pend.free in
       rw at (pending_opens lower m (of_list l) c n (of_list k) opened.arguments pend least)
 
 -- a turn that was not refused memory

@@ -8,9 +8,18 @@ use Rattle.pp_expansion.specs.declared.step.StepExit.TheVariants.{Finished}
 pub lists_end : (old seen new : Listing) → seen ≡ old → seen.tokens ≡ [] → new ≡ record seen { tokens = [] } → StepsListed old (Err Finished) new
 lists_end old seen new is none at =
     let e : old.tokens ≡ [] = ap (λ (l : Listing). l.tokens) (sym is) ∙ none in
-    inl (sym (ap listed_step e), at ∙ ap (λ (l : Listing). record l { tokens = [] }) is ∙ ap (λ (ts : List Token). record old { tokens = ts }) (sym (ap after_listed e)))
+    inl (
+      sym (ap listed_step e),
+      at ∙ ap (λ (l : Listing). record l { tokens = [] }) is
+          ∙ ap (λ (ts : List Token). record old { tokens = ts }) (sym (ap after_listed e)),
+    )
 
-pub lists_token : (old seen new : Listing) (token : Token) (rest : List Token) → seen ≡ old → seen.tokens ≡ token ∷ rest → new ≡ record seen { tokens = rest } → StepsListed old (Ok token) new
+pub lists_token : (old seen new : Listing) (token : Token) (rest : List Token) → seen ≡ old → seen.tokens ≡ token ∷ rest
+    → new ≡ record seen { tokens = rest } → StepsListed old (Ok token) new
 lists_token old seen new token rest is e at =
     let found : old.tokens ≡ token ∷ rest = ap (λ (l : Listing). l.tokens) (sym is) ∙ e in
-    inl (sym (ap listed_step found), at ∙ ap (λ (l : Listing). record l { tokens = rest }) is ∙ ap (λ (ts : List Token). record old { tokens = ts }) (sym (ap after_listed found)))
+    inl (
+      sym (ap listed_step found),
+      at ∙ ap (λ (l : Listing). record l { tokens = rest }) is
+          ∙ ap (λ (ts : List Token). record old { tokens = ts }) (sym (ap after_listed found)),
+    )

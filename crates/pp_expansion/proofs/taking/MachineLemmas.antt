@@ -27,14 +27,17 @@ none_held None e = refl
 none_held (Some step) e = cc
 
 -- a step of the frames or the reader that gives no token
-pub takes_exit : (m : Machine) (old new : Option (Step Token)) (frames after : List Layer) (move step : Step Token) (exit : StepExit) (r s : Reader) → m ≡ record { held = old; frames = frames } → old ≡ None → new ≡ None
+pub takes_exit : (m : Machine) (old new : Option (Step Token)) (frames after : List Layer) (move step : Step Token) (exit : StepExit) (r s : Reader)
+    → m ≡ record { held = old; frames = frames } → old ≡ None → new ≡ None
     → Moves frames r move after s → move ≡ Err exit → step ≡ Err exit → StepsTaking m r step (record { held = new; frames = after }) s
 takes_exit m old new frames after move step exit r s e f g moves is same =
     moved (Err exit) step m (record { held = new; frames = after }) r s (ap (λ (k : Machine). k.held) e ∙ f)
-    (subst (λ (x : Step Token). Moves m.frames r x after s) is (subst (λ (fs : List Layer). Moves fs r move after s) (sym (ap (λ (k : Machine). k.frames) e)) moves)) same g
+    (subst (λ (x : Step Token). Moves m.frames r x after s) is
+    (subst (λ (fs : List Layer). Moves fs r move after s) (sym (ap (λ (k : Machine). k.frames) e)) moves)) same g
 
 -- a step of the frames or the reader that gives no `__LINE__`
-pub takes_step : (m : Machine) (old new : Option (Step Token)) (frames after : List Layer) (move : Step Token) (r s : Reader) → m ≡ record { held = old; frames = frames } → old ≡ None → new ≡ None
+pub takes_step : (m : Machine) (old new : Option (Step Token)) (frames after : List Layer) (move : Step Token) (r s : Reader)
+    → m ≡ record { held = old; frames = frames } → old ≡ None → new ≡ None
     → Moves frames r move after s → gives_line_name move ≡ false → StepsTaking m r move (record { held = new; frames = after }) s
 takes_step m old new frames after move r s e f g moves is =
     moved move move m (record { held = new; frames = after }) r s (ap (λ (k : Machine). k.held) e ∙ f)
@@ -45,7 +48,8 @@ takes_step m old new frames after move r s e f g moves is =
     same (Err exit) apart = refl
 
 -- what a step of the frames or the reader is once it is taken
-pub takes_shown : (m : Machine) (old new : Option (Step Token)) (frames after : List Layer) (move step : Step Token) (r s : Reader) → m ≡ record { held = old; frames = frames } → old ≡ None → new ≡ None
+pub takes_shown : (m : Machine) (old new : Option (Step Token)) (frames after : List Layer) (move step : Step Token) (r s : Reader)
+    → m ≡ record { held = old; frames = frames } → old ≡ None → new ≡ None
     → Moves frames r move after s → step ≡ taken_as move after s → StepsTaking m r step (record { held = new; frames = after }) s
 takes_shown m old new frames after move step r s e f g moves is =
     moved move step m (record { held = new; frames = after }) r s (ap (λ (k : Machine). k.held) e ∙ f)
@@ -53,7 +57,8 @@ takes_shown m old new frames after move step r s e f g moves is =
 
 -- a token that is taken
 pub shows_token : (frames : List Layer) (reader : Reader) (token : Token) (step : Step Token)
-    → MatchResult step (λ taken. taken_in frames reader token ≡ outcome.Token taken) (λ exit. (exit ≡ Error (LineOverflow, token.location)) × (taken_in frames reader token ≡ outcome.Fault (LineOverflow, token.location)))
+    → MatchResult step (λ taken. taken_in frames reader token ≡ outcome.Token taken)
+    (λ exit. (exit ≡ Error (LineOverflow, token.location)) × (taken_in frames reader token ≡ outcome.Fault (LineOverflow, token.location)))
     → step ≡ taken_as (Ok token) frames reader
 shows_token frames reader token (Ok t) h = ap step_of_outcome (sym h)
 shows_token frames reader token (Err exit) h = ap Err h.0 ∙ ap step_of_outcome (sym h.1)
@@ -62,17 +67,20 @@ shows_token frames reader token (Err exit) h = ap Err h.0 ∙ ap step_of_outcome
 abbrev pub LeadsToNext : Machine → Reader → Machine → Reader → Type 0
 LeadsToNext m r n s = (step : Step Token) (p : Machine) (t : Reader) → TakesNext n s step p t → TakesNext m r step p t
 
-pub leads_more : (m n p : Machine) (r s t : Reader) (step : Step Token) → LeadsToNext m r n s → StepsTaking n s step p t → is_pause step ≡ true → LeadsToNext m r p t
+pub leads_more : (m n p : Machine) (r s t : Reader) (step : Step Token) → LeadsToNext m r n s → StepsTaking n s step p t → is_pause step ≡ true
+    → LeadsToNext m r p t
 leads_more m n p r s t (Err Continue) leads steps pause = λ step q u next. leads step q u (later step n p q s t u steps next)
 leads_more m n p r s t (Err Finished) leads steps pause = cc
 leads_more m n p r s t (Err (Error fault)) leads steps pause = cc
 leads_more m n p r s t (Ok token) leads steps pause = cc
 
-pub leads_now : (m n p : Machine) (r s t : Reader) (step : Step Token) → LeadsToNext m r n s → StepsTaking n s step p t → is_pause step ≡ false → TakesNext m r step p t
+pub leads_now : (m n p : Machine) (r s t : Reader) (step : Step Token) → LeadsToNext m r n s → StepsTaking n s step p t → is_pause step ≡ false
+    → TakesNext m r step p t
 leads_now m n p r s t step leads steps goes = leads step p t (now step n p s t steps goes)
 
 -- a pause falls
-pub pause_falls : (m n : Machine) (r s : Reader) (step : Step Token) → StepsTaking m r step n s → is_pause step ≡ true → total (regions n s) < total (regions m r)
+pub pause_falls : (m n : Machine) (r s : Reader) (step : Step Token) → StepsTaking m r step n s → is_pause step ≡ true
+    → total (regions n s) < total (regions m r)
 pause_falls m n r s (Err Continue) steps pause = (step_spends (λ c. c) 0 (λ a b low. low) (Err Continue) m n r s steps refl).spends.least
 pause_falls m n r s (Err Finished) steps pause = cc
 pause_falls m n r s (Err (Error fault)) steps pause = cc
@@ -92,9 +100,11 @@ next_falls m n r s token next =
 
 -- how the search goes on from here is how it goes on from the beginning, after these tokens
 abbrev pub Gathering : Location → Machine → Reader → List Token → ℕ → Location → Machine → Reader → Type 0
-Gathering paren m r tokens k last n s = (rest : Result Gathered Fault) (p : Machine) (t : Reader) → GathersNext k last n s rest p t → GathersNext 0 paren m r (after_tokens tokens rest) p t
+Gathering paren m r tokens k last n s = (rest : Result Gathered Fault) (p : Machine) (t : Reader) → GathersNext k last n s rest p t
+    → GathersNext 0 paren m r (after_tokens tokens rest) p t
 
-module _ (paren : Location) (m : Machine) (r : Reader) (tokens : List Token) (k : ℕ) (last : Location) (n : Machine) (s : Reader) (so_far : Gathering paren m r tokens k last n s) (p : Machine) (t : Reader) where
+module _ (paren : Location) (m : Machine) (r : Reader) (tokens : List Token)
+    (k : ℕ) (last : Location) (n : Machine) (s : Reader) (so_far : Gathering paren m r tokens k last n s) (p : Machine) (t : Reader) where
   pub gathers_fault : (fault : Fault) → TakesNext n s (Err (Error fault)) p t → is_out_of_memory fault.0 ≡ false → GathersNext 0 paren m r (Err fault) p t
   gathers_fault fault next reported = so_far (Err fault) p t (failed k last fault n p s t (Err fault) next reported refl)
 
@@ -104,12 +114,19 @@ module _ (paren : Location) (m : Machine) (r : Reader) (tokens : List Token) (k 
   pub gathers_never : (g : Result Gathered Fault) → TakesNext n s (Err Continue) p t → GathersNext 0 paren m r g p t
   gathers_never g next = absurd (let bad : true ≡ false = next_no_pause n p s t (Err Continue) next in cc)
 
-  pub gathers_closed : (token : Token) → TakesNext n s (Ok token) p t → nesting k token.value ≡ closes → GathersNext 0 paren m r (Ok (record { tokens = tokens; closing = token.location })) p t
-  gathers_closed token next out = rw (← after_tokens-closed tokens token.location) (so_far (Ok (record { tokens = []; closing = token.location })) p t (closed k last token n p s t (Ok (record { tokens = []; closing = token.location })) next out refl))
+  pub gathers_closed : (token : Token) → TakesNext n s (Ok token) p t → nesting k token.value ≡ closes
+      → GathersNext 0 paren m r (Ok (record { tokens = tokens; closing = token.location })) p t
+  gathers_closed token next out = rw (← after_tokens-closed tokens token.location)
+      (so_far (Ok (record { tokens = []; closing = token.location })) p t
+      (closed k last token n p s t (Ok (record { tokens = []; closing = token.location })) next out refl))
 
-  pub gathers_overfull : (token : Token) → TakesNext n s (Ok token) p t → nesting k token.value ≡ too_many → GathersNext 0 paren m r (Err (IntegerOverflow, token.location)) p t
-  gathers_overfull token next out = so_far (Err (IntegerOverflow, token.location)) p t (overfull k last token n p s t (Err (IntegerOverflow, token.location)) next out refl)
+  pub gathers_overfull : (token : Token) → TakesNext n s (Ok token) p t → nesting k token.value ≡ too_many
+      → GathersNext 0 paren m r (Err (IntegerOverflow, token.location)) p t
+  gathers_overfull token next out = so_far (Err (IntegerOverflow, token.location)) p t (overfull k last token n p s t
+      (Err (IntegerOverflow, token.location)) next out refl)
 
-  pub gathers_more : (token : Token) (l : ℕ) (more : List Token) → TakesNext n s (Ok token) p t → nesting k token.value ≡ within l → more ≡ tokens ++ token ∷ [] → Gathering paren m r more l token.location p t
+  pub gathers_more : (token : Token) (l : ℕ) (more : List Token) → TakesNext n s (Ok token) p t → nesting k token.value ≡ within l
+      → more ≡ tokens ++ token ∷ [] → Gathering paren m r more l token.location p t
   gathers_more token l more next in_call is =
-      rw is (λ rest q u gathers. rw (← after_tokens-before tokens token rest) (so_far (before token rest) q u (inside k l last token n p q s t u rest (before token rest) next in_call gathers refl)))
+      rw is (λ rest q u gathers. rw (← after_tokens-before tokens token rest)
+      (so_far (before token rest) q u (inside k l last token n p q s t u rest (before token rest) next in_call gathers refl)))

@@ -13,7 +13,8 @@ abbrev pub PausesTo : {R : Type 0} → Reading R → Expander R → Expander R �
 PausesTo {R} I e f = (o : Outcome) (h : Expander R) → Takes I f o h → Takes I e o h
 
 -- a pause keeps what is emitted
-pub pause_emits : {R : Type 0} (I : Reading R) (A : Answers) (e f : Expander R) → PausesTo I e f → (o : Outcome) (g : Expander R) → Emits I A f o g → Emits I A e o g
+pub pause_emits : {R : Type 0} (I : Reading R) (A : Answers) (e f : Expander R) → PausesTo I e f → (o : Outcome) (g : Expander R) → Emits I A f o g
+    → Emits I A e o g
 pause_emits I A e f takes o g (itself o1 f1 h t n) = itself o1 e h (takes o1 h t) n
 pause_emits I A e f takes o g (object x o1 m f1 h g1 t n k next) = object x o1 m e h g1 (takes x h t) n k next
 pause_emits I A e f takes o g (name_alone x y o1 m f1 h i g1 t n k calls is at) = name_alone x y o1 m e h i g1 (takes x h t) n k calls is at
@@ -21,7 +22,8 @@ pause_emits I A e f takes o g (call_refused x o1 fault m f1 h g1 t n k calls is)
 pause_emits I A e f takes o g (call x o1 arguments line m f1 h i g1 t n k calls next) = call x o1 arguments line m e h i g1 (takes x h t) n k calls next
 
 -- the end marks at the front of the list may be lost
-pub list_pauses : {R : Type 0} (I : Reading R) (e : Expander R) (entries : List Entry) → e.held ≡ None → after_marks e.list ≡ after_marks entries → PausesTo I e (record e { list = entries })
+pub list_pauses : {R : Type 0} (I : Reading R) (e : Expander R) (entries : List Entry) → e.held ≡ None → after_marks e.list ≡ after_marks entries
+    → PausesTo I e (record e { list = entries })
 list_pauses I e entries free same o h (held o1 f1 h1 is at) = let bad : Some o ≡ None = sym is ∙ free in cc
 list_pauses I e entries free same o h (listed o1 token rest f1 h1 is front becomes at) = listed o token rest e h free (same ∙ front) becomes at
 list_pauses I e entries free same o h (read x o1 r f1 h1 is front reads becomes at) = read x o r e h free (same ∙ front) reads becomes at

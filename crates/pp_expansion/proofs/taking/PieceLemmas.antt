@@ -22,12 +22,15 @@ one_more n false true = omega arith
 one_more n false false = omega arith
 
 -- an argument ends
-pub ends_piece : (tokens rest old : List Token) (token : Token) (depth : ℕ) (done after : List (List Token)) (piece empty : List Token) → arguments_of tokens ≡ done ++ ((piece ++ (pieces depth old).first) ∷ (pieces depth old).others)
-    → old ≡ token ∷ rest → (is_comma token.value && (depth == 0)) ≡ true → after ≡ done ++ piece ∷ [] → empty ≡ [] → arguments_of tokens ≡ after ++ ((empty ++ (pieces depth rest).first) ∷ (pieces depth rest).others)
+pub ends_piece : (tokens rest old : List Token) (token : Token) (depth : ℕ) (done after : List (List Token)) (piece empty : List Token)
+    → arguments_of tokens ≡ done ++ ((piece ++ (pieces depth old).first) ∷ (pieces depth old).others)
+    → old ≡ token ∷ rest → (is_comma token.value && (depth == 0)) ≡ true → after ≡ done ++ piece ∷ [] → empty ≡ []
+    → arguments_of tokens ≡ after ++ ((empty ++ (pieces depth rest).first) ∷ (pieces depth rest).others)
 ends_piece tokens rest old token depth done after piece empty cut is ends closed none =
     let kept : nesting_after depth token.value ≡ depth = kept_open depth token.value (first_true (is_comma token.value) (depth == 0) ends) in
     let here : pieces depth old ≡ cut_before true token (pieces depth rest) =
-    ap (pieces depth) is ∙ ap (λ (b : Bool). cut_before b token (pieces (nesting_after depth token.value) rest)) ends ∙ ap (λ (n : ℕ). cut_before true token (pieces n rest)) kept in
+    ap (pieces depth) is ∙ ap (λ (b : Bool). cut_before b token (pieces (nesting_after depth token.value) rest)) ends
+    ∙ ap (λ (n : ℕ). cut_before true token (pieces n rest)) kept in
     cut ∙ ap (λ (p : Pieces). done ++ ((piece ++ p.first) ∷ p.others)) here
     ∙ ap (λ (first : List Token). done ++ (first ∷ ((pieces depth rest).first ∷ (pieces depth rest).others))) (append-nil piece)
     ∙ sym (append_assoc done (piece ∷ []) ((pieces depth rest).first ∷ (pieces depth rest).others))
@@ -35,16 +38,21 @@ ends_piece tokens rest old token depth done after piece empty cut is ends closed
     ∙ ap (λ (start : List Token). after ++ ((start ++ (pieces depth rest).first) ∷ (pieces depth rest).others)) (sym none)
 
 -- an argument goes on
-pub grows_piece : (tokens rest old : List Token) (token : Token) (depth deeper : ℕ) (done : List (List Token)) (piece grown : List Token) → arguments_of tokens ≡ done ++ ((piece ++ (pieces depth old).first) ∷ (pieces depth old).others)
-    → old ≡ token ∷ rest → (is_comma token.value && (depth == 0)) ≡ false → deeper ≡ nesting_after depth token.value → grown ≡ piece ++ token ∷ [] → arguments_of tokens ≡ done ++ ((grown ++ (pieces deeper rest).first) ∷ (pieces deeper rest).others)
+pub grows_piece : (tokens rest old : List Token) (token : Token) (depth deeper : ℕ) (done : List (List Token)) (piece grown : List Token)
+    → arguments_of tokens ≡ done ++ ((piece ++ (pieces depth old).first) ∷ (pieces depth old).others)
+    → old ≡ token ∷ rest → (is_comma token.value && (depth == 0)) ≡ false → deeper ≡ nesting_after depth token.value → grown ≡ piece ++ token ∷ []
+    → arguments_of tokens ≡ done ++ ((grown ++ (pieces deeper rest).first) ∷ (pieces deeper rest).others)
 grows_piece tokens rest old token depth deeper done piece grown cut is goes_on after more =
     let here : pieces depth old ≡ cut_before false token (pieces deeper rest) =
-    ap (pieces depth) is ∙ ap (λ (b : Bool). cut_before b token (pieces (nesting_after depth token.value) rest)) goes_on ∙ ap (λ (n : ℕ). cut_before false token (pieces n rest)) (sym after) in
+    ap (pieces depth) is ∙ ap (λ (b : Bool). cut_before b token (pieces (nesting_after depth token.value) rest)) goes_on
+    ∙ ap (λ (n : ℕ). cut_before false token (pieces n rest)) (sym after) in
     cut ∙ ap (λ (p : Pieces). done ++ ((piece ++ p.first) ∷ p.others)) here
-    ∙ ap (λ (first : List Token). done ++ (first ∷ (pieces deeper rest).others)) (sym (append_assoc piece (token ∷ []) (pieces deeper rest).first) ∙ ap (λ (ts : List Token). ts ++ (pieces deeper rest).first) (sym more))
+    ∙ ap (λ (first : List Token). done ++ (first ∷ (pieces deeper rest).others))
+    (sym (append_assoc piece (token ∷ []) (pieces deeper rest).first) ∙ ap (λ (ts : List Token). ts ++ (pieces deeper rest).first) (sym more))
 
 -- so many parentheses are open at most
-pub piece_within : (rest old : List Token) (token : Token) (depth deeper n : ℕ) → depth + length old ≤ n → old ≡ token ∷ rest → deeper ≡ nesting_after depth token.value → deeper + length rest ≤ n
+pub piece_within : (rest old : List Token) (token : Token) (depth deeper n : ℕ) → depth + length old ≤ n → old ≡ token ∷ rest
+    → deeper ≡ nesting_after depth token.value → deeper + length rest ≤ n
 piece_within rest old token depth deeper n few is after =
     let here : depth + length (token ∷ rest) ≤ n = rw is at few in
     let more : deeper ≤ depth + 1 = rw after (one_more depth _ _) in

@@ -37,7 +37,8 @@ apart false e = refl
 
 -- such a value is no `__LINE__`
 plain_apart : (definitions : List Defined) (value : TokenValue) → is_plain definitions value ≡ true → is_identifier line_name value ≡ false
-plain_apart definitions (Ident name) e = apart (is_same_name name line_name) (both (not (is_same_name name line_name)) (is_none (meaning_of definitions name)) e).0
+plain_apart definitions (Ident name) e = apart (is_same_name name line_name) (both (not (is_same_name name line_name))
+    (is_none (meaning_of definitions name)) e).0
 plain_apart definitions (Integer n) e = refl
 plain_apart definitions (Float f) e = refl
 plain_apart definitions (Punct p) e = refl
@@ -46,9 +47,11 @@ plain_apart definitions (Extension x) e = refl
 plain_apart definitions (Pragma p) e = refl
 
 -- and opens nothing
-plain_opens : (definitions : List Defined) (hidden : List Name) (rest : List Token) (token : Token) (value : TokenValue) → is_plain definitions value ≡ true → opening_of argument_reading (reading_of rest (meaning_of definitions) hidden) token value ≡ None
+plain_opens : (definitions : List Defined) (hidden : List Name) (rest : List Token) (token : Token) (value : TokenValue)
+    → is_plain definitions value ≡ true → opening_of argument_reading (reading_of rest (meaning_of definitions) hidden) token value ≡ None
 plain_opens definitions hidden rest token (Ident name) e =
-    no_opening (is_in name hidden) token name (meaning_of definitions name) (both (not (is_same_name name line_name)) (is_none (meaning_of definitions name)) e).1
+    no_opening (is_in name hidden) token name (meaning_of definitions name)
+    (both (not (is_same_name name line_name)) (is_none (meaning_of definitions name)) e).1
 plain_opens definitions hidden rest token (Integer n) e = refl
 plain_opens definitions hidden rest token (Float f) e = refl
 plain_opens definitions hidden rest token (Punct p) e = refl
@@ -63,7 +66,8 @@ plain_takes definitions hidden token rest e =
     let e1 : Expander Listed = reading_of rest (meaning_of definitions) hidden in
     read (outcome.Token token) (outcome.Token token) e1.reader e0 e1 refl refl (refl, refl) (rw (plain_apart definitions token.value e) refl) refl
 
-plain_collects : (A : Answers) (definitions : List Defined) (hidden : List Name) (tokens : List Token) → list_all (λ token. is_plain definitions token.value) tokens ≡ true
+plain_collects : (A : Answers) (definitions : List Defined) (hidden : List Name) (tokens : List Token)
+    → list_all (λ token. is_plain definitions token.value) tokens ≡ true
     → Collects argument_reading A (reading_of tokens (meaning_of definitions) hidden) (Ok tokens)
 plain_collects A definitions hidden [] e =
     let e0 : Expander Listed = reading_of [] (meaning_of definitions) hidden in
@@ -77,7 +81,8 @@ plain_collects A definitions hidden (token ∷ rest) e =
     (plain_collects A definitions hidden rest h.1) refl
 
 -- tokens that give themselves, alone
-pub plain_alone : (levels : ℕ) (definitions : List Defined) (hidden : List Name) (tokens : List Token) → list_all (λ token. is_plain definitions token.value) tokens ≡ true
+pub plain_alone : (levels : ℕ) (definitions : List Defined) (hidden : List Name) (tokens : List Token)
+    → list_all (λ token. is_plain definitions token.value) tokens ≡ true
     → Alone levels tokens (meaning_of definitions) hidden (Ok tokens)
 plain_alone levels definitions hidden tokens e =
     Alone-collects levels tokens (meaning_of definitions) hidden (Ok tokens) (plain_collects (answers_at levels) definitions hidden tokens e)

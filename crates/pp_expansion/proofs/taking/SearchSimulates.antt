@@ -48,20 +48,34 @@ module _ {R : Type 0} (I : Reading R) (StandsR : Reader → R → Type 0) (hidde
   StepsTo (Ok token) e n s = (f : Expander R) × Takes I e (outcome.Token token) f × StandsIn n s f
   StepsTo (Err Continue) e n s = (f : Expander R) × StandsIn n s f × PausesTo I e f
   StepsTo (Err Finished) e n s = (f : Expander R) × Takes I e outcome.End f × StandsIn n s f
-  StepsTo (Err (Error fault)) e n s = (f : Expander R) × Takes I e (outcome.Fault fault) f × (e.hidden ≡ hidden) × (f.hidden ≡ hidden) × (f.list ≡ flat n.frames) × (f.held ≡ None) × (n.held ≡ None)
+  StepsTo (Err (Error fault)) e n s = (f : Expander R) × Takes I e (outcome.Fault fault) f × (e.hidden ≡ hidden) × (f.hidden ≡ hidden)
+      × (f.list ≡ flat n.frames) × (f.held ≡ None) × (n.held ≡ None)
 
-  module _ (simulates : (r s : Reader) (x : R) (step : Step Token) → StandsR r x → Reads r step s → wants_memory step ≡ false → ReadsTo step x s) (shows : (s : Reader) (y : R) (line : ℕ) → StandsR s y → I.shown_line y line ≡ shown_line s line) where
+  module _ (simulates : (r s : Reader) (x : R) (step : Step Token) → StandsR r x → Reads r step s → wants_memory step ≡ false → ReadsTo step x s)
+      (shows : (s : Reader) (y : R) (line : ℕ) → StandsR s y → I.shown_line y line ≡ shown_line s line) where
     -- what is held
-    held_steps : (step : Step Token) (n : Machine) (s : Reader) (e : Expander R) → e.held ≡ Some (outcome_of_step step) → e.list ≡ flat n.frames → StandsHeld (Some step) s e.reader → e.hidden ≡ hidden → n.held ≡ None → StepsTo step e n s
-    held_steps (Ok token) n s e is list reader names free = (record e { held = None }, taking.held (outcome.Token token) e (record e { held = None }) is refl, record { holds = rw free refl; list = list; reader = rw free reader; names = names })
+    held_steps : (step : Step Token) (n : Machine) (s : Reader) (e : Expander R) → e.held ≡ Some (outcome_of_step step) → e.list ≡ flat n.frames
+        → StandsHeld (Some step) s e.reader → e.hidden ≡ hidden → n.held ≡ None → StepsTo step e n s
+    held_steps (Ok token) n s e is list reader names free = (
+      record e { held = None },
+      taking.held (outcome.Token token) e (record e { held = None }) is refl,
+      record { holds = rw free refl; list = list; reader = rw free reader; names = names },
+    )
     held_steps (Err Continue) n s e is list reader names free = absurd reader
-    held_steps (Err Finished) n s e is list reader names free = (record e { held = None }, taking.held outcome.End e (record e { held = None }) is refl, record { holds = rw free refl; list = list; reader = rw free reader; names = names })
-    held_steps (Err (Error fault)) n s e is list reader names free = (record e { held = None }, taking.held (outcome.Fault fault) e (record e { held = None }) is refl, names, names, list, refl, free)
+    held_steps (Err Finished) n s e is list reader names free = (
+      record e { held = None },
+      taking.held outcome.End e (record e { held = None }) is refl,
+      record { holds = rw free refl; list = list; reader = rw free reader; names = names },
+    )
+    held_steps (Err (Error fault)) n s e is list reader names free =
+        (record e { held = None }, taking.held (outcome.Fault fault) e (record e { held = None }) is refl, names, names, list, refl, free)
 
     -- a token that is taken from the list or the reader, as `__LINE__` or as itself
-    taken_steps : (o : Outcome) (e f : Expander R) (n : Machine) (s : Reader) → Takes I e o f → StandsIn n s f → e.hidden ≡ hidden → n.held ≡ None → (o ≡ outcome.End → ⊥) → StepsTo (step_of_outcome o) e n s
+    taken_steps : (o : Outcome) (e f : Expander R) (n : Machine) (s : Reader) → Takes I e o f → StandsIn n s f → e.hidden ≡ hidden → n.held ≡ None
+        → (o ≡ outcome.End → ⊥) → StepsTo (step_of_outcome o) e n s
     taken_steps (outcome.Token token) e f n s takes stands names free goes = (f, takes, stands)
-    taken_steps (outcome.Fault fault) e f n s takes stands names free goes = (f, takes, names, stands.names, stands.list, stands.holds ∙ ap (option_map outcome_of_step) free, free)
+    taken_steps (outcome.Fault fault) e f n s takes stands names free goes =
+        (f, takes, names, stands.names, stands.list, stands.holds ∙ ap (option_map outcome_of_step) free, free)
     taken_steps outcome.End e f n s takes stands names free goes = absurd (goes refl)
 
     -- a taken token is never the end
@@ -73,61 +87,109 @@ module _ {R : Type 0} (I : Reading R) (StandsR : Reader → R → Type 0) (hidde
         go true None e = cc
         go false o e = cc
 
-    list_steps : (m n : Machine) (r : Reader) (move : Step Token) (e : Expander R) → StandsIn m r e → m.held ≡ None → n.held ≡ None → StandsR r e.reader → StepsList move (flat m.frames) (flat n.frames) → StepsTo (taken_as move n.frames r) e n r
+    list_steps : (m n : Machine) (r : Reader) (move : Step Token) (e : Expander R) → StandsIn m r e → m.held ≡ None → n.held ≡ None
+        → StandsR r e.reader → StepsList move (flat m.frames) (flat n.frames) → StepsTo (taken_as move n.frames r) e n r
     list_steps m n r (Ok token) e stands free freed reader steps =
         let f : Expander R = record e { list = flat n.frames } in
         let none : e.held ≡ None = stands.holds ∙ ap (option_map outcome_of_step) free in
         let becomes = taken_flat (I.shown_line e.reader) n.frames r token (λ line. shows r e.reader line reader) in
         taken_steps (taken_in n.frames r token) e f n r
         (taking.listed (taken_in n.frames r token) token (flat n.frames) e f none (ap after_marks stands.list ∙ steps) (sym becomes) refl)
-        (record { holds = none ∙ sym (ap (option_map outcome_of_step) freed); list = refl; reader = rw freed reader; names = stands.names }) stands.names freed (taken_no_end n.frames r token)
+        (record {
+          holds = none ∙ sym (ap (option_map outcome_of_step) freed);
+          list = refl;
+          reader = rw freed reader;
+          names = stands.names;
+        }) stands.names freed (taken_no_end n.frames r token)
     list_steps m n r (Err Continue) e stands free freed reader steps =
-        let none : e.held ≡ None = stands.holds ∙ ap (option_map outcome_of_step) free in
-        (record e { list = flat n.frames }, record { holds = none ∙ sym (ap (option_map outcome_of_step) freed); list = refl; reader = rw freed reader; names = stands.names }, list_pauses I e (flat n.frames) none (ap after_marks stands.list ∙ steps))
+        let none : e.held ≡ None = stands.holds ∙ ap (option_map outcome_of_step) free in (
+          record e { list = flat n.frames },
+          record {
+            holds = none
+                ∙ sym (ap (option_map outcome_of_step) freed);
+            list = refl;
+            reader = rw freed reader;
+            names = stands.names;
+          },
+          list_pauses I e (flat n.frames) none (ap after_marks stands.list ∙ steps),
+        )
     list_steps m n r (Err Finished) e stands free freed reader steps = absurd steps
     list_steps m n r (Err (Error fault)) e stands free freed reader steps = absurd steps
 
     -- the reader may pause where the list holds no token
-    reader_pause : (e : Expander R) (y : R) → e.held ≡ None → after_marks e.list ≡ [] → ((o : Outcome) (z : R) → I.Reads y o z → I.Reads e.reader o z) → PausesTo I e (record e { list = []; reader = y })
+    reader_pause : (e : Expander R) (y : R) → e.held ≡ None → after_marks e.list ≡ []
+        → ((o : Outcome) (z : R) → I.Reads y o z → I.Reads e.reader o z) → PausesTo I e (record e { list = []; reader = y })
     reader_pause e y free empty on o h (taking.held o1 f1 h1 is at) = let bad : Some o ≡ None = sym is ∙ free in cc
     reader_pause e y free empty on o h (taking.listed o1 token rest f1 h1 is front becomes at) = cc
     reader_pause e y free empty on o h (taking.read x o1 z f1 h1 is front reads becomes at) = taking.read x o z e h free empty (on x z reads) becomes at
 
-    read_steps : (m n : Machine) (r s : Reader) (move : Step Token) (e : Expander R) → StandsIn m r e → m.held ≡ None → n.held ≡ None → m.frames ≡ [] → n.frames ≡ [] → ReadsTo move e.reader s → StepsTo (taken_as move n.frames s) e n s
+    read_steps : (m n : Machine) (r s : Reader) (move : Step Token) (e : Expander R) → StandsIn m r e → m.held ≡ None → n.held ≡ None → m.frames ≡ []
+        → n.frames ≡ [] → ReadsTo move e.reader s → StepsTo (taken_as move n.frames s) e n s
     read_steps m n r s (Ok token) e stands free freed start end (y, reads, after) =
         let f : Expander R = record e { list = []; reader = y } in
         let none : e.held ≡ None = stands.holds ∙ ap (option_map outcome_of_step) free in
         let empty : after_marks e.list ≡ [] = ap after_marks stands.list ∙ ap (λ fs. after_marks (flat fs)) start in
         let becomes = taken_flat (I.shown_line y) n.frames s token (λ line. shows s y line after) in
-        let same : taken_in n.frames s token ≡ taking.taken_token (I.shown_line y) [] token = sym becomes ∙ ap (λ fs. taking.taken_token (I.shown_line y) (flat fs) token) end in
+        let same : taken_in n.frames s token ≡ taking.taken_token (I.shown_line y) [] token = sym becomes
+        ∙ ap (λ fs. taking.taken_token (I.shown_line y) (flat fs) token) end in
         taken_steps (taken_in n.frames s token) e f n s
         (taking.read (outcome.Token token) (taken_in n.frames s token) y e f none empty reads same refl)
-        (record { holds = none ∙ sym (ap (option_map outcome_of_step) freed); list = sym (ap flat end); reader = rw freed after; names = stands.names }) stands.names freed (taken_no_end n.frames s token)
+        (record {
+          holds = none ∙ sym (ap (option_map outcome_of_step) freed);
+          list = sym (ap flat end);
+          reader = rw freed after;
+          names = stands.names;
+        }) stands.names freed (taken_no_end n.frames s token)
     read_steps m n r s (Err Continue) e stands free freed start end (y, after, on) =
         let none : e.held ≡ None = stands.holds ∙ ap (option_map outcome_of_step) free in
-        let empty : after_marks e.list ≡ [] = ap after_marks stands.list ∙ ap (λ fs. after_marks (flat fs)) start in
-        (record e { list = []; reader = y }, record { holds = none ∙ sym (ap (option_map outcome_of_step) freed); list = sym (ap flat end); reader = rw freed after; names = stands.names }, reader_pause e y none empty on)
+        let empty : after_marks e.list ≡ [] = ap after_marks stands.list ∙ ap (λ fs. after_marks (flat fs)) start in (
+          record e { list = []; reader = y },
+          record {
+            holds = none
+                ∙ sym (ap (option_map outcome_of_step) freed);
+            list = sym (ap flat end);
+            reader = rw freed after;
+            names = stands.names;
+          },
+          reader_pause e y none empty on,
+        )
     read_steps m n r s (Err Finished) e stands free freed start end (y, reads, after) =
         let none : e.held ≡ None = stands.holds ∙ ap (option_map outcome_of_step) free in
-        let empty : after_marks e.list ≡ [] = ap after_marks stands.list ∙ ap (λ fs. after_marks (flat fs)) start in
-        (record e { list = []; reader = y }, taking.read outcome.End outcome.End y e (record e { list = []; reader = y }) none empty reads refl refl, record { holds = none ∙ sym (ap (option_map outcome_of_step) freed); list = sym (ap flat end); reader = rw freed after; names = stands.names })
+        let empty : after_marks e.list ≡ [] = ap after_marks stands.list ∙ ap (λ fs. after_marks (flat fs)) start in (
+          record e { list = []; reader = y },
+          taking.read outcome.End outcome.End y e (record e { list = []; reader = y }) none empty reads refl refl,
+          record { holds = none ∙ sym (ap (option_map outcome_of_step) freed); list = sym (ap flat end); reader = rw freed after; names = stands.names },
+        )
     read_steps m n r s (Err (Error fault)) e stands free freed start end (y, reads) =
         let none : e.held ≡ None = stands.holds ∙ ap (option_map outcome_of_step) free in
-        let empty : after_marks e.list ≡ [] = ap after_marks stands.list ∙ ap (λ fs. after_marks (flat fs)) start in
-        (record e { list = []; reader = y }, taking.read (outcome.Fault fault) (outcome.Fault fault) y e (record e { list = []; reader = y }) none empty reads refl refl, stands.names, stands.names, sym (ap flat end), none, freed)
+        let empty : after_marks e.list ≡ [] = ap after_marks stands.list ∙ ap (λ fs. after_marks (flat fs)) start in (
+          record e { list = []; reader = y },
+          taking.read (outcome.Fault fault) (outcome.Fault fault) y e (record e
+              { list = []; reader = y }) none empty reads refl refl,
+          stands.names,
+          stands.names,
+          sym (ap flat end),
+          none,
+          freed,
+        )
 
     taken_reported : (move : Step Token) (fs : List Layer) (r : Reader) → wants_memory (taken_as move fs r) ≡ false → wants_memory move ≡ false
     taken_reported (Ok token) fs r h = refl
     taken_reported (Err exit) fs r h = h
 
-    moved_simulates : (frames : List Layer) (m n : Machine) (r s : Reader) (move : Step Token) (e : Expander R) → StandsIn m r e → m.held ≡ None → n.held ≡ None → m.frames ≡ frames → StandsR r e.reader → Moves frames r move n.frames s → wants_memory move ≡ false → StepsTo (taken_as move n.frames s) e n s
-    moved_simulates [] m n r s move e stands free freed start reader moves reported = read_steps m n r s move e stands free freed start moves.0 (simulates r s e.reader move reader moves.1 reported)
-    moved_simulates (f ∷ fs) m n r s move e stands free freed start reader (same, inr refused) reported = absurd (let bad : true ≡ false = rw refused at reported in cc)
+    moved_simulates : (frames : List Layer) (m n : Machine) (r s : Reader) (move : Step Token) (e : Expander R) → StandsIn m r e → m.held ≡ None
+        → n.held ≡ None → m.frames ≡ frames → StandsR r e.reader → Moves frames r move n.frames s → wants_memory move ≡ false
+        → StepsTo (taken_as move n.frames s) e n s
+    moved_simulates [] m n r s move e stands free freed start reader moves reported =
+        read_steps m n r s move e stands free freed start moves.0 (simulates r s e.reader move reader moves.1 reported)
+    moved_simulates (f ∷ fs) m n r s move e stands free freed start reader (same, inr refused) reported =
+        absurd (let bad : true ≡ false = rw refused at reported in cc)
     moved_simulates (f ∷ fs) m n r s move e stands free freed start reader (same, inl (is, becomes)) reported =
         let steps : StepsList move (flat m.frames) (flat n.frames) = rw (start, is, becomes) (frame_steps f fs) in
         rw same (list_steps m n r move e stands free freed reader steps)
 
-    pub step_simulates : (m n : Machine) (r s : Reader) (step : Step Token) (e : Expander R) → StandsIn m r e → StepsTaking m r step n s → wants_memory step ≡ false → StepsTo step e n s
+    pub step_simulates : (m n : Machine) (r s : Reader) (step : Step Token) (e : Expander R) → StandsIn m r e → StepsTaking m r step n s
+        → wants_memory step ≡ false → StepsTo step e n s
     step_simulates m n r s step e stands (held step1 m1 n1 r1 s1 is at same) reported =
         let reader : StandsHeld (Some step) r e.reader = subst (λ (o : Option (Step Token)). StandsHeld o r e.reader) is stands.reader in
         let e_holds : e.held ≡ Some (outcome_of_step step) = stands.holds ∙ ap (option_map outcome_of_step) is in
@@ -139,21 +201,37 @@ module _ {R : Type 0} (I : Reading R) (StandsR : Reader → R → Type 0) (hidde
 
     -- what is taken next is taken by the definitions
     abbrev pub NextTo : Step Token → Expander R → Machine → Reader → Type 0
-    NextTo step e n s = (f : Expander R) × Takes I e (outcome_of_step step) f × StandsIn (record n { held = Some step }) s (record f { held = Some (outcome_of_step step) }) × (f.held ≡ None)
+    NextTo step e n s = (f : Expander R) × Takes I e (outcome_of_step step) f
+        × StandsIn (record n { held = Some step }) s (record f { held = Some (outcome_of_step step) }) × (f.held ≡ None)
 
     -- the step itself may be held
     held_back : (step : Step Token) (e : Expander R) (n : Machine) (s : Reader) → is_pause step ≡ false → n.held ≡ None → StepsTo step e n s → NextTo step e n s
-    held_back (Ok token) e n s goes free (f, takes, stands) = (f, takes, record { holds = refl; list = stands.list; reader = rw free at stands.reader; names = stands.names }, stands.holds ∙ ap (option_map outcome_of_step) free)
+    held_back (Ok token) e n s goes free (f, takes, stands) = (
+      f,
+      takes,
+      record { holds = refl; list = stands.list; reader = rw free at stands.reader; names = stands.names },
+      stands.holds
+          ∙ ap (option_map outcome_of_step) free,
+    )
     held_back (Err Continue) e n s goes free h = cc
-    held_back (Err Finished) e n s goes free (f, takes, stands) = (f, takes, record { holds = refl; list = stands.list; reader = rw free at stands.reader; names = stands.names }, stands.holds ∙ ap (option_map outcome_of_step) free)
-    held_back (Err (Error fault)) e n s goes free (f, takes, names, names_then, list, none, freed) = (f, takes, record { holds = refl; list = list; reader = tt; names = names_then }, none)
+    held_back (Err Finished) e n s goes free (f, takes, stands) = (
+      f,
+      takes,
+      record { holds = refl; list = stands.list; reader = rw free at stands.reader; names = stands.names },
+      stands.holds
+          ∙ ap (option_map outcome_of_step) free,
+    )
+    held_back (Err (Error fault)) e n s goes free (f, takes, names, names_then, list, none, freed) =
+        (f, takes, record { holds = refl; list = list; reader = tt; names = names_then }, none)
 
     pub step_frees : (m n : Machine) (r s : Reader) (step : Step Token) → StepsTaking m r step n s → n.held ≡ None
     step_frees m n r s step (held step1 m1 n1 r1 s1 is at same) = ap (λ (k : Machine). k.held) at
     step_frees m n r s step (moved move step1 m1 n1 r1 s1 free moves is freed) = freed
 
-    pub next_simulates : (m n : Machine) (r s : Reader) (step : Step Token) (e : Expander R) → StandsIn m r e → TakesNext m r step n s → wants_memory step ≡ false → NextTo step e n s
-    next_simulates m n r s step e stands (now step1 m1 n1 r1 s1 steps goes) reported = held_back step e n s goes (step_frees m n r s step steps) (step_simulates m n r s step e stands steps reported)
+    pub next_simulates : (m n : Machine) (r s : Reader) (step : Step Token) (e : Expander R) → StandsIn m r e → TakesNext m r step n s
+        → wants_memory step ≡ false → NextTo step e n s
+    next_simulates m n r s step e stands (now step1 m1 n1 r1 s1 steps goes) reported =
+        held_back step e n s goes (step_frees m n r s step steps) (step_simulates m n r s step e stands steps reported)
     next_simulates m n r s step e stands (later step1 m1 between n1 r1 s1 t1 steps next) reported =
         let first = step_simulates m between r s1 (Err Continue) e stands steps refl in
         let freed = next_simulates between n s1 s step first.0 first.1 next reported in
@@ -164,22 +242,36 @@ module _ {R : Type 0} (I : Reading R) (StandsR : Reader → R → Type 0) (hidde
     next_frees m n r s step (later step1 m1 between n1 r1 s1 t1 steps next) = next_frees between n s1 s step next
 
     -- after a token the machine stands for the state after it
-    pub token_stands : (token : Token) (m n : Machine) (r s : Reader) (e : Expander R) → StandsIn m r e → TakesNext m r (Ok token) n s → (f : Expander R) × Takes I e (outcome.Token token) f × StandsIn n s f
+    pub token_stands : (token : Token) (m n : Machine) (r s : Reader) (e : Expander R) → StandsIn m r e → TakesNext m r (Ok token) n s
+        → (f : Expander R) × Takes I e (outcome.Token token) f × StandsIn n s f
     token_stands token m n r s e stands next =
         let h = next_simulates m n r s (Ok token) e stands next refl in
-        let free : n.held ≡ None = next_frees m n r s (Ok token) next in
-        (h.0, h.1, record { holds = h.3 ∙ sym (ap (option_map outcome_of_step) free); list = h.2.list; reader = subst (λ (o : Option (Step Token)). StandsHeld o s h.0.reader) (sym free) h.2.reader; names = h.2.names })
+        let free : n.held ≡ None = next_frees m n r s (Ok token) next in (
+          h.0,
+          h.1,
+          record {
+            holds = h.3 ∙ sym (ap (option_map outcome_of_step) free);
+            list = h.2.list;
+            reader = subst (λ (o : Option (Step Token)). StandsHeld o s h.0.reader) (sym free) h.2.reader;
+            names = h.2.names;
+          },
+        )
 
     -- the search for the end of a call is that of the definitions
     abbrev pub GathersTo : ℕ → Location → Expander R → Result Gathered Fault → Machine → Reader → Type 0
     GathersTo k last e (Ok g) n s = (f : Expander R) × Gathers I k last e (Ok g) f × StandsIn n s f
     GathersTo k last e (Err fault) n s = (f : Expander R) × Gathers I k last e (Err fault) f
 
-    inside_to : (k l : ℕ) (last : Location) (token : Token) (e f : Expander R) (rest : Result Gathered Fault) (n : Machine) (s : Reader) → Takes I e (outcome.Token token) f → calls.nesting k token.value ≡ calls.within l → GathersTo l token.location f rest n s → GathersTo k last e (before token rest) n s
-    inside_to k l last token e f (Ok g) n s takes is (h, gathers, stands) = (h, calls.inside k l last token e f h (Ok g) (before token (Ok g)) takes is gathers refl, stands)
-    inside_to k l last token e f (Err fault) n s takes is (h, gathers) = (h, calls.inside k l last token e f h (Err fault) (before token (Err fault)) takes is gathers refl)
+    inside_to : (k l : ℕ) (last : Location) (token : Token) (e f : Expander R) (rest : Result Gathered Fault) (n : Machine) (s : Reader)
+        → Takes I e (outcome.Token token) f → calls.nesting k token.value ≡ calls.within l → GathersTo l token.location f rest n s
+        → GathersTo k last e (before token rest) n s
+    inside_to k l last token e f (Ok g) n s takes is (h, gathers, stands) =
+        (h, calls.inside k l last token e f h (Ok g) (before token (Ok g)) takes is gathers refl, stands)
+    inside_to k l last token e f (Err fault) n s takes is (h, gathers) =
+        (h, calls.inside k l last token e f h (Err fault) (before token (Err fault)) takes is gathers refl)
 
-    pub gather_simulates : (k : ℕ) (last : Location) (m n : Machine) (r s : Reader) (g : Result Gathered Fault) (e : Expander R) → StandsIn m r e → GathersNext k last m r g n s → GathersTo k last e g n s
+    pub gather_simulates : (k : ℕ) (last : Location) (m n : Machine) (r s : Reader) (g : Result Gathered Fault) (e : Expander R) → StandsIn m r e
+        → GathersNext k last m r g n s → GathersTo k last e g n s
     gather_simulates k last m n r s g e stands (closed k1 last1 token m1 n1 r1 s1 g1 next out is) =
         let h = token_stands token m n r s e stands next in
         rw is (h.0, calls.closed k last token e h.0 (Ok (record { tokens = []; closing = token.location })) h.1 out refl, h.2)

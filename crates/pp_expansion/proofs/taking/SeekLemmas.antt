@@ -30,14 +30,24 @@ use Rattle.pp_expansion.specs.declared.calls.Found.{Found}
 use Rattle.pp_expansion.specs.declared.halt.Halt.{Halt}
 use Rattle.pp_expansion.specs.declared.halt.Halt.TheVariants as halt
 
-pub finds_nothing : (m n p : Machine) (r s : Reader) (next : Step Token) → TakesNext m r next n s → is_refusal next ≡ false → paren_of next ≡ None → p ≡ record n { held = Some next } → FindsNothing m r p s
-finds_nothing m n p r s next takes reported none is = record { next = next; before = n; seeks = alone next m n r s (no_call next) takes none reported refl; holds = is }
+pub finds_nothing : (m n p : Machine) (r s : Reader) (next : Step Token) → TakesNext m r next n s → is_refusal next ≡ false → paren_of next ≡ None
+    → p ≡ record n { held = Some next } → FindsNothing m r p s
+finds_nothing m n p r s next takes reported none is = record {
+  next = next;
+  before = n;
+  seeks = alone next m n r s (no_call next) takes none reported refl;
+  holds = is;
+}
 
-pub finds_whole : (m n p : Machine) (r s t : Reader) (next : Step Token) (paren : Location) (g : Gathered) → TakesNext m r next n s → paren_of next ≡ Some paren → GathersNext 0 paren n s (Ok g) p t → Seeks m r (gathered paren g) p t
+pub finds_whole : (m n p : Machine) (r s t : Reader) (next : Step Token) (paren : Location) (g : Gathered) → TakesNext m r next n s
+    → paren_of next ≡ Some paren → GathersNext 0 paren n s (Ok g) p t → Seeks m r (gathered paren g) p t
 finds_whole m n p r s t next paren g takes at gathers = called next paren m n p r s t (Ok g) (gathered paren g) takes at gathers refl
 
-pub finds_fault : (m n p : Machine) (r s t : Reader) (next : Step Token) (paren : Location) (h : Halt) (result : Result Found Halt) → TakesNext m r next n s → paren_of next ≡ Some paren → Satisfies {A = Gathered} (Err h) (λ g. GathersNext 0 paren n s g p t) → result ≡ Err h → FindsBy m r result p t
-finds_fault m n p r s t next paren (halt.Fault fault) result takes at gathers is = subst (λ (x : Result Found Halt). FindsBy m r x p t) (sym is) (called next paren m n p r s t (Err fault) (refused fault) takes at gathers refl)
+pub finds_fault : (m n p : Machine) (r s t : Reader) (next : Step Token) (paren : Location) (h : Halt) (result : Result Found Halt)
+    → TakesNext m r next n s → paren_of next ≡ Some paren → Satisfies {A = Gathered} (Err h) (λ g. GathersNext 0 paren n s g p t) → result ≡ Err h
+    → FindsBy m r result p t
+finds_fault m n p r s t next paren (halt.Fault fault) result takes at gathers is =
+    subst (λ (x : Result Found Halt). FindsBy m r x p t) (sym is) (called next paren m n p r s t (Err fault) (refused fault) takes at gathers refl)
 finds_fault m n p r s t next paren halt.OutOfMemory result takes at gathers is = subst (λ (x : Result Found Halt). FindsBy m r x p t) (sym is) tt
 
 abbrev Refused : Step Taken → Type 0
@@ -48,29 +58,37 @@ module _ (token : Token) (name : Name) (definition : Definition) (m n : Machine)
   pub enters_nothing : FindsNothing m r n s → Enters token name definition m r (Ok (taken.Token token)) n s
   enters_nothing h = e.called (no_call h.next) (Ok (taken.Token token)) m h.before n r s function h.seeks (refl, h.holds)
 
-  pub enters_whole : (paren : Location) (g : Gathered) (c : PendingCall) → Seeks m r (gathered paren g) n s → c ≡ record { name = name; definition = definition; paren = paren; closing = g.closing; tokens = g.tokens } → Enters token name definition m r (Ok (taken.Call c)) n s
+  pub enters_whole : (paren : Location) (g : Gathered) (c : PendingCall) → Seeks m r (gathered paren g) n s
+      → c ≡ record { name = name; definition = definition; paren = paren; closing = g.closing; tokens = g.tokens }
+      → Enters token name definition m r (Ok (taken.Call c)) n s
   enters_whole paren g c h is = e.called (gathered paren g) (Ok (taken.Call c)) m n n r s function h (ap (λ (x : PendingCall). Ok (taken.Call x)) is, refl)
 
   pub enters_halt : (h : Halt) (step : Step Taken) → FindsBy m r (Err h) n s → step ≡ Err (exit_of h) → Enters token name definition m r step n s ⊎ Refused step
   enters_halt (halt.Fault fault) step h is = inl (e.called (refused fault) step m n n r s function h (is, refl))
   enters_halt halt.OutOfMemory step h is = inr is
 
-pub follows_plain : (o : Option (Name × Definition)) (token : Token) (name : Name) (definition : Definition) (m n : Machine) (r : Reader) (step : Step Taken) → o ≡ Some (name, definition) → definition.function_like ≡ false
-    → ((step ≡ Err Continue) × (n ≡ record m { frames = layer name token.location.line definition [] ∷ m.frames })) ⊎ Refused step → FollowsToken o token m r step n r ⊎ Refused step
+pub follows_plain : (o : Option (Name
+    × Definition)) (token : Token) (name : Name) (definition : Definition) (m n : Machine) (r : Reader) (step : Step Taken)
+    → o ≡ Some (name, definition) → definition.function_like ≡ false
+    → ((step ≡ Err Continue) × (n ≡ record m { frames = layer name token.location.line definition [] ∷ m.frames })) ⊎ Refused step
+    → FollowsToken o token m r step n r ⊎ Refused step
 follows_plain o token name definition m n r step is plain (inl h) = inl (rw is (e.plain step m n r r plain h.0 h.1 refl))
 follows_plain o token name definition m n r step is plain (inr h) = inr h
 
 -- a token whose value is a name
 pub follows_named : (m n : Machine) (r s : Reader) (token : Token) (given name : Name) (step : Step Taken) → token.value ≡ Ident name → given ≡ name
-    → FollowsToken (opens_value m.frames r (Ident given)) (record { value = Ident given; location = token.location }) m r step n s ⊎ Refused step → FollowsToken (opens m.frames r token) token m r step n s ⊎ Refused step
+    → FollowsToken (opens_value m.frames r (Ident given)) (record { value = Ident given; location = token.location }) m r step n s ⊎ Refused step
+    → FollowsToken (opens m.frames r token) token m r step n s ⊎ Refused step
 follows_named m n r s token given name step is same h =
-    subst (λ (v : TokenValue). FollowsToken (opens_value m.frames r v) (record { value = v; location = token.location }) m r step n s ⊎ Refused step) (ap (λ (x : Name). Ident x) same ∙ sym is) h
+    subst (λ (v : TokenValue). FollowsToken (opens_value m.frames r v) (record { value = v; location = token.location }) m r step n s ⊎ Refused step)
+    (ap (λ (x : Name). Ident x) same ∙ sym is) h
 
 -- what a value stands for as a name
 abbrev pub meant : Option (Name × Definition) → Option Definition
 meant o = option_map (λ opening. opening.1) o
 
-pub meant_by : {X : Type 0} (view : X → Definition) (name : Name) (found : Option X) (o : Option (Name × Definition)) → option_map (λ x. (name, view x)) found ≡ o → option_map view found ≡ meant o
+pub meant_by : {X : Type 0} (view : X → Definition) (name : Name) (found : Option X) (o : Option (Name × Definition))
+    → option_map (λ x. (name, view x)) found ≡ o → option_map view found ≡ meant o
 meant_by view name None o is = rw (sym is) refl
 meant_by view name (Some x) o is = rw (sym is) refl
 
@@ -79,28 +97,39 @@ meant_none None e = refl
 meant_none (Some x) e = cc
 
 -- what opens is the name itself
-pub opens_named : (frames : List Layer) (r : Reader) (name : Name) (definition : Definition) → meant (opens_value frames r (Ident name)) ≡ Some definition → opens_value frames r (Ident name) ≡ Some (name, definition)
+pub opens_named : (frames : List Layer) (r : Reader) (name : Name) (definition : Definition)
+    → meant (opens_value frames r (Ident name)) ≡ Some definition → opens_value frames r (Ident name) ≡ Some (name, definition)
 opens_named frames r name definition = go (is_in name (names_of frames)) (visible r name)
   where
-    go : (open_now : Bool) (found : Option Definition) → meant (if open_now then None else opened_by name found) ≡ Some definition → (if open_now then None else opened_by name found) ≡ Some (name, definition)
+    go : (open_now : Bool) (found : Option Definition) → meant (if open_now then None else opened_by name found) ≡ Some definition
+        → (if open_now then None else opened_by name found) ≡ Some (name, definition)
     go true found e = cc
     go false None e = cc
     go false (Some d) e = let same : d ≡ definition = cc in ap (λ (x : Definition). Some (name, x)) same
 
 -- the name of an object-like macro that opens
-module _ (m n : Machine) (r : Reader) (token : Token) (given name : Name) (definition : Definition) (step : Step Taken) (is : token.value ≡ Ident name) (same : given ≡ name) (opening : meant (opens m.frames r token) ≡ Some definition) where
+module _ (m n : Machine) (r : Reader) (token : Token) (given name : Name) (definition : Definition) (step : Step Taken)
+    (is : token.value ≡ Ident name) (same : given ≡ name) (opening : meant (opens m.frames r token) ≡ Some definition) where
   named : opens_value m.frames r (Ident given) ≡ Some (given, definition)
-  named = opens_named m.frames r given definition (subst (λ (v : TokenValue). meant (opens_value m.frames r v) ≡ Some definition) (is ∙ ap (λ (x : Name). Ident x) (sym same)) opening)
+  named = opens_named m.frames r given definition (subst (λ (v : TokenValue). meant (opens_value m.frames r v) ≡ Some definition)
+      (is ∙ ap (λ (x : Name). Ident x) (sym same)) opening)
 
-  pub follows_object : definition.function_like ≡ false → ((step ≡ Err Continue) × (n ≡ record m { frames = layer given token.location.line definition [] ∷ m.frames })) ⊎ Refused step → FollowsToken (opens m.frames r token) token m r step n r ⊎ Refused step
-  follows_object plain h = follows_named m n r r token given name step is same (follows_plain (opens_value m.frames r (Ident given)) (record { value = Ident given; location = token.location }) given definition m n r step named plain h)
+  pub follows_object : definition.function_like ≡ false → ((step ≡ Err Continue)
+      × (n ≡ record m { frames = layer given token.location.line definition [] ∷ m.frames })) ⊎ Refused step
+      → FollowsToken (opens m.frames r token) token m r step n r ⊎ Refused step
+  follows_object plain h = follows_named m n r r token given name step is same (follows_plain (opens_value m.frames r (Ident given))
+      (record { value = Ident given; location = token.location }) given definition m n r step named plain h)
 
 -- a turn, by what is taken
-pub turns_token : (m n p : Machine) (r s t : Reader) (token : Token) (step : Step Taken) → StepsTaking m r (Ok token) n s → (o : Option (Name × Definition)) → opens n.frames s token ≡ o → FollowsToken o token n s step p t ⊎ Refused step → TurnsOrRefuses m r step p t
-turns_token m n p r s t token step steps o is (inr h) = inr (record { some = record { step = Ok token; after = n; reader = s; takes = steps; goes = refl }; fault = h })
+pub turns_token : (m n p : Machine) (r s t : Reader) (token : Token) (step : Step Taken) → StepsTaking m r (Ok token) n s
+    → (o : Option (Name × Definition)) → opens n.frames s token ≡ o → FollowsToken o token n s step p t ⊎ Refused step → TurnsOrRefuses m r step p t
+turns_token m n p r s t token step steps o is (inr h) =
+    inr (record { some = record { step = Ok token; after = n; reader = s; takes = steps; goes = refl }; fault = h })
 turns_token m n p r s t token step steps None is (inl (gives, same, stays)) = inl (rw (same, stays) (turn.gives token step m n r s steps is gives))
-turns_token m n p r s t token step steps (Some (name, definition)) is (inl (e.plain step1 m1 n1 r1 s1 plain pauses at stays)) = inl (rw stays (turn.object token name definition step m n p r s steps is plain pauses at))
-turns_token m n p r s t token step steps (Some (name, definition)) is (inl (e.called c step1 m1 q n1 r1 s1 function seeks finds)) = inl (turn.seeks token name definition c step m n q p r s t steps is function seeks finds)
+turns_token m n p r s t token step steps (Some (name, definition)) is (inl (e.plain step1 m1 n1 r1 s1 plain pauses at stays)) =
+    inl (rw stays (turn.object token name definition step m n p r s steps is plain pauses at))
+turns_token m n p r s t token step steps (Some (name, definition)) is (inl (e.called c step1 m1 q n1 r1 s1 function seeks finds)) =
+    inl (turn.seeks token name definition c step m n q p r s t steps is function seeks finds)
 
 pub turns_exit : (m n : Machine) (r s : Reader) (exit : StepExit) → StepsTaking m r (Err exit) n s → TurnsOrRefuses m r (Err exit) n s
 turns_exit m n r s exit steps = inl (turn.passes exit (Err exit) m n r s steps refl)

@@ -14,7 +14,8 @@ use Rattle.pp_expansion.specs.inner.Turns.{taken_in}
 use Rattle.pp_expansion.proofs.open_frames.FlatLemmas.{outermost_flat}
 
 -- what a token becomes that is taken, whether from the list or from the reader
-pub taken_flat : (shown : ℕ → Option ℕ) (frames : List Layer) (reader : Reader) (token : Token) → ((line : ℕ) → shown line ≡ shown_line reader line) → taken_token shown (flat frames) token ≡ taken_in frames reader token
+pub taken_flat : (shown : ℕ → Option ℕ) (frames : List Layer) (reader : Reader) (token : Token) → ((line : ℕ) → shown line ≡ shown_line reader line)
+    → taken_token shown (flat frames) token ≡ taken_in frames reader token
 taken_flat shown frames reader token same =
     let place = λ (line : Option ℕ). unwrap_or line token.location.line in
     let number : shown (place (outermost_line (flat frames))) ≡ shown_line reader (place (outermost_frame_line frames)) =

@@ -52,16 +52,20 @@ module _ {R : Type 0} (I : Reading R) (StandsR : Reader → R → Type 0) (hidde
   LeadsTo (Ok (taken.Call c)) e n s =
       (f : Expander R) × StandsIn I StandsR hidden n s f
       × ((fault : Fault) → A c.definition (site_of I f c.paren c.tokens) (Err fault) → Emits I A e (outcome.Fault fault) f)
-      × ((arguments : List (List Token)) → A c.definition (site_of I f c.paren c.tokens) (Ok arguments) → (o : Outcome) (g : Expander R) → Emits I A (record f { list = spliced c.name c.definition c.closing.line arguments f.list }) o g → Emits I A e o g)
+      × ((arguments : List (List Token)) → A c.definition (site_of I f c.paren c.tokens) (Ok arguments) → (o : Outcome) (g : Expander R)
+      → Emits I A (record f { list = spliced c.name c.definition c.closing.line arguments f.list }) o g → Emits I A e o g)
   LeadsTo (Err Continue) e n s = (f : Expander R) × StandsIn I StandsR hidden n s f × ((o : Outcome) (g : Expander R) → Emits I A f o g → Emits I A e o g)
   LeadsTo (Err Finished) e n s = (f : Expander R) × Emits I A e outcome.End f × StandsIn I StandsR hidden n s f
   LeadsTo (Err (Error fault)) e n s = (f : Expander R) × Emits I A e (outcome.Fault fault) f
 
   -- the macro that a token opens over frames is the one that it opens over their list
-  opens_same : (n : Machine) (s : Reader) (f : Expander R) (token : Token) → f.list ≡ flat n.frames → f.hidden ≡ hidden → StandsR s f.reader → opening I f (outcome.Token token) ≡ as_opening token (opens n.frames s token)
+  opens_same : (n : Machine) (s : Reader) (f : Expander R) (token : Token) → f.list ≡ flat n.frames → f.hidden ≡ hidden → StandsR s f.reader
+      → opening I f (outcome.Token token) ≡ as_opening token (opens n.frames s token)
   opens_same n s f token list names reader = go token.value
     where
-      mask : (reserved here hid : Bool) (name : Name) (d : Option Definition) → (if reserved || (here || hid) then None else opening_by token name d) ≡ as_opening token (if here then None else opened_by name (if reserved || hid then None else d))
+      mask : (reserved here hid : Bool) (name : Name) (d : Option Definition)
+          → (if reserved || (here || hid) then None else opening_by token name d) ≡ as_opening token
+          (if here then None else opened_by name (if reserved || hid then None else d))
       mask true true hid name d = refl
       mask true false hid name d = refl
       mask false true hid name d = refl
@@ -80,12 +84,19 @@ module _ {R : Type 0} (I : Reading R) (StandsR : Reader → R → Type 0) (hidde
       go _ = refl
 
   -- after a token the reader stands
-  token_stands : (m n : Machine) (r s : Reader) (token : Token) (e : Expander R) → StandsIn I StandsR hidden m r e → StepsTaking m r (Ok token) n s → (f : Expander R) × Takes I e (outcome.Token token) f × StandsIn I StandsR hidden n s f × StandsR s f.reader
+  token_stands : (m n : Machine) (r s : Reader) (token : Token) (e : Expander R) → StandsIn I StandsR hidden m r e → StepsTaking m r (Ok token) n s
+      → (f : Expander R) × Takes I e (outcome.Token token) f × StandsIn I StandsR hidden n s f × StandsR s f.reader
   token_stands m n r s token e stands steps =
-      let h = step_simulates I StandsR hidden simulates shows m n r s (Ok token) e stands steps refl in
-      (h.0, h.1, h.2, subst (λ (o : Option (Step Token)). StandsHeld I StandsR hidden o s h.0.reader) (step_frees I StandsR hidden simulates shows m n r s (Ok token) steps) h.2.reader)
+      let h = step_simulates I StandsR hidden simulates shows m n r s (Ok token) e stands steps refl in (
+        h.0,
+        h.1,
+        h.2,
+        subst (λ (o : Option (Step Token)). StandsHeld I StandsR hidden o s h.0.reader)
+            (step_frees I StandsR hidden simulates shows m n r s (Ok token) steps) h.2.reader,
+      )
 
-  exit_leads : (exit : StepExit) (m n : Machine) (r s : Reader) (e : Expander R) → StandsIn I StandsR hidden m r e → StepsTaking m r (Err exit) n s → wants_memory (Err exit) ≡ false → LeadsTo (Err exit) e n s
+  exit_leads : (exit : StepExit) (m n : Machine) (r s : Reader) (e : Expander R) → StandsIn I StandsR hidden m r e → StepsTaking m r (Err exit) n s
+      → wants_memory (Err exit) ≡ false → LeadsTo (Err exit) e n s
   exit_leads Continue m n r s e stands steps reported =
       let h = step_simulates I StandsR hidden simulates shows m n r s (Err Continue) e stands steps refl in
       (h.0, h.1, pause_emits I A e h.0 h.2)
@@ -102,7 +113,8 @@ module _ {R : Type 0} (I : Reading R) (StandsR : Reader → R → Type 0) (hidde
   no_paren (Err Finished) h = refl
   no_paren (Err (Error fault)) h = refl
 
-  some_paren : (next : Step Token) (paren : Location) → paren_of next ≡ Some paren → (token : Token) × (next ≡ Ok token) × (paren_at (outcome.Token token) ≡ Some paren)
+  some_paren : (next : Step Token) (paren : Location) → paren_of next ≡ Some paren → (token : Token) × (next ≡ Ok token)
+      × (paren_at (outcome.Token token) ≡ Some paren)
   some_paren (Ok token) paren h = (token, refl, h)
   some_paren (Err exit) paren h = cc
 
@@ -113,36 +125,58 @@ module _ {R : Type 0} (I : Reading R) (StandsR : Reader → R → Type 0) (hidde
   not_refused (Err (Error fault)) h = h
 
   -- a call that was gathered, or its fault
-  call_leads : (token : Token) (name : Name) (definition : Definition) (first : Token) (paren : Location) (step : Step Taken) (p q : Machine) (t : Reader) (e f h : Expander R) (g : Result Gathered Fault) → Takes I e (outcome.Token token) f
-      → opening I f (outcome.Token token) ≡ Some (record { token = token; name = name; definition = definition }) → definition.function_like ≡ true → Takes I f (outcome.Token first) h → paren_at (outcome.Token first) ≡ Some paren
+  call_leads : (token : Token) (name : Name) (definition : Definition) (first : Token) (paren : Location) (step : Step Taken)
+      (p q : Machine) (t : Reader) (e f h : Expander R) (g : Result Gathered Fault) → Takes I e (outcome.Token token) f
+      → opening I f (outcome.Token token) ≡ Some (record { token = token; name = name; definition = definition }) → definition.function_like ≡ true
+      → Takes I f (outcome.Token first) h → paren_at (outcome.Token first) ≡ Some paren
       → GathersTo I StandsR hidden simulates shows 0 paren h g p t → Finds token name definition (sought_by paren g) step p q → LeadsTo step e q t
   call_leads token name definition first paren step p q t e f h (Err fault) takes opens function takes_paren at (k, gathers) (is, becomes) =
       let m : Opening = record { token = token; name = name; definition = definition } in
-      rw is (k, emitting.call_refused (outcome.Token token) (outcome.Fault fault) fault m e f k takes opens function (calls.broken (outcome.Token first) paren fault f h k (calls.refused fault) takes_paren at gathers refl) refl)
+      rw is (
+        k,
+        emitting.call_refused (outcome.Token token) (outcome.Fault fault) fault m e f k takes opens function
+            (calls.broken (outcome.Token first) paren fault f h k (calls.refused fault) takes_paren at gathers refl) refl,
+      )
   call_leads token name definition first paren step p q t e f h (Ok g) takes opens function takes_paren at (k, gathers, stands) (is, becomes) =
       let m : Opening = record { token = token; name = name; definition = definition } in
       rw (is, becomes) (
         k,
         stands,
-        (λ fault answers. emitting.call_refused (outcome.Token token) (outcome.Fault fault) fault m e f k takes opens function (calls.whole (outcome.Token first) paren g (Err fault) f h k (calls.refused fault) takes_paren at gathers answers refl) refl),
-        (λ arguments answers o l emits. emitting.call (outcome.Token token) o arguments g.closing.line m e f k l takes opens function (calls.whole (outcome.Token first) paren g (Ok arguments) f h k (calls.fits arguments g.closing.line) takes_paren at gathers answers refl) emits),
+        (λ fault answers. emitting.call_refused (outcome.Token token) (outcome.Fault fault) fault m e f k takes opens function
+            (calls.whole (outcome.Token first) paren g (Err fault) f h k (calls.refused fault) takes_paren at gathers answers refl) refl),
+        (λ arguments answers o l emits. emitting.call (outcome.Token token) o arguments g.closing.line m e f k l takes opens function
+            (calls.whole (outcome.Token first) paren g (Ok arguments) f h k (calls.fits arguments g.closing.line) takes_paren at gathers answers refl) emits),
       )
 
   -- what is sought after a name
-  seek_leads : (token : Token) (name : Name) (definition : Definition) (c : Sought) (step : Step Taken) (n p q : Machine) (s t : Reader) (e f : Expander R) → Takes I e (outcome.Token token) f → StandsIn I StandsR hidden n s f
-      → opening I f (outcome.Token token) ≡ Some (record { token = token; name = name; definition = definition }) → definition.function_like ≡ true → Seeks n s c p t → Finds token name definition c step p q → LeadsTo step e q t
+  seek_leads : (token : Token) (name : Name) (definition : Definition) (c : Sought) (step : Step Taken)
+      (n p q : Machine) (s t : Reader) (e f : Expander R) → Takes I e (outcome.Token token) f → StandsIn I StandsR hidden n s f
+      → opening I f (outcome.Token token) ≡ Some (record { token = token; name = name; definition = definition }) → definition.function_like ≡ true
+      → Seeks n s c p t → Finds token name definition c step p q → LeadsTo step e q t
   seek_leads token name definition c step n p q s t e f takes stands opens function (alone next n1 p1 s1 t1 c1 taken_next none reported is) found =
       let m : Opening = record { token = token; name = name; definition = definition } in
       let h = next_simulates I StandsR hidden simulates shows n p s t next f stands taken_next (not_refused next reported) in
       let found' : Finds token name definition (no_call next) step p q = subst (λ (x : Sought). Finds token name definition x step p q) is found in
-      rw (found'.0, found'.1) (holding (outcome_of_step next) h.0, emitting.name_alone (outcome.Token token) (outcome_of_step next) (outcome.Token token) m e f h.0 (holding (outcome_of_step next) h.0) takes opens function (calls.alone (outcome_of_step next) f h.0 (calls.no_call (outcome_of_step next)) h.1 (no_paren next none) refl) refl refl, h.2)
-  seek_leads token name definition c step n p q s t e f takes stands opens function (called next paren n1 between p1 s1 u t1 g c1 taken_next at gathers is) found =
+      rw (found'.0, found'.1) (
+        holding (outcome_of_step next) h.0,
+        emitting.name_alone (outcome.Token token) (outcome_of_step next) (outcome.Token token) m e f h.0
+            (holding (outcome_of_step next) h.0) takes opens function
+            (calls.alone (outcome_of_step next) f h.0 (calls.no_call (outcome_of_step next)) h.1 (no_paren next none) refl) refl refl,
+        h.2,
+      )
+  seek_leads token name definition c step n p q s t e f takes stands opens function
+      (called next paren n1 between p1 s1 u t1 g c1 taken_next at gathers is) found =
       let first = some_paren next paren at in
-      let h = SearchSimulates.token_stands I StandsR hidden simulates shows first.0 n between s u f stands (subst (λ (x : Step Token). TakesNext n s x between u) first.1 taken_next) in
-      call_leads token name definition first.0 paren step p q t e f h.0 g takes opens function h.1 first.2 (gather_simulates I StandsR hidden simulates shows 0 paren between p u t g h.0 h.2 gathers) (subst (λ (x : Sought). Finds token name definition x step p q) is found)
+      let h = SearchSimulates.token_stands I StandsR hidden simulates shows first.0 n between s u f stands
+      (subst (λ (x : Step Token). TakesNext n s x between u) first.1 taken_next) in
+      call_leads token name definition first.0 paren step p q t e f h.0 g takes opens function h.1 first.2
+      (gather_simulates I StandsR hidden simulates shows 0 paren between p u t g h.0 h.2 gathers)
+      (subst (λ (x : Sought). Finds token name definition x step p q) is found)
 
-  object_leads : (token : Token) (name : Name) (definition : Definition) (n p : Machine) (s : Reader) (e f : Expander R) → Takes I e (outcome.Token token) f → StandsIn I StandsR hidden n s f → n.held ≡ None
-      → opening I f (outcome.Token token) ≡ Some (record { token = token; name = name; definition = definition }) → definition.function_like ≡ false → p ≡ record n { frames = layer name token.location.line definition [] ∷ n.frames } → LeadsTo (Err Continue) e p s
+  object_leads : (token : Token) (name : Name) (definition : Definition) (n p : Machine) (s : Reader) (e f : Expander R)
+      → Takes I e (outcome.Token token) f → StandsIn I StandsR hidden n s f → n.held ≡ None
+      → opening I f (outcome.Token token) ≡ Some (record { token = token; name = name; definition = definition }) → definition.function_like ≡ false
+      → p ≡ record n { frames = layer name token.location.line definition [] ∷ n.frames } → LeadsTo (Err Continue) e p s
   object_leads token name definition n p s e f takes stands free opens plain is =
       let m : Opening = record { token = token; name = name; definition = definition } in
       rw is (
@@ -151,7 +185,8 @@ module _ {R : Type 0} (I : Reading R) (StandsR : Reader → R → Type 0) (hidde
         λ o g emits. emitting.object (outcome.Token token) o m e f g takes opens plain emits,
       )
 
-  as_opens : (n : Machine) (s : Reader) (f : Expander R) (token : Token) (m : Option (Name × Definition)) → StandsIn I StandsR hidden n s f → StandsR s f.reader → opens n.frames s token ≡ m → opening I f (outcome.Token token) ≡ as_opening token m
+  as_opens : (n : Machine) (s : Reader) (f : Expander R) (token : Token) (m : Option (Name × Definition)) → StandsIn I StandsR hidden n s f
+      → StandsR s f.reader → opens n.frames s token ≡ m → opening I f (outcome.Token token) ≡ as_opening token m
   as_opens n s f token m stands reader is = opens_same n s f token stands.list stands.names reader ∙ ap (as_opening token) is
 
   exit_reported : (exit : StepExit) → wants_taken (Err exit) ≡ false → wants_memory (Err exit) ≡ false
@@ -160,14 +195,17 @@ module _ {R : Type 0} (I : Reading R) (StandsR : Reader → R → Type 0) (hidde
   exit_reported Finished h = refl
 
   -- One turn: a token, a fault or the end is the next item, a pause keeps it, and a call goes on by its answer.
-  pub turn_leads : (m n : Machine) (r s : Reader) (step : Step Taken) (e : Expander R) → StandsIn I StandsR hidden m r e → TurnsTo m r step n s → wants_taken step ≡ false → LeadsTo step e n s
-  turn_leads m n r s step e stands (passes exit step1 m1 n1 r1 s1 steps is) reported = rw is (exit_leads exit m n r s e stands steps (exit_reported exit (rw is at reported)))
+  pub turn_leads : (m n : Machine) (r s : Reader) (step : Step Taken) (e : Expander R) → StandsIn I StandsR hidden m r e → TurnsTo m r step n s
+      → wants_taken step ≡ false → LeadsTo step e n s
+  turn_leads m n r s step e stands (passes exit step1 m1 n1 r1 s1 steps is) reported =
+      rw is (exit_leads exit m n r s e stands steps (exit_reported exit (rw is at reported)))
   turn_leads m n r s step e stands (gives token step1 m1 n1 r1 s1 steps none is) reported =
       let h = token_stands m n r s token e stands steps in
       rw is (h.0, emitting.itself (outcome.Token token) e h.0 h.1 (as_opens n s h.0 token None h.2 h.3 none), h.2)
   turn_leads m p r s step e stands (object token name definition step1 m1 n p1 r1 s1 steps some plain is at) reported =
       let h = token_stands m n r s token e stands steps in
-      rw is (object_leads token name definition n p s e h.0 h.1 h.2 (step_frees I StandsR hidden simulates shows m n r s (Ok token) steps) (as_opens n s h.0 token (Some (name, definition)) h.2 h.3 some) plain at)
+      rw is (object_leads token name definition n p s e h.0 h.1 h.2 (step_frees I StandsR hidden simulates shows m n r s (Ok token) steps)
+      (as_opens n s h.0 token (Some (name, definition)) h.2 h.3 some) plain at)
   turn_leads m q r t step e stands (seeks token name definition c step1 m1 n p q1 r1 s t1 steps some function sought found) reported =
       let h = token_stands m n r s token e stands steps in
       seek_leads token name definition c step n p q s t e h.0 h.1 h.2 (as_opens n s h.0 token (Some (name, definition)) h.2 h.3 some) function sought found

@@ -46,14 +46,16 @@ visible_defined (of_list list) name definition e = go (is_masked list name) e
     go true e = cc
     go false e = e
 
-found_named : (n : Machine) (s : Reader) (x name : Name) (definition : Definition) (b : Bool) (d : Option Definition) → is_in x (names_of n.frames) ≡ b → visible s x ≡ d → (if b then None else opened_by x d) ≡ Some (name, definition) → IsFound n s (name, definition)
+found_named : (n : Machine) (s : Reader) (x name : Name) (definition : Definition) (b : Bool) (d : Option Definition)
+    → is_in x (names_of n.frames) ≡ b → visible s x ≡ d → (if b then None else opened_by x d) ≡ Some (name, definition) → IsFound n s (name, definition)
 found_named n s x name definition true d e f is = cc
 found_named n s x name definition false None e f is = cc
 found_named n s x name definition false (Some k) e f is =
     let pair : ◌≡◌ {A = Name × Definition} (x, k) (name, definition) = cc in
     subst (IsFound n s) pair (record { apart = e; defined = visible_defined s x k f })
 
-pub opens_found : (n : Machine) (s : Reader) (token : Token) (name : Name) (definition : Definition) → opens n.frames s token ≡ Some (name, definition) → IsFound n s (name, definition)
+pub opens_found : (n : Machine) (s : Reader) (token : Token) (name : Name) (definition : Definition)
+    → opens n.frames s token ≡ Some (name, definition) → IsFound n s (name, definition)
 opens_found n s token name definition is = go token.value is
   where
     go : (value : TokenValue) → opens_value n.frames s value ≡ Some (name, definition) → IsFound n s (name, definition)
@@ -71,11 +73,18 @@ names_least (of_list list) = omega arith
 pub found_body : (n : Machine) (s : Reader) (name : Name) (definition : Definition) → IsFound n s (name, definition) → length definition.body ≤ most_bodies s
 found_body n s name definition found = omega (arith, body_within (definitions_of s) name definition found.defined, bodies_least s)
 
-pub found_sound : (n : Machine) (s : Reader) (name : Name) (definition : Definition) → IsFound n s (name, definition) → IsSound n s → IsSoundWith (Some name) n s
+pub found_sound : (n : Machine) (s : Reader) (name : Name) (definition : Definition) → IsFound n s (name, definition) → IsSound n s
+    → IsSoundWith (Some name) n s
 found_sound n s name definition found sound = opened_sound (definitions_of s) name (names_of n.frames) sound found.apart (rw found.defined refl)
 
-pub pending_few : (name : Name) (line : ℕ) (definition : Definition) (arguments : List (List Token)) (n : Machine) (s : Reader) → IsSoundWith (Some name) n s → length (layer name line definition arguments ∷ n.frames) ≤ most_open s
-pending_few name line definition arguments n s sound = omega (arith, open_names_few (definitions_of s) (name ∷ names_of n.frames) sound, length_names n.frames, names_least s)
+pub pending_few : (name : Name) (line : ℕ) (definition : Definition) (arguments : List (List Token)) (n : Machine) (s : Reader)
+    → IsSoundWith (Some name) n s → length (layer name line definition arguments ∷ n.frames) ≤ most_open s
+pending_few name line definition arguments n s sound = omega (
+  arith,
+  open_names_few (definitions_of s) (name ∷ names_of n.frames) sound,
+  length_names n.frames,
+  names_least s,
+)
 
 -- What is known after a turn: less is left, and macros are open soundly; after a call there is room for its frame.
 pub record IsPending (levels : ℕ) (m : Machine) (r : Reader) (c : PendingCall) (n : Machine) (s : Reader) : Type 0 where
@@ -100,17 +109,20 @@ module _ (levels : ℕ) (m : Machine) (r : Reader) (sound : IsSound m r) where
   rises : (a b : ℕ) → a ≤ b → frame_of levels r a ≤ frame_of levels r b
   rises = frame_steps_level (most_bodies r) (most_open r) levels
 
-  less_by : (n : Machine) (s : Reader) → Tightens r s → Falls (frame_of levels r) (most_open r) (regions m r) (regions n s) → IsSound n s → IsLess levels m r n s
+  less_by : (n : Machine) (s : Reader) → Tightens r s → Falls (frame_of levels r) (most_open r) (regions m r) (regions n s) → IsSound n s
+      → IsLess levels m r n s
   less_by n s tight falls kept = record { falls = falls_work levels m n r s tight falls; tight = tight; sound = kept }
 
-  exit_falls : (exit : StepExit) (n : Machine) (s : Reader) → StepsTaking m r (Err exit) n s → wants_memory (Err exit) ≡ false → FallsBy levels m r (Err exit) n s
+  exit_falls : (exit : StepExit) (n : Machine) (s : Reader) → StepsTaking m r (Err exit) n s → wants_memory (Err exit) ≡ false
+      → FallsBy levels m r (Err exit) n s
   exit_falls Continue n s steps reported =
       let h = step_spends (frame_of levels r) (most_open r) rises (Err Continue) m n r s steps refl in
       less_by n s h.tightens h.spends (step_sound None (Err Continue) m n r s steps refl sound)
   exit_falls Finished n s steps reported = step_sound None (Err Finished) m n r s steps refl sound
   exit_falls (Error fault) n s steps reported =
       let h = step_spends (frame_of levels r) (most_open r) rises (Err (Error fault)) m n r s steps reported in
-      less_by n s h.tightens (no_more_falls (frame_of levels r) (most_open r) rises (regions m r) (one_more (regions n s)) (regions n s) h.spends (one_more_falls (frame_of levels r) (most_open r) rises (regions n s))) (step_sound None (Err (Error fault)) m n r s steps reported sound)
+      less_by n s h.tightens (no_more_falls (frame_of levels r) (most_open r) rises (regions m r) (one_more (regions n s)) (regions n s) h.spends
+      (one_more_falls (frame_of levels r) (most_open r) rises (regions n s))) (step_sound None (Err (Error fault)) m n r s steps reported sound)
 
   -- a token that is taken, with what may be done with it
   record IsTokenTaken (n : Machine) (s : Reader) : Type 0 where
@@ -125,27 +137,34 @@ module _ (levels : ℕ) (m : Machine) (r : Reader) (sound : IsSound m r) where
       record { room = h.spends; tight = h.tightens; free = h.free; kept = step_sound None (Ok token) m n r s steps refl sound }
 
   token_falls : (n : Machine) (s : Reader) → IsTokenTaken n s → Falls (frame_of levels r) (most_open r) (regions m r) (regions n s)
-  token_falls n s h = no_more_falls (frame_of levels r) (most_open r) rises (regions m r) (one_more (regions n s)) (regions n s) h.room (one_more_falls (frame_of levels r) (most_open r) rises (regions n s))
+  token_falls n s h = no_more_falls (frame_of levels r) (most_open r) rises (regions m r) (one_more (regions n s)) (regions n s) h.room
+      (one_more_falls (frame_of levels r) (most_open r) rises (regions n s))
 
-  object_falls : (name : Name) (line : ℕ) (definition : Definition) (n : Machine) (s : Reader) → IsTokenTaken n s → IsFound n s (name, definition) → IsLess levels m r (record n { frames = layer name line definition [] ∷ n.frames }) s
+  object_falls : (name : Name) (line : ℕ) (definition : Definition) (n : Machine) (s : Reader) → IsTokenTaken n s → IsFound n s (name, definition)
+      → IsLess levels m r (record n { frames = layer name line definition [] ∷ n.frames }) s
   object_falls name line definition n s h found =
       let room : IsNoMore (frame_of levels r) (most_open r) (regions m r) (one_more (regions_of n.frames (reads_left s))) = rw h.free at h.room in
       let body : length definition.body ≤ most_bodies r = omega (arith, found_body n s name definition found, h.tight.bodies) in
       let with_it = found_sound n s name definition found h.kept in
       record {
-        falls = rw h.free (opened_work levels m (layer name line definition []) n.frames r s h.tight room (object_steps levels (total (regions m r)) (most_bodies r) (most_open r) name line definition body) (pending_few name line definition [] n s with_it));
+        falls = rw h.free (opened_work levels m (layer name line definition []) n.frames r s h.tight room
+            (object_steps levels (total (regions m r)) (most_bodies r) (most_open r) name line definition body)
+            (pending_few name line definition [] n s with_it));
         tight = h.tight;
         sound = with_it;
       }
 
   -- what is sought after a name
-  seek_falls : (token : Token) (name : Name) (definition : Definition) (c : Sought) (step : Step Taken) (n p q : Machine) (s t : Reader) → IsTokenTaken n s → IsFound n s (name, definition) → Seeks n s c p t → Finds token name definition c step p q → FallsBy levels m r step q t
+  seek_falls : (token : Token) (name : Name) (definition : Definition) (c : Sought) (step : Step Taken) (n p q : Machine) (s t : Reader)
+      → IsTokenTaken n s → IsFound n s (name, definition) → Seeks n s c p t → Finds token name definition c step p q → FallsBy levels m r step q t
   seek_falls token name definition c step n p q s t h found (alone next n1 p1 s1 t1 c1 taken_next none reported is) finds =
       let quiet : wants_memory next ≡ false = not_refused next reported in
       let k = next_spends (frame_of levels r) (most_open r) rises next n p s t taken_next quiet in
       let found' : Finds token name definition (no_call next) step p q = subst (λ (x : Sought). Finds token name definition x step p q) is finds in
       let kept : IsSound p t = next_sound None next n p s t taken_next quiet h.kept in
-      rw (found'.0, found'.1) (less_by (record p { held = Some next }) t (tightens_then r s t h.tight k.tightens) (falls_no_more (frame_of levels r) (most_open r) rises (regions m r) (regions n s) (regions (record p { held = Some next }) t) (token_falls n s h) k.spends) kept)
+      rw (found'.0, found'.1) (less_by (record p { held = Some next }) t (tightens_then r s t h.tight k.tightens)
+      (falls_no_more (frame_of levels r) (most_open r) rises (regions m r) (regions n s) (regions (record p { held = Some next }) t)
+      (token_falls n s h) k.spends) kept)
     where
       not_refused : (next : Step Token) → is_refusal next ≡ false → wants_memory next ≡ false
       not_refused (Ok token) h = refl
@@ -159,27 +178,34 @@ module _ (levels : ℕ) (m : Machine) (r : Reader) (sound : IsSound m r) where
       first (Ok token) e = refl
       first (Err exit) e = cc
 
-      go : (g : Result Gathered Fault) → GathersNext 0 paren between u g p t → Finds token name definition (sought_by paren g) step p q → FallsBy levels m r step q t
+      go : (g : Result Gathered Fault) → GathersNext 0 paren between u g p t → Finds token name definition (sought_by paren g) step p q
+          → FallsBy levels m r step q t
       go (Err fault) gathers finds =
           let k = next_left (frame_of levels r) (most_open r) rises next n between s u taken_next (first next at) in
           let l = gather_left (frame_of levels r) (most_open r) rises 0 paren between p u t (Err fault) gathers in
-          let kept : IsSound p t = gather_sound None 0 paren between p u t (Err fault) gathers (next_sound None next n between s u taken_next (first next at) h.kept) in
+          let kept : IsSound p t = gather_sound None 0 paren between p u t (Err fault) gathers (next_sound None next n between s u taken_next
+          (first next at) h.kept) in
           let less : Falls (frame_of levels r) (most_open r) (regions m r) (regions p t) =
-          falls_no_more (frame_of levels r) (most_open r) rises (regions m r) (regions between u) (regions p t) (falls_no_more (frame_of levels r) (most_open r) rises (regions m r) (regions n s) (regions between u) (token_falls n s h) k.spends) l.spends in
+          falls_no_more (frame_of levels r) (most_open r) rises (regions m r) (regions between u) (regions p t)
+          (falls_no_more (frame_of levels r) (most_open r) rises (regions m r) (regions n s) (regions between u) (token_falls n s h) k.spends) l.spends in
           rw (finds.0, finds.1) (less_by p t (tightens_then r u t (tightens_then r s u h.tight k.tightens) l.tightens) less kept)
       go (Ok g) gathers finds =
           let k = next_left (frame_of levels r) (most_open r) rises next n between s u taken_next (first next at) in
-          let l : IsGathered (frame_of levels r) (most_open r) rises g between p u t = gather_leaves (frame_of levels r) (most_open r) rises 0 paren between p u t (Ok g) gathers in
-          let fall : Falls (frame_of levels r) (most_open r) (regions m r) (regions between u) = falls_no_more (frame_of levels r) (most_open r) rises (regions m r) (regions n s) (regions between u) (token_falls n s h) k.spends in
+          let l : IsGathered (frame_of levels r) (most_open r) rises g between p u t =
+          gather_leaves (frame_of levels r) (most_open r) rises 0 paren between p u t (Ok g) gathers in
+          let fall : Falls (frame_of levels r) (most_open r) (regions m r) (regions between u) =
+          falls_no_more (frame_of levels r) (most_open r) rises (regions m r) (regions n s) (regions between u) (token_falls n s h) k.spends in
           let room : IsNoMore (frame_of levels r) (most_open r) (regions m r) (one_more (regions p t)) =
-          no_more_then (frame_of levels r) (most_open r) rises (regions m r) (regions between u) (one_more (regions p t)) (falls_at_most (frame_of levels r) (most_open r) rises (regions m r) (regions between u) fall) l.spends in
+          no_more_then (frame_of levels r) (most_open r) rises (regions m r) (regions between u) (one_more (regions p t))
+          (falls_at_most (frame_of levels r) (most_open r) rises (regions m r) (regions between u) fall) l.spends in
           rw (finds.0, finds.1) (record {
             free = l.free;
             room = rw l.free at room;
             tight = tightens_then r u t (tightens_then r s u h.tight k.tightens) l.tightens;
             body = omega (arith, found_body n s name definition found, h.tight.bodies);
             tokens = omega (arith, l.least, fall.least);
-            sound = gather_sound (Some name) 0 paren between p u t (Ok g) gathers (next_sound (Some name) next n between s u taken_next (first next at) (found_sound n s name definition found h.kept));
+            sound = gather_sound (Some name) 0 paren between p u t (Ok g) gathers
+                (next_sound (Some name) next n between s u taken_next (first next at) (found_sound n s name definition found h.kept));
           })
 
   exit_reported : (exit : StepExit) → wants_taken (Err exit) ≡ false → wants_memory (Err exit) ≡ false
@@ -199,14 +225,17 @@ module _ (levels : ℕ) (m : Machine) (r : Reader) (sound : IsSound m r) where
       seek_falls token name definition c step n p q s t (token_taken token n s steps) (opens_found n s token name definition some) sought found
 
 -- the frame of a call that is pending opens, and less is left than before the turn that began the call
-pub pending_opens : (levels : ℕ) (m : Machine) (r : Reader) (c : PendingCall) (n : Machine) (s : Reader) (arguments : List (List Token)) → IsPending (suc levels) m r c n s
+pub pending_opens : (levels : ℕ) (m : Machine) (r : Reader) (c : PendingCall) (n : Machine) (s : Reader) (arguments : List (List Token))
+    → IsPending (suc levels) m r c n s
     → All (λ argument. length argument ≤ most_alone levels (definitions_of s) (length c.tokens)) arguments
     → IsLess (suc levels) m r (record { held = None; frames = layer c.name c.closing.line c.definition arguments ∷ n.frames }) s
 pending_opens levels m r c n s arguments pending all =
     let few = pending_few c.name c.closing.line c.definition arguments n s pending.sound in
     record {
-      falls = call_opens_falls levels (length c.tokens) m n.frames r s c.name c.closing.line c.definition arguments pending.tight pending.room pending.body pending.tokens
-          (λ k d inside. le_trans (all k d inside) (alone_under levels (body_tokens (definitions_of s)) (most_bodies s) (length (definitions_of s) + 1) (most_open s) (length c.tokens) (bodies_least s) (names_least s))) few;
+      falls = call_opens_falls levels
+          (length c.tokens) m n.frames r s c.name c.closing.line c.definition arguments pending.tight pending.room pending.body pending.tokens
+          (λ k d inside. le_trans (all k d inside) (alone_under levels (body_tokens (definitions_of s)) (most_bodies s)
+          (length (definitions_of s) + 1) (most_open s) (length c.tokens) (bodies_least s) (names_least s))) few;
       tight = pending.tight;
       sound = pending.sound;
     }

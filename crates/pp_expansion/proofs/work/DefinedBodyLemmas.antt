@@ -21,11 +21,13 @@ use Rattle.pp_expansion.proofs.work.BodyLemmas.{line_tokens_least}
 use Rattle.pp_expansion.proofs.work.LinePartsLemmas.{name_or_refused_is}
 use Rattle.pp_expansion.proofs.work.ParameterLemmas.{function_least, paren_goes_on}
 
-body_least : (r : Result (List Token) Fault) (n : ℕ) → IfOk r (λ tokens. length tokens ≤ n) → IfOk (r >>= λ body. Ok (object_like body)) (λ definition. length definition.body ≤ n)
+body_least : (r : Result (List Token) Fault) (n : ℕ) → IfOk r (λ tokens. length tokens ≤ n)
+    → IfOk (r >>= λ body. Ok (object_like body)) (λ definition. length definition.body ≤ n)
 body_least (Err fault) n h = tt
 body_least (Ok tokens) n h = h
 
-no_longer : (r : Result Definition Fault) (m n : ℕ) → m ≤ n → IfOk r (λ definition. length definition.body ≤ m) → IfOk r (λ definition. length definition.body ≤ n)
+no_longer : (r : Result Definition Fault) (m n : ℕ) → m ≤ n → IfOk r (λ definition. length definition.body ≤ m)
+    → IfOk r (λ definition. length definition.body ≤ n)
 no_longer (Err fault) m n low h = tt
 no_longer (Ok definition) m n low h = omega arith
 
@@ -34,7 +36,8 @@ definition_by : (word : Location) (item : Lexeme) (had : Bool) (rest : List Seen
     → IfOk (if attached then function_at word rest else (line_tokens (record { item = item; had_comments = had } ∷ rest) >>= λ body. Ok (object_like body)))
     (λ definition. length definition.body ≤ line_length (record { item = item; had_comments = had } ∷ rest))
 definition_by word item had rest true e =
-    no_longer (function_at word rest) (line_length rest) (line_length (record { item = item; had_comments = had } ∷ rest)) (paren_goes_on item had rest e).shorter (function_least word rest)
+    no_longer (function_at word rest) (line_length rest) (line_length (record { item = item; had_comments = had } ∷ rest))
+    (paren_goes_on item had rest e).shorter (function_least word rest)
 definition_by word item had rest false e =
     let line = record { item = item; had_comments = had } ∷ rest in
     body_least (line_tokens line) (line_length line) (line_tokens_least line)
@@ -44,12 +47,18 @@ definition_least word [] = body_least (line_tokens []) (line_length []) (line_to
 definition_least word (s ∷ rest) = definition_by word s.item s.had_comments rest (is_attached_paren s.item) refl
 
 named_least : (r : Result Definition Fault) (name : Name) (place : Location) (n : ℕ) → IfOk r (λ definition. length definition.body ≤ n)
-    → IfOk (r >>= λ definition. Ok (record { name = name; location = place; definition = definition })) (λ (named : Named). length named.definition.body ≤ 1 + n)
+    → IfOk (r >>= λ definition. Ok (record { name = name; location = place; definition = definition }))
+    (λ (named : Named). length named.definition.body ≤ 1 + n)
 named_least (Err fault) name place n h = tt
 named_least (Ok definition) name place n h = omega arith
 
 defined_after : (word : Location) (token : LexerToken) (value : LexerTokenValue) (rest : List Seen)
-    → IfOk (name_or_refused token (identifier_of value) >>= λ first. definition_at word rest >>= λ definition. Ok (record { name = first.name; location = first.location; definition = definition })) (λ (named : Named). length named.definition.body ≤ (if is_newline value then 1 else 1 + line_length rest))
+    → IfOk (name_or_refused token
+    (identifier_of value) >>= λ first. definition_at word rest >>= λ definition. Ok (record {
+      name = first.name;
+      location = first.location;
+      definition = definition;
+    })) (λ (named : Named). length named.definition.body ≤ (if is_newline value then 1 else 1 + line_length rest))
 defined_after word token (LexerIdent name) rest = named_least (definition_at word rest) name token.location (line_length rest) (definition_least word rest)
 defined_after word token _ rest = tt
 

@@ -15,20 +15,24 @@ abbrev pub is_end_effect : Effect → Bool
 is_end_effect ends = true
 is_end_effect _ = false
 
-defines_on : (named : Named) (before : Option Definition) (taken : ℕ) (note : Note) (old new : Source) → DefinesOver named before taken note old (Err Finished) new → ⊥
+defines_on : (named : Named) (before : Option Definition) (taken : ℕ) (note : Note) (old new : Source)
+    → DefinesOver named before taken note old (Err Finished) new → ⊥
 defines_on named None taken note old new h = let e = h.0 in cc
 defines_on named (Some before) taken note old new (inl h) = let e = h.1 in cc
 defines_on named (Some before) taken note old new (inr h) = let e = h.1 in cc
 
-decides_on : (word : Location) (tokens : List Token) (blocks : Bool → List OpenBlock) (taken : ℕ) (note : Note) (old new : Source) → Decides word tokens blocks taken note old (Err Finished) new → ⊥
+decides_on : (word : Location) (tokens : List Token) (blocks : Bool → List OpenBlock) (taken : ℕ) (note : Note) (old new : Source)
+    → Decides word tokens blocks taken note old (Err Finished) new → ⊥
 decides_on word tokens blocks taken note old new (holds value condition h) = let e = h.0 in cc
 decides_on word tokens blocks taken note old new (faulty fault condition failed left) = cc
 
-renumbers_on : (word : Location) (tokens : List Token) (taken : ℕ) (note : Note) (old new : Source) → Renumbers word tokens taken note old (Err Finished) new → ⊥
+renumbers_on : (word : Location) (tokens : List Token) (taken : ℕ) (note : Note) (old new : Source)
+    → Renumbers word tokens taken note old (Err Finished) new → ⊥
 renumbers_on word tokens taken note old new (numbers n number h) = let e = h.0 in cc
 renumbers_on word tokens taken note old new (unnumbered fault number failed left) = cc
 
-pub finished_ends : (effect : Effect) (taken : ℕ) (note : Note) (old new : Source) → HasEffect effect taken note old (Err Finished) new → is_end_effect effect ≡ true
+pub finished_ends : (effect : Effect) (taken : ℕ) (note : Note) (old new : Source) → HasEffect effect taken note old (Err Finished) new
+    → is_end_effect effect ≡ true
 finished_ends (gives token) taken note old new h = let e = h.0 in cc
 finished_ends (gives_item item word) taken note old new h = let e = h.0 in cc
 finished_ends (fails fault) taken note old new h = let e = h.0 in cc

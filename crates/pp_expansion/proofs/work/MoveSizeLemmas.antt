@@ -45,7 +45,8 @@ failing_within : (fault : Fault) (count : ℕ) → IsWithin (failing fault) coun
 failing_within fault count = record { small = record { unreported = refl; adds = omega arith }; taken = omega arith }
 
 module _ (word : Location) (after : List Seen) where
-  line_within : {A : Type 0} (r : Result A Fault) (effect : A → Effect) → ((value : A) → r ≡ Ok value → IsSmall (effect value) (line_length after)) → IsWithin (line_move r effect (line_length after)) (length after)
+  line_within : {A : Type 0} (r : Result A Fault) (effect : A → Effect) → ((value : A) → r ≡ Ok value → IsSmall (effect value) (line_length after))
+      → IsWithin (line_move r effect (line_length after)) (length after)
   line_within (Ok value) effect small = record { small = small value refl; taken = line_length_least after }
   line_within (Err fault) effect small = failing_within fault (length after)
 
@@ -58,7 +59,8 @@ module _ (word : Location) (after : List Seen) where
 
   define_small : (named : Named) → defined_on word after ≡ Ok named → IsSmall (defines named) (line_length after)
   define_small named e =
-      let low : length named.definition.body ≤ line_length after = subst (λ (r : Result Named Fault). IfOk r (λ n. length n.definition.body ≤ line_length after)) e (defined_least word after) in
+      let low : length named.definition.body ≤ line_length after =
+      subst (λ (r : Result Named Fault). IfOk r (λ n. length n.definition.body ≤ line_length after)) e (defined_least word after) in
       record { unreported = refl; adds = omega (arith, low) }
 
   else_small : (block : Option OpenBlock) → IsSmall (else_effect block word) (line_length after)
@@ -76,7 +78,8 @@ module _ (word : Location) (after : List Seen) where
   elif_within None = failing_within _ (length after)
   elif_within (Some block) = go block.with_else (skips_branches block)
     where
-      go : (b c : Bool) → IsWithin (if b then failing (ElifAfterElse, word) else if c then skip_move (parts (block_skipped block)) after else line_move (line_tokens after) (parts_if block word) (line_length after)) (length after)
+      go : (b c : Bool) → IsWithin (if b then failing (ElifAfterElse, word) else if c then skip_move
+          (parts (block_skipped block)) after else line_move (line_tokens after) (parts_if block word) (line_length after)) (length after)
       go true c = failing_within _ (length after)
       go false true = skip_within (parts (block_skipped block)) (record { unreported = refl; adds = omega arith })
       go false false = line_within (line_tokens after) (parts_if block word) (λ value is. record { unreported = refl; adds = omega arith })

@@ -32,11 +32,13 @@ quiet_token position location (LexerPunct p) blank at_start rest h = refl
 quiet_lexeme : (position : ℕ) (item : Lexeme) (comments : Bool) (rest : List Seen) → is_directive_hash item ≡ false
     → block_lines position (record { item = item; had_comments = comments } ∷ rest) ≡ block_lines (position + 1) rest
 quiet_lexeme position (Ok token) comments rest h =
-    ap (λ line. cons_option line (block_lines (position + 1) rest)) (quiet_token position token.location token.value token.leading_whitespace token.start_of_line rest h)
+    ap (λ line. cons_option line (block_lines (position + 1) rest))
+    (quiet_token position token.location token.value token.leading_whitespace token.start_of_line rest h)
 quiet_lexeme position (Err fault) comments rest h = refl
 
 -- an item that is not the number sign of a directive adds no line of a block
-pub quiet_item : (position : ℕ) (s : Seen) (rest : List Seen) → is_directive_hash s.item ≡ false → block_lines position (s ∷ rest) ≡ block_lines (position + 1) rest
+pub quiet_item : (position : ℕ) (s : Seen) (rest : List Seen) → is_directive_hash s.item ≡ false
+    → block_lines position (s ∷ rest) ≡ block_lines (position + 1) rest
 quiet_item position s rest h = quiet_lexeme position s.item s.had_comments rest h
 
 -- one item is taken, and more after it
@@ -65,7 +67,8 @@ directive_is_more (Ok token) h = word_is_more token (identifier_of token.value) 
 directive_is_more (Err fault) h = cc
 
 one_value : (location : Location) (value : LexerTokenValue) (blank at_start : Bool) (rest : List Seen)
-    → is_one_item (token_sight (record { value = value; location = location; leading_whitespace = blank; start_of_line = at_start }) rest) ≡ true → is_hash value && at_start ≡ false
+    → is_one_item (token_sight (record { value = value; location = location; leading_whitespace = blank; start_of_line = at_start }) rest) ≡ true
+    → is_hash value && at_start ≡ false
 one_value location Hash blank true rest h = absurd (directive_is_more (first_token location rest) h)
 one_value location Hash blank false rest h = refl
 one_value location NewLine blank at_start rest h = refl
@@ -79,7 +82,8 @@ one_lexeme (Ok token) rest h = one_value token.location token.value token.leadin
 one_lexeme (Err fault) rest h = cc
 
 -- where such an item stands in front, it adds no line of a block
-pub quiet_one : (position : ℕ) (rest after : List Seen) → is_one_item (sight_of rest) ≡ true → block_lines position (take 1 rest ++ after) ≡ block_lines (position + 1) after
+pub quiet_one : (position : ℕ) (rest after : List Seen) → is_one_item (sight_of rest) ≡ true
+    → block_lines position (take 1 rest ++ after) ≡ block_lines (position + 1) after
 quiet_one position [] after h = cc
 quiet_one position (s ∷ rest) after h = quiet_item position s after (one_lexeme s.item rest h)
 
@@ -109,13 +113,18 @@ pub record BeginsNoWord (fault : Fault) (rest : List Seen) : Type 0 where
   pub goes_on : ends_line hash.item ≡ false
 
 no_word_after : (place : Location) (blank comments : Bool) (rest : List Seen) (fault : Fault) → directive_sight (first_token place rest) ≡ sight.NoWord fault
-    → BeginsNoWord fault (record { item = Ok (record { value = Hash; location = place; leading_whitespace = blank; start_of_line = true }); had_comments = comments } ∷ rest)
+    → BeginsNoWord fault
+    (record { item = Ok (record { value = Hash; location = place; leading_whitespace = blank; start_of_line = true }); had_comments = comments } ∷ rest)
 no_word_after place blank comments [] fault e = cc
 no_word_after place blank comments (name ∷ after) fault e = record { hash = _; name = name; after = after; front = refl; seen = λ later. e; goes_on = refl }
 
 no_word_token : (location : Location) (value : LexerTokenValue) (blank at_start comments : Bool) (rest : List Seen) (fault : Fault)
     → token_sight (record { value = value; location = location; leading_whitespace = blank; start_of_line = at_start }) rest ≡ sight.NoWord fault
-    → BeginsNoWord fault (record { item = Ok (record { value = value; location = location; leading_whitespace = blank; start_of_line = at_start }); had_comments = comments } ∷ rest)
+    → BeginsNoWord fault
+    (record {
+      item = Ok (record { value = value; location = location; leading_whitespace = blank; start_of_line = at_start });
+      had_comments = comments;
+    } ∷ rest)
 no_word_token location Hash blank true comments rest fault e = no_word_after location blank comments rest fault e
 no_word_token location Hash blank false comments rest fault e = cc
 no_word_token location NewLine blank at_start comments rest fault e = cc
@@ -124,7 +133,8 @@ no_word_token location (LexerInteger i) blank at_start comments rest fault e = c
 no_word_token location (LexerFloat f) blank at_start comments rest fault e = cc
 no_word_token location (LexerPunct p) blank at_start comments rest fault e = cc
 
-no_word_lexeme : (item : Lexeme) (comments : Bool) (rest : List Seen) (fault : Fault) → item_sight item rest ≡ sight.NoWord fault → BeginsNoWord fault (record { item = item; had_comments = comments } ∷ rest)
+no_word_lexeme : (item : Lexeme) (comments : Bool) (rest : List Seen) (fault : Fault) → item_sight item rest ≡ sight.NoWord fault
+    → BeginsNoWord fault (record { item = item; had_comments = comments } ∷ rest)
 no_word_lexeme (Ok token) comments rest fault e = no_word_token token.location token.value token.leading_whitespace token.start_of_line comments rest fault e
 no_word_lexeme (Err error) comments rest fault e = cc
 

@@ -33,25 +33,32 @@ two_items rest directive word e =
     omega (arith, front)
 
 module _ (blocks : List OpenBlock) (rest : List Seen) where
-  within_shortens : (move : Move) → IsWithin move (length (drop 2 rest)) → 2 ≤ length rest → left_after (taking_more 2 move) (length rest) (length blocks) < length rest + length blocks
+  within_shortens : (move : Move) → IsWithin move (length (drop 2 rest)) → 2 ≤ length rest
+      → left_after (taking_more 2 move) (length rest) (length blocks) < length rest + length blocks
   within_shortens move within two = rw within.small.unreported (omega (arith, within.small.adds, within.taken, length-drop 2 rest))
 
-  directive_shortens : (live : Bool) (directive : Directive) (word : Location) → sight_of rest ≡ sight.Directive directive word → Shortens (move_at live (last_block blocks) (sight.Directive directive word) rest) (length rest) (length blocks)
-  directive_shortens true directive word is e = within_shortens (directive_move true (last_block blocks) directive word (drop 2 rest)) (directive_within word (drop 2 rest) (last_block blocks) true directive) (two_items rest directive word is)
-  directive_shortens false directive word is e = within_shortens (directive_move false (last_block blocks) directive word (drop 2 rest)) (directive_within word (drop 2 rest) (last_block blocks) false directive) (two_items rest directive word is)
+  directive_shortens : (live : Bool) (directive : Directive) (word : Location) → sight_of rest ≡ sight.Directive directive word
+      → Shortens (move_at live (last_block blocks) (sight.Directive directive word) rest) (length rest) (length blocks)
+  directive_shortens true directive word is e = within_shortens (directive_move true (last_block blocks) directive word (drop 2 rest))
+      (directive_within word (drop 2 rest) (last_block blocks) true directive) (two_items rest directive word is)
+  directive_shortens false directive word is e = within_shortens (directive_move false (last_block blocks) directive word (drop 2 rest))
+      (directive_within word (drop 2 rest) (last_block blocks) false directive) (two_items rest directive word is)
 
-  end_shortens : (block : Option OpenBlock) → last_block blocks ≡ block → Shortens (record { effect = end_effect block; taken = 0; note = unnoted }) (length rest) (length blocks)
+  end_shortens : (block : Option OpenBlock) → last_block blocks ≡ block
+      → Shortens (record { effect = end_effect block; taken = 0; note = unnoted }) (length rest) (length blocks)
   end_shortens None is e = absurd (cc)
   end_shortens (Some block) is e = omega (arith, slice_get_within blocks (length blocks - 1) block is)
 
-  live_shortens : (shown : Sight) → sight_of rest ≡ shown → 0 < length rest → Shortens (live_move_at (last_block blocks) shown rest) (length rest) (length blocks)
+  live_shortens : (shown : Sight) → sight_of rest ≡ shown → 0 < length rest
+      → Shortens (live_move_at (last_block blocks) shown rest) (length rest) (length blocks)
   live_shortens sight.End is some e = end_shortens (last_block blocks) refl e
   live_shortens sight.NewLine is some e = omega arith
   live_shortens (sight.Token token) is some e = omega arith
   live_shortens (sight.Directive directive word) is some e = directive_shortens true directive word is e
   live_shortens _ is some e = absurd (cc)
 
-  dead_shortens : (shown : Sight) → sight_of rest ≡ shown → 0 < length rest → Shortens (dead_move_at (last_block blocks) shown rest) (length rest) (length blocks)
+  dead_shortens : (shown : Sight) → sight_of rest ≡ shown → 0 < length rest
+      → Shortens (dead_move_at (last_block blocks) shown rest) (length rest) (length blocks)
   dead_shortens sight.End is some e = end_shortens (last_block blocks) refl e
   dead_shortens (sight.Fault fault) is some e = absurd (cc)
   dead_shortens (sight.Directive directive word) is some e = directive_shortens false directive word is e

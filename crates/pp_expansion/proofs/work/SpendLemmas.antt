@@ -81,7 +81,8 @@ effect_stays (renumbers word tokens) taken note old new h = absurd (let bad = fi
 pub source_end_stays : (old new : Source) → StepsSource old (Err Finished) new → new ≡ old
 source_end_stays old new h = go old.spent h
   where
-    go : (b : Bool) → MatchBool b ((◌≡◌ {A = Step Token} (Err Finished) (Err Finished)) × (new ≡ old)) (IsRefusedStep old (Err Finished) ⊎ Makes (move_of old.blocks old.rest) old (Err Finished) new) → new ≡ old
+    go : (b : Bool) → MatchBool b ((◌≡◌ {A = Step Token} (Err Finished) (Err Finished)) × (new ≡ old))
+        (IsRefusedStep old (Err Finished) ⊎ Makes (move_of old.blocks old.rest) old (Err Finished) new) → new ≡ old
     go true h = h.1
     go false (inl h) = let bad = h.fault in cc
     go false (inr h) = effect_stays (move_of old.blocks old.rest).effect (move_of old.blocks old.rest).taken (move_of old.blocks old.rest).note old new h
@@ -99,12 +100,20 @@ pub record IsRead (step : Step Token) (r s : Reader) : Type 0 where
   pub tightens : Tightens r s
 
 source_read : (step : Step Token) (old new : Source) → StepsSource old step new → wants_memory step ≡ false → IsRead step (of_source old) (of_source new)
-source_read (Ok token) old new h reported = let k = source_shrinks old new (Ok token) h refl in record { spends = k.shorter; tightens = shrinks_tightens old new k }
-source_read (Err Continue) old new h reported = let k = source_shrinks old new (Err Continue) h refl in record { spends = k.shorter; tightens = shrinks_tightens old new k }
+source_read (Ok token) old new h reported = let k = source_shrinks old new (Ok token) h refl in record {
+  spends = k.shorter;
+  tightens = shrinks_tightens old new k;
+}
+source_read (Err Continue) old new h reported = let k = source_shrinks old new (Err Continue) h refl in record {
+  spends = k.shorter;
+  tightens = shrinks_tightens old new k;
+}
 source_read (Err Finished) old new h reported = rw (source_end_stays old new h) (record { spends = refl; tightens = tightens_not (of_source old) })
-source_read (Err (Error fault)) old new h reported = let k = source_shrinks old new (Err (Error fault)) h (rw reported refl) in record { spends = k.shorter; tightens = shrinks_tightens old new k }
+source_read (Err (Error fault)) old new h reported = let k =
+    source_shrinks old new (Err (Error fault)) h (rw reported refl) in record { spends = k.shorter; tightens = shrinks_tightens old new k }
 
-list_read : (tokens : List Token) (step : Step Token) (old new : Listing) → old.tokens ≡ tokens → step ≡ listed_step tokens → new ≡ record old { tokens = after_listed tokens } → IsRead step (of_list old) (of_list new)
+list_read : (tokens : List Token) (step : Step Token) (old new : Listing) → old.tokens ≡ tokens → step ≡ listed_step tokens
+    → new ≡ record old { tokens = after_listed tokens } → IsRead step (of_list old) (of_list new)
 list_read [] step old new e is at =
     let same : new ≡ old = at ∙ ap (λ (t : List Token). record old { tokens = t }) (sym e) in
     rw (is, same) (record { spends = refl; tightens = tightens_not (of_list old) })
@@ -126,7 +135,8 @@ module _ (frame : ℕ → ℕ) (names : ℕ) (level : IsLevel frame) where
   one_more_falls (s ∷ regions) = record {
     number = λ c.
         let f = grown frame (names - length regions) in
-        through_steep frame names regions level (iterate f s c) (iterate f s (f c)) (iterate_steep f s (grown_steep frame (names - length regions) level) c (f c) (grown_some frame (names - length regions) c));
+        through_steep frame names regions level (iterate f s c) (iterate f s (f c))
+        (iterate_steep f s (grown_steep frame (names - length regions) level) c (f c) (grown_some frame (names - length regions) c));
     least = omega arith;
   }
 
@@ -139,7 +149,8 @@ module _ (frame : ℕ → ℕ) (names : ℕ) (level : IsLevel frame) where
   pub falls_at_most : (before after : List ℕ) → Falls frame names before after → IsNoMore frame names before after
   falls_at_most before after h = record { number = λ c. let k = h.number c in omega arith; least = omega (arith, h.least) }
 
-  pub no_more_then : (before between after : List ℕ) → IsNoMore frame names before between → IsNoMore frame names between after → IsNoMore frame names before after
+  pub no_more_then : (before between after : List ℕ) → IsNoMore frame names before between → IsNoMore frame names between after
+      → IsNoMore frame names before after
   no_more_then before between after h k = record { number = λ c. le_trans (k.number c) (h.number c); least = omega (arith, h.least, k.least) }
 
   pub no_more : (regions : List ℕ) → IsNoMore frame names regions regions
@@ -148,7 +159,8 @@ module _ (frame : ℕ → ℕ) (names : ℕ) (level : IsLevel frame) where
   -- fewer steps in the innermost region
   pub less_here : (s t : ℕ) (regions : List ℕ) → t < s → IsNoMore frame names (s ∷ regions) (one_more (t ∷ regions))
   less_here s t regions less = record {
-    number = λ c. steep_is_level (through frame names regions) (through_steep frame names regions level) _ _ (iterate_more (grown frame (names - length regions)) (suc t) s c (grown_up frame (names - length regions)) less);
+    number = λ c. steep_is_level (through frame names regions) (through_steep frame names regions level) _ _
+        (iterate_more (grown frame (names - length regions)) (suc t) s c (grown_up frame (names - length regions)) less);
     least = omega arith;
   }
 
@@ -162,17 +174,20 @@ module _ (frame : ℕ → ℕ) (names : ℕ) (level : IsLevel frame) where
     least = omega arith;
   }
 
-  room_spends : (step : Step Token) (before after : List ℕ) → IsNoMore frame names before (one_more after) → is_end step ≡ false → Spends frame names step before after
+  room_spends : (step : Step Token) (before after : List ℕ) → IsNoMore frame names before (one_more after) → is_end step ≡ false
+      → Spends frame names step before after
   room_spends (Ok token) before after h goes = h
   room_spends (Err Continue) before after h goes = no_more_falls before (one_more after) after h (one_more_falls after)
   room_spends (Err Finished) before after h goes = cc
   room_spends (Err (Error fault)) before after h goes = h
 
   -- a step of the frames
-  frame_spends : (f : Layer) (fs : List Layer) (reads : ℕ) (o : Option Advance) → IfSome o (Advances f) → Spends frame names (frame_move fs o).gives (regions_of (f ∷ fs) reads) (regions_of (frame_move fs o).after reads)
+  frame_spends : (f : Layer) (fs : List Layer) (reads : ℕ) (o : Option Advance) → IfSome o (Advances f)
+      → Spends frame names (frame_move fs o).gives (regions_of (f ∷ fs) reads) (regions_of (frame_move fs o).after reads)
   frame_spends f fs reads None h = over_here (steps_left f) (regions_of fs reads) (some_steps_left f)
   frame_spends f fs reads (Some a) h =
-      room_spends (as_pause a.gives) (regions_of (f ∷ fs) reads) (regions_of (a.after ∷ fs) reads) (less_here (steps_left f) (steps_left a.after) (regions_of fs reads) h.lower) (pause_goes a.gives)
+      room_spends (as_pause a.gives) (regions_of (f ∷ fs) reads) (regions_of (a.after ∷ fs) reads)
+      (less_here (steps_left f) (steps_left a.after) (regions_of fs reads) h.lower) (pause_goes a.gives)
     where
       pause_goes : (o : Option Token) → is_end (as_pause o) ≡ false
       pause_goes None = refl
@@ -197,8 +212,10 @@ module _ (frame : ℕ → ℕ) (names : ℕ) (level : IsLevel frame) where
       rw (same, h.0, h.1) (record { spends = frame_spends f fs (reads_left r) (advance f) (advance_lowers f); tightens = tightens_not r })
   moves_spend move (f ∷ fs) gs r s (same, inr h) reported = absurd (let bad : true ≡ false = rw h at reported in cc)
 
-  taken_spends : (move : Step Token) (fs : List Layer) (r : Reader) (before after : List ℕ) → Spends frame names move before after → Spends frame names (taken_as move fs r) before after
-  taken_spends (Ok token) fs r before after h = go (is_identifier line_name token.value) (shown_line r (unwrap_or (outermost_frame_line fs) token.location.line))
+  taken_spends : (move : Step Token) (fs : List Layer) (r : Reader) (before after : List ℕ) → Spends frame names move before after
+      → Spends frame names (taken_as move fs r) before after
+  taken_spends (Ok token) fs r before after h = go (is_identifier line_name token.value) (shown_line r
+      (unwrap_or (outermost_frame_line fs) token.location.line))
     where
       go : (b : Bool) (o : Option ℕ) → Spends frame names (step_of_outcome (if b then line_number token.location o else outcome.Token token)) before after
       go true (Some n) = h
@@ -236,7 +253,8 @@ module _ (frame : ℕ → ℕ) (names : ℕ) (level : IsLevel frame) where
     pub tightens : Tightens r s
     pub free : n.held ≡ None
 
-  on_spends : (step : Step Token) (before after : List ℕ) → Spends frame names step before after → is_pause step ≡ false → IsNoMore frame names before (holding_step (Some step) after)
+  on_spends : (step : Step Token) (before after : List ℕ) → Spends frame names step before after → is_pause step ≡ false
+      → IsNoMore frame names before (holding_step (Some step) after)
   on_spends (Ok token) before after h goes = h
   on_spends (Err Continue) before after h goes = cc
   on_spends (Err Finished) before after h goes = rw h (no_more before)
@@ -251,7 +269,8 @@ module _ (frame : ℕ → ℕ) (names : ℕ) (level : IsLevel frame) where
       let h = step_spends (Err Continue) m between r s1 steps refl in
       let k = next_spends step between n s1 s next reported in
       record {
-        spends = no_more_then (regions m r) (regions between s1) (regions (record n { held = Some step }) s) (falls_at_most (regions m r) (regions between s1) h.spends) k.spends;
+        spends = no_more_then (regions m r) (regions between s1) (regions (record n { held = Some step }) s)
+            (falls_at_most (regions m r) (regions between s1) h.spends) k.spends;
         tightens = tightens_then r s1 s h.tightens k.tightens;
         free = k.free;
       }
@@ -263,24 +282,29 @@ module _ (frame : ℕ → ℕ) (names : ℕ) (level : IsLevel frame) where
     pub tightens : Tightens r s
     pub free : n.held ≡ None
 
-  token_leaves : (token : Token) (m n : Machine) (r s : Reader) → TakesNext m r (Ok token) n s → IsGathered (record { tokens = []; closing = token.location }) m n r s
+  token_leaves : (token : Token) (m n : Machine) (r s : Reader) → TakesNext m r (Ok token) n s
+      → IsGathered (record { tokens = []; closing = token.location }) m n r s
   token_leaves token m n r s next =
       let h = next_spends (Ok token) m n r s next refl in
       let same : regions n s ≡ regions_of n.frames (reads_left s) = ap (λ o. holding_step o (regions_of n.frames (reads_left s))) h.free in
       let least : total (one_more (regions n s)) ≤ total (regions m r) = rw same (h.spends.least) in
       record { spends = rw same h.spends; least = omega (arith, least); tightens = h.tightens; free = h.free }
 
-  pub gather_leaves : (l : ℕ) (last : Location) (m n : Machine) (r s : Reader) (o : Result Gathered Fault) → GathersNext l last m r o n s → IfOk o (λ g. IsGathered g m n r s)
+  pub gather_leaves : (l : ℕ) (last : Location) (m n : Machine) (r s : Reader) (o : Result Gathered Fault) → GathersNext l last m r o n s
+      → IfOk o (λ g. IsGathered g m n r s)
   gather_leaves l last m n r s o (closed l1 last1 token m1 n1 r1 s1 g next out is) = rw is (token_leaves token m n r s next)
   gather_leaves l last m n r s o (inside l1 k last1 token m1 between n1 r1 s1 t1 rest g next in_call more is) =
       let first = token_leaves token m between r s1 next in
       let later = gather_leaves k token.location between n s1 s rest more in
       rw is (go rest later first)
     where
-      go : (rest : Result Gathered Fault) → IfOk rest (λ g. IsGathered g between n s1 s) → IsGathered (record { tokens = []; closing = token.location }) m between r s1 → IfOk (before token rest) (λ g. IsGathered g m n r s)
+      go : (rest : Result Gathered Fault) → IfOk rest (λ g. IsGathered g between n s1 s)
+          → IsGathered (record { tokens = []; closing = token.location }) m between r s1 → IfOk (before token rest) (λ g. IsGathered g m n r s)
       go (Err fault) h k = tt
       go (Ok g) h k = record {
-        spends = no_more_then (regions m r) (regions between s1) (one_more (regions n s)) (falls_at_most (regions m r) (regions between s1) (no_more_falls (regions m r) (one_more (regions between s1)) (regions between s1) k.spends (one_more_falls (regions between s1)))) h.spends;
+        spends = no_more_then (regions m r) (regions between s1) (one_more (regions n s))
+            (falls_at_most (regions m r) (regions between s1)
+            (no_more_falls (regions m r) (one_more (regions between s1)) (regions between s1) k.spends (one_more_falls (regions between s1)))) h.spends;
         least = omega (arith, k.least, h.least, total_one_more (regions between s1));
         tightens = tightens_then r s1 s k.tightens h.tightens;
         free = h.free;

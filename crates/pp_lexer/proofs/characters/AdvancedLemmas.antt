@@ -36,7 +36,8 @@ pub after_first-one : (r : Reading) → after_first r ≡ advanced 1 r
 after_first-one r = ap after_first (sym (advanced-zero r)) ∙ after_first-advanced 0 r
 
 -- how many characters pass, by the first of them
-pub front_advanced : (p : ℕ → Bool) (c : ℕ) (r : Reading) → Some c ≡ option_map (λ x. x.c) (first_char r) → p c ≡ true → front_len p (letters r.rest) ≡ 1 + front_len p (drop 1 (letters r.rest))
+pub front_advanced : (p : ℕ → Bool) (c : ℕ) (r : Reading) → Some c ≡ option_map (λ x. x.c) (first_char r) → p c ≡ true
+    → front_len p (letters r.rest) ≡ 1 + front_len p (drop 1 (letters r.rest))
 front_advanced p c r f h = by r.rest f
   where
     by : (ss : List Spot) → Some c ≡ option_map (λ x. x.c) (first_of ss) → front_len p (letters ss) ≡ 1 + front_len p (drop 1 (letters ss))

@@ -31,7 +31,8 @@ piece_scalar c h = by (is_line_break c) refl
 pieces_scalar : (cs : List ℕ) → all_scalars cs ≡ true → list_all (λ p. scalar p.char) (pieces cs) ≡ true
 pieces_scalar =
     along_pieces (λ cs ps. all_scalars cs ≡ true → list_all (λ p. scalar p.char) ps ≡ true) (λ h. refl)
-    (λ c cs ps go h. let b = and_parts (scalar c) (all_scalars cs) h in both (scalar (piece c).char) (list_all (λ p. scalar p.char) ps) (piece_scalar c b.0) (go b.1))
+    (λ c cs ps go h. let b = and_parts (scalar c) (all_scalars cs) h in
+    both (scalar (piece c).char) (list_all (λ p. scalar p.char) ps) (piece_scalar c b.0) (go b.1))
     (λ c d cs ps e go h. go (and_parts (scalar d) (all_scalars cs) (and_parts (scalar c) (scalar d && all_scalars cs) h).1).1)
 
 placed_scalar : (line at : ℕ) (ps : List Piece) → list_all (λ p. scalar p.char) ps ≡ true → list_all (λ p. scalar p.char) (placed_from line at ps) ≡ true
@@ -46,7 +47,8 @@ lines_scalar cs h = ap (list_all (λ (p : Placed). scalar p.char)) (lines_are cs
 continued_from_scalar : (before ps : List Placed) → list_all (λ p. scalar p.char) ps ≡ true → list_all (λ p. scalar p.char) (continued_from before ps) ≡ true
 continued_from_scalar before [] h = refl
 continued_from_scalar before (p ∷ ps) h =
-    by (is_continuation (record { before = before; here = p; after = ps })) refl (continued_from_scalar (p ∷ before) ps (and_parts (scalar p.char) (list_all (λ q. scalar q.char) ps) h).1)
+    by (is_continuation (record { before = before; here = p; after = ps })) refl
+    (continued_from_scalar (p ∷ before) ps (and_parts (scalar p.char) (list_all (λ q. scalar q.char) ps) h).1)
   where
     by : (b : Bool) → is_continuation (record { before = before; here = p; after = ps }) ≡ b
         → list_all (λ q. scalar q.char) (continued_from (p ∷ before) ps) ≡ true → list_all (λ q. scalar q.char) (continued_from before (p ∷ ps)) ≡ true
@@ -59,7 +61,8 @@ continued_scalar : (ps : List Placed) → list_all (λ p. scalar p.char) ps ≡ 
 unfolding continued
 continued_scalar ps h = continued_from_scalar [] ps h
 
-stand_in_scalar : (total : ℕ) (p : Placed) (others : List Placed) → scalar p.char ≡ true → scalar (stand_in total (record { first = p; others = others })).char ≡ true
+stand_in_scalar : (total : ℕ) (p : Placed) (others : List Placed) → scalar p.char ≡ true
+    → scalar (stand_in total (record { first = p; others = others })).char ≡ true
 stand_in_scalar total p [] h = h
 stand_in_scalar total p (q ∷ others) h = refl
 
@@ -84,4 +87,5 @@ letters_scalar at (p ∷ ps) h =
 -- the characters of a source, once the phases are done
 pub source_scalar : (source : List ℕ) → IsUtf8 source → list_all scalar (letters (spots_of source)) ≡ true
 source_scalar source u =
-    letters_scalar 0 (replaced_of source) (replaced_scalar (length source) (continued (lines (chars source))) (continued_scalar (lines (chars source)) (lines_scalar (chars source) (scalars-chars source u))))
+    letters_scalar 0 (replaced_of source) (replaced_scalar (length source) (continued (lines (chars source)))
+    (continued_scalar (lines (chars source)) (lines_scalar (chars source) (scalars-chars source u))))

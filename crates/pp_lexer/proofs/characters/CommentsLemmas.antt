@@ -104,7 +104,8 @@ pub drop-unclosed : (ps : List Placed) → has_close ps ≡ false → drop (bloc
 drop-unclosed [] e = refl
 drop-unclosed (p ∷ ps) e = by_close (is_star p && begins_with is_slash ps) refl (drop-unclosed ps)
   where
-    by_close : (b : Bool) → (is_star p && begins_with is_slash ps) ≡ b → (has_close ps ≡ false → drop (block_length ps) ps ≡ []) → drop (block_length (p ∷ ps)) (p ∷ ps) ≡ []
+    by_close : (b : Bool) → (is_star p && begins_with is_slash ps) ≡ b → (has_close ps ≡ false → drop (block_length ps) ps ≡ [])
+        → drop (block_length (p ∷ ps)) (p ∷ ps) ≡ []
     by_close true h k = absurd (true≢false (sym (has_close_here p ps h) ∙ e))
     by_close false h k = ap (λ n. drop n (p ∷ ps)) (block_length_later p ps h) ∙ k (sym (has_close_later p ps h) ∙ e)
 
@@ -114,15 +115,18 @@ past_block_after star c = if star && begins_with is_slash c.rest then passed 1 c
 
 -- a step that does not end the comment
 module _ (total offset : ℕ) (p : Placed) (ps : List Placed) where
-  block_goes_on : past_block (record { rest = p ∷ ps; offset = offset; total = total }) ≡ past_block_after (is_star p) (record { rest = ps; offset = p.end; total = total })
+  block_goes_on : past_block (record { rest = p ∷ ps; offset = offset; total = total }) ≡ past_block_after (is_star p)
+      (record { rest = ps; offset = p.end; total = total })
   block_goes_on = by_close (is_star p && begins_with is_slash ps) refl
     where
       by_close : (b : Bool) → (is_star p && begins_with is_slash ps) ≡ b
-          → past_block (record { rest = p ∷ ps; offset = offset; total = total }) ≡ past_block_after (is_star p) (record { rest = ps; offset = p.end; total = total })
+          → past_block (record { rest = p ∷ ps; offset = offset; total = total }) ≡ past_block_after (is_star p)
+          (record { rest = ps; offset = p.end; total = total })
       by_close true h = rw (has_close_here p ps h, block_length_here p ps h, h) refl
       by_close false h = rw (has_close_later p ps h, block_length_later p ps h, h) refl
 
-pub block_step : (star : Bool) (ps : List Placed) (offset total : ℕ) (d : Cursor) (ch line : ℕ) → Some (ch, line) ≡ first_of ps → d ≡ after_of ps total → (star && (ch == 47)) ≡ false
+pub block_step : (star : Bool) (ps : List Placed) (offset total : ℕ) (d : Cursor) (ch line : ℕ) → Some (ch, line) ≡ first_of ps
+    → d ≡ after_of ps total → (star && (ch == 47)) ≡ false
     → past_block_after (ch == 42) d ≡ past_block_after star (record { rest = ps; offset = offset; total = total })
 block_step star [] offset total d ch line e f h = cc
 block_step star (p ∷ ps) offset total d ch line e f h =
@@ -145,7 +149,8 @@ block_marked total p q ps star = by_close (has_close ps) refl
     by_close false h = rw (h, unclosed ∙ ap not h, drop-unclosed ps h) refl
 
 module _ (total : ℕ) (d : Cursor) where
-  pub uncommented_end : (ps : List Placed) (r : Option (ℕ × ℕ)) → r ≡ None → r ≡ first_of ps → d ≡ after_of ps total → Steps (replaced total ps) total None (uncommented d)
+  pub uncommented_end : (ps : List Placed) (r : Option (ℕ × ℕ)) → r ≡ None → r ≡ first_of ps → d ≡ after_of ps total
+      → Steps (replaced total ps) total None (uncommented d)
   uncommented_end [] r n e f = record { value = rw (replaced-nil total) refl; state = rw (f, replaced-nil total) refl }
   uncommented_end (p ∷ ps) r n e f = cc
 
@@ -157,11 +162,13 @@ module _ (total : ℕ) (d : Cursor) where
         let k : replaced total (p ∷ ps) ≡ p ∷ replaced total ps = replaced-plain total p ps n in
         record { value = rw k e; state = rw (k, f) refl }
 
-    pub no_slash_step : (ps : List Placed) → Some (ch, line) ≡ first_of ps → d ≡ after_of ps total → ch ≢ 47 → Steps (replaced total ps) total (Some (ch, line)) (uncommented d)
+    pub no_slash_step : (ps : List Placed) → Some (ch, line) ≡ first_of ps → d ≡ after_of ps total → ch ≢ 47
+        → Steps (replaced total ps) total (Some (ch, line)) (uncommented d)
     no_slash_step [] e f h = cc
     no_slash_step (p ∷ ps) e f h = one_step p ps e f (no_slash p ps (ne_eqb p.char 47 (λ k. h (sym (item_char p ch line e) ∙ k))))
 
-    pub lone_slash_step : (ps : List Placed) → Some (ch, line) ≡ first_of ps → d ≡ after_of ps total → begins_with is_slash d.rest ≡ false → begins_with is_star d.rest ≡ false
+    pub lone_slash_step : (ps : List Placed) → Some (ch, line) ≡ first_of ps → d ≡ after_of ps total → begins_with is_slash d.rest ≡ false
+        → begins_with is_star d.rest ≡ false
         → Steps (replaced total ps) total (Some (ch, line)) (uncommented d)
     lone_slash_step [] e f h k = cc
     lone_slash_step (p ∷ ps) e f h k =
@@ -170,7 +177,8 @@ module _ (total : ℕ) (d : Cursor) where
         one_step p ps e f (lone_slash p ps h' k')
 
     module _ (peek s : Cursor) (slash : ch ≡ 47) (peeked : peek ≡ after d) where
-      pub line_comment_step : (ps : List Placed) → Some (ch, line) ≡ first_of ps → d ≡ after_of ps total → begins_with is_slash d.rest ≡ true → s ≡ past_line peek
+      pub line_comment_step : (ps : List Placed) → Some (ch, line) ≡ first_of ps → d ≡ after_of ps total → begins_with is_slash d.rest ≡ true
+          → s ≡ past_line peek
           → Steps (replaced total ps) total (Some (13, line)) (uncommented s)
       line_comment_step [] e f h g = cc
       line_comment_step (p ∷ []) e f h g = let h' : begins_with is_slash [] ≡ true = rw f at h in cc
@@ -178,10 +186,12 @@ module _ (total : ℕ) (d : Cursor) where
           let q_slash : is_slash q ≡ true = rw f at h in
           let p_slash : is_slash p ≡ true = eq-eqb p.char 47 (item_char p ch line e ∙ slash) in
           let k = replaced-comment total (line_length ps) p q ps (line_comment p q ps p_slash q_slash) in
-          let no_star : is_unclosed (q ∷ take (line_length ps) ps) ≡ false = ap (λ t. t && not (has_close (take (line_length ps) ps))) (slash_no_star q q_slash) in
+          let no_star : is_unclosed (q ∷ take (line_length ps) ps) ≡ false =
+          ap (λ t. t && not (has_close (take (line_length ps) ps))) (slash_no_star q q_slash) in
           record { value = rw k (ap (λ n. Some (13, n)) (item_line p ch line e)); state = rw (k, g, peeked, f, no_star) refl }
 
-      pub block_comment_step : (ps : List Placed) → Some (ch, line) ≡ first_of ps → d ≡ after_of ps total → begins_with is_star d.rest ≡ true → s ≡ past_block peek
+      pub block_comment_step : (ps : List Placed) → Some (ch, line) ≡ first_of ps → d ≡ after_of ps total → begins_with is_star d.rest ≡ true
+          → s ≡ past_block peek
           → Steps (replaced total ps) total (Some (13, line)) (uncommented s)
       block_comment_step [] e f h g = cc
       block_comment_step (p ∷ []) e f h g = let h' : begins_with is_star [] ≡ true = rw f at h in cc

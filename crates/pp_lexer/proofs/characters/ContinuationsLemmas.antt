@@ -14,7 +14,8 @@ abbrev pub continued_from : List Placed → List Placed → List Placed
 continued_from before ps = map (λ s. s.here) (filter (λ s. not (is_continuation s)) (surrounded_from before ps))
 
 continued_step : (before : List Placed) (p : Placed) (ps : List Placed)
-    → continued_from before (p ∷ ps) ≡ (if is_continuation (record { before = before; here = p; after = ps }) then continued_from (p ∷ before) ps else p ∷ continued_from (p ∷ before) ps)
+    → continued_from before (p ∷ ps) ≡ (if is_continuation (record { before = before; here = p; after = ps }) then continued_from
+    (p ∷ before) ps else p ∷ continued_from (p ∷ before) ps)
 continued_step before p ps = without_first (λ s. s.here) (is_continuation (record { before = before; here = p; after = ps })) _ _
 
 -- a character that is in no continuation stays, and the others are gone
@@ -69,7 +70,8 @@ pub continued-backslash : (p : Placed) (ps : List Placed) → begins_with is_new
 unfolding continued
 continued-backslash p ps e =
     let alone : is_continuation (record { before = []; here = p; after = ps }) ≡ false =
-    ap (λ t. (is_backslash p && t) || (is_newline p && false)) e ∙ (ap (λ t. t || (is_newline p && false)) (and_false (is_backslash p)) ∙ and_false (is_newline p)) in
+    ap (λ t. (is_backslash p && t) || (is_newline p && false)) e
+    ∙ (ap (λ t. t || (is_newline p && false)) (and_false (is_backslash p)) ∙ and_false (is_newline p)) in
     continued-stays [] p ps alone ∙ ap (λ t. p ∷ t) (no_newline_first (p ∷ []) [] ps e)
 
 newline_no_backslash : (p : Placed) → is_newline p ≡ true → is_backslash p ≡ false
@@ -98,7 +100,8 @@ pub record Steps (ps : List Placed) (total : ℕ) (r : Option (ℕ × ℕ)) (new
   pub value : r ≡ first_of ps
   pub state : new ≡ after_of ps total
 
-pub steps_same : (ps qs : List Placed) (total size : ℕ) (r : Option (ℕ × ℕ)) (new : Cursor) → Steps ps total r new → ps ≡ qs → total ≡ size → Steps qs size r new
+pub steps_same : (ps qs : List Placed) (total size : ℕ) (r : Option (ℕ × ℕ)) (new : Cursor) → Steps ps total r new → ps ≡ qs → total ≡ size
+    → Steps qs size r new
 steps_same ps qs total size r new s e f = record { value = rw e at s.value; state = rw (e, f) at s.state }
 
 module _ (total : ℕ) (d : Cursor) where
@@ -107,7 +110,8 @@ module _ (total : ℕ) (d : Cursor) where
   end_step (p ∷ ps) r n e f = cc
 
   module _ (ch line : ℕ) where
-    pub plain_step : (ps : List Placed) → Some (ch, line) ≡ first_of ps → d ≡ after_of ps total → ch ≢ 92 → Steps (continued ps) total (Some (ch, line)) (joined d)
+    pub plain_step : (ps : List Placed) → Some (ch, line) ≡ first_of ps → d ≡ after_of ps total → ch ≢ 92
+        → Steps (continued ps) total (Some (ch, line)) (joined d)
     plain_step [] e f h = cc
     plain_step (p ∷ ps) e f h =
         let k : continued (p ∷ ps) ≡ p ∷ continued ps = continued-plain p ps (ne_eqb p.char 92 (λ k. h (sym (item_char p ch line e) ∙ k))) in
@@ -127,7 +131,8 @@ is_item-first_of c [] = refl
 is_item-first_of c (p ∷ ps) = refl
 
 -- what a look at the item after says of the characters there
-pub looked : (c : ℕ) (ahead now : Cursor) (r : Option (ℕ × ℕ)) (t b : Bool) → ahead ≡ now → r ≡ first ahead → t ≡ is_item r c → t ≡ b → begins_with (λ p. p.char == c) now.rest ≡ b
+pub looked : (c : ℕ) (ahead now : Cursor) (r : Option (ℕ × ℕ)) (t b : Bool) → ahead ≡ now → r ≡ first ahead → t ≡ is_item r c → t ≡ b
+    → begins_with (λ p. p.char == c) now.rest ≡ b
 looked c ahead now r t b same e f g =
     sym (is_item-first_of c now.rest) ∙ (ap (λ o. is_item o c) (sym (e ∙ ap first same)) ∙ (sym f ∙ g))
 

@@ -67,7 +67,8 @@ plain_first line at c text h u =
     ∙ rw (p.no_feed, one) refl in
     let more = placed_from line (at + 1) (pieces (chars text)) in
     let total : at + length (c ∷ text) ≡ at + 1 + length text = omega arith in
-    let phases : replaced (at + length (c ∷ text)) (continued (placed_from line at (pieces (chars (c ∷ text))))) ≡ here ∷ replaced (at + 1 + length text) (continued more) =
+    let phases : replaced (at + length (c ∷ text)) (continued (placed_from line at (pieces (chars (c ∷ text))))) ≡ here ∷ replaced
+    (at + 1 + length text) (continued more) =
     ap (λ ps. replaced (at + length (c ∷ text)) (continued ps)) placed
     ∙ ap (replaced (at + length (c ∷ text))) (continued-plain here more p.no_backslash)
     ∙ replaced-plain (at + length (c ∷ text)) here (continued more) (no_slash here (continued more) p.no_slash)
@@ -115,25 +116,31 @@ module _ (P : ℕ → Bool) (feed : P 10 ≡ false) (mark : P 13 ≡ false) wher
           → begins_with P (letters (spots at (replaced (at + length (b ∷ text)) (continued (placed_from line at (q ∷ ps)))))) ≡ false
       plain_case q ps e f = after_phases (at + length (b ∷ text)) at (record { char = q.char; line = line; end = at + q.bytes }) _ e f
 
-      piece_case : (ps : List Piece) → begins_with P (letters (spots at (replaced (at + length (b ∷ text)) (continued (placed_from line at (piece b ∷ ps)))))) ≡ false
+      piece_case : (ps : List Piece)
+          → begins_with P (letters (spots at (replaced (at + length (b ∷ text)) (continued (placed_from line at (piece b ∷ ps)))))) ≡ false
       piece_case ps = by_break (is_line_break b) refl
         where
-          by_break : (t : Bool) → is_line_break b ≡ t → begins_with P (letters (spots at (replaced (at + length (b ∷ text)) (continued (placed_from line at (piece b ∷ ps)))))) ≡ false
+          by_break : (t : Bool) → is_line_break b ≡ t → begins_with P
+              (letters (spots at (replaced (at + length (b ∷ text)) (continued (placed_from line at (piece b ∷ ps)))))) ≡ false
           by_break true e = rw e (plain_case (newline_piece 1) ps refl feed)
           by_break false e = rw e (plain_case (record { char = b; bytes = len_utf8 b }) ps no_backslash h)
 
-      by_pieces : (cs : List ℕ) → begins_with P (letters (spots at (replaced (at + length (b ∷ text)) (continued (placed_from line at (pieces (b ∷ cs))))))) ≡ false
+      by_pieces : (cs : List ℕ)
+          → begins_with P (letters (spots at (replaced (at + length (b ∷ text)) (continued (placed_from line at (pieces (b ∷ cs))))))) ≡ false
       by_pieces [] = piece_case []
       by_pieces (d ∷ cs) = by_pair (is_pair b d) refl
         where
-          by_pair : (t : Bool) → is_pair b d ≡ t → begins_with P (letters (spots at (replaced (at + length (b ∷ text)) (continued (placed_from line at (pieces (b ∷ d ∷ cs))))))) ≡ false
+          by_pair : (t : Bool) → is_pair b d ≡ t → begins_with P
+              (letters (spots at (replaced (at + length (b ∷ text)) (continued (placed_from line at (pieces (b ∷ d ∷ cs))))))) ≡ false
           by_pair true e = rw e (plain_case (newline_piece 2) (pieces cs) refl feed)
           by_pair false e = rw e (piece_case (pieces (d ∷ cs)))
 
 -- the same before comments are replaced
 module _ (P : ℕ → Bool) (feed : P 10 ≡ false) where
-  first_joined : (line at : ℕ) (p : Piece) (ps : List Piece) → (p.char == 92) ≡ false → P p.char ≡ false → begins_with (λ q. P q.char) (continued (placed_from line at (p ∷ ps))) ≡ false
-  first_joined line at p ps e f = rw (continued-plain (record { char = p.char; line = line; end = at + p.bytes }) (placed_from (if is_newline_piece p then line + 1 else line) (at + p.bytes) ps) e) f
+  first_joined : (line at : ℕ) (p : Piece) (ps : List Piece) → (p.char == 92) ≡ false → P p.char ≡ false
+      → begins_with (λ q. P q.char) (continued (placed_from line at (p ∷ ps))) ≡ false
+  first_joined line at p ps e f = rw (continued-plain (record { char = p.char; line = line; end = at + p.bytes })
+      (placed_from (if is_newline_piece p then line + 1 else line) (at + p.bytes) ps) e) f
 
   pub joined_is_not : (line at b : ℕ) (text : List ℕ) → b < 128 → (b == 92) ≡ false → P b ≡ false → IsUtf8 (b ∷ text)
       → begins_with (λ q. P q.char) (continued (placed_from line at (pieces (chars (b ∷ text))))) ≡ false
@@ -156,7 +163,8 @@ module _ (P : ℕ → Bool) (feed : P 10 ≡ false) where
 
 -- a slash with which no comment begins
 pub slash_first : (line at : ℕ) (text : List ℕ) → IsUtf8 (47 ∷ text)
-    → begins_with (λ q. q.char == 47) (continued (placed_from line (at + 1) (pieces (chars text)))) ≡ false → begins_with (λ q. q.char == 42) (continued (placed_from line (at + 1) (pieces (chars text)))) ≡ false
+    → begins_with (λ q. q.char == 47) (continued (placed_from line (at + 1) (pieces (chars text)))) ≡ false
+    → begins_with (λ q. q.char == 42) (continued (placed_from line (at + 1) (pieces (chars text)))) ≡ false
     → spots_from line at (47 ∷ text) ≡ record { c = 47; line = line; begin = at; end = at + 1 } ∷ spots_from line (at + 1) text
 unfolding spots_from
 slash_first line at text u no_slash no_star =

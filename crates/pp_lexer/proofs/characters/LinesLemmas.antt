@@ -19,7 +19,8 @@ pieces_plain : (c : ℕ) (cs : List ℕ) → (c == 10) ≡ false → (c == 13) �
 pieces_plain c [] a b = rw (a, b) refl
 pieces_plain c (d ∷ cs) a b = rw (a, b) refl
 
-pieces_single : (c : ℕ) (cs : List ℕ) → is_line_break c ≡ true → ((d : ℕ) → slice_get cs 0 ≡ Some d → is_pair c d ≡ false) → pieces (c ∷ cs) ≡ newline_piece 1 ∷ pieces cs
+pieces_single : (c : ℕ) (cs : List ℕ) → is_line_break c ≡ true → ((d : ℕ) → slice_get cs 0 ≡ Some d → is_pair c d ≡ false)
+    → pieces (c ∷ cs) ≡ newline_piece 1 ∷ pieces cs
 pieces_single c [] a b = rw a refl
 pieces_single c (d ∷ cs) a b = rw (b d refl, a) refl
 

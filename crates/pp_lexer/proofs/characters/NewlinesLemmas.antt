@@ -25,7 +25,8 @@ use Rattle.pp_lexer.proofs.items.LexLemmas.{lexed_front, placed_front}
 use Rattle.pp_lexer.proofs.items.PlainLexLemmas.{no_blank_first}
 use Rattle.pp_lexer.proofs.words.WordAtLemmas.{newline_first}
 
-pieces_newline : (text : List ℕ) → IsUtf8 text → (0 < length text → (get_or text 0 0 < 128) × ((get_or text 0 0 == 13) ≡ false)) → pieces (10 ∷ chars text) ≡ newline_piece 1 ∷ pieces (chars text)
+pieces_newline : (text : List ℕ) → IsUtf8 text → (0 < length text → (get_or text 0 0 < 128) × ((get_or text 0 0 == 13) ≡ false))
+    → pieces (10 ∷ chars text) ≡ newline_piece 1 ∷ pieces (chars text)
 pieces_newline [] u h = rw chars-nil refl
 pieces_newline (b ∷ text) u h =
     let k = h (omega arith) in
@@ -51,7 +52,8 @@ drop_none [] = refl
 drop_none (x ∷ xs) = refl
 
 -- a line feed with an ASCII character after it that is no carriage return, or with the end
-pub line_feed : (text : List ℕ) → IsUtf8 text → 0 < length text → get_or text 0 0 ≡ 10 → (1 < length text → (get_or text 1 0 < 128) × ((get_or text 1 0 == 13) ≡ false)) → IsPlainNewline text 1
+pub line_feed : (text : List ℕ) → IsUtf8 text → 0 < length text → get_or text 0 0 ≡ 10
+    → (1 < length text → (get_or text 1 0 < 128) × ((get_or text 1 0 == 13) ≡ false)) → IsPlainNewline text 1
 line_feed [] u some feed after = absurd (omega arith)
 line_feed (b ∷ text) u some feed after = record {
   some = omega arith;
@@ -95,28 +97,42 @@ return_feed (b ∷ d ∷ text) u some e f = record {
 }
 
 -- a newline is taken, and its place noted
-pub placed_newline : (f : Flags) (r q : Reading) (line at n : ℕ) (text rest : List ℕ) (old : Location) → r.rest ≡ spots_from line at text → IsPlainNewline text n → rest ≡ drop n text
+pub placed_newline : (f : Flags) (r q : Reading) (line at n : ℕ) (text rest : List ℕ) (old : Location) → r.rest ≡ spots_from line at text
+    → IsPlainNewline text n → rest ≡ drop n text
     → q ≡ record { rest = spots_from (line + 1) (at + n) rest; last = record { c = 10; line = line; begin = at; end = at + 1 } }
-    → IsPlaced f r old (record { leading_whitespace = true; start_of_line = true; had_comments = f.had_comments }) q (record { start = at; end = at + 1; line = line })
+    → IsPlaced f r old (record { leading_whitespace = true; start_of_line = true; had_comments = f.had_comments }) q
+    (record { start = at; end = at + 1; line = line })
 placed_newline f r q line at n text rest old e w g k =
     let first : Spot = record { c = 10; line = line; begin = at; end = at + 1 } in
     let front : r.rest ≡ first ∷ spots_from (line + 1) (at + n) rest = e ∙ w.front line at ∙ ap (λ t. first ∷ spots_from (line + 1) (at + n) t) (sym g) in
     let here : Some first ≡ first_char r = sym (ap first_of front) in
-    let word : word_at (letters r.rest) ≡ record { value = Ok NewLine; taken = 1 } = ap (λ ss. word_at (letters ss)) front ∙ newline_first (10 ∷ letters (spots_from (line + 1) (at + n) rest)) refl in
+    let word : word_at (letters r.rest) ≡ record { value = Ok NewLine; taken = 1 } = ap (λ ss. word_at (letters ss)) front
+    ∙ newline_first (10 ∷ letters (spots_from (line + 1) (at + n) rest)) refl in
     let there : q ≡ advanced (word_at (letters r.rest)).taken r =
-    k ∙ sym (advanced_zero (spots_from (line + 1) (at + n) rest) first) ∙ ap (λ ss. advanced_of 1 ss r.last) (sym front) ∙ ap (λ o. advanced o.taken r) (sym word) in
-    placed_front f r r q first first (Ok NewLine) true old here (no_blank_first first (first_char r) here refl) refl (inl (ap (λ o. Ok o.value) (sym word))) there (ap (λ x. x.last) (sym k)) refl
+    k ∙ sym (advanced_zero (spots_from (line + 1) (at + n) rest) first) ∙ ap (λ ss. advanced_of 1 ss r.last) (sym front)
+    ∙ ap (λ o. advanced o.taken r) (sym word) in
+    placed_front f r r q first first (Ok NewLine) true old here (no_blank_first first (first_char r) here refl) refl
+    (inl (ap (λ o. Ok o.value) (sym word))) there (ap (λ x. x.last) (sym k)) refl
 
 -- a newline is taken
-pub lexed_newline : (f : Flags) (r q : Reading) (line at n : ℕ) (text rest : List ℕ) → r.rest ≡ spots_from line at text → IsPlainNewline text n → rest ≡ drop n text
+pub lexed_newline : (f : Flags) (r q : Reading) (line at n : ℕ) (text rest : List ℕ) → r.rest ≡ spots_from line at text → IsPlainNewline text n
+    → rest ≡ drop n text
     → q ≡ record { rest = spots_from (line + 1) (at + n) rest; last = record { c = 10; line = line; begin = at; end = at + 1 } }
-    → IsLexed f r (Ok (Some (Ok (record { value = NewLine; location = record { start = at; end = at + 1; line = line }; leading_whitespace = f.leading_whitespace; start_of_line = f.start_of_line }))))
+    → IsLexed f r (Ok (Some (Ok (record {
+      value = NewLine;
+      location = record { start = at; end = at + 1; line = line };
+      leading_whitespace = f.leading_whitespace;
+      start_of_line = f.start_of_line;
+    }))))
     (record { leading_whitespace = true; start_of_line = true; had_comments = f.had_comments }) q
 lexed_newline f r q line at n text rest e w g k =
     let first : Spot = record { c = 10; line = line; begin = at; end = at + 1 } in
     let front : r.rest ≡ first ∷ spots_from (line + 1) (at + n) rest = e ∙ w.front line at ∙ ap (λ t. first ∷ spots_from (line + 1) (at + n) t) (sym g) in
     let here : Some first ≡ first_char r = sym (ap first_of front) in
-    let word : word_at (letters r.rest) ≡ record { value = Ok NewLine; taken = 1 } = ap (λ ss. word_at (letters ss)) front ∙ newline_first (10 ∷ letters (spots_from (line + 1) (at + n) rest)) refl in
+    let word : word_at (letters r.rest) ≡ record { value = Ok NewLine; taken = 1 } = ap (λ ss. word_at (letters ss)) front
+    ∙ newline_first (10 ∷ letters (spots_from (line + 1) (at + n) rest)) refl in
     let there : q ≡ advanced (word_at (letters r.rest)).taken r =
-    k ∙ sym (advanced_zero (spots_from (line + 1) (at + n) rest) first) ∙ ap (λ ss. advanced_of 1 ss r.last) (sym front) ∙ ap (λ o. advanced o.taken r) (sym word) in
-    lexed_front f r r q first first (Ok NewLine) _ true here (no_blank_first first (first_char r) here refl) refl (inl (ap (λ o. Ok o.value) (sym word))) there (ap (λ x. x.last) (sym k)) refl refl
+    k ∙ sym (advanced_zero (spots_from (line + 1) (at + n) rest) first) ∙ ap (λ ss. advanced_of 1 ss r.last) (sym front)
+    ∙ ap (λ o. advanced o.taken r) (sym word) in
+    lexed_front f r r q first first (Ok NewLine) _ true here (no_blank_first first (first_char r) here refl) refl
+    (inl (ap (λ o. Ok o.value) (sym word))) there (ap (λ x. x.last) (sym k)) refl refl

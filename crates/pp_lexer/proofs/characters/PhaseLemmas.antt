@@ -26,7 +26,8 @@ length-lines source u = rw (lines_are (chars source), length-placed_from 1 0 (pi
 
 length-continued_from : (before ps : List Placed) → length (continued_from before ps) ≤ length ps
 length-continued_from before [] = omega arith
-length-continued_from before (p ∷ ps) = by_test (is_continuation (record { before = before; here = p; after = ps })) refl (length-continued_from (p ∷ before) ps)
+length-continued_from before (p ∷ ps) = by_test (is_continuation (record { before = before; here = p; after = ps })) refl
+    (length-continued_from (p ∷ before) ps)
   where
     by_test : (b : Bool) → is_continuation (record { before = before; here = p; after = ps }) ≡ b
         → length (continued_from (p ∷ before) ps) ≤ length ps → length (continued_from before (p ∷ ps)) ≤ length (p ∷ ps)

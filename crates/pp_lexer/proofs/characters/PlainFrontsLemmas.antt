@@ -38,7 +38,8 @@ plain_ascii (c ∷ w) h = let b = and_parts (is_plain c) (list_all is_plain w) h
 pub cut_after_plain : (n : ℕ) (text : List ℕ) → IsUtf8 text → 0 < n → n ≤ length text → list_all is_plain (take n text) ≡ true → IsCharBoundary text n
 cut_after_plain zero text u some le h = absurd (omega arith)
 cut_after_plain (suc n) text u some le h =
-    subst (IsCharBoundary text) (add-one n) (IsCharBoundary-after_ascii text n u (omega arith) (plain_parts (get_or text n 0) (passes_at is_plain n text (omega arith) h)).small)
+    subst (IsCharBoundary text) (add-one n) (IsCharBoundary-after_ascii text n u (omega arith)
+    (plain_parts (get_or text n 0) (passes_at is_plain n text (omega arith) h)).small)
 
 -- the reader after a run
 pub advanced_run : (line at c : ℕ) (w : List ℕ) (more : List Spot) (last : Spot)
@@ -46,7 +47,8 @@ pub advanced_run : (line at c : ℕ) (w : List ℕ) (more : List Spot) (last : S
     ≡ record { rest = more; last = record { c = get_or (c ∷ w) (length w) 0; line = line; begin = at + length w; end = at + length w + 1 } }
 advanced_run line at c [] more last =
     let n : at ≡ at + 0 = omega arith in
-    advanced_zero more (record { c = c; line = line; begin = at; end = at + 1 }) ∙ ap (λ k. record { rest = more; last = record { c = c; line = line; begin = k; end = k + 1 } }) n
+    advanced_zero more (record { c = c; line = line; begin = at; end = at + 1 })
+    ∙ ap (λ k. record { rest = more; last = record { c = c; line = line; begin = k; end = k + 1 } }) n
 advanced_run line at c (d ∷ w) more last =
     let n : at + 1 + length w ≡ at + suc (length w) = omega arith in
     advanced_run line (at + 1) d w more (record { c = c; line = line; begin = at; end = at + 1 })
@@ -63,7 +65,8 @@ split_at n text = sym (take-append-drop n text)
 
 -- what stands after a word is no part of it
 module _ (P : ℕ → Bool) (feed : P 10 ≡ false) (mark : P 13 ≡ false) where
-  pub after_is_not : (line at : ℕ) (rest : List ℕ) → IsUtf8 rest → (0 < length rest → (get_or rest 0 0 < 128) × ((get_or rest 0 0 == 92) ≡ false)) → (0 < length rest → P (get_or rest 0 0) ≡ false)
+  pub after_is_not : (line at : ℕ) (rest : List ℕ) → IsUtf8 rest → (0 < length rest → (get_or rest 0 0 < 128) × ((get_or rest 0 0 == 92) ≡ false))
+      → (0 < length rest → P (get_or rest 0 0) ≡ false)
       → begins_with P (letters (spots_from line at rest)) ≡ false
   after_is_not line at [] u h k = ap (λ ss. begins_with P (letters ss)) (nothing_left line at)
   after_is_not line at (b ∷ rest) u h k =
@@ -139,7 +142,10 @@ after_front (suc n) line at text last some le f =
     let b : at + suc n - 1 ≡ at + n = omega arith in
     let d : at + suc n ≡ at + n + 1 = omega arith in
     after_run n line at text last (omega arith) f
-    ∙ rw (a, b) (ap (λ k. record { rest = spots_from line (at + suc n) (drop (suc n) text); last = record { c = get_or text n 0; line = line; begin = at + n; end = k } }) (sym d))
+    ∙ rw (a, b) (ap (λ k. record {
+      rest = spots_from line (at + suc n) (drop (suc n) text);
+      last = record { c = get_or text n 0; line = line; begin = at + n; end = k };
+    }) (sym d))
 
 -- a range from the start is a front
 pub range_front : (n : ℕ) (text : List ℕ) → slice_range text 0 n ≡ take n text

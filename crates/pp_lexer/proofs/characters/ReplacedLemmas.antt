@@ -52,7 +52,8 @@ pub front : (total : ℕ) (p : Placed) (ps : List Placed) → (replaced total (p
 front total p [] = inl (replaced-plain total p [] refl)
 front total p (q ∷ ps) = by_slash (is_slash p) refl
   where
-    by_star : (b : Bool) → is_star q ≡ b → is_slash p ≡ true → is_slash q ≡ false → (replaced total (p ∷ q ∷ ps) ≡ p ∷ replaced total (q ∷ ps)) ⊎ Marks total p (q ∷ ps)
+    by_star : (b : Bool) → is_star q ≡ b → is_slash p ≡ true → is_slash q ≡ false → (replaced total (p ∷ q ∷ ps) ≡ p ∷ replaced total (q ∷ ps))
+        ⊎ Marks total p (q ∷ ps)
     by_star true s e f = inr (block_marks total p q ps e s)
     by_star false s e f = inl (replaced-plain total p (q ∷ ps) (lone_slash p (q ∷ ps) f s))
 

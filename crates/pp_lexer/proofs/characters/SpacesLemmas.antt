@@ -40,7 +40,8 @@ blanked_space f c h =
 
 -- the items to come, and whether comments will have been passed
 pub spaces_seen : (f : Flags) (line at c : ℕ) (w : List ℕ) (more : List Spot) (last : Spot) → list_all is_space (c ∷ w) ≡ true
-    → seen_from f last (segments (run line at (c ∷ w) ++ more)) ≡ seen_from (spaced f) (record { c = get_or (c ∷ w) (length w) 0; line = line; begin = at + length w; end = at + length w + 1 }) (segments more)
+    → seen_from f last (segments (run line at (c ∷ w) ++ more)) ≡ seen_from (spaced f)
+    (record { c = get_or (c ∷ w) (length w) 0; line = line; begin = at + length w; end = at + length w + 1 }) (segments more)
 spaces_seen f line at c [] more last h =
     let b = and_parts (is_space c) true h in
     let n : at ≡ at + 0 = omega arith in
@@ -57,7 +58,8 @@ spaces_seen f line at c (d ∷ w) more last h =
     ∙ ap (λ k. seen_from (spaced f) (record { c = get_or (d ∷ w) (length w) 0; line = line; begin = k; end = k + 1 }) (segments more)) n
 
 pub spaces_places : (f : Flags) (line at c : ℕ) (w : List ℕ) (more : List Spot) (last : Spot) → list_all is_space (c ∷ w) ≡ true
-    → places_from f last (segments (run line at (c ∷ w) ++ more)) ≡ places_from (spaced f) (record { c = get_or (c ∷ w) (length w) 0; line = line; begin = at + length w; end = at + length w + 1 }) (segments more)
+    → places_from f last (segments (run line at (c ∷ w) ++ more)) ≡ places_from (spaced f)
+    (record { c = get_or (c ∷ w) (length w) 0; line = line; begin = at + length w; end = at + length w + 1 }) (segments more)
 spaces_places f line at c [] more last h =
     let b = and_parts (is_space c) true h in
     let n : at ≡ at + 0 = omega arith in
@@ -74,7 +76,8 @@ spaces_places f line at c (d ∷ w) more last h =
     ∙ ap (λ k. places_from (spaced f) (record { c = get_or (d ∷ w) (length w) 0; line = line; begin = k; end = k + 1 }) (segments more)) n
 
 pub spaces_at_end : (f : Flags) (line at : ℕ) (w : List ℕ) (more : List Spot) → list_all is_space w ≡ true
-    → (f.had_comments || list_any (λ g. is_comment g.kind) (segments (run line at w ++ more))) ≡ (f.had_comments || list_any (λ g. is_comment g.kind) (segments more))
+    → (f.had_comments || list_any (λ g. is_comment g.kind) (segments (run line at w ++ more))) ≡
+    (f.had_comments || list_any (λ g. is_comment g.kind) (segments more))
 spaces_at_end f line at [] more h = refl
 spaces_at_end f line at (c ∷ w) more h =
     let b = and_parts (is_space c) (list_all is_space w) h in

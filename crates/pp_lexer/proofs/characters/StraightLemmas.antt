@@ -31,12 +31,15 @@ straight_parts c h =
 pub cut_after_straight : (n : ℕ) (text : List ℕ) → IsUtf8 text → 0 < n → n ≤ length text → list_all is_straight (take n text) ≡ true → IsCharBoundary text n
 cut_after_straight zero text u some le h = absurd (omega arith)
 cut_after_straight (suc n) text u some le h =
-    subst (IsCharBoundary text) (add-one n) (IsCharBoundary-after_ascii text n u (omega arith) (straight_parts (get_or text n 0) (passes_at is_straight n text (omega arith) h)).small)
+    subst (IsCharBoundary text) (add-one n) (IsCharBoundary-after_ascii text n u (omega arith)
+    (straight_parts (get_or text n 0) (passes_at is_straight n text (omega arith) h)).small)
 
-past_step : (p : Placed) (ps : List Placed) (offset total : ℕ) → is_newline p ≡ false → past_line (record { rest = p ∷ ps; offset = offset; total = total }) ≡ past_line (record { rest = ps; offset = p.end; total = total })
+past_step : (p : Placed) (ps : List Placed) (offset total : ℕ) → is_newline p ≡ false
+    → past_line (record { rest = p ∷ ps; offset = offset; total = total }) ≡ past_line (record { rest = ps; offset = p.end; total = total })
 past_step p ps offset total h = rw h refl
 
-straight_first : (line at c : ℕ) (text : List ℕ) → is_straight c ≡ true → IsUtf8 (c ∷ text) → past_line (joined (left line at (c ∷ text))) ≡ past_line (joined (left line (at + 1) text))
+straight_first : (line at c : ℕ) (text : List ℕ) → is_straight c ≡ true → IsUtf8 (c ∷ text)
+    → past_line (joined (left line at (c ∷ text))) ≡ past_line (joined (left line (at + 1) text))
 straight_first line at c text h u =
     let p = straight_parts c h in
     let one : len_utf8 c ≡ 1 = len_utf8_ascii c p.small in
@@ -52,7 +55,8 @@ straight_first line at c text h u =
     ∙ past_step here (continued more) at (at + length (c ∷ text)) p.no_feed
     ∙ ap (λ n. past_line (record { rest = continued more; offset = at + 1; total = n })) total
 
-straight_past : (line at : ℕ) (w text : List ℕ) → list_all is_straight w ≡ true → IsUtf8 (w ++ text) → past_line (joined (left line at (w ++ text))) ≡ past_line (joined (left line (at + length w) text))
+straight_past : (line at : ℕ) (w text : List ℕ) → list_all is_straight w ≡ true → IsUtf8 (w ++ text)
+    → past_line (joined (left line at (w ++ text))) ≡ past_line (joined (left line (at + length w) text))
 straight_past line at [] text h u = ap (λ n. past_line (joined (left line n text))) (omega arith)
 straight_past line at (c ∷ w) text h u =
     let b = and_parts (is_straight c) (list_all is_straight w) h in

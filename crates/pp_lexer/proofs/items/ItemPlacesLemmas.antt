@@ -8,7 +8,8 @@ use Rattle.pp_lexer.specs.ItemLaws.{StandAt}
 use Rattle.pp_lexer.specs.inner.Passing.{places_from}
 use Rattle.pp_lexer.proofs.items.ItemsLemmas.{items_from, items_at_start, places_at_start, flags_after, last_before, flags_step}
 
-stand-append : (items more : List Item) (places others : List Location) → StandAt items places → StandAt more others → StandAt (items ++ more) (places ++ others)
+stand-append : (items more : List Item) (places others : List Location) → StandAt items places → StandAt more others
+    → StandAt (items ++ more) (places ++ others)
 stand-append [] more [] others h k = k
 stand-append [] more (p ∷ places) others h k = absurd h
 stand-append (i ∷ items) more [] others h k = absurd h

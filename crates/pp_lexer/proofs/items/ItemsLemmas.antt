@@ -26,30 +26,43 @@ items_surrounded : (gs before : List Segment) → flat_map item_of (surrounded_f
 unfolding items_from
 items_surrounded [] before = refl
 items_surrounded (g ∷ gs) before =
-    let r : reverse (g ∷ gs) ++ before ≡ reverse gs ++ g ∷ before = ap (λ xs. xs ++ before) (reverse-append (g ∷ []) gs) ∙ append_assoc (reverse gs) (g ∷ []) before in
-    ap (λ xs. xs ++ final_newline (reverse (g ∷ gs) ++ before)) (flat_map-cons item_of (record { before = before; here = g; after = gs }) (surrounded_from (g ∷ before) gs))
+    let r : reverse (g ∷ gs) ++ before ≡ reverse gs ++ g ∷ before = ap (λ xs. xs ++ before) (reverse-append (g ∷ []) gs)
+    ∙ append_assoc (reverse gs) (g ∷ []) before in
+    ap (λ xs. xs ++ final_newline (reverse (g ∷ gs) ++ before))
+    (flat_map-cons item_of (record { before = before; here = g; after = gs }) (surrounded_from (g ∷ before) gs))
     ∙ append_assoc (item_at before g g.kind) (flat_map item_of (surrounded_from (g ∷ before) gs)) (final_newline (reverse (g ∷ gs) ++ before))
     ∙ ap (λ xs. item_at before g g.kind ++ (flat_map item_of (surrounded_from (g ∷ before) gs) ++ final_newline xs)) r
     ∙ ap (λ xs. item_at before g g.kind ++ xs) (items_surrounded gs (g ∷ before))
 
 pub items_at_start : (ss : List Spot) → items_of ss ≡ items_from [] (segments ss)
-items_at_start ss = ap (λ xs. flat_map item_of (surrounded (segments ss)) ++ final_newline xs) (sym (append-nil (reverse (segments ss)))) ∙ items_surrounded (segments ss) []
+items_at_start ss = ap (λ xs. flat_map item_of (surrounded (segments ss)) ++ final_newline xs) (sym (append-nil (reverse (segments ss))))
+    ∙ items_surrounded (segments ss) []
 
 -- the flags of a lexer after these segments
 abbrev pub flags_after : List Segment → Flags
-flags_after before = record { leading_whitespace = leading_whitespace before; start_of_line = start_of_line before; had_comments = list_any (λ g. is_comment g.kind) before }
+flags_after before = record {
+  leading_whitespace = leading_whitespace before;
+  start_of_line = start_of_line before;
+  had_comments = list_any (λ g. is_comment g.kind) before;
+}
 
 -- the last character before
 abbrev pub last_before : List Segment → Spot → Spot
 last_before [] s = s
 last_before (g ∷ gs) s = g.last
 
-pub flags_step : (k : Kind) (first last : Spot) (before : List Segment) → flags_after (record { kind = k; first = first; last = last } ∷ before) ≡ passed (flags_after before) k
+pub flags_step : (k : Kind) (first last : Spot) (before : List Segment)
+    → flags_after (record { kind = k; first = first; last = last } ∷ before) ≡ passed (flags_after before) k
 flags_step blank first last before = refl
 flags_step comment first last before = refl
 flags_step (item r) first last before = by (is_newline_result r)
   where
-    by : (b : Bool) → ◌≡◌ {A = Flags} (record { leading_whitespace = b; start_of_line = b || false; had_comments = (flags_after before).had_comments }) (record { leading_whitespace = b; start_of_line = b; had_comments = (flags_after before).had_comments })
+    by : (b : Bool) → ◌≡◌ {A = Flags} (record {
+      leading_whitespace = b;
+      start_of_line = b || false;
+      had_comments = (flags_after before).had_comments;
+    })
+        (record { leading_whitespace = b; start_of_line = b; had_comments = (flags_after before).had_comments })
     by true = refl
     by false = refl
 
@@ -61,15 +74,20 @@ comments_some : (gs : List Segment) → nat_lt 0 (comments_in gs) ≡ list_any (
 comments_some [] = refl
 comments_some (g ∷ gs) = by (is_comment g.kind) refl (comments_some gs)
   where
-    by : (b : Bool) → is_comment g.kind ≡ b → nat_lt 0 (comments_in gs) ≡ list_any (λ g. is_comment g.kind) gs → nat_lt 0 (comments_in (g ∷ gs)) ≡ list_any (λ g. is_comment g.kind) (g ∷ gs)
+    by : (b : Bool) → is_comment g.kind ≡ b → nat_lt 0 (comments_in gs) ≡ list_any (λ g. is_comment g.kind) gs
+        → nat_lt 0 (comments_in (g ∷ gs)) ≡ list_any (λ g. is_comment g.kind) (g ∷ gs)
     by true e h = ap (nat_lt 0) (sum_by-cons (λ x. cond (is_comment x.kind) 1 0) g gs) ∙ rw e (above_zero (comments_in gs))
     by false e h = ap (nat_lt 0) (sum_by-cons (λ x. cond (is_comment x.kind) 1 0) g gs) ∙ rw (e, zero-add) h
 
-item_step : (k : Kind) (first last : Spot) (before : List Segment) → map seen (item_at before (record { kind = k; first = first; last = last }) k) ≡ item_seen (flags_after before) (record { kind = k; first = first; last = last }) k
+item_step : (k : Kind) (first last : Spot) (before : List Segment)
+    → map seen (item_at before (record { kind = k; first = first; last = last }) k) ≡ item_seen (flags_after before)
+    (record { kind = k; first = first; last = last }) k
 item_step blank first last before = refl
 item_step comment first last before = refl
-item_step (item (Ok v)) first last before = ap (λ b. record { item = lexeme_seen (flags_after before) first last (Ok v); had_comments = b } ∷ []) (comments_some before)
-item_step (item (Err e)) first last before = ap (λ b. record { item = lexeme_seen (flags_after before) first last (Err e); had_comments = b } ∷ []) (comments_some before)
+item_step (item (Ok v)) first last before = ap (λ b. record { item = lexeme_seen (flags_after before) first last (Ok v); had_comments = b } ∷
+    []) (comments_some before)
+item_step (item (Err e)) first last before = ap (λ b. record { item = lexeme_seen (flags_after before) first last (Err e); had_comments = b } ∷
+    []) (comments_some before)
 
 end_step : (before : List Segment) (s : Spot) → map seen (final_newline before) ≡ newline_seen (flags_after before) (last_before before s)
 end_step [] s = refl
@@ -85,25 +103,38 @@ items_seen [] before s = end_step before s
 items_seen (g ∷ gs) before s =
     map-append seen (item_at before g g.kind) (items_from (g ∷ before) gs)
     ∙ ap (λ xs. xs ++ map seen (items_from (g ∷ before) gs)) (item_step g.kind g.first g.last before)
-    ∙ ap (λ xs. item_seen (flags_after before) g g.kind ++ xs) (items_seen gs (g ∷ before) s ∙ ap (λ f. seen_from f g.last gs) (flags_step g.kind g.first g.last before))
+    ∙ ap (λ xs. item_seen (flags_after before) g g.kind ++ xs)
+    (items_seen gs (g ∷ before) s ∙ ap (λ f. seen_from f g.last gs) (flags_step g.kind g.first g.last before))
 
-places_surrounded : (gs before : List Segment) (s : Spot) → flat_map (λ g. places_at g g.kind) gs ++ final_place (reverse gs ++ before) ≡ places_from (flags_after before) (last_before before s) gs
+places_surrounded : (gs before : List Segment) (s : Spot) → flat_map (λ g. places_at g g.kind) gs ++ final_place (reverse gs ++ before) ≡ places_from
+    (flags_after before) (last_before before s) gs
 places_surrounded [] [] s = refl
 places_surrounded [] (g ∷ gs) s = refl
 places_surrounded (g ∷ gs) before s =
-    let r : reverse (g ∷ gs) ++ before ≡ reverse gs ++ g ∷ before = ap (λ xs. xs ++ before) (reverse-append (g ∷ []) gs) ∙ append_assoc (reverse gs) (g ∷ []) before in
+    let r : reverse (g ∷ gs) ++ before ≡ reverse gs ++ g ∷ before = ap (λ xs. xs ++ before) (reverse-append (g ∷ []) gs)
+    ∙ append_assoc (reverse gs) (g ∷ []) before in
     ap (λ xs. xs ++ final_place (reverse (g ∷ gs) ++ before)) (flat_map-cons (λ g. places_at g g.kind) g gs)
     ∙ append_assoc (places_at g g.kind) (flat_map (λ g. places_at g g.kind) gs) (final_place (reverse (g ∷ gs) ++ before))
     ∙ ap (λ xs. places_at g g.kind ++ (flat_map (λ g. places_at g g.kind) gs ++ final_place xs)) r
     ∙ ap (λ xs. places_at g g.kind ++ xs) (places_surrounded gs (g ∷ before) s ∙ ap (λ f. places_from f g.last gs) (flags_step g.kind g.first g.last before))
 
 pub places_at_start : (ss : List Spot) (s : Spot) → places_of ss ≡ places_from (flags_after []) s (segments ss)
-places_at_start ss s = ap (λ xs. flat_map (λ g. places_at g g.kind) (segments ss) ++ final_place xs) (sym (append-nil (reverse (segments ss)))) ∙ places_surrounded (segments ss) [] s
+places_at_start ss s = ap (λ xs. flat_map (λ g. places_at g g.kind) (segments ss) ++ final_place xs) (sym (append-nil (reverse (segments ss))))
+    ∙ places_surrounded (segments ss) [] s
 
 pub start_seen : (r : Reading) (ss : List Spot) (last : Spot) → r ≡ record { rest = ss; last = last }
     → lexed (record { leading_whitespace = true; start_of_line = true; had_comments = false }) r nowhere false ≡ start_of ss
 start_seen r ss last e =
     let at_end = list_any (λ g. is_comment g.kind) (segments ss) in
-    rw e (ap (λ ps. record { rest = seen_from (flags_after []) last (segments ss); had_comments = false; at_end = at_end; spent = false; place = nowhere; places = ps }) (sym (places_at_start ss last))
-    ∙ ap (λ xs. record { rest = xs; had_comments = false; at_end = at_end; spent = false; place = nowhere; places = places_of ss }) (sym (ap (map seen) (items_at_start ss) ∙ items_seen (segments ss) [] last))
-    ∙ ap (λ b. record { rest = map seen (items_of ss); had_comments = false; at_end = b; spent = false; place = nowhere; places = places_of ss }) (sym (comments_some (segments ss))))
+    rw e (ap (λ ps. record {
+      rest = seen_from (flags_after []) last (segments ss);
+      had_comments = false;
+      at_end = at_end;
+      spent = false;
+      place = nowhere;
+      places = ps;
+    }) (sym (places_at_start ss last))
+    ∙ ap (λ xs. record { rest = xs; had_comments = false; at_end = at_end; spent = false; place = nowhere; places = places_of ss })
+    (sym (ap (map seen) (items_at_start ss) ∙ items_seen (segments ss) [] last))
+    ∙ ap (λ b. record { rest = map seen (items_of ss); had_comments = false; at_end = b; spent = false; place = nowhere; places = places_of ss })
+    (sym (comments_some (segments ss))))

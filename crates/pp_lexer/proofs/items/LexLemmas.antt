@@ -22,7 +22,8 @@ use Rattle.pp_lexer.proofs.items.SegmentsLemmas.{segments_none, advanced-rest}
 use Rattle.pp_lexer.proofs.items.PassingLemmas.{front_first, last_same}
 
 -- what was skipped before makes no difference
-pub lexed_before : (f g h : Flags) (r p q : Reading) (answer : Result (Option Lexeme) AllocError) → seen_of g p ≡ seen_of f r → comments_at_end g p ≡ comments_at_end f r → IsLexed g p answer h q → IsLexed f r answer h q
+pub lexed_before : (f g h : Flags) (r p q : Reading) (answer : Result (Option Lexeme) AllocError) → seen_of g p ≡ seen_of f r
+    → comments_at_end g p ≡ comments_at_end f r → IsLexed g p answer h q → IsLexed f r answer h q
 lexed_before f g h r p q answer same at_end (inl x) = inl (record {
   value = x.value;
   needed = subst (λ xs. IsTrue (first_takes_memory xs)) same x.needed;
@@ -43,14 +44,16 @@ module _ (f : Flags) (last s : Spot) (ss : List Spot) (plain : is_blank s.c ≡ 
   after : Reading
   after = advanced (word_at (letters (s ∷ ss))).taken (record { rest = s ∷ ss; last = last })
 
-  seen_front : seen_of f (record { rest = s ∷ ss; last = last }) ≡ record { item = lexeme_seen f s after.last value; had_comments = f.had_comments } ∷ seen_of (passed f (item value)) after
+  seen_front : seen_of f (record { rest = s ∷ ss; last = last }) ≡ record
+      { item = lexeme_seen f s after.last value; had_comments = f.had_comments } ∷ seen_of (passed f (item value)) after
   unfolding value after
   seen_front =
       let l = last_same (word_at (letters (s ∷ ss))).taken last s ss (word_at-some s.c (letters ss)) in
       let r = advanced-rest (word_at (letters (s ∷ ss))).taken (s ∷ ss) last in
       ap (seen_from f last) (front_first s ss plain) ∙ rw (l, ← r) refl
 
-  places_front : places_left f (record { rest = s ∷ ss; last = last }) ≡ record { start = s.begin; end = after.last.end; line = s.line } ∷ places_left (passed f (item value)) after
+  places_front : places_left f (record { rest = s ∷ ss; last = last }) ≡ record
+      { start = s.begin; end = after.last.end; line = s.line } ∷ places_left (passed f (item value)) after
   unfolding value after
   places_front =
       let l = last_same (word_at (letters (s ∷ ss))).taken last s ss (word_at-some s.c (letters ss)) in
@@ -63,7 +66,8 @@ module _ (f : Flags) (last s : Spot) (ss : List Spot) (plain : is_blank s.c ≡ 
       let r = advanced-rest (word_at (letters (s ∷ ss))).taken (s ∷ ss) last in
       ap (λ gs. f.had_comments || list_any (λ g. is_comment g.kind) gs) (front_first s ss plain) ∙ rw (← r) refl
 
-front_at : (f : Flags) (ss : List Spot) (last : Spot) (q : Reading) (first : Spot) (r : Answer) → Some first ≡ first_of ss → MatchOption (first_of ss) ⊤ (λ s. is_blank s.c ≡ false)
+front_at : (f : Flags) (ss : List Spot) (last : Spot) (q : Reading) (first : Spot) (r : Answer) → Some first ≡ first_of ss
+    → MatchOption (first_of ss) ⊤ (λ s. is_blank s.c ≡ false)
     → r ≡ (word_at (letters ss)).value → q ≡ advanced (word_at (letters ss)).taken (record { rest = ss; last = last })
     → IsLexed f (record { rest = ss; last = last }) (Ok (Some (lexeme_seen f first q.last r))) (passed f (item r)) q
 unfolding value after
@@ -82,7 +86,8 @@ lexeme_takes : (f : Flags) (first last : Spot) (r : Answer) → lexeme_takes_mem
 lexeme_takes f first last (Ok v) = refl
 lexeme_takes f first last (Err e) = refl
 
-refused_at : (f : Flags) (ss : List Spot) (last first : Spot) (answer : Result (Option Lexeme) AllocError) → Some first ≡ first_of ss → MatchOption (first_of ss) ⊤ (λ s. is_blank s.c ≡ false)
+refused_at : (f : Flags) (ss : List Spot) (last first : Spot) (answer : Result (Option Lexeme) AllocError) → Some first ≡ first_of ss
+    → MatchOption (first_of ss) ⊤ (λ s. is_blank s.c ≡ false)
     → IsErr answer → takes_memory (word_at (letters ss)).value ≡ true → IsLexRefused f (record { rest = ss; last = last }) f answer
 unfolding value after
 refused_at f [] last first answer e plain h x = cc
@@ -90,7 +95,8 @@ refused_at f (s ∷ ss) last first answer e plain h x =
     let olds = seen_front f last s ss plain in
     record {
       value = h;
-      needed = rw olds (lexeme_takes f s (advanced (word_at (letters (s ∷ ss))).taken (record { rest = s ∷ ss; last = last })).last (word_at (letters (s ∷ ss))).value ∙ x);
+      needed = rw olds (lexeme_takes f s (advanced (word_at (letters (s ∷ ss))).taken (record { rest = s ∷ ss; last = last })).last
+          (word_at (letters (s ∷ ss))).value ∙ x);
       comments = rw olds refl;
     }
 
@@ -103,18 +109,23 @@ given_refused e answer (inl h) = cc
 given_refused e answer (inr h) = h.1
 
 -- a token or an error was taken
-pub lexed_front : (f : Flags) (r p q : Reading) (first last : Spot) (v : Answer) (answer : Lexeme) (line : Bool) → Some first ≡ first_char r → MatchOption (first_char r) ⊤ (λ s. is_blank s.c ≡ false)
-    → p ≡ r → IsGiven (Ok v) (word_at (letters p.rest)).value → q ≡ advanced (word_at (letters p.rest)).taken p → last ≡ q.last → answer ≡ lexeme_seen f first last v → line ≡ is_newline_result v
+pub lexed_front : (f : Flags) (r p q : Reading) (first last : Spot) (v : Answer) (answer : Lexeme) (line : Bool) → Some first ≡ first_char r
+    → MatchOption (first_char r) ⊤ (λ s. is_blank s.c ≡ false)
+    → p ≡ r → IsGiven (Ok v) (word_at (letters p.rest)).value → q ≡ advanced (word_at (letters p.rest)).taken p → last ≡ q.last
+    → answer ≡ lexeme_seen f first last v → line ≡ is_newline_result v
     → IsLexed f r (Ok (Some answer)) (record { leading_whitespace = line; start_of_line = line; had_comments = f.had_comments }) q
 lexed_front f r p q first last v answer line e plain same h k l a n =
     rw (a, l, n)
-    (front_at f r.rest r.last q first v e plain (given_value v (word_at (letters p.rest)).value h ∙ ap (λ x. (word_at (letters x.rest)).value) same) (k ∙ ap (λ x. advanced (word_at (letters x.rest)).taken x) same))
+    (front_at f r.rest r.last q first v e plain (given_value v (word_at (letters p.rest)).value h ∙ ap (λ x. (word_at (letters x.rest)).value) same)
+    (k ∙ ap (λ x. advanced (word_at (letters x.rest)).taken x) same))
 
 -- memory was refused
-pub lexed_refused : (f : Flags) (r p q : Reading) (first : Spot) (e : AllocError) (answer : Result (Option Lexeme) AllocError) → Some first ≡ first_char r → MatchOption (first_char r) ⊤ (λ s. is_blank s.c ≡ false)
+pub lexed_refused : (f : Flags) (r p q : Reading) (first : Spot) (e : AllocError) (answer : Result (Option Lexeme) AllocError)
+    → Some first ≡ first_char r → MatchOption (first_char r) ⊤ (λ s. is_blank s.c ≡ false)
     → p ≡ r → IsErr answer → IsGiven (Err e) (word_at (letters p.rest)).value → IsLexed f r answer f q
 lexed_refused f r p q first e answer here plain same k h =
-    inl (refused_at f r.rest r.last first answer here plain k (ap (λ x. takes_memory (word_at (letters x.rest)).value) (sym same) ∙ given_refused e (word_at (letters p.rest)).value h))
+    inl (refused_at f r.rest r.last first answer here plain k
+    (ap (λ x. takes_memory (word_at (letters x.rest)).value) (sym same) ∙ given_refused e (word_at (letters p.rest)).value h))
 
 newline_comments : (f : Flags) (last : Spot) (b : Bool) → b ≡ f.had_comments → f.had_comments ≡ comments_before (newline_seen f last) b
 newline_comments f last b h = by f.start_of_line refl
@@ -127,41 +138,53 @@ no_more : (b : Bool) → (b || false) ≡ b
 no_more true = refl
 no_more false = refl
 
-end_at : (f g : Flags) (ss : List Spot) (last : Spot) (answer : Option Lexeme) → None ≡ first_of ss → answer ≡ first_item (newline_seen f last) → newline_seen g last ≡ after_first_item (newline_seen f last)
+end_at : (f g : Flags) (ss : List Spot) (last : Spot) (answer : Option Lexeme) → None ≡ first_of ss → answer ≡ first_item (newline_seen f last)
+    → newline_seen g last ≡ after_first_item (newline_seen f last)
     → g.had_comments ≡ f.had_comments → IsLexed f (record { rest = ss; last = last }) (Ok answer) g (record { rest = ss; last = last })
 end_at f g [] last answer e a n c =
     let none : seen_of f (record { rest = []; last = last }) ≡ newline_seen f last = ap (seen_from f last) segments_none in
     let more : seen_of g (record { rest = []; last = last }) ≡ newline_seen g last = ap (seen_from g last) segments_none in
-    let all : comments_at_end f (record { rest = []; last = last }) ≡ f.had_comments = ap (λ gs. f.had_comments || list_any (λ x. is_comment x.kind) gs) segments_none ∙ no_more f.had_comments in
-    let all' : comments_at_end g (record { rest = []; last = last }) ≡ g.had_comments = ap (λ gs. g.had_comments || list_any (λ x. is_comment x.kind) gs) segments_none ∙ no_more g.had_comments in
+    let all : comments_at_end f (record { rest = []; last = last }) ≡ f.had_comments =
+    ap (λ gs. f.had_comments || list_any (λ x. is_comment x.kind) gs) segments_none ∙ no_more f.had_comments in
+    let all' : comments_at_end g (record { rest = []; last = last }) ≡ g.had_comments =
+    ap (λ gs. g.had_comments || list_any (λ x. is_comment x.kind) gs) segments_none ∙ no_more g.had_comments in
     inr (record {
       value = ap Ok (a ∙ ap first_item (sym none));
       rest = more ∙ n ∙ ap after_first_item (sym none);
-      comments = c ∙ newline_comments f last (comments_at_end f (record { rest = []; last = last })) all ∙ ap (λ xs. comments_before xs (comments_at_end f (record { rest = []; last = last }))) (sym none);
+      comments = c ∙ newline_comments f last (comments_at_end f (record { rest = []; last = last })) all
+          ∙ ap (λ xs. comments_before xs (comments_at_end f (record { rest = []; last = last }))) (sym none);
       at_end = all' ∙ c ∙ sym all;
     })
 end_at f g (s ∷ ss) last answer e a n c = cc
 
 -- nothing is left to read
-pub lexed_end : (f g : Flags) (r p : Reading) (last : Spot) (answer : Option Lexeme) → None ≡ first_char r → p ≡ r → last ≡ p.last → answer ≡ first_item (newline_seen f last)
+pub lexed_end : (f g : Flags) (r p : Reading) (last : Spot) (answer : Option Lexeme) → None ≡ first_char r → p ≡ r → last ≡ p.last
+    → answer ≡ first_item (newline_seen f last)
     → newline_seen g last ≡ after_first_item (newline_seen f last) → g.had_comments ≡ f.had_comments → IsLexed f r (Ok answer) g p
 lexed_end f g r p last answer e same l a n c =
     let k : last ≡ r.last = l ∙ ap (λ x. x.last) same in
     subst (λ x. IsLexed f r (Ok answer) g x) (sym same)
-    (end_at f g r.rest r.last answer e (a ∙ ap (λ x. first_item (newline_seen f x)) k) (ap (newline_seen g) (sym k) ∙ n ∙ ap (λ x. after_first_item (newline_seen f x)) k) c)
+    (end_at f g r.rest r.last answer e (a ∙ ap (λ x. first_item (newline_seen f x)) k)
+    (ap (newline_seen g) (sym k) ∙ n ∙ ap (λ x. after_first_item (newline_seen f x)) k) c)
 
 -- Where the item that was taken stands
 
 -- what was skipped before makes no difference
-pub placed_before : (f g h : Flags) (r p q : Reading) (old mid new : Location) → places_left g p ≡ places_left f r → mid ≡ old → IsPlaced g p mid h q new → IsPlaced f r old h q new
-placed_before f g h r p q old mid new same e x = record { place = x.place ∙ ap (first_place (places_left g p)) e ∙ ap (λ ps. first_place ps old) same; rest = x.rest ∙ ap places_after_first same }
+pub placed_before : (f g h : Flags) (r p q : Reading) (old mid new : Location) → places_left g p ≡ places_left f r → mid ≡ old
+    → IsPlaced g p mid h q new → IsPlaced f r old h q new
+placed_before f g h r p q old mid new same e x = record {
+  place = x.place ∙ ap (first_place (places_left g p)) e
+      ∙ ap (λ ps. first_place ps old) same;
+  rest = x.rest ∙ ap places_after_first same;
+}
 
 -- nor does it where memory may be refused
 pub on_ok_placed : {T E : Type 0} (answer : Result T E) (P Q : Type 0) → (P → Q) → OnOk answer P → OnOk answer Q
 on_ok_placed (Ok value) P Q go h = go h
 on_ok_placed (Err error) P Q go h = tt
 
-placed_at : (f : Flags) (ss : List Spot) (last : Spot) (q : Reading) (first : Spot) (r : Answer) (old : Location) → Some first ≡ first_of ss → MatchOption (first_of ss) ⊤ (λ s. is_blank s.c ≡ false)
+placed_at : (f : Flags) (ss : List Spot) (last : Spot) (q : Reading) (first : Spot) (r : Answer) (old : Location) → Some first ≡ first_of ss
+    → MatchOption (first_of ss) ⊤ (λ s. is_blank s.c ≡ false)
     → r ≡ (word_at (letters ss)).value → q ≡ advanced (word_at (letters ss)).taken (record { rest = ss; last = last })
     → IsPlaced f (record { rest = ss; last = last }) old (passed f (item r)) q (record { start = first.begin; end = q.last.end; line = first.line })
 unfolding value after
@@ -172,14 +195,18 @@ placed_at f (s ∷ ss) last q first r old e plain v n =
     record { place = rw (olds, k, n) refl; rest = rw (olds, v, n) refl }
 
 -- a token or an error
-pub placed_front : (f : Flags) (r p q : Reading) (first last : Spot) (v : Answer) (line : Bool) (old : Location) → Some first ≡ first_char r → MatchOption (first_char r) ⊤ (λ s. is_blank s.c ≡ false)
+pub placed_front : (f : Flags) (r p q : Reading) (first last : Spot) (v : Answer) (line : Bool) (old : Location) → Some first ≡ first_char r
+    → MatchOption (first_char r) ⊤ (λ s. is_blank s.c ≡ false)
     → p ≡ r → IsGiven (Ok v) (word_at (letters p.rest)).value → q ≡ advanced (word_at (letters p.rest)).taken p → last ≡ q.last → line ≡ is_newline_result v
-    → IsPlaced f r old (record { leading_whitespace = line; start_of_line = line; had_comments = f.had_comments }) q (record { start = first.begin; end = last.end; line = first.line })
+    → IsPlaced f r old (record { leading_whitespace = line; start_of_line = line; had_comments = f.had_comments }) q
+    (record { start = first.begin; end = last.end; line = first.line })
 placed_front f r p q first last v line old e plain same h k l n =
     rw (l, n)
-    (placed_at f r.rest r.last q first v old e plain (given_value v (word_at (letters p.rest)).value h ∙ ap (λ x. (word_at (letters x.rest)).value) same) (k ∙ ap (λ x. advanced (word_at (letters x.rest)).taken x) same))
+    (placed_at f r.rest r.last q first v old e plain (given_value v (word_at (letters p.rest)).value h
+    ∙ ap (λ x. (word_at (letters x.rest)).value) same) (k ∙ ap (λ x. advanced (word_at (letters x.rest)).taken x) same))
 
-placed_at_end : (f g : Flags) (ss : List Spot) (last : Spot) (old : Location) → None ≡ first_of ss → newline_places g last ≡ places_after_first (newline_places f last)
+placed_at_end : (f g : Flags) (ss : List Spot) (last : Spot) (old : Location) → None ≡ first_of ss
+    → newline_places g last ≡ places_after_first (newline_places f last)
     → IsPlaced f (record { rest = ss; last = last }) old g (record { rest = ss; last = last }) (first_place (newline_places f last) old)
 placed_at_end f g [] last old e n =
     let none : places_left f (record { rest = []; last = last }) ≡ newline_places f last = ap (places_from f last) segments_none in
@@ -188,7 +215,8 @@ placed_at_end f g [] last old e n =
 placed_at_end f g (s ∷ ss) last old e n = cc
 
 -- the end
-pub placed_end : (f g : Flags) (r p : Reading) (last : Spot) (old : Location) → None ≡ first_char r → p ≡ r → last ≡ p.last → newline_places g last ≡ places_after_first (newline_places f last)
+pub placed_end : (f g : Flags) (r p : Reading) (last : Spot) (old : Location) → None ≡ first_char r → p ≡ r → last ≡ p.last
+    → newline_places g last ≡ places_after_first (newline_places f last)
     → IsPlaced f r old g p (first_place (newline_places f last) old)
 placed_end f g r p last old e same l n =
     let k : last ≡ r.last = l ∙ ap (λ x. x.last) same in

@@ -26,13 +26,15 @@ kind_front s ss e = rw e refl
 passed_blank : (f : Flags) (c : ℕ) → passed f (cond (is_mark c) comment blank) ≡ blanked f c
 passed_blank f c = by f.had_comments (is_mark c)
   where
-    by : (h b : Bool) → passed (record f { had_comments = h }) (cond b comment blank) ≡ record { leading_whitespace = true; start_of_line = f.start_of_line; had_comments = h || b }
+    by : (h b : Bool) → passed (record f { had_comments = h }) (cond b comment blank) ≡ record
+        { leading_whitespace = true; start_of_line = f.start_of_line; had_comments = h || b }
     by true true = refl
     by true false = refl
     by false true = refl
     by false false = refl
 
-none_seen : (f : Flags) (first last : Spot) (b : Bool) → item_seen f (record { kind = cond b comment blank; first = first; last = last }) (cond b comment blank) ≡ []
+none_seen : (f : Flags) (first last : Spot) (b : Bool) → item_seen f (record { kind = cond b comment blank; first = first; last = last })
+    (cond b comment blank) ≡ []
 none_seen f first last true = refl
 none_seen f first last false = refl
 
@@ -41,7 +43,8 @@ comment_is true = refl
 comment_is false = refl
 
 -- a blank alone
-blank_first : (s : Spot) (ss : List Spot) → is_blank s.c ≡ true → segments (s ∷ ss) ≡ record { kind = cond (is_mark s.c) comment blank; first = s; last = s } ∷ segments ss
+blank_first : (s : Spot) (ss : List Spot) → is_blank s.c ≡ true
+    → segments (s ∷ ss) ≡ record { kind = cond (is_mark s.c) comment blank; first = s; last = s } ∷ segments ss
 blank_first s ss e =
     let t : taken_by s ss ≡ 1 = rw e refl in
     segments_first s ss ∙ rw (t, kind_blank s ss e) refl
@@ -65,7 +68,8 @@ blank_places f last s ss e =
     ∙ ap (λ g. places_from g s (segments ss)) (passed_blank f s.c)
 
 pub blank_at_end : (f : Flags) (s : Spot) (ss : List Spot) → is_blank s.c ≡ true
-    → (f.had_comments || list_any (λ g. is_comment g.kind) (segments (s ∷ ss))) ≡ ((f.had_comments || is_mark s.c) || list_any (λ g. is_comment g.kind) (segments ss))
+    → (f.had_comments || list_any (λ g. is_comment g.kind) (segments (s ∷ ss))) ≡
+    ((f.had_comments || is_mark s.c) || list_any (λ g. is_comment g.kind) (segments ss))
 blank_at_end f s ss e =
     ap (λ gs. f.had_comments || list_any (λ g. is_comment g.kind) gs) (blank_first s ss e)
     ∙ ap (λ b. f.had_comments || (b || list_any (λ g. is_comment g.kind) (segments ss))) (comment_is (is_mark s.c))
@@ -81,7 +85,8 @@ pub record IsBlanked (f g : Flags) (r q : Reading) : Type 0 where
   pub at_end : comments_at_end g q ≡ comments_at_end f r
   pub places : places_left g q ≡ places_left f r
 
-blanked_at : (f : Flags) (last : Spot) (ss : List Spot) (c : ℕ) (q : Reading) → Some c ≡ option_map (λ s. s.c) (first_of ss) → true ≡ is_blank c → q ≡ past ss last
+blanked_at : (f : Flags) (last : Spot) (ss : List Spot) (c : ℕ) (q : Reading) → Some c ≡ option_map (λ s. s.c) (first_of ss) → true ≡ is_blank c
+    → q ≡ past ss last
     → IsBlanked f (blanked f c) (record { rest = ss; last = last }) q
 blanked_at f last [] c q e b h = cc
 blanked_at f last (s ∷ ss) c q e b h =
@@ -89,12 +94,17 @@ blanked_at f last (s ∷ ss) c q e b h =
     let k' : is_blank s.c ≡ true = sym (b ∙ ap is_blank k) in
     rw (h, k) (record { same = sym (blank_seen f last s ss k'); at_end = sym (blank_at_end f s ss k'); places = sym (blank_places f last s ss k') })
 
-pub blank_passed : (f : Flags) (r p q : Reading) (c : ℕ) → Some c ≡ option_map (λ s. s.c) (first_char r) → true ≡ is_blank c → p ≡ r → q ≡ after_first p → IsBlanked f (blanked f c) r q
+pub blank_passed : (f : Flags) (r p q : Reading) (c : ℕ) → Some c ≡ option_map (λ s. s.c) (first_char r) → true ≡ is_blank c → p ≡ r
+    → q ≡ after_first p → IsBlanked f (blanked f c) r q
 blank_passed f r p q c e b h k = blanked_at f r.last r.rest c q e b (k ∙ ap after_first h)
 
 -- what stands at the front, where it is no blank
 pub front_first : (s : Spot) (ss : List Spot) → is_blank s.c ≡ false
-    → segments (s ∷ ss) ≡ record { kind = item (word_at (letters (s ∷ ss))).value; first = s; last = last_of s (take (word_at (letters (s ∷ ss))).taken (s ∷ ss)) }
+    → segments (s ∷ ss) ≡ record {
+      kind = item (word_at (letters (s ∷ ss))).value;
+      first = s;
+      last = last_of s (take (word_at (letters (s ∷ ss))).taken (s ∷ ss));
+    }
     ∷ segments (drop (word_at (letters (s ∷ ss))).taken (s ∷ ss))
 front_first s ss e =
     let t : taken_by s ss ≡ (word_at (letters (s ∷ ss))).taken = rw e refl in

@@ -31,8 +31,12 @@ begin_within at total (p ∷ ps) h = omega (arith, h.0, begin_within p.end total
 ordered_spots : (at total : ℕ) (ps : List Placed) → StretchesFollow at total ps → Ordered at total (spots at ps)
 unfolding Ordered
 ordered_spots at total [] h = tt
-ordered_spots at total (p ∷ ps) h =
-    (omega arith, omega arith, omega (arith, h.0, begin_within p.end total ps h.1), ordered_before p.end (at + len_utf8 p.char) total (spots p.end ps) h.0 (ordered_spots p.end total ps h.1))
+ordered_spots at total (p ∷ ps) h = (
+  omega arith,
+  omega arith,
+  omega (arith, h.0, begin_within p.end total ps h.1),
+  ordered_before p.end (at + len_utf8 p.char) total (spots p.end ps) h.0 (ordered_spots p.end total ps h.1),
+)
 
 ordered_drop : (n at total : ℕ) (ss : List Spot) → Ordered at total ss → Ordered at total (drop n ss)
 unfolding Ordered
@@ -58,7 +62,8 @@ unfoldable pub Each : {X : Type 0} → (X → Type 0) → List X → Type 0
 Each P [] = Unit {0}
 Each P (x ∷ xs) = P x × Each P xs
 
-first_lies : (at total : ℕ) (s : Spot) (ss : List Spot) (n : ℕ) → 0 < n → Ordered at total (s ∷ ss) → Lies total (record { kind = blank; first = s; last = last_of s (take n (s ∷ ss)) })
+first_lies : (at total : ℕ) (s : Spot) (ss : List Spot) (n : ℕ) → 0 < n → Ordered at total (s ∷ ss)
+    → Lies total (record { kind = blank; first = s; last = last_of s (take n (s ∷ ss)) })
 unfolding Ordered
 first_lies at total s ss zero h o = absurd (omega arith)
 first_lies at total s ss (suc n) h o = last_ordered n total s ss o.1 o.2 o.3
@@ -67,10 +72,13 @@ segments_lie : (n at total : ℕ) (ss : List Spot) → Ordered at total ss → E
 unfolding Ordered Each
 segments_lie zero at total ss o = tt
 segments_lie (suc n) at total [] o = tt
-segments_lie (suc n) at total (s ∷ ss) o =
-    (first_lies at total s ss (taken_by s ss) (taken_some s ss) o, segments_lie n at total (drop (taken_by s ss) (s ∷ ss)) (ordered_drop (taken_by s ss) at total (s ∷ ss) o))
+segments_lie (suc n) at total (s ∷ ss) o = (
+  first_lies at total s ss (taken_by s ss) (taken_some s ss) o,
+  segments_lie n at total (drop (taken_by s ss) (s ∷ ss)) (ordered_drop (taken_by s ss) at total (s ∷ ss) o),
+)
 
-item_lies : (total : ℕ) (before : List Segment) (g : Segment) (k : Kind) (is : List Item) → Lies total g → Each (λ i. IsWithin total i.item) is → Each (λ i. IsWithin total i.item) (item_at before g k ++ is)
+item_lies : (total : ℕ) (before : List Segment) (g : Segment) (k : Kind) (is : List Item) → Lies total g → Each (λ i. IsWithin total i.item) is
+    → Each (λ i. IsWithin total i.item) (item_at before g k ++ is)
 unfolding Each
 item_lies total before g blank is h e = e
 item_lies total before g comment is h e = e

@@ -31,11 +31,22 @@ no_blank_first first (Some s) e h = let k : first ≡ s = cc in ap (λ x. is_bla
 
 -- where a reader went, by the bytes that were read
 pub gone : (q : Reading) (line at n : ℕ) (text bytes rest : List ℕ)
-    → q ≡ record { rest = spots_from line (at + n) rest; last = record { c = get_or bytes (n - 1) 0; line = line; begin = at + n - 1; end = at + n } } → bytes ≡ text → rest ≡ drop n text
+    → q ≡ record {
+      rest = spots_from line (at + n) rest;
+      last = record {
+        c = get_or bytes (n - 1) 0;
+        line = line;
+        begin = at + n - 1;
+        end = at + n;
+      };
+    } → bytes ≡ text → rest ≡ drop n text
     → q ≡ record { rest = spots_from line (at + n) (drop n text); last = record { c = get_or text (n - 1) 0; line = line; begin = at + n - 1; end = at + n } }
 gone q line at n text bytes rest e f g =
     e ∙ ap (λ t. record { rest = spots_from line (at + n) t; last = record { c = get_or bytes (n - 1) 0; line = line; begin = at + n - 1; end = at + n } }) g
-    ∙ ap (λ t. record { rest = spots_from line (at + n) (drop n text); last = record { c = get_or t (n - 1) 0; line = line; begin = at + n - 1; end = at + n } }) f
+    ∙ ap (λ t. record {
+      rest = spots_from line (at + n) (drop n text);
+      last = record { c = get_or t (n - 1) 0; line = line; begin = at + n - 1; end = at + n };
+    }) f
 
 -- after spaces
 record PassesSpaces (f : Flags) (line at n : ℕ) (text : List ℕ) (last : Spot) : Type 0 where
@@ -46,7 +57,8 @@ record PassesSpaces (f : Flags) (line at n : ℕ) (text : List ℕ) (last : Spot
   places : places_from f last (segments (spots_from line at text))
       ≡ places_from (spaced f) (advanced_of n (spots_from line at text) last).last (segments (advanced_of n (spots_from line at text) last).rest)
 
-spaces_passed : (f : Flags) (line at n : ℕ) (text : List ℕ) (last : Spot) → IsUtf8 text → 0 < n → n ≤ length text → list_all is_space (take n text) ≡ true → PassesSpaces f line at n text last
+spaces_passed : (f : Flags) (line at n : ℕ) (text : List ℕ) (last : Spot) → IsUtf8 text → 0 < n → n ≤ length text
+    → list_all is_space (take n text) ≡ true → PassesSpaces f line at n text last
 spaces_passed f line at zero text last u some le h = absurd (omega arith)
 spaces_passed f line at (suc n) [] last u some le h = absurd (omega arith)
 spaces_passed f line at (suc n) (c ∷ text) last u some le h =
@@ -60,10 +72,12 @@ spaces_passed f line at (suc n) (c ∷ text) last u some le h =
     let there : advanced_of (suc n) (spots_from line at (c ∷ text)) last ≡ record { rest = more; last = final } =
     ap (λ ss. advanced_of (suc n) ss last) front ∙ ap (λ k. advanced_of k (run line at (c ∷ w) ++ more) last) size ∙ advanced_run line at c w more last in
     record {
-      seen = ap (λ ss. seen_from f last (segments ss)) front ∙ spaces_seen f line at c w more last h ∙ sym (ap (λ x. seen_from (spaced f) x.last (segments x.rest)) there);
+      seen = ap (λ ss. seen_from f last (segments ss)) front ∙ spaces_seen f line at c w more last h
+          ∙ sym (ap (λ x. seen_from (spaced f) x.last (segments x.rest)) there);
       at_end = ap (λ ss. f.had_comments || list_any (λ g. is_comment g.kind) (segments ss)) front ∙ spaces_at_end f line at (c ∷ w) more h
           ∙ sym (ap (λ x. f.had_comments || list_any (λ g. is_comment g.kind) (segments x.rest)) there);
-      places = ap (λ ss. places_from f last (segments ss)) front ∙ spaces_places f line at c w more last h ∙ sym (ap (λ x. places_from (spaced f) x.last (segments x.rest)) there);
+      places = ap (λ ss. places_from f last (segments ss)) front ∙ spaces_places f line at c w more last h
+          ∙ sym (ap (λ x. places_from (spaced f) x.last (segments x.rest)) there);
     }
 
 module _ (f : Flags) (r : Reading) (line at : ℕ) (text : List ℕ) (e : r.rest ≡ spots_from line at text) where
@@ -76,31 +90,49 @@ module _ (f : Flags) (r : Reading) (line at : ℕ) (text : List ℕ) (e : r.rest
     here = front_first n line at text r.rest w.some w.within w.front e
 
     there : (q : Reading)
-        → q ≡ record { rest = spots_from line (at + n) (drop n text); last = record { c = get_or text (n - 1) 0; line = line; begin = at + n - 1; end = at + n } } → q ≡ advanced (word_at (letters r.rest)).taken r
+        → q ≡ record {
+          rest = spots_from line (at + n) (drop n text);
+          last = record { c = get_or text (n - 1) 0; line = line; begin = at + n - 1; end = at + n };
+        } → q ≡ advanced (word_at (letters r.rest)).taken r
     there q k =
         let word : word_at (letters r.rest) ≡ record { value = Ok value; taken = n } = ap (λ ss. word_at (letters ss)) e ∙ w.word line at in
-        k ∙ sym (after_front n line at text r.last w.some w.within w.front) ∙ ap (λ ss. advanced_of n ss r.last) (sym e) ∙ ap (λ o. advanced o.taken r) (sym word)
+        k ∙ sym (after_front n line at text r.last w.some w.within w.front) ∙ ap (λ ss. advanced_of n ss r.last) (sym e)
+        ∙ ap (λ o. advanced o.taken r) (sym word)
 
     -- a plain word is taken
     pub lexed_plain : (q : Reading)
-        → q ≡ record { rest = spots_from line (at + n) (drop n text); last = record { c = get_or text (n - 1) 0; line = line; begin = at + n - 1; end = at + n } }
-        → IsLexed f r (Ok (Some (Ok (record { value = value; location = record { start = at; end = at + n; line = line }; leading_whitespace = f.leading_whitespace; start_of_line = f.start_of_line }))))
+        → q ≡ record {
+          rest = spots_from line (at + n) (drop n text);
+          last = record { c = get_or text (n - 1) 0; line = line; begin = at + n - 1; end = at + n };
+        }
+        → IsLexed f r (Ok (Some (Ok (record {
+          value = value;
+          location = record { start = at; end = at + n; line = line };
+          leading_whitespace = f.leading_whitespace;
+          start_of_line = f.start_of_line;
+        }))))
         (record { leading_whitespace = false; start_of_line = false; had_comments = f.had_comments }) q
     unfolding first
     lexed_plain q k =
         let last : Spot = record { c = get_or text (n - 1) 0; line = line; begin = at + n - 1; end = at + n } in
         let word : word_at (letters r.rest) ≡ record { value = Ok value; taken = n } = ap (λ ss. word_at (letters ss)) e ∙ w.word line at in
-        lexed_front f r r q first last (Ok value) _ false here (no_blank_first first (first_char r) here w.no_blank) refl (inl (ap (λ o. Ok o.value) (sym word))) (there q k) (ap (λ x. x.last) (sym k)) refl (sym w.no_newline)
+        lexed_front f r r q first last (Ok value) _ false here (no_blank_first first (first_char r) here w.no_blank) refl
+        (inl (ap (λ o. Ok o.value) (sym word))) (there q k) (ap (λ x. x.last) (sym k)) refl (sym w.no_newline)
 
     -- and its place noted
     pub placed_plain : (q : Reading) (old : Location)
-        → q ≡ record { rest = spots_from line (at + n) (drop n text); last = record { c = get_or text (n - 1) 0; line = line; begin = at + n - 1; end = at + n } }
-        → IsPlaced f r old (record { leading_whitespace = false; start_of_line = false; had_comments = f.had_comments }) q (record { start = at; end = at + n; line = line })
+        → q ≡ record {
+          rest = spots_from line (at + n) (drop n text);
+          last = record { c = get_or text (n - 1) 0; line = line; begin = at + n - 1; end = at + n };
+        }
+        → IsPlaced f r old (record { leading_whitespace = false; start_of_line = false; had_comments = f.had_comments }) q
+        (record { start = at; end = at + n; line = line })
     unfolding first
     placed_plain q old k =
         let last : Spot = record { c = get_or text (n - 1) 0; line = line; begin = at + n - 1; end = at + n } in
         let word : word_at (letters r.rest) ≡ record { value = Ok value; taken = n } = ap (λ ss. word_at (letters ss)) e ∙ w.word line at in
-        placed_front f r r q first last (Ok value) false old here (no_blank_first first (first_char r) here w.no_blank) refl (inl (ap (λ o. Ok o.value) (sym word))) (there q k) (ap (λ x. x.last) (sym k)) (sym w.no_newline)
+        placed_front f r r q first last (Ok value) false old here (no_blank_first first (first_char r) here w.no_blank) refl
+        (inl (ap (λ o. Ok o.value) (sym word))) (there q k) (ap (λ x. x.last) (sym k)) (sym w.no_newline)
 
     -- memory was refused
     pub refused_plain : (err : AllocError) (answer : Result (Option Lexeme) AllocError) → IsErr answer → holds_memory value ≡ true → IsLexed f r answer f r
@@ -110,7 +142,10 @@ module _ (f : Flags) (r : Reading) (line at : ℕ) (text : List ℕ) (e : r.rest
         (inr (refl, ap (λ ss. takes_memory (word_at (letters ss)).value) e ∙ ap (λ o. takes_memory o.value) (w.word line at) ∙ m))
 
   module _ (u : IsUtf8 text) (q : Reading) (n : ℕ) (more : 0 < n) (le : n ≤ length text) (passes : list_all is_space (take n text) ≡ true)
-      (k : q ≡ record { rest = spots_from line (at + n) (drop n text); last = record { c = get_or text (n - 1) 0; line = line; begin = at + n - 1; end = at + n } }) where
+      (k : q ≡ record {
+        rest = spots_from line (at + n) (drop n text);
+        last = record { c = get_or text (n - 1) 0; line = line; begin = at + n - 1; end = at + n };
+      }) where
     moved : q ≡ advanced_of n (spots_from line at text) r.last
     moved = k ∙ sym (after_front n line at text r.last more le (front_plain n text u le (all_plain is_space space_plain (take n text) passes)))
 
@@ -120,7 +155,8 @@ module _ (f : Flags) (r : Reading) (line at : ℕ) (text : List ℕ) (e : r.rest
 
     pub spaces_placed : places_left (spaced f) q ≡ places_left f r
     spaces_placed =
-        ap (places_left (spaced f)) moved ∙ sym (spaces_passed f line at n text r.last u more le passes).places ∙ ap (λ ss. places_from f r.last (segments ss)) (sym e)
+        ap (places_left (spaced f)) moved ∙ sym (spaces_passed f line at n text r.last u more le passes).places
+        ∙ ap (λ ss. places_from f r.last (segments ss)) (sym e)
 
     pub spaces_comments : comments_at_end (spaced f) q ≡ comments_at_end f r
     spaces_comments =
@@ -128,10 +164,12 @@ module _ (f : Flags) (r : Reading) (line at : ℕ) (text : List ℕ) (e : r.rest
         ∙ ap (λ ss. f.had_comments || list_any (λ g. is_comment g.kind) (segments ss)) (sym e)
 
 -- an error stays one
-pub lexed_err : (f g : Flags) (r q : Reading) (err : AllocError) (answer : Result (Option Lexeme) AllocError) → IsLexed f r (Err err) g q → IsErr answer → IsLexed f r answer g q
+pub lexed_err : (f g : Flags) (r q : Reading) (err : AllocError) (answer : Result (Option Lexeme) AllocError) → IsLexed f r (Err err) g q
+    → IsErr answer → IsLexed f r answer g q
 lexed_err f g r q err answer (inl x) h = inl (record { value = h; needed = x.needed; comments = x.comments })
 lexed_err f g r q err answer (inr x) h = let e : Err err ≡ Ok (first_item (seen_of f r)) = x.value in cc
 
-pub plain_refused : (f : Flags) (r : Reading) (answer : Result (Option Lexeme) AllocError) → IsErr answer → ((err : AllocError) → IsLexed f r (Err err) f r) → IsPlainLexed f r answer f r
+pub plain_refused : (f : Flags) (r : Reading) (answer : Result (Option Lexeme) AllocError) → IsErr answer
+    → ((err : AllocError) → IsLexed f r (Err err) f r) → IsPlainLexed f r answer f r
 plain_refused f r (Ok o) h k = cc
 plain_refused f r (Err err) h k = k err

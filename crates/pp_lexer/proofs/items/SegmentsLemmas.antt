@@ -35,7 +35,8 @@ unfolding segments
 segments_first s ss =
     let t : 0 < taken_by s ss = taken_some s ss in
     let d : length (drop (taken_by s ss) (s ∷ ss)) ≡ length (s ∷ ss) - taken_by s ss = length-drop (taken_by s ss) (s ∷ ss) in
-    ap (λ gs. segment_at s ss ∷ gs) (segments_enough (length ss) (length (drop (taken_by s ss) (s ∷ ss))) (drop (taken_by s ss) (s ∷ ss)) (omega arith) (omega arith))
+    ap (λ gs. segment_at s ss ∷ gs) (segments_enough (length ss) (length (drop (taken_by s ss) (s ∷ ss))) (drop (taken_by s ss) (s ∷ ss))
+    (omega arith) (omega arith))
 
 -- a reader that is further on
 pub advanced-rest : (n : ℕ) (ss : List Spot) (last : Spot) → (advanced_of n ss last).rest ≡ drop n ss

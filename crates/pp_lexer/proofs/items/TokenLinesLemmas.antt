@@ -90,11 +90,16 @@ lines_within_n (suc n) total (p ∷ ps) le h = by_front (front total p ps) (λ q
         → PlacedHaveLines total (replaced total (p ∷ ps))
     by_front (inl e) ih = rw e (h.0, ih ps (omega arith) h.1)
     by_front (inr m) ih =
-        rw m.is (subst (IsLine total) (sym m.line) h.0, ih (drop m.more ps) (omega (arith, length-drop m.more ps)) (each_drop (λ (p : Placed). IsLine total p.line) m.more ps h.1))
+        rw m.is (
+          subst (IsLine total) (sym m.line) h.0,
+          ih (drop m.more ps) (omega (arith, length-drop m.more ps))
+              (each_drop (λ (p : Placed). IsLine total p.line) m.more ps h.1),
+        )
 
 lines-replaced_of : (source : List ℕ) → IsUtf8 source → PlacedHaveLines (length source) (replaced_of source)
 lines-replaced_of source u =
-    lines_within_n (length (continued_of source)) (length source) (continued_of source) (omega arith) (lines-continued (length source) (lines_of source) (lines-lines_of source u))
+    lines_within_n (length (continued_of source)) (length source) (continued_of source) (omega arith)
+    (lines-continued (length source) (lines_of source) (lines-lines_of source u))
 
 lines-spots : (at total : ℕ) (ps : List Placed) → PlacedHaveLines total ps → SpotsHaveLines total (spots at ps)
 unfolding Each
@@ -120,8 +125,10 @@ lines-segments : (n total : ℕ) (ss : List Spot) → SpotsHaveLines total ss �
 unfolding Each
 lines-segments zero total ss h = tt
 lines-segments (suc n) total [] h = tt
-lines-segments (suc n) total (s ∷ ss) h =
-    ((h.0, line-last_of (taken_by s ss) total s (s ∷ ss) h.0 h), lines-segments n total (drop (taken_by s ss) (s ∷ ss)) (each_drop (λ (s : Spot). IsLine total s.line) (taken_by s ss) (s ∷ ss) h))
+lines-segments (suc n) total (s ∷ ss) h = (
+  (h.0, line-last_of (taken_by s ss) total s (s ∷ ss) h.0 h),
+  lines-segments n total (drop (taken_by s ss) (s ∷ ss)) (each_drop (λ (s : Spot). IsLine total s.line) (taken_by s ss) (s ∷ ss) h),
+)
 
 -- the items
 
@@ -142,16 +149,19 @@ line-final_newline total (g ∷ gs) h = by (start_of_line (g ∷ gs)) refl
     by true e = rw e tt
     by false e = rw e (h.0.1, tt)
 
-lines-items_from : (total : ℕ) (before gs : List Segment) → SegmentsHaveLines total before → SegmentsHaveLines total gs → ItemsHaveLines total (items_from before gs)
+lines-items_from : (total : ℕ) (before gs : List Segment) → SegmentsHaveLines total before → SegmentsHaveLines total gs
+    → ItemsHaveLines total (items_from before gs)
 unfolding Each items_from
 lines-items_from total before [] b h = line-final_newline total before b
-lines-items_from total before (g ∷ gs) b h = line-item_at total before g g.kind (items_from (g ∷ before) gs) h.0 (lines-items_from total (g ∷ before) gs (h.0, b) h.1)
+lines-items_from total before (g ∷ gs) b h = line-item_at total before g g.kind (items_from (g ∷ before) gs) h.0 (lines-items_from total
+    (g ∷ before) gs (h.0, b) h.1)
 
 lines-items_of : (total : ℕ) (ss : List Spot) → SpotsHaveLines total ss → All (λ i. HasLineWithin total i.item) (items_of ss)
 unfolding Each segments
 lines-items_of total ss h =
     each_all (λ i. HasLineWithin total i.item) (items_of ss)
-    (subst (Each (λ i. HasLineWithin total i.item)) (sym (items_at_start ss)) (lines-items_from total [] (segments ss) tt (lines-segments (length ss) total ss h)))
+    (subst (Each (λ i. HasLineWithin total i.item)) (sym (items_at_start ss))
+    (lines-items_from total [] (segments ss) tt (lines-segments (length ss) total ss h)))
 
 -- each token of a source has a line that is at least 1, and at most one more than the source's bytes
 pub tokens_have_lines : TokensHaveLines

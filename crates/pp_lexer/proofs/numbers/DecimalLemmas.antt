@@ -84,7 +84,8 @@ module _ (n : ℕ) (w : List ℕ) (t : IsDecimalText n w) where
   pub digits_value : (signed : Bool) → integer_value signed w ≡ Ok (Integer (record { value = n; signed = signed; width = pos 32 }))
   digits_value signed = by (begins_hex w) (begins_octal w) (no_hex w t.digits) t.no_octal
     where
-      by : (x o : Bool) → x ≡ false → o ≡ false → integer_of signed (whole (if x then 16 else if o then 8 else 10) (if x then drop 2 w else w)) ≡ Ok (Integer (record { value = n; signed = signed; width = pos 32 }))
+      by : (x o : Bool) → x ≡ false → o ≡ false → integer_of signed (whole (if x then 16 else if o then 8 else 10) (if x then drop 2 w else w)) ≡ Ok
+          (Integer (record { value = n; signed = signed; width = pos 32 }))
       by true o e f = cc
       by false true e f = cc
       by false false e f = ap (integer_of signed) digits_whole
@@ -118,10 +119,12 @@ spelled_integer i cs h e b = by i.signed refl
   where
     by : (signed : Bool) → i.signed ≡ signed → word_at (integer_literal i ++ cs) ≡ record { value = Ok (Integer i); taken = length (integer_literal i) }
     by true s =
-        let same : ◌≡◌ {A = IntegerLiteral} (record { value = i.value; signed = true; width = pos 32 }) i = λ k. record { value = i.value; signed = sym s k; width = sym e k } in
+        let same : ◌≡◌ {A = IntegerLiteral} (record { value = i.value; signed = true; width = pos 32 }) i =
+        λ k. record { value = i.value; signed = sym s k; width = sym e k } in
         subst (λ (x : IntegerLiteral). word_at (integer_literal x ++ cs) ≡ record { value = Ok (Integer x); taken = length (integer_literal x) }) same
         (rw (append-nil (decimal i.value)) (signed_integer i.value cs h b))
     by false s =
-        let same : ◌≡◌ {A = IntegerLiteral} (record { value = i.value; signed = false; width = pos 32 }) i = λ k. record { value = i.value; signed = sym s k; width = sym e k } in
+        let same : ◌≡◌ {A = IntegerLiteral} (record { value = i.value; signed = false; width = pos 32 }) i =
+        λ k. record { value = i.value; signed = sym s k; width = sym e k } in
         subst (λ (x : IntegerLiteral). word_at (integer_literal x ++ cs) ≡ record { value = Ok (Integer x); taken = length (integer_literal x) }) same
         (rw (append_assoc (decimal i.value) (117 ∷ []) cs, length-append (decimal i.value) (117 ∷ [])) (unsigned_integer i.value cs h b))

@@ -101,7 +101,8 @@ pub pointed_is : (t t1 t2 t3 : List ℕ) (d p : Bool) → d ≡ begins_with is_d
     → p ≡ begins_with is_point t1 → p ≡ true → t2 ≡ drop (if p then 1 else 0) t1 → t3 ≡ drop (front_len is_decimal t2) t2 → float_exponent t3 ≡ is_float_text t
 pointed_is t t1 t2 t3 d p a b e f g h i =
     let after : float_exponent t3 ≡ many is_decimal float_exponent t2 = ap float_exponent i ∙ sym (many_is is_decimal float_exponent refl exponent_apart t2) in
-    let point : many is_decimal float_exponent t2 ≡ float_tail t1 = ap (many is_decimal float_exponent) (moved_true p t1 t2 g h) ∙ sym (pointed_tail t1 (sym f ∙ g)) in
+    let point : many is_decimal float_exponent t2 ≡ float_tail t1 = ap (many is_decimal float_exponent) (moved_true p t1 t2 g h)
+    ∙ sym (pointed_tail t1 (sym f ∙ g)) in
     after ∙ point ∙ ap float_tail e ∙ sym (digits_first t (sym a ∙ b))
 
 -- digits alone
@@ -110,16 +111,20 @@ pub plain_is : (t t1 t2 : List ℕ) (d p : Bool) → d ≡ begins_with is_decima
 plain_is t t1 t2 d p a b e f g h =
     ap float_exponent (moved_false p t1 t2 g h) ∙ sym (plain_tail t1 (sym f ∙ g)) ∙ ap float_tail e ∙ sym (digits_first t (sym a ∙ b))
 
-point_first : (t : List ℕ) → begins_with is_decimal t ≡ false → begins_with is_point t ≡ true → is_float_text t ≡ one is_decimal (many is_decimal float_exponent) (drop 1 t)
+point_first : (t : List ℕ) → begins_with is_decimal t ≡ false → begins_with is_point t ≡ true
+    → is_float_text t ≡ one is_decimal (many is_decimal float_exponent) (drop 1 t)
 point_first [] d h = cc
 point_first (c ∷ t) d h = rw (eqb-true c 46 h) refl
 
 -- a point and digits
 pub point_first_is : (t t1 t2 t3 : List ℕ) (d p q : Bool) → d ≡ begins_with is_decimal t → d ≡ false → t1 ≡ drop (front_len is_decimal t) t
-    → p ≡ begins_with is_point t1 → p ≡ true → t2 ≡ drop (if p then 1 else 0) t1 → q ≡ begins_with is_decimal t2 → q ≡ true → t3 ≡ drop (front_len is_decimal t2) t2
+    → p ≡ begins_with is_point t1 → p ≡ true → t2 ≡ drop (if p then 1 else 0) t1 → q ≡ begins_with is_decimal t2 → q ≡ true
+    → t3 ≡ drop (front_len is_decimal t2) t2
     → float_exponent t3 ≡ is_float_text t
 point_first_is t t1 t2 t3 d p q a b e f g h i j k =
     let still : t1 ≡ t = e ∙ front_none is_decimal t (sym a ∙ b) in
-    let after : float_exponent t3 ≡ one is_decimal (many is_decimal float_exponent) t2 = ap float_exponent k ∙ sym (some_is is_decimal float_exponent refl exponent_apart t2 (sym i ∙ j)) in
+    let after : float_exponent t3 ≡ one is_decimal (many is_decimal float_exponent) t2 = ap float_exponent k
+    ∙ sym (some_is is_decimal float_exponent refl exponent_apart t2 (sym i ∙ j)) in
     let here : begins_with is_point t ≡ true = ap (begins_with is_point) (sym still) ∙ sym f ∙ g in
-    after ∙ ap (one is_decimal (many is_decimal float_exponent)) (moved_true p t1 t2 g h) ∙ ap (λ x. one is_decimal (many is_decimal float_exponent) (drop 1 x)) still ∙ sym (point_first t (sym a ∙ b) here)
+    after ∙ ap (one is_decimal (many is_decimal float_exponent)) (moved_true p t1 t2 g h)
+    ∙ ap (λ x. one is_decimal (many is_decimal float_exponent) (drop 1 x)) still ∙ sym (point_first t (sym a ∙ b) here)

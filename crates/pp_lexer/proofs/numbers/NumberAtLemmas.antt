@@ -20,12 +20,15 @@ module _ (cs word after : List ℕ) (spelled : word ≡ take (longest is_number 
   at_integer h = sym (ap (λ b. if b then float_outcome word after else integer_outcome word after) h) ∙ outcome_is
 
 -- the reader after the number, and after its suffix
-pub letters_after : (r r1 : Reading) → r1 ≡ advanced (longest is_number (letters r.rest)) r → letters r1.rest ≡ drop (longest is_number (letters r.rest)) (letters r.rest)
+pub letters_after : (r r1 : Reading) → r1 ≡ advanced (longest is_number (letters r.rest)) r
+    → letters r1.rest ≡ drop (longest is_number (letters r.rest)) (letters r.rest)
 letters_after r r1 e = ap (λ x. letters x.rest) e ∙ letters-advanced (longest is_number (letters r.rest)) r.rest r.last
 
 pub after_suffix : (suffix : List ℕ → ℕ) (word : List ℕ) (r r1 r2 : Reading) → word ≡ take (longest is_number (letters r.rest)) (letters r.rest)
-    → r1 ≡ advanced (longest is_number (letters r.rest)) r → r2 ≡ advanced (suffix (letters r1.rest)) r1 → r2 ≡ advanced (length word + suffix (letters r1.rest)) r
+    → r1 ≡ advanced (longest is_number (letters r.rest)) r → r2 ≡ advanced (suffix (letters r1.rest)) r1
+    → r2 ≡ advanced (length word + suffix (letters r1.rest)) r
 after_suffix suffix word r r1 r2 s e f =
-    let n : length word ≡ longest is_number (letters r.rest) = ap length s ∙ length-take-le (longest is_number (letters r.rest)) (letters r.rest) (longest_le is_number (letters r.rest)) in
+    let n : length word ≡ longest is_number (letters r.rest) = ap length s
+    ∙ length-take-le (longest is_number (letters r.rest)) (letters r.rest) (longest_le is_number (letters r.rest)) in
     f ∙ ap (advanced (suffix (letters r1.rest))) e ∙ advanced-advanced (longest is_number (letters r.rest)) (suffix (letters r1.rest)) r.rest r.last
     ∙ ap (λ k. advanced (k + suffix (letters r1.rest)) r) (sym n)

@@ -46,10 +46,12 @@ module _ (p : ℕ → Bool) (h : HoldsNumbers p) where
   -- a number has only characters of these classes
   pub made_number : IsMadeOf p is_number
   unfolding is_number
-  made_number = union_part is_hex_number (λ w. is_decimal_number w || is_point_number w) _ made_hex_number (union_part is_decimal_number is_point_number _ made_decimal_number made_point_number)
+  made_number = union_part is_hex_number (λ w. is_decimal_number w || is_point_number w) _ made_hex_number
+      (union_part is_decimal_number is_point_number _ made_decimal_number made_point_number)
 
 -- no number has a character that is in none of the classes
-pub number_lacks : (k : ℕ) → is_zero k ≡ false → is_x k ≡ false → is_point k ≡ false → is_e k ≡ false → is_sign k ≡ false → is_decimal k ≡ false → is_hex k ≡ false → Lacks k is_number
+pub number_lacks : (k : ℕ) → is_zero k ≡ false → is_x k ≡ false → is_point k ≡ false → is_e k ≡ false → is_sign k ≡ false → is_decimal k ≡ false
+    → is_hex k ≡ false → Lacks k is_number
 number_lacks k a b c d e f g =
     made_number (is_other k) (record {
       zero = missing is_zero k a;
@@ -66,7 +68,8 @@ module _ (p : ℕ → Bool) (decimal : Implies is_decimal p) (point : Implies is
   made_float_exponent : IsMadeOf p float_exponent
   made_float_exponent =
       made_optional p (one is_small_e float_power)
-      (made_one p is_small_e float_power mark (made_maybe p is_sign (one is_decimal digits) sign (made_one p is_decimal digits decimal (made_many p is_decimal nothing decimal (made_nothing p)))))
+      (made_one p is_small_e float_power mark (made_maybe p is_sign (one is_decimal digits) sign
+      (made_one p is_decimal digits decimal (made_many p is_decimal nothing decimal (made_nothing p)))))
 
   made_float_fraction : IsMadeOf p (many is_decimal float_exponent)
   made_float_fraction = made_many p is_decimal float_exponent decimal made_float_exponent
@@ -77,8 +80,10 @@ module _ (p : ℕ → Bool) (decimal : Implies is_decimal p) (point : Implies is
       union_part (one is_decimal (many is_decimal float_tail)) (one is_point (one is_decimal (many is_decimal float_exponent))) _
       (made_one p is_decimal (many is_decimal float_tail) decimal
       (made_many p is_decimal float_tail decimal
-      (union_part float_exponent (one is_point (many is_decimal float_exponent)) _ made_float_exponent (made_one p is_point (many is_decimal float_exponent) point made_float_fraction))))
-      (made_one p is_point (one is_decimal (many is_decimal float_exponent)) point (made_one p is_decimal (many is_decimal float_exponent) decimal made_float_fraction))
+      (union_part float_exponent (one is_point (many is_decimal float_exponent)) _ made_float_exponent
+      (made_one p is_point (many is_decimal float_exponent) point made_float_fraction))))
+      (made_one p is_point (one is_decimal (many is_decimal float_exponent)) point
+      (made_one p is_decimal (many is_decimal float_exponent) decimal made_float_fraction))
 
 -- a float's text is a number
 
@@ -121,13 +126,15 @@ point_part =
 -- a spelling without `0x` is a number's
 pub decimal_number : IsPart is_decimal_number is_number
 unfolding is_number
-decimal_number = right_part is_decimal_number is_hex_number (λ w. is_decimal_number w || is_point_number w) (left_part is_decimal_number is_decimal_number is_point_number (λ w e. e))
+decimal_number = right_part is_decimal_number is_hex_number (λ w. is_decimal_number w || is_point_number w)
+    (left_part is_decimal_number is_decimal_number is_point_number (λ w e. e))
 
 -- a float's text is a number's spelling
 pub float_text_number : IsPart is_float_text is_number
 unfolding is_number
 float_text_number =
     right_part is_float_text is_hex_number (λ w. is_decimal_number w || is_point_number w)
-    (union_part (one is_decimal (many is_decimal float_tail)) (one is_point (one is_decimal (many is_decimal float_exponent))) (λ w. is_decimal_number w || is_point_number w)
+    (union_part (one is_decimal (many is_decimal float_tail)) (one is_point (one is_decimal (many is_decimal float_exponent)))
+    (λ w. is_decimal_number w || is_point_number w)
     (left_part (one is_decimal (many is_decimal float_tail)) is_decimal_number is_point_number digits_part)
     (right_part (one is_point (one is_decimal (many is_decimal float_exponent))) is_decimal_number is_point_number point_part))

@@ -72,7 +72,8 @@ hex_len = longest-many is_hex hex_tail refl hex_tail_apart
 pub decimal_len : (t : List ℕ) → longest (many is_decimal decimal_tail) t ≡ front_len is_decimal t + longest decimal_tail (drop (front_len is_decimal t) t)
 decimal_len = longest-many is_decimal decimal_tail refl decimal_tail_apart
 
-pub signed_len : (t : List ℕ) → longest signed_digits t ≡ (if begins_with is_sign t then 1 else 0) + longest digits (drop (if begins_with is_sign t then 1 else 0) t)
+pub signed_len : (t : List ℕ) → longest signed_digits t ≡ (if begins_with is_sign t then 1 else 0) + longest digits
+    (drop (if begins_with is_sign t then 1 else 0) t)
 unfolding longest
 signed_len [] = refl
 signed_len (c ∷ t) = by (is_sign c) refl
@@ -139,9 +140,12 @@ point_number_len (c ∷ d ∷ t) b h =
     let dd : is_decimal d ≡ true = rw k at b in
     let q : (w : List ℕ) → one is_decimal fraction (d ∷ w) ≡ fraction (d ∷ w) = λ w. rw (dd, e_apart d dd) refl in
     let l : longest (one is_decimal fraction) (d ∷ t) ≡ longest fraction (d ∷ t) = longest_same (one is_decimal fraction) fraction d t q in
-    let f : longest fraction (d ∷ t) ≡ suc (longest fraction t) = longest_step fraction fraction d t (many_pass is_decimal exponent refl exponent_apart d [] dd) (λ w. many_pass is_decimal exponent refl exponent_apart d w dd) in
+    let f : longest fraction (d ∷ t) ≡ suc (longest fraction t) =
+    longest_step fraction fraction d t (many_pass is_decimal exponent refl exponent_apart d [] dd)
+    (λ w. many_pass is_decimal exponent refl exponent_apart d w dd) in
     let some : 0 < longest (one is_decimal fraction) (d ∷ t) = omega (arith, l, f) in
-    let s : longest is_number (46 ∷ d ∷ t) ≡ suc (longest (one is_decimal fraction) (d ∷ t)) = longest_step_some is_number (one is_decimal fraction) 46 (d ∷ t) some (λ w. refl) in
+    let s : longest is_number (46 ∷ d ∷ t) ≡ suc (longest (one is_decimal fraction) (d ∷ t)) =
+    longest_step_some is_number (one is_decimal fraction) 46 (d ∷ t) some (λ w. refl) in
     let one : suc (longest fraction (d ∷ t)) ≡ 1 + longest fraction (drop 1 (c ∷ d ∷ t)) = omega arith in
     ap (λ n. longest is_number (n ∷ d ∷ t)) k ∙ s ∙ ap suc l ∙ one
 
@@ -152,7 +156,8 @@ decimal_digit_number c w d z =
     left ∙ sym (many_pass is_decimal decimal_tail refl decimal_tail_apart c w d)
 
 -- a digit other than `0`
-pub digit_number_len : (t : List ℕ) → begins_number t ≡ true → begins_with is_point t ≡ false → begins_with is_zero t ≡ false → longest is_number t ≡ longest (many is_decimal decimal_tail) t
+pub digit_number_len : (t : List ℕ) → begins_number t ≡ true → begins_with is_point t ≡ false → begins_with is_zero t ≡ false
+    → longest is_number t ≡ longest (many is_decimal decimal_tail) t
 unfolding longest is_number
 digit_number_len [] b p z = refl
 digit_number_len (c ∷ t) b p z =

@@ -32,7 +32,8 @@ use Rattle.pp_lexer.proofs.words.WordAtLemmas.{number_first}
 
 -- what the character after a number is not
 
-ends_class : (p : ℕ → Bool) → ((c : ℕ) → continues_number c ≡ false → p c ≡ false) → (cs : List ℕ) → begins_with continues_number cs ≡ false → begins_with p cs ≡ false
+ends_class : (p : ℕ → Bool) → ((c : ℕ) → continues_number c ≡ false → p c ≡ false) → (cs : List ℕ) → begins_with continues_number cs ≡ false
+    → begins_with p cs ≡ false
 ends_class p f [] h = refl
 ends_class p f (c ∷ cs) h = f c h
 
@@ -86,7 +87,8 @@ module _ (cs : List ℕ) (h : begins_with is_decimal cs ≡ false) where
   no_x_after (c ∷ w) d x = either_apart 120 88 10 refl refl c (and_parts (is_decimal c) (list_all is_decimal w) d).0
 
   -- digits, and what may follow them
-  number_len : (c : ℕ) (w : List ℕ) → is_decimal c ≡ true → list_all is_decimal w ≡ true → begins_with is_x cs ≡ false → longest is_number ((c ∷ w) ++ cs) ≡ suc (length w) + longest decimal_tail cs
+  number_len : (c : ℕ) (w : List ℕ) → is_decimal c ≡ true → list_all is_decimal w ≡ true → begins_with is_x cs ≡ false
+      → longest is_number ((c ∷ w) ++ cs) ≡ suc (length w) + longest decimal_tail cs
   number_len c w d all x = by (is_zero c) refl
     where
       begins : begins_number ((c ∷ w) ++ cs) ≡ true
@@ -135,11 +137,13 @@ either_letter P c a b h x y =
 
 unsigned_ends : (u : ℕ) (cs : List ℕ) → is_u u ≡ true → NoMore (u ∷ cs)
 unsigned_ends u cs h =
-    either_letter (λ c. NoMore (c ∷ cs)) u 117 85 h (record { decimal = refl; x = refl; point = refl; mark = refl }) (record { decimal = refl; x = refl; point = refl; mark = refl })
+    either_letter (λ c. NoMore (c ∷ cs)) u 117 85 h (record { decimal = refl; x = refl; point = refl; mark = refl })
+    (record { decimal = refl; x = refl; point = refl; mark = refl })
 
 float_ends : (f : ℕ) (cs : List ℕ) → is_f f ≡ true → NoMore (f ∷ cs)
 float_ends f cs h =
-    either_letter (λ c. NoMore (c ∷ cs)) f 102 70 h (record { decimal = refl; x = refl; point = refl; mark = refl }) (record { decimal = refl; x = refl; point = refl; mark = refl })
+    either_letter (λ c. NoMore (c ∷ cs)) f 102 70 h (record { decimal = refl; x = refl; point = refl; mark = refl })
+    (record { decimal = refl; x = refl; point = refl; mark = refl })
 
 float_letter : (f : ℕ) (cs : List ℕ) → is_f f ≡ true → width_refusal is_h (f ∷ cs) ≡ None
 float_letter f cs h = either_letter (λ c. width_refusal is_h (c ∷ cs) ≡ None) f 102 70 h refl refl
@@ -156,8 +160,13 @@ module _ (cs : List ℕ) (h : begins_with continues_number cs ≡ false) where
   no_refusal : (is_short : ℕ → Bool) → ((c : ℕ) → continues_number c ≡ false → is_short c ≡ false) → width_refusal is_short cs ≡ None
   no_refusal is_short f = rw (ends_class is_l no_l cs h, ends_class is_short f cs h) refl
 
-  integer_at : (n : ℕ) (w : List ℕ) → IsDecimalText n w → word_at (w ++ cs) ≡ record { value = Ok (Integer (record { value = n; signed = true; width = pos 32 })); taken = length w }
-  integer_at n w t = digits_word cs w ended t.some t.digits ∙ digits_outcome n w t cs ∙ rw (ends_class is_u no_u cs h, no_refusal is_s no_s, digits_value n w t true, add-zero (length w)) refl
+  integer_at : (n : ℕ) (w : List ℕ) → IsDecimalText n w → word_at (w ++ cs) ≡ record {
+    value =
+        Ok (Integer (record { value = n; signed = true; width = pos 32 }));
+    taken = length w;
+  }
+  integer_at n w t = digits_word cs w ended t.some t.digits ∙ digits_outcome n w t cs
+      ∙ rw (ends_class is_u no_u cs h, no_refusal is_s no_s, digits_value n w t true, add-zero (length w)) refl
 
   unsigned_at : (n u : ℕ) (w : List ℕ) → IsDecimalText n w → is_u u ≡ true
       → word_at ((w ++ u ∷ []) ++ cs) ≡ record { value = Ok (Integer (record { value = n; signed = false; width = pos 32 })); taken = length w + 1 }
@@ -190,7 +199,8 @@ all_at p (suc n) (x ∷ xs) l h = all_at p n xs (omega arith) (and_parts (p x) (
 pub digit_at : (n : ℕ) (xs : List ℕ) → n < length xs → list_all is_decimal xs ≡ true → (48 ≤ get_or xs n 0) × (digit_value (get_or xs n 0) ≡ get_or xs n 0 - 48)
 digit_at n xs l h = digit_is (get_or xs n 0) (all_at is_decimal n xs l h)
 
-pub value_more : (n value more : ℕ) (xs : List ℕ) → n < length xs → list_all is_decimal xs ≡ true → value ≡ digits_value_after 10 0 (take n xs) → more ≡ value * 10 + (get_or xs n 0 - 48)
+pub value_more : (n value more : ℕ) (xs : List ℕ) → n < length xs → list_all is_decimal xs ≡ true → value ≡ digits_value_after 10 0 (take n xs)
+    → more ≡ value * 10 + (get_or xs n 0 - 48)
     → more ≡ digits_value_after 10 0 (take (n + 1) xs)
 value_more n value more xs l h e k =
     let d = digit_at n xs l h in
@@ -218,14 +228,18 @@ no_octal (suc n) (c ∷ text) le h = by (c == 48) refl n h
     by true e zero h = rw e refl
     by true e (suc n) h = absurd (omega (arith, h (eqb-true c 48 e)))
 
-pub plain_integer : (text : List ℕ) (n value : ℕ) → IsUtf8 text → 0 < n → n ≤ length text → list_all is_decimal (take n text) ≡ true → (get_or text 0 0 ≡ 48 → n ≤ 1) → value < 2 ^ 64
-    → digits_value_after 10 0 (take n text) ≡ value → Stops continues_number text n → IsPlainWord text (Integer (record { value = value; signed = true; width = pos 32 })) n
+pub plain_integer : (text : List ℕ) (n value : ℕ) → IsUtf8 text → 0 < n → n ≤ length text → list_all is_decimal (take n text) ≡ true
+    → (get_or text 0 0 ≡ 48 → n ≤ 1) → value < 2 ^ 64
+    → digits_value_after 10 0 (take n text) ≡ value → Stops continues_number text n
+    → IsPlainWord text (Integer (record { value = value; signed = true; width = pos 32 })) n
 plain_integer text n value u some le digits octal small e stops =
     let size : length (take n text) ≡ n = length-take-le n text le in
     let t : IsDecimalText value (take n text) = record { small = small; some = omega arith; digits = digits; value = e; no_octal = no_octal n text le octal } in
-    plain_before continues_number refl refl text n u some le stops (Integer (record { value = value; signed = true; width = pos 32 })) (all_plain is_decimal decimal_plain (take n text) digits)
+    plain_before continues_number refl refl text n u some le stops (Integer (record { value = value; signed = true; width = pos 32 }))
+    (all_plain is_decimal decimal_plain (take n text) digits)
     (decimal_no_blank (get_or text 0 0) (first_decimal n text some le digits)) refl
-    (λ cs h. integer_at cs h value (take n text) t ∙ ap (λ k. record { value = Ok (Integer (record { value = value; signed = true; width = pos 32 })); taken = k }) size)
+    (λ cs h. integer_at cs h value (take n text) t
+    ∙ ap (λ k. record { value = Ok (Integer (record { value = value; signed = true; width = pos 32 })); taken = k }) size)
 
 -- a front with the character after it
 take_more : (n : ℕ) (text : List ℕ) → n < length text → take (n + 1) text ≡ take n text ++ get_or text n 0 ∷ []
@@ -243,15 +257,18 @@ plain_more c (d ∷ w) h p =
     let b = and_parts (is_plain d) (list_all is_plain w) h in
     both (is_plain d) (list_all is_plain (w ++ c ∷ [])) b.0 (plain_more c w b.1 p)
 
-pub plain_unsigned : (text : List ℕ) (n value : ℕ) → IsUtf8 text → 0 < n → n ≤ length text → list_all is_decimal (take n text) ≡ true → (get_or text 0 0 ≡ 48 → n ≤ 1) → value < 2 ^ 64
-    → digits_value_after 10 0 (take n text) ≡ value → IsSuffixed 117 85 text n → IsPlainWord text (Integer (record { value = value; signed = false; width = pos 32 })) (n + 1)
+pub plain_unsigned : (text : List ℕ) (n value : ℕ) → IsUtf8 text → 0 < n → n ≤ length text → list_all is_decimal (take n text) ≡ true
+    → (get_or text 0 0 ≡ 48 → n ≤ 1) → value < 2 ^ 64
+    → digits_value_after 10 0 (take n text) ≡ value → IsSuffixed 117 85 text n
+    → IsPlainWord text (Integer (record { value = value; signed = false; width = pos 32 })) (n + 1)
 plain_unsigned text n value u some le digits octal small e suffix =
     let size : length (take n text) ≡ n = length-take-le n text le in
     let t : IsDecimalText value (take n text) = record { small = small; some = omega arith; digits = digits; value = e; no_octal = no_octal n text le octal } in
     let letter = get_or text n 0 in
     let more : take (n + 1) text ≡ take n text ++ letter ∷ [] = take_more n text suffix.within in
     let plain : is_plain letter ≡ true = either_letter (λ c. is_plain c ≡ true) letter 117 85 suffix.letter refl refl in
-    plain_before continues_number refl refl text (n + 1) u (omega arith) (omega (arith, suffix.within)) suffix.stops (Integer (record { value = value; signed = false; width = pos 32 }))
+    plain_before continues_number refl refl text (n + 1) u (omega arith) (omega (arith, suffix.within)) suffix.stops
+    (Integer (record { value = value; signed = false; width = pos 32 }))
     (ap (list_all is_plain) more ∙ plain_more letter (take n text) (all_plain is_decimal decimal_plain (take n text) digits) plain)
     (decimal_no_blank (get_or text 0 0) (first_decimal n text some le digits)) refl
     (λ cs h. ap (λ x. word_at (x ++ cs)) more ∙ unsigned_at cs h value letter (take n text) t suffix.letter
@@ -318,13 +335,22 @@ module _ (cs : List ℕ) (h : begins_with continues_number cs ≡ false) (v w : 
   float_at : word_at ((v ++ 46 ∷ w) ++ cs) ≡ record { value = Ok (Float (record { text = v ++ 46 ∷ w; width = pos 32 })); taken = length (v ++ 46 ∷ w) }
   float_at =
       let u = v ++ 46 ∷ w in
-      pointed_word cs (ended cs h) v w p ∙ rw (no_refusal cs h is_h no_h, value_same u (pointed_text v w p), ends_class is_f no_f cs h, add-zero (length u)) refl
+      pointed_word cs (ended cs h) v w p ∙ rw (
+        no_refusal cs h is_h no_h,
+        value_same u (pointed_text v w p),
+        ends_class is_f no_f cs h,
+        add-zero (length u),
+      ) refl
 
   suffixed_at : (f : ℕ) → is_f f ≡ true
-      → word_at (((v ++ 46 ∷ w) ++ f ∷ []) ++ cs) ≡ record { value = Ok (Float (record { text = v ++ 46 ∷ w; width = pos 32 })); taken = length (v ++ 46 ∷ w) + 1 }
+      → word_at (((v ++ 46 ∷ w) ++ f ∷ []) ++ cs) ≡ record {
+        value = Ok (Float (record { text = v ++ 46 ∷ w; width = pos 32 }));
+        taken = length (v ++ 46 ∷ w) + 1;
+      }
   suffixed_at f e =
       let u = v ++ 46 ∷ w in
-      ap word_at (append_assoc u (f ∷ []) cs) ∙ pointed_word (f ∷ cs) (float_ends f cs e) v w p ∙ rw (float_letter f cs e, value_same u (pointed_text v w p), e) refl
+      ap word_at (append_assoc u (f ∷ []) cs) ∙ pointed_word (f ∷ cs) (float_ends f cs e) v w p
+      ∙ rw (float_letter f cs e, value_same u (pointed_text v w p), e) refl
 
 -- the spelling by its parts
 split_point : (n m : ℕ) (text : List ℕ) → n < length text → get_or text n 0 ≡ 46 → take (suc (n + m)) text ≡ take n text ++ 46 ∷ take m (drop (suc n) text)
@@ -346,7 +372,8 @@ all_joined (c ∷ v) w d e =
     let b = and_parts (is_decimal c) (list_all is_decimal v) d in
     both (is_plain c) (list_all is_plain (v ++ 46 ∷ w)) (decimal_plain c b.0) (all_joined v w b.1 e)
 
-point_no_blank : (n : ℕ) (text : List ℕ) → n < length text → get_or text n 0 ≡ 46 → list_all is_decimal (take n text) ≡ true → is_blank (get_or text 0 0) ≡ false
+point_no_blank : (n : ℕ) (text : List ℕ) → n < length text → get_or text n 0 ≡ 46 → list_all is_decimal (take n text) ≡ true
+    → is_blank (get_or text 0 0) ≡ false
 point_no_blank zero text l e d = ap is_blank e
 point_no_blank (suc n) text l e d = decimal_no_blank (get_or text 0 0) (first_decimal (suc n) text (omega arith) (omega arith) d)
 
@@ -355,7 +382,8 @@ pointed_split n m text l point =
     let size : n + 1 + m ≡ suc (n + m) = omega arith in
     ap (λ k. take k text) size ∙ split_point n m text l point ∙ ap (λ k. take n text ++ 46 ∷ take m (drop k text)) (sym (add-one n))
 
-pub plain_float : (text : List ℕ) (n m : ℕ) → IsUtf8 text → n < length text → get_or text n 0 ≡ 46 → list_all is_decimal (take n text) ≡ true → m ≤ length (drop (n + 1) text)
+pub plain_float : (text : List ℕ) (n m : ℕ) → IsUtf8 text → n < length text → get_or text n 0 ≡ 46 → list_all is_decimal (take n text) ≡ true
+    → m ≤ length (drop (n + 1) text)
     → list_all is_decimal (take m (drop (n + 1) text)) ≡ true → 0 < n + m → Stops continues_number text (n + 1 + m)
     → IsPlainWord text (Float (record { text = take (n + 1 + m) text; width = pos 32 })) (n + 1 + m)
 plain_float text n m u l point whole le fraction some stops =
@@ -363,7 +391,11 @@ plain_float text n m u l point whole le fraction some stops =
     let w = take m (drop (n + 1) text) in
     let within : n + 1 + m ≤ length text = omega (arith, length-drop (n + 1) text) in
     let split : take (n + 1 + m) text ≡ v ++ 46 ∷ w = pointed_split n m text l point in
-    let p : IsPointed v w = record { whole = whole; fraction = fraction; some = omega (arith, length-take-le n text (omega arith), length-take-le m (drop (n + 1) text) le) } in
+    let p : IsPointed v w = record {
+      whole = whole;
+      fraction = fraction;
+      some = omega (arith, length-take-le n text (omega arith), length-take-le m (drop (n + 1) text) le);
+    } in
     plain_before continues_number refl refl text (n + 1 + m) u (omega arith) within stops (Float (record { text = take (n + 1 + m) text; width = pos 32 }))
     (ap (list_all is_plain) split ∙ all_joined v w whole fraction) (point_no_blank n text l point whole) refl
     (λ cs h. ap (λ t. word_at (t ++ cs)) split ∙ float_at cs h v w p
@@ -375,7 +407,8 @@ without_more c w =
     let n : length (w ++ c ∷ []) - 1 ≡ length w = omega (arith, length-append w (c ∷ [])) in
     ap (λ k. take k (w ++ c ∷ [])) n ∙ take_seam w (c ∷ [])
 
-pub plain_suffixed : (text : List ℕ) (n m : ℕ) → IsUtf8 text → n < length text → get_or text n 0 ≡ 46 → list_all is_decimal (take n text) ≡ true → m ≤ length (drop (n + 1) text)
+pub plain_suffixed : (text : List ℕ) (n m : ℕ) → IsUtf8 text → n < length text → get_or text n 0 ≡ 46 → list_all is_decimal (take n text) ≡ true
+    → m ≤ length (drop (n + 1) text)
     → list_all is_decimal (take m (drop (n + 1) text)) ≡ true → 0 < n + m → IsSuffixed 102 70 text (n + 1 + m)
     → IsPlainWord text (Float (record { text = without_suffix (take (n + 1 + m + 1) text); width = pos 32 })) (n + 1 + m + 1)
 plain_suffixed text n m u l point whole le fraction some suffix =
@@ -386,11 +419,16 @@ plain_suffixed text n m u l point whole le fraction some suffix =
     let within : spelled ≤ length text = omega (arith, length-drop (n + 1) text) in
     let split : take spelled text ≡ v ++ 46 ∷ w = pointed_split n m text l point in
     let more : take (spelled + 1) text ≡ (v ++ 46 ∷ w) ++ letter ∷ [] = take_more spelled text suffix.within ∙ ap (λ t. t ++ letter ∷ []) split in
-    let p : IsPointed v w = record { whole = whole; fraction = fraction; some = omega (arith, length-take-le n text (omega arith), length-take-le m (drop (n + 1) text) le) } in
+    let p : IsPointed v w = record {
+      whole = whole;
+      fraction = fraction;
+      some = omega (arith, length-take-le n text (omega arith), length-take-le m (drop (n + 1) text) le);
+    } in
     let plain : is_plain letter ≡ true = either_letter (λ c. is_plain c ≡ true) letter 102 70 suffix.letter refl refl in
     let size : length (v ++ 46 ∷ w) ≡ spelled = ap length (sym split) ∙ length-take-le spelled text within in
     let bare : v ++ 46 ∷ w ≡ without_suffix (take (spelled + 1) text) = sym (ap without_suffix more ∙ without_more letter (v ++ 46 ∷ w)) in
-    plain_before continues_number refl refl text (spelled + 1) u (omega arith) (omega (arith, suffix.within)) suffix.stops (Float (record { text = without_suffix (take (spelled + 1) text); width = pos 32 }))
+    plain_before continues_number refl refl text (spelled + 1) u (omega arith) (omega (arith, suffix.within)) suffix.stops
+    (Float (record { text = without_suffix (take (spelled + 1) text); width = pos 32 }))
     (ap (list_all is_plain) more ∙ plain_more letter (v ++ 46 ∷ w) (all_joined v w whole fraction) plain) (point_no_blank n text l point whole) refl
     (λ cs h. ap (λ t. word_at (t ++ cs)) more ∙ suffixed_at cs h v w p letter suffix.letter
     ∙ ap (λ t. record { value = Ok (Float (record { text = t; width = pos 32 })); taken = length (v ++ 46 ∷ w) + 1 }) bare

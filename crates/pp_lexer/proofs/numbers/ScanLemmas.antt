@@ -28,13 +28,15 @@ further-zero s =
     λ i. record { reading = r i; taken = t i }
 
 -- m characters, and then the longest of a set
-pub then_takes : (P R : List ℕ → Bool) (m : ℕ) (s s1 s2 : Scan) → longest P (upcoming s) ≡ m + longest R (drop m (upcoming s)) → s1 ≡ further m s → Takes R s1 s2 → Takes P s s2
+pub then_takes : (P R : List ℕ → Bool) (m : ℕ) (s s1 s2 : Scan) → longest P (upcoming s) ≡ m + longest R (drop m (upcoming s)) → s1 ≡ further m s
+    → Takes R s1 s2 → Takes P s s2
 then_takes P R m s s1 s2 e a b =
     b ∙ ap (λ x. further (longest R (upcoming x)) x) a ∙ ap (λ t. further (longest R t) (further m s)) (upcoming-further m s)
     ∙ further-further m (longest R (drop m (upcoming s))) s ∙ ap (λ n. further n s) (sym e)
 
 -- a character of the class stood here and was taken
-pub either_then : (P R : List ℕ → Bool) (p : ℕ → Bool) (b : Bool) (s s1 s2 : Scan) → b ≡ begins_with p (upcoming s) → s1 ≡ further (if b then 1 else 0) s → b ≡ true
+pub either_then : (P R : List ℕ → Bool) (p : ℕ → Bool) (b : Bool) (s s1 s2 : Scan) → b ≡ begins_with p (upcoming s)
+    → s1 ≡ further (if b then 1 else 0) s → b ≡ true
     → (begins_with p (upcoming s) ≡ true → longest P (upcoming s) ≡ 1 + longest R (drop 1 (upcoming s))) → Takes R s1 s2 → Takes P s s2
 either_then P R p b s s1 s2 e m h len r =
     then_takes P R 1 s s1 s2 (len (sym e ∙ h)) (m ∙ ap (λ x. further (if x then 1 else 0) s) h) r
@@ -43,7 +45,8 @@ either_then P R p b s s1 s2 e m h len r =
 pub either_same : (b : Bool) (s s1 : Scan) → s1 ≡ further (if b then 1 else 0) s → b ≡ false → s1 ≡ s
 either_same b s s1 m h = m ∙ ap (λ x. further (if x then 1 else 0) s) h ∙ further-zero s
 
-pub either_else : (P R : List ℕ → Bool) (p : ℕ → Bool) (b : Bool) (s s1 s2 : Scan) → b ≡ begins_with p (upcoming s) → s1 ≡ further (if b then 1 else 0) s → b ≡ false
+pub either_else : (P R : List ℕ → Bool) (p : ℕ → Bool) (b : Bool) (s s1 s2 : Scan) → b ≡ begins_with p (upcoming s)
+    → s1 ≡ further (if b then 1 else 0) s → b ≡ false
     → (begins_with p (upcoming s) ≡ false → longest P (upcoming s) ≡ longest R (upcoming s)) → Takes R s1 s2 → Takes P s s2
 either_else P R p b s s1 s2 e m h len r =
     r ∙ ap (λ x. further (longest R (upcoming x)) x) (either_same b s s1 m h) ∙ ap (λ n. further n s) (sym (len (sym e ∙ h)))
@@ -55,7 +58,8 @@ either_stop P p b s s1 e m h len = m ∙ ap (λ x. further (if x then 1 else 0) 
 pub all_taken : (p : ℕ → Bool) (s s1 : Scan) → s1 ≡ further (front_len p (upcoming s)) s → Takes (many p nothing) s s1
 all_taken p s s1 m = m ∙ ap (λ n. further n s) (sym (longest_all p (upcoming s)))
 
-pub signed_after : (b : Bool) (t : List ℕ) → b ≡ begins_with is_sign t → longest signed_digits t ≡ (if b then 1 else 0) + longest digits (drop (if b then 1 else 0) t)
+pub signed_after : (b : Bool) (t : List ℕ) → b ≡ begins_with is_sign t
+    → longest signed_digits t ≡ (if b then 1 else 0) + longest digits (drop (if b then 1 else 0) t)
 signed_after b t e = signed_len t ∙ ap (λ x. (if x then 1 else 0) + longest digits (drop (if x then 1 else 0) t)) (sym e)
 
 -- a digit is taken: where the digits end stays the same
@@ -66,7 +70,8 @@ digit_taken p c s s1 f h m =
     ap (λ x. further (front_len p (upcoming x)) x) m ∙ ap (λ t. further (front_len p t) (further 1 s)) (upcoming-further 1 s)
     ∙ further-further 1 (front_len p (drop 1 (upcoming s))) s ∙ ap (λ k. further k s) (sym n)
 
-pub no_digit : (p : ℕ → Bool) (c : ℕ) (s : Scan) → Some c ≡ option_map (λ x. x.c) (first_char s.reading) → p c ≡ false → further (front_len p (upcoming s)) s ≡ s
+pub no_digit : (p : ℕ → Bool) (c : ℕ) (s : Scan) → Some c ≡ option_map (λ x. x.c) (first_char s.reading) → p c ≡ false
+    → further (front_len p (upcoming s)) s ≡ s
 no_digit p c s f h = ap (λ k. further k s) (front_stopped p c s.reading f h) ∙ further-zero s
 
 pub no_more : (p : ℕ → Bool) (s : Scan) → None ≡ option_map (λ x. x.c) (first_char s.reading) → further (front_len p (upcoming s)) s ≡ s

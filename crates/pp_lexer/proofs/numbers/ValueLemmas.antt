@@ -33,7 +33,8 @@ pub whole_end : (base n : ℕ) → n < 2 ^ 64 → whole_after base n [] ≡ Some
 whole_end base n h = ap (λ t. if t then Some n else None) (lt-ltb n (2 ^ 64) h)
 
 -- no value, since the number grows too large at this digit
-pub whole_too_large : (base v c : ℕ) (text word : List ℕ) → 2 ≤ base → Some c ≡ next_of text → whole_after base v text ≡ whole_after base 0 word → nothing word ≡ false
+pub whole_too_large : (base v c : ℕ) (text word : List ℕ) → 2 ≤ base → Some c ≡ next_of text → whole_after base v text ≡ whole_after base 0 word
+    → nothing word ≡ false
     → 2 ^ 64 ≤ v * base + digit_value c → None ≡ whole base word
 whole_too_large base v c [] word h f i l o = cc
 whole_too_large base v c (d ∷ cs) [] h f i l o = cc

@@ -60,7 +60,8 @@ float_word : (w cs : List ℕ) → is_float_text w ≡ true → is_float w ≡ t
     → word_at (w ++ cs) ≡ record { value = Ok (Float (record { text = w; width = pos 32 })); taken = length w }
 float_word w cs h f b =
     let here : number_outcome w cs ≡ float_outcome w cs = rw f refl in
-    spelled_number w cs (float_text_number w h) (number_ends cs b) ∙ here ∙ rw (no_refusal cs b, value_same w h, break_begins is_f refl cs b, add-zero (length w)) refl
+    spelled_number w cs (float_text_number w h) (number_ends cs b) ∙ here
+    ∙ rw (no_refusal cs b, value_same w h, break_begins is_f refl cs b, add-zero (length w)) refl
 
 -- a float is read as itself
 pub spelled_float : (f : FloatLiteral) (cs : List ℕ) → is_float_text f.text ≡ true → is_float f.text ≡ true → f.width ≡ pos 32 → IsBreak cs

@@ -86,7 +86,8 @@ still_float w h = ap (λ b. list_any (is_float_mark b) (float_text w)) (no_hex (
 float_spelled : (w : List ℕ) → is_float w ≡ true → IsSpelled (float_value w)
 float_spelled w h = by (is_float_text (float_text w)) refl
   where
-    by : (b : Bool) → is_float_text (float_text w) ≡ b → IsSpelled (if b then Ok (Float (record { text = float_text w; width = pos 32 })) else Err FloatParsingError)
+    by : (b : Bool) → is_float_text (float_text w) ≡ b → IsSpelled (if b then Ok
+        (Float (record { text = float_text w; width = pos 32 })) else Err FloatParsingError)
     by true e = (e, still_float w h, refl)
     by false e = tt
 

@@ -71,20 +71,23 @@ first_value s ss v cs h b e = by (is_blank s.c) refl
 
     by : (t : Bool) → is_blank s.c ≡ t → IsFirst s ss v cs
     by true f =
-        let none : word_at (letters (s ∷ ss)) ≡ record { value = Err UnexpectedCharacter; taken = 3 } = no_word (letters (s ∷ ss)) (longest_blank s.c (letters ss) f) in
+        let none : word_at (letters (s ∷ ss)) ≡ record { value = Err UnexpectedCharacter; taken = 3 } =
+        no_word (letters (s ∷ ss)) (longest_blank s.c (letters ss) f) in
         let fault : ◌≡◌ {A = Result LexerTokenValue PreprocessorError} (Ok (lexer_value v)) (Err UnexpectedCharacter) = ap (λ o. o.value) (sym read ∙ none) in
         cc
     by false f =
         let taken : taken_by s ss ≡ length (spelling v) = ap (λ t. if t then 1 else (word_at (letters (s ∷ ss))).taken) f ∙ ap (λ o. o.taken) read in
         record {
           kind = ap (λ t. if t then (if is_mark s.c then comment else blank) else item (word_at (letters (s ∷ ss))).value) f ∙ ap (λ o. item o.value) read;
-          after = ap (λ n. letters (drop n (s ∷ ss))) taken ∙ letters-drop (length (spelling v)) (s ∷ ss) ∙ ap (drop (length (spelling v))) e ∙ drop_at (spelling v) cs (length (spelling v)) refl;
+          after = ap (λ n. letters (drop n (s ∷ ss))) taken ∙ letters-drop (length (spelling v)) (s ∷ ss) ∙ ap (drop (length (spelling v))) e
+              ∙ drop_at (spelling v) cs (length (spelling v)) refl;
         }
 
 nothing_read : (v : TokenValue) (cs : List ℕ) → IsSpellable v → IsBreak cs → [] ≡ spelling v ++ cs → ⊥
 nothing_read v cs h b e =
     let none : word_at [] ≡ record { value = Err UnexpectedCharacter; taken = 3 } = no_word [] (longest_empty is_word) in
-    let fault : ◌≡◌ {A = Result LexerTokenValue PreprocessorError} (Ok (lexer_value v)) (Err UnexpectedCharacter) = ap (λ o. o.value) (sym (ap word_at e ∙ spelled_word v cs h b) ∙ none) in
+    let fault : ◌≡◌ {A = Result LexerTokenValue PreprocessorError} (Ok (lexer_value v)) (Err UnexpectedCharacter) =
+    ap (λ o. o.value) (sym (ap word_at e ∙ spelled_word v cs h b) ∙ none) in
     cc
 
 -- the values of items
@@ -93,13 +96,15 @@ values_in is = map (λ i. item_value i.item) is
 
 -- the items of a text, by its first segment
 module _ (before : List Segment) (s : Spot) (ss : List Spot) where
-  items_first : (k : Kind) → kind_of s ss ≡ k → items_from before (segments (s ∷ ss)) ≡ item_at before (segment_at s ss) k ++ items_from (segment_at s ss ∷ before) (segments (drop (taken_by s ss) (s ∷ ss)))
+  items_first : (k : Kind) → kind_of s ss ≡ k → items_from before (segments (s ∷ ss)) ≡ item_at before (segment_at s ss) k ++ items_from
+      (segment_at s ss ∷ before) (segments (drop (taken_by s ss) (s ∷ ss)))
   unfolding items_from
   items_first k e =
       ap (items_from before) (segments_first s ss)
       ∙ ap (λ x. item_at before (segment_at s ss) x ++ items_from (segment_at s ss ∷ before) (segments (drop (taken_by s ss) (s ∷ ss)))) e
 
-last_newline : (g : Segment) (before : List Segment) (v : LexerTokenValue) → g.kind ≡ item (Ok v) → is_newline_value v ≡ false → values_in (items_from (g ∷ before) (segments [])) ≡ Ok NewLine ∷ []
+last_newline : (g : Segment) (before : List Segment) (v : LexerTokenValue) → g.kind ≡ item (Ok v) → is_newline_value v ≡ false
+    → values_in (items_from (g ∷ before) (segments [])) ≡ Ok NewLine ∷ []
 unfolding items_from
 last_newline g before v e n =
     let inside : start_of_line (g ∷ before) ≡ false = ap (λ k. is_newline k || (is_blank_or_comment k && start_of_line before)) e ∙ ap (λ b. b || false) n in
@@ -110,7 +115,8 @@ no_newline (Ident name) = refl
 no_newline _ = refl
 
 -- a space is passed
-space_passed : (before : List Segment) (ss : List Spot) (cs : List ℕ) → letters ss ≡ 32 ∷ cs → (rest : List Spot) × (g : Segment) × (letters rest ≡ cs) × (items_from before (segments ss) ≡ items_from (g ∷ before) (segments rest))
+space_passed : (before : List Segment) (ss : List Spot) (cs : List ℕ) → letters ss ≡ 32 ∷ cs → (rest : List Spot) × (g : Segment)
+    × (letters rest ≡ cs) × (items_from before (segments ss) ≡ items_from (g ∷ before) (segments rest))
 space_passed before [] cs e = cc
 space_passed before (s ∷ ss) cs e =
     let first : s.c ≡ 32 = cc in
@@ -119,7 +125,8 @@ space_passed before (s ∷ ss) cs e =
     (ss, segment_at s ss, cc, items_first before s ss blank here ∙ ap (λ n. items_from (segment_at s ss ∷ before) (segments (drop n (s ∷ ss)))) one)
 
 -- the values of a text after other segments
-read_from : (values : List TokenValue) (v : TokenValue) (before : List Segment) (ss : List Spot) → IsSpellable v → All IsSpellable values → letters ss ≡ spelled_text (v ∷ values)
+read_from : (values : List TokenValue) (v : TokenValue) (before : List Segment) (ss : List Spot) → IsSpellable v → All IsSpellable values
+    → letters ss ≡ spelled_text (v ∷ values)
     → values_in (items_from before (segments ss)) ≡ map Ok (map lexer_value (v ∷ values) ++ NewLine ∷ [])
 read_from [] v before [] h k e = absurd (nothing_read v [] h tt (e ∙ sym (append-nil (spelling v))))
 read_from [] v before (s ∷ ss) h k e =
@@ -134,16 +141,20 @@ read_from (u ∷ values) v before (s ∷ ss) h k e =
     let p = space_passed (segment_at s ss ∷ before) (drop (taken_by s ss) (s ∷ ss)) (spelled_text (u ∷ values)) f.after in
     ap values_in (items_first before s ss (item (Ok (lexer_value v))) f.kind)
     ∙ ap (λ xs. Ok (lexer_value v) ∷ values_in xs) p.3
-    ∙ ap (λ xs. Ok (lexer_value v) ∷ xs) (read_from values u (p.1 ∷ segment_at s ss ∷ before) p.0 (All-head IsSpellable u values k) (All-tail IsSpellable u values k) p.2)
+    ∙ ap (λ xs. Ok (lexer_value v) ∷ xs) (read_from values u (p.1 ∷ segment_at s ss ∷ before) p.0 (All-head IsSpellable u values k)
+    (All-tail IsSpellable u values k) p.2)
 
-read_all : (values : List TokenValue) (ss : List Spot) → All IsSpellable values → letters ss ≡ spelled_text values → values_in (items_of ss) ≡ map Ok (map lexer_value values ++ ending values)
+read_all : (values : List TokenValue) (ss : List Spot) → All IsSpellable values → letters ss ≡ spelled_text values
+    → values_in (items_of ss) ≡ map Ok (map lexer_value values ++ ending values)
 unfolding items_from
 read_all [] ss h e = ap (λ xs. values_in (items_of xs)) (no_letters ss e) ∙ ap values_in (items_at_start [] ∙ ap (items_from []) segments_none)
 read_all (v ∷ values) ss h e = ap values_in (items_at_start ss) ∙ read_from values v [] ss (All-head IsSpellable v values h) (All-tail IsSpellable v values h) e
 
 -- values that can be spelled are read back from their spellings
-pub read_back : (values : List TokenValue) → All IsSpellable values → read_values (encode_utf8_all (spelled_text values)) ≡ map Ok (map lexer_value values ++ ending values)
+pub read_back : (values : List TokenValue) → All IsSpellable values
+    → read_values (encode_utf8_all (spelled_text values)) ≡ map Ok (map lexer_value values ++ ending values)
 read_back values h =
     let text : List ℕ = encode_utf8_all (spelled_text values) in
     let clean = text_clean values h in
-    map-map (λ (x : Seen). item_value x.item) seen (items_of (spots_of text)) ∙ read_all values (spots_of text) h (plain_letters (spelled_text values) clean.scalars clean.plain)
+    map-map (λ (x : Seen). item_value x.item) seen (items_of (spots_of text))
+    ∙ read_all values (spots_of text) h (plain_letters (spelled_text values) clean.scalars clean.plain)

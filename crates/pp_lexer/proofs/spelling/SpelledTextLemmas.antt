@@ -37,7 +37,8 @@ is_calm c = is_other 10 c && (is_other 13 c && (is_other 92 c && is_other 47 c))
 calm_class : (p : ℕ → Bool) → p 10 ≡ false → p 13 ≡ false → p 92 ≡ false → p 47 ≡ false → Implies p is_calm
 calm_class p a b d e c h =
     both (is_other 10 c) (is_other 13 c && (is_other 92 c && is_other 47 c)) (missing p 10 a c h)
-    (both (is_other 13 c) (is_other 92 c && is_other 47 c) (missing p 13 b c h) (both (is_other 92 c) (is_other 47 c) (missing p 92 d c h) (missing p 47 e c h)))
+    (both (is_other 13 c) (is_other 92 c && is_other 47 c) (missing p 13 b c h)
+    (both (is_other 92 c) (is_other 47 c) (missing p 92 d c h) (missing p 47 e c h)))
 
 calm_char : (a b d e other : Bool) → (not a && (not b && (not d && not e))) ≡ true → ((a || b) ≡ false) × (d ≡ false) × ((e && other) ≡ false)
 calm_char true b d e other h = cc
@@ -78,7 +79,8 @@ identifier_calm =
     made_one is_calm is_start (many is_xid_continue nothing)
     (calm_class is_start (ascii_no_start 10 refl refl) (ascii_no_start 13 refl refl) (ascii_no_start 92 refl refl) (ascii_no_start 47 refl refl))
     (made_many is_calm is_xid_continue nothing
-    (calm_class is_xid_continue (is_xid_continue-ascii 10 (omega arith)) (is_xid_continue-ascii 13 (omega arith)) (is_xid_continue-ascii 92 (omega arith)) (is_xid_continue-ascii 47 (omega arith)))
+    (calm_class is_xid_continue (is_xid_continue-ascii 10 (omega arith)) (is_xid_continue-ascii 13 (omega arith))
+    (is_xid_continue-ascii 92 (omega arith)) (is_xid_continue-ascii 47 (omega arith)))
     (made_nothing is_calm))
 
 -- Numbers
@@ -168,4 +170,5 @@ pub text_clean : (values : List TokenValue) → All IsSpellable values → IsCle
 text_clean [] h = record { plain = tt; scalars = refl }
 text_clean (v ∷ []) h = spelling_clean v (All-head IsSpellable v [] h)
 text_clean (v ∷ u ∷ values) h =
-    space_clean (spelling v) (spelled_text (u ∷ values)) (spelling_clean v (All-head IsSpellable v (u ∷ values) h)) (text_clean (u ∷ values) (All-tail IsSpellable v (u ∷ values) h))
+    space_clean (spelling v) (spelled_text (u ∷ values)) (spelling_clean v (All-head IsSpellable v (u ∷ values) h))
+    (text_clean (u ∷ values) (All-tail IsSpellable v (u ∷ values) h))

@@ -41,7 +41,8 @@ word_spelled : (w after : List ℕ) → all_scalars w ≡ true → IsSpelled (wo
 word_spelled w after h = by (is_newline_word w) (is_identifier w) (is_number w) refl
   where
     by : (a b d : Bool) → is_identifier w ≡ b
-        → IsSpelled (if a then record { value = Ok NewLine; taken = 1 } else if b then record { value = Ok (Ident w); taken = length w } else if d then number_outcome w after else punctuation_outcome (length w) (punctuation_value w)).value
+        → IsSpelled (if a then record { value = Ok NewLine; taken = 1 } else if b then record
+        { value = Ok (Ident w); taken = length w } else if d then number_outcome w after else punctuation_outcome (length w) (punctuation_value w)).value
     by true b d e = tt
     by false true d e = (e, h)
     by false false true e = number_spelled w after
@@ -79,7 +80,8 @@ kind_spelled s ss h = by (is_blank s.c) (is_mark s.c)
     by true false = tt
     by false b = place_spelled (letters (s ∷ ss)) h
 
-item_spelled : (before : List Segment) (g : Segment) (k : Kind) (is : List Item) → KindIsSpelled k → All IsSpelled (values_in is) → All IsSpelled (values_in (item_at before g k ++ is))
+item_spelled : (before : List Segment) (g : Segment) (k : Kind) (is : List Item) → KindIsSpelled k → All IsSpelled (values_in is)
+    → All IsSpelled (values_in (item_at before g k ++ is))
 item_spelled before g blank is k h = h
 item_spelled before g comment is k h = h
 item_spelled before g (item (Ok v)) is k h = All-cons IsSpelled (Ok v) (values_in is) k h
@@ -93,14 +95,17 @@ newline_spelled (g ∷ gs) = by (start_of_line (g ∷ gs)) refl
     by true e = rw e (All-nil IsSpelled)
     by false e = rw e (All-cons IsSpelled (Ok NewLine) [] tt (All-nil IsSpelled))
 
-segments_spelled : (n : ℕ) (before : List Segment) (ss : List Spot) → list_all scalar (letters ss) ≡ true → All IsSpelled (values_in (items_from before (segments_within n ss)))
+segments_spelled : (n : ℕ) (before : List Segment) (ss : List Spot) → list_all scalar (letters ss) ≡ true
+    → All IsSpelled (values_in (items_from before (segments_within n ss)))
 unfolding items_from
 segments_spelled zero before ss h = newline_spelled before
 segments_spelled (suc n) before [] h = newline_spelled before
 segments_spelled (suc n) before (s ∷ ss) h =
     let rest : List Spot = drop (taken_by s ss) (s ∷ ss) in
-    let still : list_all scalar (letters rest) ≡ true = ap (list_all scalar) (letters-drop (taken_by s ss) (s ∷ ss)) ∙ drop_scalar (taken_by s ss) (letters (s ∷ ss)) h in
-    item_spelled before (segment_at s ss) (kind_of s ss) (items_from (segment_at s ss ∷ before) (segments_within n rest)) (kind_spelled s ss h) (segments_spelled n (segment_at s ss ∷ before) rest still)
+    let still : list_all scalar (letters rest) ≡ true = ap (list_all scalar) (letters-drop (taken_by s ss) (s ∷ ss))
+    ∙ drop_scalar (taken_by s ss) (letters (s ∷ ss)) h in
+    item_spelled before (segment_at s ss) (kind_of s ss) (items_from (segment_at s ss ∷ before) (segments_within n rest)) (kind_spelled s ss h)
+    (segments_spelled n (segment_at s ss ∷ before) rest still)
 
 items_spelled : (ss : List Spot) → list_all scalar (letters ss) ≡ true → All IsSpelled (values_in (items_of ss))
 unfolding segments
@@ -109,4 +114,5 @@ items_spelled ss h = subst (λ is. All IsSpelled (values_in is)) (sym (items_at_
 -- the values of a source's items
 pub values_spelled : (source : List ℕ) → IsUtf8 source → All IsSpelled (read_values source)
 values_spelled source u =
-    subst (All IsSpelled) (sym (map-map (λ (x : Seen). item_value x.item) seen (items_of (spots_of source)))) (items_spelled (spots_of source) (source_scalar source u))
+    subst (All IsSpelled) (sym (map-map (λ (x : Seen). item_value x.item) seen (items_of (spots_of source))))
+    (items_spelled (spots_of source) (source_scalar source u))

@@ -145,7 +145,8 @@ no_number AddAssign cs h = refl
 no_number _ cs h = refl
 
 -- a punctuator is read as itself
-pub spelled_punctuator : (p : Punctuator) (cs : List ℕ) → IsBreak cs → word_at (punctuator p ++ cs) ≡ record { value = Ok (Punct p); taken = length (punctuator p) }
+pub spelled_punctuator : (p : Punctuator) (cs : List ℕ) → IsBreak cs
+    → word_at (punctuator p ++ cs) ≡ record { value = Ok (Punct p); taken = length (punctuator p) }
 unfolding punctuation_at
 spelled_punctuator p cs b =
     let w : List ℕ = punctuator p in

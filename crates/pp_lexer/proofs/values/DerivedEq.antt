@@ -15,7 +15,8 @@ EachDecides [] tests = Unit {0}
 EachDecides (fields ∷ variants) tests =
     ((x y : Values fields) → Decides (tests.0 x y) (x ≡ y)) × EachDecides variants tests.1
 
-choices_decide : (variants : List (List Field)) (tests : Each Bool variants) → EachDecides variants tests → (c d : Choice variants) → Decides (by false false variants tests c d) (c ≡ d)
+choices_decide : (variants : List (List Field)) (tests : Each Bool variants) → EachDecides variants tests → (c d : Choice variants)
+    → Decides (by false false variants tests c d) (c ≡ d)
 choices_decide [] tests each c d = absurd c
 choices_decide (fields ∷ variants) tests each (inl x) (inl y) =
     Decides-like (tests.0 x y) (ap inl) (ap (left_or x)) (each.0 x y)
@@ -24,7 +25,8 @@ choices_decide (fields ∷ variants) tests each (inr c) (inl y) = (λ h. absurd 
 choices_decide (fields ∷ variants) tests each (inr c) (inr d) =
     Decides-like (by false false variants tests.1 c d) (ap inr) (ap (right_or c)) (choices_decide variants tests.1 each.1 c d)
 
-pub enum_decides : (enum : Record) (tests : Each Bool enum.parts) → EachDecides enum.parts tests → (x y : enum.D) → Decides (by false false enum.parts tests (enum.as_values x) (enum.as_values y)) (x ≡ y)
+pub enum_decides : (enum : Record) (tests : Each Bool enum.parts) → EachDecides enum.parts tests → (x y : enum.D)
+    → Decides (by false false enum.parts tests (enum.as_values x) (enum.as_values y)) (x ≡ y)
 enum_decides enum tests each x y =
     Decides-like _ (values_one enum x y) (ap enum.as_values) (choices_decide enum.parts tests each (enum.as_values x) (enum.as_values y))
 

@@ -35,7 +35,8 @@ version_decides a b =
     Decides-like _
     (λ p i. record { tokens = p.0 i; is_first_directive = p.1.0 i; has_comments_before = p.1.1 i })
     (λ e. (ap (λ x. x.tokens) e, (ap (λ x. x.is_first_directive) e, ap (λ x. x.has_comments_before) e)))
-    (Decides-and _ _ (entries_decide a.tokens b.tokens) (Decides-and _ _ (beq_decides a.is_first_directive b.is_first_directive) (beq_decides a.has_comments_before b.has_comments_before)))
+    (Decides-and _ _ (entries_decide a.tokens b.tokens) (Decides-and _ _ (beq_decides a.is_first_directive b.is_first_directive)
+    (beq_decides a.has_comments_before b.has_comments_before)))
 
 extension_decides : (a b : Extension) → Decides (extension_eq.it a b) (a ≡ b)
 extension_decides a b =
@@ -50,8 +51,19 @@ pragma_decides a b =
 
 pub value_decides : (a b : TokenValue) → Decides (value_eq.it a b) (a ≡ b)
 value_decides =
-    enum_decides value_enum _
-    (one_decides _ bytes_decides, (one_decides _ integer_decides, (one_decides _ float_decides, (one_decides _ punct_decides, (one_decides _ version_decides, (one_decides _ extension_decides, (one_decides _ pragma_decides, tt)))))))
+    enum_decides value_enum _ (
+      one_decides _ bytes_decides,
+      (
+        one_decides _ integer_decides,
+        (
+          one_decides _ float_decides,
+          (
+            one_decides _ punct_decides,
+            (one_decides _ version_decides, (one_decides _ extension_decides, (one_decides _ pragma_decides, tt))),
+          ),
+        ),
+      ),
+    )
 
 pub token_decides : (a b : Token) → Decides (token_eq.it a b) (a ≡ b)
 token_decides a b =
@@ -68,12 +80,21 @@ error_decides = enum_decides error_enum _ (search (bare_decides, unexpected_deci
 
 lexer_value_decides : (a b : LexerTokenValue) → Decides (lexer_value_eq.it a b) (a ≡ b)
 lexer_value_decides =
-    enum_decides lexer_value_enum _
-    (bare_decides, (bare_decides, (one_decides _ bytes_decides, (one_decides _ integer_decides, (one_decides _ float_decides, (one_decides _ punct_decides, tt))))))
+    enum_decides lexer_value_enum _ (
+      bare_decides,
+      (
+        bare_decides,
+        (
+          one_decides _ bytes_decides,
+          (one_decides _ integer_decides, (one_decides _ float_decides, (one_decides _ punct_decides, tt))),
+        ),
+      ),
+    )
 
 pub lexer_token_decides : (a b : LexerToken) → Decides (lexer_token_eq.it a b) (a ≡ b)
 lexer_token_decides a b =
     Decides-like _
     (λ p i. record { value = p.0 i; location = p.1.0 i; leading_whitespace = p.1.1.0 i; start_of_line = p.1.1.1 i })
     (λ e. (ap (λ x. x.value) e, (ap (λ x. x.location) e, (ap (λ x. x.leading_whitespace) e, ap (λ x. x.start_of_line) e))))
-    (Decides-and _ _ (lexer_value_decides a.value b.value) (Decides-and _ _ (location_decides a.location b.location) (Decides-and _ _ (beq_decides a.leading_whitespace b.leading_whitespace) (beq_decides a.start_of_line b.start_of_line))))
+    (Decides-and _ _ (lexer_value_decides a.value b.value) (Decides-and _ _ (location_decides a.location b.location)
+    (Decides-and _ _ (beq_decides a.leading_whitespace b.leading_whitespace) (beq_decides a.start_of_line b.start_of_line))))

@@ -18,7 +18,8 @@ pub chars-push : (bs : List ℕ) (c : ℕ) → IsUtf8 bs → IsScalar c → char
 chars-push bs c u s = chars-append bs (encode c) u ∙ ap (λ t. chars bs ++ t) (chars-encode c s)
 
 -- a text after a push, which memory may have refused
-pub chars-pushed : {T E : Type 0} (r : Result T E) (old new : List ℕ) (c : ℕ) → IsUtf8 old → IsScalar c → new ≡ (if is_ok r then old ++ encode c else old) → OnOk r (chars new ≡ chars old ++ c ∷ []) × OnErr r (chars new ≡ chars old)
+pub chars-pushed : {T E : Type 0} (r : Result T E) (old new : List ℕ) (c : ℕ) → IsUtf8 old → IsScalar c
+    → new ≡ (if is_ok r then old ++ encode c else old) → OnOk r (chars new ≡ chars old ++ c ∷ []) × OnErr r (chars new ≡ chars old)
 chars-pushed (Ok x) old new c u s e = (ap chars e ∙ chars-push old c u s, tt)
 chars-pushed (Err d) old new c u s e = (tt, ap chars e)
 

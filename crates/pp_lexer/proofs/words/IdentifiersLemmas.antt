@@ -26,7 +26,8 @@ identifier_read (s ∷ ss) last c t q r b e f g h =
     let li : longest is_identifier (s.c ∷ letters ss) ≡ suc (front_len is_xid_continue (letters ss)) = longest_identifier s.c (letters ss) b in
     let k : c ≡ s.c = cc in
     let g' : t ≡ s.c ∷ take (front_len is_xid_continue (letters ss)) (letters ss) =
-    g ∙ ap (λ x. x ∷ take (front_len is_xid_continue (letters q.rest)) (letters q.rest)) k ∙ ap (λ x. s.c ∷ take (front_len is_xid_continue (letters x.rest)) (letters x.rest)) f in
+    g ∙ ap (λ x. x ∷ take (front_len is_xid_continue (letters q.rest)) (letters q.rest)) k
+    ∙ ap (λ x. s.c ∷ take (front_len is_xid_continue (letters x.rest)) (letters x.rest)) f in
     let h' : r ≡ advanced_of (front_len is_xid_continue (letters ss)) ss s = h ∙ ap (λ x. advanced (front_len is_xid_continue (letters x.rest)) x) f in
     record {
       text = g' ∙ sym (ap (λ n. take n (s.c ∷ letters ss)) li);

@@ -6,7 +6,8 @@ use Rattle.pp_lexer.specs.Longest.{longest_within, longest, front_len}
 use Rattle.pp_lexer.specs.Spellings.{nothing, one, many, maybe, optional}
 
 -- two sets that have the same fronts of a text
-pub within_same : (P Q : List ℕ → Bool) (cs ds : List ℕ) → ((k : ℕ) → P (take (suc k) cs) ≡ Q (take (suc k) ds)) → (n : ℕ) → longest_within P cs n ≡ longest_within Q ds n
+pub within_same : (P Q : List ℕ → Bool) (cs ds : List ℕ) → ((k : ℕ) → P (take (suc k) cs) ≡ Q (take (suc k) ds)) → (n : ℕ)
+    → longest_within P cs n ≡ longest_within Q ds n
 within_same P Q cs ds same zero = refl
 within_same P Q cs ds same (suc n) = rw (same n, within_same P Q cs ds same n) refl
 
@@ -29,11 +30,13 @@ unfolding longest
 longest_none P c cs none = within_none P c cs none (length (c ∷ cs))
 
 -- c itself is a spelling: the longest goes on in what may follow c
-within_step : (P Q : List ℕ → Bool) (c : ℕ) (cs : List ℕ) → P (c ∷ []) ≡ true → ((w : List ℕ) → P (c ∷ w) ≡ Q w) → (n : ℕ) → longest_within P (c ∷ cs) (suc n) ≡ suc (longest_within Q cs n)
+within_step : (P Q : List ℕ → Bool) (c : ℕ) (cs : List ℕ) → P (c ∷ []) ≡ true → ((w : List ℕ) → P (c ∷ w) ≡ Q w) → (n : ℕ)
+    → longest_within P (c ∷ cs) (suc n) ≡ suc (longest_within Q cs n)
 within_step P Q c cs alone next zero = rw alone refl
 within_step P Q c cs alone next (suc n) = by (Q (take (suc n) cs)) refl (within_step P Q c cs alone next n)
   where
-    by : (b : Bool) → Q (take (suc n) cs) ≡ b → longest_within P (c ∷ cs) (suc n) ≡ suc (longest_within Q cs n) → longest_within P (c ∷ cs) (suc (suc n)) ≡ suc (longest_within Q cs (suc n))
+    by : (b : Bool) → Q (take (suc n) cs) ≡ b → longest_within P (c ∷ cs) (suc n) ≡ suc (longest_within Q cs n)
+        → longest_within P (c ∷ cs) (suc (suc n)) ≡ suc (longest_within Q cs (suc n))
     by true e h = rw (next (take (suc n) cs), e) refl
     by false e h = rw (next (take (suc n) cs), e) h
 
@@ -42,15 +45,18 @@ unfolding longest
 longest_step P Q c cs alone next = within_step P Q c cs alone next (length cs)
 
 -- the same where c alone may be no spelling, and some spelling begins with it here
-within_step_some : (P Q : List ℕ → Bool) (c : ℕ) (cs : List ℕ) → ((w : List ℕ) → P (c ∷ w) ≡ Q w) → (n : ℕ) → 0 < longest_within Q cs n → longest_within P (c ∷ cs) (suc n) ≡ suc (longest_within Q cs n)
+within_step_some : (P Q : List ℕ → Bool) (c : ℕ) (cs : List ℕ) → ((w : List ℕ) → P (c ∷ w) ≡ Q w) → (n : ℕ) → 0 < longest_within Q cs n
+    → longest_within P (c ∷ cs) (suc n) ≡ suc (longest_within Q cs n)
 within_step_some P Q c cs next zero some = absurd (omega arith)
 within_step_some P Q c cs next (suc n) some = by (Q (take (suc n) cs)) refl (within_step_some P Q c cs next n)
   where
-    by : (b : Bool) → Q (take (suc n) cs) ≡ b → (0 < longest_within Q cs n → longest_within P (c ∷ cs) (suc n) ≡ suc (longest_within Q cs n)) → longest_within P (c ∷ cs) (suc (suc n)) ≡ suc (longest_within Q cs (suc n))
+    by : (b : Bool) → Q (take (suc n) cs) ≡ b → (0 < longest_within Q cs n → longest_within P (c ∷ cs) (suc n) ≡ suc (longest_within Q cs n))
+        → longest_within P (c ∷ cs) (suc (suc n)) ≡ suc (longest_within Q cs (suc n))
     by true e h = rw (next (take (suc n) cs), e) refl
     by false e h = let s : 0 < longest_within Q cs n = rw e at some in rw (next (take (suc n) cs), e) (h s)
 
-pub longest_step_some : (P Q : List ℕ → Bool) (c : ℕ) (cs : List ℕ) → 0 < longest Q cs → ((w : List ℕ) → P (c ∷ w) ≡ Q w) → longest P (c ∷ cs) ≡ suc (longest Q cs)
+pub longest_step_some : (P Q : List ℕ → Bool) (c : ℕ) (cs : List ℕ) → 0 < longest Q cs → ((w : List ℕ) → P (c ∷ w) ≡ Q w)
+    → longest P (c ∷ cs) ≡ suc (longest Q cs)
 unfolding longest
 longest_step_some P Q c cs some next = within_step_some P Q c cs next (length cs) some
 
@@ -78,7 +84,8 @@ module _ (p : ℕ → Bool) (tail : List ℕ → Bool) (ends : tail [] ≡ true)
           longest_step (many p tail) (many p tail) c cs (many_pass c [] e ∙ ends) (λ w. many_pass c w e) in
           let more : front_len p (c ∷ cs) ≡ suc (front_len p cs) = rw e refl in
           let sum : suc (longest (many p tail) cs) ≡ suc (front_len p cs) + longest tail (drop (front_len p cs) cs) = omega (arith, h) in
-          let same : suc (front_len p cs) + longest tail (drop (suc (front_len p cs)) (c ∷ cs)) ≡ front_len p (c ∷ cs) + longest tail (drop (front_len p (c ∷ cs)) (c ∷ cs)) =
+          let same : suc (front_len p cs) + longest tail (drop (suc (front_len p cs)) (c ∷ cs)) ≡ front_len p (c ∷ cs) + longest tail
+          (drop (front_len p (c ∷ cs)) (c ∷ cs)) =
           ap (λ n. n + longest tail (drop n (c ∷ cs))) (sym more) in
           s ∙ sum ∙ same
       by false e h =
@@ -160,7 +167,8 @@ within_in : (P : List ℕ → Bool) (cs : List ℕ) (n : ℕ) → 0 < longest_wi
 within_in P cs zero some = absurd (omega arith)
 within_in P cs (suc n) some = by (P (take (suc n) cs)) refl (within_in P cs n)
   where
-    by : (b : Bool) → P (take (suc n) cs) ≡ b → (0 < longest_within P cs n → P (take (longest_within P cs n) cs) ≡ true) → P (take (longest_within P cs (suc n)) cs) ≡ true
+    by : (b : Bool) → P (take (suc n) cs) ≡ b → (0 < longest_within P cs n → P (take (longest_within P cs n) cs) ≡ true)
+        → P (take (longest_within P cs (suc n)) cs) ≡ true
     by true e h = rw e e
     by false e h = let s : 0 < longest_within P cs n = rw e at some in rw e (h s)
 

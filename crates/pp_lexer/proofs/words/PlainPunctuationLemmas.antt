@@ -65,7 +65,14 @@ first_of c cs p h =
     let d = and_parts (not (c == 10)) _ b.1 in
     let e = and_parts (not (begins c)) _ d.1 in
     let f = and_parts (not (is_decimal c)) _ e.1 in
-    record { small = below c 128 a.0; no_blank = negated _ b.0; no_feed = negated _ d.0; no_letter = negated _ e.0; no_decimal = negated _ f.0; no_hash = negated _ f.1 }
+    record {
+      small = below c 128 a.0;
+      no_blank = negated _ b.0;
+      no_feed = negated _ d.0;
+      no_letter = negated _ e.0;
+      no_decimal = negated _ f.0;
+      no_hash = negated _ f.1;
+    }
 
 passes_of : (c : ℕ) (cs : List ℕ) (p : Punctuator) → punct_of (c ∷ cs) ≡ Some p → passes c cs ≡ true
 passes_of c cs p h = (and_parts (first_fits c) (passes c cs) (spelling_fits (c ∷ cs) p h)).1
@@ -86,7 +93,8 @@ unspelled_third c d e n = by (punct_of (c ∷ d ∷ e ∷ [])) refl
     by : (o : Option Punctuator) → punct_of (c ∷ d ∷ e ∷ []) ≡ o → is_some (punct_of (c ∷ d ∷ e ∷ [])) ≡ false
     by None k = ap is_some k
     by (Some p) k =
-        let a = and_parts (is_plain c || ((c == 47) && (d == 61))) (is_plain d && (not (is_decimal d) && list_all is_plain (e ∷ []))) (passes_of c (d ∷ e ∷ []) p k) in
+        let a = and_parts (is_plain c || ((c == 47) && (d == 61))) (is_plain d && (not (is_decimal d) && list_all is_plain (e ∷ []))) (passes_of c
+        (d ∷ e ∷ []) p k) in
         let b = and_parts (is_plain d) (not (is_decimal d) && list_all is_plain (e ∷ [])) a.1 in
         let f = and_parts (not (is_decimal d)) (list_all is_plain (e ∷ [])) b.1 in
         absurd (false≢true (sym n ∙ (and_parts (is_plain e) true f.1).0))
@@ -102,7 +110,8 @@ either_false false b e f = f
 -- a newline or a mark continues nothing
 break_after : (c d : ℕ) → is_plain d ≡ false → is_decimal d ≡ false → ((d == 47) || (d == 42)) ≡ false → continues_punct c d ≡ false
 break_after c d n k m =
-    either_false _ _ (unspelled c d [] n) (either_false (is_point c && is_decimal d) (begins_comment c d) (and_right (is_point c) (is_decimal d) k) (and_right (c == 47) ((d == 47) || (d == 42)) m))
+    either_false _ _ (unspelled c d [] n) (either_false (is_point c && is_decimal d) (begins_comment c d) (and_right (is_point c) (is_decimal d) k)
+    (and_right (c == 47) ((d == 47) || (d == 42)) m))
 
 -- what stands there
 
@@ -115,13 +124,16 @@ no_number c cs f h = either_false (is_decimal c) (is_point c && begins_with is_d
 longest_word : (c : ℕ) (cs : List ℕ) (n : ℕ) (p : Punctuator) → First c → (is_point c && begins_with is_decimal cs) ≡ false → IsLongest (c ∷ cs) n (Some p)
     → word_at (c ∷ cs) ≡ record { value = Ok (Punct p); taken = n }
 longest_word c cs n p f h l =
-    other_first (c ∷ cs) f.no_feed (starts_nothing c f) (no_number c cs f h) ∙ at_punct (c ∷ cs) p f.no_hash (sym l.value) ∙ ap (λ k. record { value = Ok (Punct p); taken = k }) l.taken
+    other_first (c ∷ cs) f.no_feed (starts_nothing c f) (no_number c cs f h) ∙ at_punct (c ∷ cs) p f.no_hash (sym l.value)
+    ∙ ap (λ k. record { value = Ok (Punct p); taken = k }) l.taken
 
-single_at : (c : ℕ) (cs : List ℕ) (p : Punctuator) → punct_of (c ∷ []) ≡ Some p → begins_with (continues_punct c) cs ≡ false → word_at (c ∷ cs) ≡ record { value = Ok (Punct p); taken = 1 }
+single_at : (c : ℕ) (cs : List ℕ) (p : Punctuator) → punct_of (c ∷ []) ≡ Some p → begins_with (continues_punct c) cs ≡ false
+    → word_at (c ∷ cs) ≡ record { value = Ok (Punct p); taken = 1 }
 single_at c [] p one h = longest_word c [] 1 p (first_of c [] p one) (and_right (is_point c) false refl) (one_at_end c p one)
 single_at c (d ∷ cs) p one h =
     let a = or_parts (is_some (punct_of (c ∷ d ∷ []))) _ h in
-    longest_word c (d ∷ cs) 1 p (first_of c [] p one) (or_parts (is_point c && is_decimal d) (begins_comment c d) a.1).0 (one_alone c p one d cs (nothing_of (punct_of (c ∷ d ∷ [])) a.0))
+    longest_word c (d ∷ cs) 1 p (first_of c [] p one) (or_parts (is_point c && is_decimal d) (begins_comment c d) a.1).0
+    (one_alone c p one d cs (nothing_of (punct_of (c ∷ d ∷ [])) a.0))
 
 -- the front of a longer one is a punctuator too
 one_of : (c d : ℕ) (q : Punctuator) → punct_of (c ∷ d ∷ []) ≡ Some q → (p : Punctuator) × (punct_of (c ∷ []) ≡ Some p)
@@ -137,7 +149,8 @@ second_no_decimal c d ds q h =
     let a = and_parts (is_plain c || ((c == 47) && (d == 61))) (is_plain d && (not (is_decimal d) && list_all is_plain ds)) (passes_of c (d ∷ ds) q h) in
     negated _ (and_parts (not (is_decimal d)) (list_all is_plain ds) (and_parts (is_plain d) _ a.1).1).0
 
-pair_at : (c d : ℕ) (cs : List ℕ) (q : Punctuator) → punct_of (c ∷ d ∷ []) ≡ Some q → begins_with (continues_pair c d) cs ≡ false → word_at (c ∷ d ∷ cs) ≡ record { value = Ok (Punct q); taken = 2 }
+pair_at : (c d : ℕ) (cs : List ℕ) (q : Punctuator) → punct_of (c ∷ d ∷ []) ≡ Some q → begins_with (continues_pair c d) cs ≡ false
+    → word_at (c ∷ d ∷ cs) ≡ record { value = Ok (Punct q); taken = 2 }
 pair_at c d cs q two h =
     let one = one_of c d q two in
     longest_word c (d ∷ cs) 2 q (first_of c (d ∷ []) q two) (and_right (is_point c) (is_decimal d) (second_no_decimal c d [] q two)) (by cs h one.0 one.1)
@@ -146,10 +159,12 @@ pair_at c d cs q two h =
     by [] h p one = two_at_end c p one d q two
     by (e ∷ cs) h p one = two_alone c p one d q two e cs (nothing_of (punct_of (c ∷ d ∷ e ∷ [])) h)
 
-triple_at : (c d e : ℕ) (cs : List ℕ) (q x : Punctuator) → punct_of (c ∷ d ∷ []) ≡ Some q → punct_of (c ∷ d ∷ e ∷ []) ≡ Some x → word_at (c ∷ d ∷ e ∷ cs) ≡ record { value = Ok (Punct x); taken = 3 }
+triple_at : (c d e : ℕ) (cs : List ℕ) (q x : Punctuator) → punct_of (c ∷ d ∷ []) ≡ Some q → punct_of (c ∷ d ∷ e ∷ []) ≡ Some x
+    → word_at (c ∷ d ∷ e ∷ cs) ≡ record { value = Ok (Punct x); taken = 3 }
 triple_at c d e cs q x two three =
     let one = one_of c d q two in
-    longest_word c (d ∷ e ∷ cs) 3 x (first_of c (d ∷ []) q two) (and_right (is_point c) (is_decimal d) (second_no_decimal c d [] q two)) (three_of c one.0 one.1 d q two e cs x three)
+    longest_word c (d ∷ e ∷ cs) 3 x (first_of c (d ∷ []) q two) (and_right (is_point c) (is_decimal d) (second_no_decimal c d [] q two))
+    (three_of c one.0 one.1 d q two e cs x three)
 
 -- the front of a text
 
@@ -158,12 +173,14 @@ front_none [] line at = ap (λ k. spots_from line k []) (omega arith)
 front_none (c ∷ text) line at = ap (λ k. spots_from line k (c ∷ text)) (omega arith)
 
 -- no comment begins at a slash before this text
-before_none : (P : ℕ → Bool) → P 10 ≡ false → (line at : ℕ) (text : List ℕ) → IsUtf8 text → (0 < length text → (get_or text 0 0 < 128) × ((get_or text 0 0 == 92) ≡ false) × (P (get_or text 0 0) ≡ false))
+before_none : (P : ℕ → Bool) → P 10 ≡ false → (line at : ℕ) (text : List ℕ) → IsUtf8 text
+    → (0 < length text → (get_or text 0 0 < 128) × ((get_or text 0 0 == 92) ≡ false) × (P (get_or text 0 0) ≡ false))
     → begins_with (λ q. P q.char) (continued (placed_from line at (pieces (chars text)))) ≡ false
 before_none P feed line at [] u h = nothing_begins (λ q. P q.char) line at
 before_none P feed line at (b ∷ text) u h = let k = h (omega arith) in joined_is_not P feed line at b text k.0 k.1 k.2 u
 
-slash_front : (n : ℕ) (text : List ℕ) → IsUtf8 (47 ∷ text) → (0 < length text → (get_or text 0 0 < 128) × ((get_or text 0 0 == 92) ≡ false) × (((get_or text 0 0 == 47) || (get_or text 0 0 == 42)) ≡ false)) → IsFront text n
+slash_front : (n : ℕ) (text : List ℕ) → IsUtf8 (47 ∷ text) → (0 < length text → (get_or text 0 0 < 128) × ((get_or text 0 0 == 92) ≡ false)
+    × (((get_or text 0 0 == 47) || (get_or text 0 0 == 42)) ≡ false)) → IsFront text n
     → IsFront (47 ∷ text) (suc n)
 slash_front n text u h f line at =
     let v : IsUtf8 text = utf8_after 47 text (omega arith) u in
@@ -202,9 +219,11 @@ hash_word [] u some h = absurd (omega arith)
 hash_word (c ∷ text) u some h =
     let one : take 1 (c ∷ text) ≡ c ∷ [] = take_one c text in
     let plain : list_all is_plain (take 1 (c ∷ text)) ≡ true = ap (list_all is_plain) one ∙ ap (λ b. list_all is_plain (b ∷ [])) h in
-    word_always (c ∷ text) 1 Hash (omega arith) (omega arith) (IsCharBoundary-after_ascii (c ∷ text) 0 u some (omega (arith, h))) (plain_ascii (take 1 (c ∷ text)) plain)
+    word_always (c ∷ text) 1 Hash (omega arith) (omega arith)
+    (IsCharBoundary-after_ascii (c ∷ text) 0 u some (omega (arith, h))) (plain_ascii (take 1 (c ∷ text)) plain)
     (front_plain 1 (c ∷ text) u (omega arith) plain) (ap is_blank h) refl
-    (λ line at. ap (λ t. word_at (t ++ letters (spots_from line at (drop 1 (c ∷ text))))) (one ∙ ap (λ b. b ∷ []) h) ∙ hash_at (letters (spots_from line at (drop 1 (c ∷ text)))))
+    (λ line at. ap (λ t. word_at (t ++ letters (spots_from line at (drop 1 (c ∷ text))))) (one ∙ ap (λ b. b ∷ []) h)
+    ∙ hash_at (letters (spots_from line at (drop 1 (c ∷ text)))))
 
 -- One character
 
@@ -219,13 +238,16 @@ single_front c text u h stops = elim (or_cases (is_plain c) (c == 47) h) [
       (s.0, s.1, sym (ap (λ t. t && ((get_or text 0 0 == 47) || (get_or text 0 0 == 42))) e) ∙ b.1)) (front_none text))
 ]
 
-pub single_word : (text : List ℕ) (p : Punctuator) → IsUtf8 text → 0 < length text → punct_of (get_or text 0 0 ∷ []) ≡ Some p → Stops (continues_punct (get_or text 0 0)) text 1 → IsPlainWord text (Punct p) 1
+pub single_word : (text : List ℕ) (p : Punctuator) → IsUtf8 text → 0 < length text → punct_of (get_or text 0 0 ∷ []) ≡ Some p
+    → Stops (continues_punct (get_or text 0 0)) text 1 → IsPlainWord text (Punct p) 1
 single_word [] p u some h stops = absurd (omega arith)
 single_word (c ∷ text) p u some h stops =
     let f = first_of c [] p h in
     let one : take 1 (c ∷ text) ≡ c ∷ [] = take_one c text in
-    word_before (continues_punct c) (break_after c 10 refl refl refl) (break_after c 13 refl refl refl) (c ∷ text) 1 u (omega arith) (omega arith) stops (Punct p)
-    (IsCharBoundary-after_ascii (c ∷ text) 0 u some f.small) (subst IsAscii (sym one) (IsAscii-cons c [] f.small no_more_ascii)) (single_front c text u (passes_of c [] p h) stops) f.no_blank refl
+    word_before (continues_punct c) (break_after c 10 refl refl refl) (break_after c 13 refl refl refl) (c ∷ text) 1 u (omega arith)
+    (omega arith) stops (Punct p)
+    (IsCharBoundary-after_ascii (c ∷ text) 0 u some f.small) (subst IsAscii (sym one) (IsAscii-cons c [] f.small no_more_ascii))
+    (single_front c text u (passes_of c [] p h) stops) f.no_blank refl
     (λ cs k. ap (λ t. word_at (t ++ cs)) one ∙ single_at c cs p h k)
 
 -- Two and three
@@ -241,10 +263,12 @@ pair_of c d ds p h =
     let b = and_parts (is_plain d) (not (is_decimal d) && list_all is_plain ds) a.1 in
     record { first = a.0; second = b.0; others = (and_parts (not (is_decimal d)) (list_all is_plain ds) b.1).1 }
 
-long_front : (c d : ℕ) (n : ℕ) (text : List ℕ) → IsUtf8 (c ∷ d ∷ text) → n ≤ length text → (is_plain c || ((c == 47) && (d == 61))) ≡ true → is_plain d ≡ true → list_all is_plain (take n text) ≡ true
+long_front : (c d : ℕ) (n : ℕ) (text : List ℕ) → IsUtf8 (c ∷ d ∷ text) → n ≤ length text → (is_plain c || ((c == 47) && (d == 61))) ≡ true
+    → is_plain d ≡ true → list_all is_plain (take n text) ≡ true
     → IsFront (c ∷ d ∷ text) (suc (suc n))
 long_front c d n text u le h p all = elim (or_cases (is_plain c) ((c == 47) && (d == 61)) h) [
-  | inl q ↦ front_plain (suc (suc n)) (c ∷ d ∷ text) u (omega arith) (both (is_plain c) (is_plain d && list_all is_plain (take n text)) q (both (is_plain d) (list_all is_plain (take n text)) p all))
+  | inl q ↦ front_plain (suc (suc n)) (c ∷ d ∷ text) u (omega arith)
+      (both (is_plain c) (is_plain d && list_all is_plain (take n text)) q (both (is_plain d) (list_all is_plain (take n text)) p all))
   | inr e ↦
       let k = and_parts (c == 47) (d == 61) e in
       let a : c ≡ 47 = eqb-true c 47 k.0 in
@@ -252,10 +276,12 @@ long_front c d n text u le h p all = elim (or_cases (is_plain c) ((c == 47) && (
       let w : IsUtf8 (47 ∷ d ∷ text) = subst (λ x. IsUtf8 (x ∷ d ∷ text)) a u in
       let v : IsUtf8 (d ∷ text) = utf8_after 47 (d ∷ text) (omega arith) w in
       subst (λ x. IsFront (x ∷ d ∷ text) (suc (suc n))) (sym a)
-      (slash_front (suc n) (d ∷ text) w (λ l. (plain_small d p, ap (λ x. x == 92) b, ap (λ x. (x == 47) || (x == 42)) b)) (front_plain (suc n) (d ∷ text) v (omega arith) (both (is_plain d) (list_all is_plain (take n text)) p all)))
+      (slash_front (suc n) (d ∷ text) w (λ l. (plain_small d p, ap (λ x. x == 92) b, ap (λ x. (x == 47) || (x == 42)) b))
+      (front_plain (suc n) (d ∷ text) v (omega arith) (both (is_plain d) (list_all is_plain (take n text)) p all)))
 ]
 
-pub pair_word : (text : List ℕ) (q : Punctuator) → IsUtf8 text → 1 < length text → punct_of (get_or text 0 0 ∷ get_or text 1 0 ∷ []) ≡ Some q → Stops (continues_pair (get_or text 0 0) (get_or text 1 0)) text 2
+pub pair_word : (text : List ℕ) (q : Punctuator) → IsUtf8 text → 1 < length text → punct_of (get_or text 0 0 ∷ get_or text 1 0 ∷ []) ≡ Some q
+    → Stops (continues_pair (get_or text 0 0) (get_or text 1 0)) text 2
     → IsPlainWord text (Punct q) 2
 pair_word [] q u some h stops = absurd (omega arith)
 pair_word (c ∷ []) q u some h stops = absurd (omega arith)
@@ -264,7 +290,8 @@ pair_word (c ∷ d ∷ text) q u some h stops =
     let s = pair_of c d [] q h in
     let two : take 2 (c ∷ d ∷ text) ≡ c ∷ d ∷ [] = take_two c d text in
     word_before (continues_pair c d) (unspelled_third c d 10 refl) (unspelled_third c d 13 refl) (c ∷ d ∷ text) 2 u (omega arith) (omega arith) stops (Punct q)
-    (IsCharBoundary-after_ascii (c ∷ d ∷ text) 1 u some (plain_small d s.second)) (subst IsAscii (sym two) (IsAscii-cons c (d ∷ []) f.small (IsAscii-cons d [] (plain_small d s.second) no_more_ascii)))
+    (IsCharBoundary-after_ascii (c ∷ d ∷ text) 1 u some (plain_small d s.second))
+    (subst IsAscii (sym two) (IsAscii-cons c (d ∷ []) f.small (IsAscii-cons d [] (plain_small d s.second) no_more_ascii)))
     (long_front c d 0 text u (omega arith) s.first s.second (ap (list_all is_plain) (take_none text))) f.no_blank refl
     (λ cs k. ap (λ t. word_at (t ++ cs)) two ∙ pair_at c d cs q h k)
   where
@@ -283,9 +310,11 @@ triple_word (c ∷ d ∷ e ∷ text) q x u some h k =
     let last : is_plain e ≡ true = (and_parts (is_plain e) true s.others).0 in
     let three : take 3 (c ∷ d ∷ e ∷ text) ≡ c ∷ d ∷ e ∷ [] = take_three c d e text in
     word_always (c ∷ d ∷ e ∷ text) 3 (Punct x) (omega arith) (omega arith) (IsCharBoundary-after_ascii (c ∷ d ∷ e ∷ text) 2 u some (plain_small e last))
-    (subst IsAscii (sym three) (IsAscii-cons c (d ∷ e ∷ []) f.small (IsAscii-cons d (e ∷ []) (plain_small d s.second) (IsAscii-cons e [] (plain_small e last) no_more_ascii))))
+    (subst IsAscii (sym three) (IsAscii-cons c (d ∷ e ∷ []) f.small
+    (IsAscii-cons d (e ∷ []) (plain_small d s.second) (IsAscii-cons e [] (plain_small e last) no_more_ascii))))
     (long_front c d 1 (e ∷ text) u (omega arith) s.first s.second (ap (list_all is_plain) (take_one e text) ∙ ap (λ t. t && true) last)) f.no_blank refl
-    (λ line at. ap (λ t. word_at (t ++ letters (spots_from line at (drop 3 (c ∷ d ∷ e ∷ text))))) three ∙ triple_at c d e (letters (spots_from line at (drop 3 (c ∷ d ∷ e ∷ text)))) q x h k)
+    (λ line at. ap (λ t. word_at (t ++ letters (spots_from line at (drop 3 (c ∷ d ∷ e ∷ text))))) three
+    ∙ triple_at c d e (letters (spots_from line at (drop 3 (c ∷ d ∷ e ∷ text)))) q x h k)
 
 -- What the code's tables hold
 
@@ -318,11 +347,55 @@ apart c d k h = by (k == c) refl
 
 pub single_is : (c : ℕ) → punct_of (c ∷ []) ≡ single c
 unfolding punct_of
-single_is c = simp (and_false, and_true, map_choice, swapped 123 c, swapped 125 c, swapped 40 c, swapped 41 c, swapped 91 c, swapped 93 c, swapped 60 c, swapped 62 c, swapped 59 c, swapped 44 c, swapped 58 c, swapped 46 c, swapped 61 c, swapped 33 c, swapped 45 c, swapped 126 c, swapped 43 c, swapped 42 c, swapped 47 c, swapped 37 c, swapped 124 c, swapped 94 c, swapped 38 c, swapped 63 c)
+single_is c = simp (
+  and_false,
+  and_true,
+  map_choice,
+  swapped 123 c,
+  swapped 125 c,
+  swapped 40 c,
+  swapped 41 c,
+  swapped 91 c,
+  swapped 93 c,
+  swapped 60 c,
+  swapped 62 c,
+  swapped 59 c,
+  swapped 44 c,
+  swapped 58 c,
+  swapped 46 c,
+  swapped 61 c,
+  swapped 33 c,
+  swapped 45 c,
+  swapped 126 c,
+  swapped 43 c,
+  swapped 42 c,
+  swapped 47 c,
+  swapped 37 c,
+  swapped 124 c,
+  swapped 94 c,
+  swapped 38 c,
+  swapped 63 c,
+)
 
 pub before_equals_is : (c : ℕ) → punct_of (c ∷ 61 ∷ []) ≡ before_equals c
 unfolding punct_of
-before_equals_is c = simp (and_false, and_true, map_choice, swapped 43 c, swapped 45 c, swapped 42 c, swapped 47 c, swapped 37 c, swapped 38 c, swapped 94 c, swapped 124 c, swapped 60 c, swapped 62 c, swapped 61 c, swapped 33 c)
+before_equals_is c = simp (
+  and_false,
+  and_true,
+  map_choice,
+  swapped 43 c,
+  swapped 45 c,
+  swapped 42 c,
+  swapped 47 c,
+  swapped 37 c,
+  swapped 38 c,
+  swapped 94 c,
+  swapped 124 c,
+  swapped 60 c,
+  swapped 62 c,
+  swapped 61 c,
+  swapped 33 c,
+)
 
 pub doubled_is : (c : ℕ) → (c == 61) ≡ false → punct_of (c ∷ c ∷ []) ≡ doubled c
 unfolding punct_of
@@ -362,7 +435,8 @@ pub no_triple_first : (c d e : ℕ) → (c == 60) ≡ false → (c == 62) ≡ fa
 no_triple_first c d e h k =
     triple_none c d e (ap (λ t. t && ((60 == d) && (61 == e))) (swapped 60 c ∙ h)) (ap (λ t. t && ((62 == d) && (61 == e))) (swapped 62 c ∙ k))
 
-pub shift_assigns : (c d e : ℕ) → c ≡ d → e ≡ 61 → (c ≡ 60 → punct_of (c ∷ d ∷ e ∷ []) ≡ Some LeftShiftAssign) × (c ≡ 62 → punct_of (c ∷ d ∷ e ∷ []) ≡ Some RightShiftAssign)
+pub shift_assigns : (c d e : ℕ) → c ≡ d → e ≡ 61 → (c ≡ 60 → punct_of (c ∷ d ∷ e ∷ []) ≡ Some LeftShiftAssign)
+    × (c ≡ 62 → punct_of (c ∷ d ∷ e ∷ []) ≡ Some RightShiftAssign)
 unfolding punct_of
 shift_assigns c d e h k = (
   λ m. let n : d ≡ 60 = sym h ∙ m in rw (m, n, k) refl,
@@ -371,8 +445,14 @@ shift_assigns c d e h k = (
 
 -- what follows a single one does not continue it
 pub stops_single : (text : List ℕ) → Stops (λ _. false) text 1 → (1 < length text → punct_of (get_or text 0 0 ∷ get_or text 1 0 ∷ []) ≡ None)
-    → (1 < length text → ((is_point (get_or text 0 0) && is_decimal (get_or text 1 0)) || begins_comment (get_or text 0 0) (get_or text 1 0)) ≡ false) → Stops (continues_punct (get_or text 0 0)) text 1
-stops_single text s none other = λ l. ((s l).0, (s l).1, either_false (is_some (punct_of (get_or text 0 0 ∷ get_or text 1 0 ∷ []))) _ (ap is_some (none l)) (other l))
+    → (1 < length text → ((is_point (get_or text 0 0) && is_decimal (get_or text 1 0)) || begins_comment (get_or text 0 0)
+    (get_or text 1 0)) ≡ false) → Stops (continues_punct (get_or text 0 0)) text 1
+stops_single text s none other = λ l. (
+  (s l).0,
+  (s l).1,
+  either_false (is_some (punct_of (get_or text 0 0 ∷ get_or text 1 0 ∷ []))) _
+      (ap is_some (none l)) (other l),
+)
 
 pub stops_pair : (text : List ℕ) → Stops (λ _. false) text 2 → (2 < length text → punct_of (get_or text 0 0 ∷ get_or text 1 0 ∷ get_or text 2 0 ∷ []) ≡ None)
     → Stops (continues_pair (get_or text 0 0) (get_or text 1 0)) text 2

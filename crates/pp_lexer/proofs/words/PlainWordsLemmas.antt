@@ -23,7 +23,8 @@ use Rattle.pp_lexer.proofs.characters.PlainFrontsLemmas.{all_plain, plain_ascii,
 use Rattle.pp_lexer.proofs.words.WordAtLemmas.{identifier_first}
 
 -- a word at the front of each text that begins so
-pub word_always : (text : List ℕ) (n : ℕ) (value : TokenValue) → 0 < n → n ≤ length text → IsCharBoundary text n → IsAscii (take n text) → IsFront text n → is_blank (get_or text 0 0) ≡ false → is_newline_value value ≡ false
+pub word_always : (text : List ℕ) (n : ℕ) (value : TokenValue) → 0 < n → n ≤ length text → IsCharBoundary text n → IsAscii (take n text)
+    → IsFront text n → is_blank (get_or text 0 0) ≡ false → is_newline_value value ≡ false
     → ((line at : ℕ) → word_at (take n text ++ letters (spots_from line at (drop n text))) ≡ record { value = Ok value; taken = n }) → IsPlainWord text value n
 word_always text n value some le cut ascii front blank newline word = record {
   some = some;
@@ -33,18 +34,22 @@ word_always text n value some le cut ascii front blank newline word = record {
   front = front;
   no_blank = blank;
   no_newline = newline;
-  word = λ line at. ap (λ ss. word_at (letters ss)) (front line at) ∙ ap word_at (letters-run line at (take n text) (spots_from line (at + n) (drop n text))) ∙ word line (at + n);
+  word = λ line at. ap (λ ss. word_at (letters ss)) (front line at)
+      ∙ ap word_at (letters-run line at (take n text) (spots_from line (at + n) (drop n text))) ∙ word line (at + n);
 }
 
 -- a word that ends before each character which fails
-module _ (P : ℕ → Bool) (feed : P 10 ≡ false) (mark : P 13 ≡ false) (text : List ℕ) (n : ℕ) (u : IsUtf8 text) (some : 0 < n) (le : n ≤ length text) (stops : Stops P text n) where
+module _ (P : ℕ → Bool) (feed : P 10 ≡ false) (mark : P 13 ≡ false) (text : List ℕ) (n : ℕ) (u : IsUtf8 text) (some : 0 < n) (le : n ≤ length text)
+    (stops : Stops P text n) where
   ends_there : (line at : ℕ) → IsCharBoundary text n → begins_with P (letters (spots_from line at (drop n text))) ≡ false
   ends_there line at cut =
-      let there : 0 < length (drop n text) → (get_or (drop n text) 0 0 < 128) × ((get_or (drop n text) 0 0 == 92) ≡ false) × (P (get_or (drop n text) 0 0) ≡ false) =
+      let there : 0 < length (drop n text) → (get_or (drop n text) 0 0 < 128) × ((get_or (drop n text) 0 0 == 92) ≡ false)
+      × (P (get_or (drop n text) 0 0) ≡ false) =
       λ l. subst (λ b. (b < 128) × ((b == 92) ≡ false) × (P b ≡ false)) (sym (get_or-drop n text)) (stops (drop_some n text l)) in
       after_is_not P feed mark line at (drop n text) (IsUtf8-drop text n u cut) (λ l. ((there l).0, (there l).1)) (λ l. (there l).2)
 
-  pub word_before : (value : TokenValue) → IsCharBoundary text n → IsAscii (take n text) → IsFront text n → is_blank (get_or text 0 0) ≡ false → is_newline_value value ≡ false
+  pub word_before : (value : TokenValue) → IsCharBoundary text n → IsAscii (take n text) → IsFront text n → is_blank (get_or text 0 0) ≡ false
+      → is_newline_value value ≡ false
       → ((cs : List ℕ) → begins_with P cs ≡ false → word_at (take n text ++ cs) ≡ record { value = Ok value; taken = n }) → IsPlainWord text value n
   word_before value cut ascii front blank newline word =
       word_always text n value some le cut ascii front blank newline (λ line at. word (letters (spots_from line at (drop n text))) (ends_there line at cut))
@@ -81,12 +86,14 @@ identifier_at : (c : ℕ) (w cs : List ℕ) → begins c ≡ true → list_all c
     → word_at ((c ∷ w) ++ cs) ≡ record { value = Ok (Ident (c ∷ w)); taken = suc (length w) }
 identifier_at c w cs b h k =
     let start : is_start c ≡ true = begins_start c b in
-    let n : longest is_identifier (c ∷ (w ++ cs)) ≡ suc (length w) = longest_identifier c (w ++ cs) start ∙ ap suc (front_len-append is_xid_continue w cs (all_continue w h) k) in
+    let n : longest is_identifier (c ∷ (w ++ cs)) ≡ suc (length w) = longest_identifier c (w ++ cs) start
+    ∙ ap suc (front_len-append is_xid_continue w cs (all_continue w h) k) in
     identifier_first (c ∷ (w ++ cs)) start
     ∙ ap (λ m. record { value = Ok (Ident (take m (c ∷ (w ++ cs)))); taken = m }) n
     ∙ ap (λ t. record { value = Ok (Ident (c ∷ t)); taken = suc (length w) }) (take_seam w cs)
 
-identifier_of : (c : ℕ) (w v cs : List ℕ) (n : ℕ) → v ≡ c ∷ w → length v ≡ n → begins c ≡ true → list_all continues v ≡ true → begins_with is_xid_continue cs ≡ false
+identifier_of : (c : ℕ) (w v cs : List ℕ) (n : ℕ) → v ≡ c ∷ w → length v ≡ n → begins c ≡ true → list_all continues v ≡ true
+    → begins_with is_xid_continue cs ≡ false
     → word_at (v ++ cs) ≡ record { value = Ok (Ident v); taken = n }
 identifier_of c w v cs n e l b h k =
     let all : list_all continues (c ∷ w) ≡ true = ap (list_all continues) (sym e) ∙ h in
@@ -98,11 +105,13 @@ continued_some : (n : ℕ) (text : List ℕ) → 0 < length text → begins (get
 continued_some zero text some b stops = absurd (false≢true (sym (stops some) ∙ begins_continues (get_or text 0 0) b))
 continued_some (suc n) text some b stops = omega arith
 
-pub plain_identifier : (text : List ℕ) (n : ℕ) → IsUtf8 text → n ≤ length text → 0 < length text → begins (get_or text 0 0) ≡ true → list_all continues (take n text) ≡ true
+pub plain_identifier : (text : List ℕ) (n : ℕ) → IsUtf8 text → n ≤ length text → 0 < length text → begins (get_or text 0 0) ≡ true
+    → list_all continues (take n text) ≡ true
     → (n < length text → continues (get_or text n 0) ≡ false) → Stops (λ _. false) text n → IsPlainWord text (Ident (take n text)) n
 plain_identifier text n u le some b passes stops ends =
     let more : 0 < n = continued_some n text some b stops in
     let stopped : Stops is_xid_continue text n = λ l. ((ends l).0, (ends l).1, is_xid_continue-ascii (get_or text n 0) (ends l).0 ∙ stops l) in
-    plain_before is_xid_continue (is_xid_continue-ascii 10 (omega arith)) (is_xid_continue-ascii 13 (omega arith)) text n u more le stopped (Ident (take n text))
+    plain_before is_xid_continue (is_xid_continue-ascii 10 (omega arith)) (is_xid_continue-ascii 13 (omega arith)) text n u more le stopped
+    (Ident (take n text))
     (all_plain continues continues_plain (take n text) passes) (begins_no_blank (get_or text 0 0) b) refl
     (λ cs k. identifier_of (get_or text 0 0) (drop 1 (take n text)) (take n text) cs n (front_of n text more some) (length-take-le n text le) b passes k)

@@ -54,7 +54,8 @@ at_found : (cs : List ℕ) (o : Option Punctuator) → begins_with (λ c. c == 3
 unfolding punctuation_at
 at_found cs o h f =
     let n : longest is_punctuation cs ≡ longest is_punctuator cs = punct_longest cs h in
-    let v : punctuation_value (take (longest is_punctuator cs) cs) ≡ option_map Punct (punct_of (take (longest is_punctuator cs) cs)) = rw (no_hash_front cs (longest is_punctuator cs) h) refl in
+    let v : punctuation_value (take (longest is_punctuator cs) cs) ≡ option_map Punct (punct_of (take (longest is_punctuator cs) cs)) =
+    rw (no_hash_front cs (longest is_punctuator cs) h) refl in
     ap (λ k. punctuation_outcome k (punctuation_value (take k cs))) n ∙ ap (punctuation_outcome (longest is_punctuator cs)) (v ∙ ap (option_map Punct) (sym f))
 
 pub at_punct : (cs : List ℕ) (p : Punctuator) → begins_with (λ c. c == 35) cs ≡ false → Some p ≡ punct_of (take (longest is_punctuator cs) cs)

@@ -19,7 +19,8 @@ and_true : (b : Bool) → (b && true) ≡ b
 and_true true = refl
 and_true false = refl
 
-pub map_choice : {X Y : Type 0} (f : X → Y) (b : Bool) (x : X) (o : Option X) → option_map f (if b then Some x else o) ≡ (if b then Some (f x) else option_map f o)
+pub map_choice : {X Y : Type 0} (f : X → Y) (b : Bool) (x : X) (o : Option X)
+    → option_map f (if b then Some x else o) ≡ (if b then Some (f x) else option_map f o)
 map_choice f true x o = refl
 map_choice f false x o = refl
 
@@ -132,20 +133,25 @@ module _ (c : ℕ) where
 
   module _ (p : Punctuator) (one : punct_of (c ∷ []) ≡ Some p) where
     pub one_at_end : IsLongest (c ∷ []) 1 (Some p)
-    one_at_end = punct_at (c ∷ []) 1 (Some p) (longest_closed is_punctuator is_punctuator-closed 1 (c ∷ []) (omega arith) (omega arith) (is_found _ p one) (λ l. absurd (omega arith))) one
+    one_at_end = punct_at (c ∷ []) 1 (Some p) (longest_closed is_punctuator is_punctuator-closed 1 (c ∷ []) (omega arith) (omega arith)
+        (is_found _ p one) (λ l. absurd (omega arith))) one
 
     module _ (d : ℕ) where
       pub one_alone : (cs : List ℕ) → punct_of (c ∷ d ∷ []) ≡ None → IsLongest (c ∷ d ∷ cs) 1 (Some p)
-      one_alone cs h = punct_at (c ∷ d ∷ cs) 1 (Some p) (longest_closed is_punctuator is_punctuator-closed 1 (c ∷ d ∷ cs) (omega arith) (omega arith) (is_found _ p one) (λ l. not_found _ h)) one
+      one_alone cs h = punct_at (c ∷ d ∷ cs) 1 (Some p) (longest_closed is_punctuator is_punctuator-closed 1 (c ∷ d ∷ cs) (omega arith) (omega arith)
+          (is_found _ p one) (λ l. not_found _ h)) one
 
       module _ (q : Punctuator) (two : punct_of (c ∷ d ∷ []) ≡ Some q) where
         pub two_at_end : IsLongest (c ∷ d ∷ []) 2 (Some q)
-        two_at_end = punct_at (c ∷ d ∷ []) 2 (Some q) (longest_closed is_punctuator is_punctuator-closed 2 (c ∷ d ∷ []) (omega arith) (omega arith) (is_found _ q two) (λ l. absurd (omega arith))) two
+        two_at_end = punct_at (c ∷ d ∷ []) 2 (Some q) (longest_closed is_punctuator is_punctuator-closed 2 (c ∷ d ∷ []) (omega arith) (omega arith)
+            (is_found _ q two) (λ l. absurd (omega arith))) two
 
         module _ (e : ℕ) (cs : List ℕ) where
           pub two_alone : punct_of (c ∷ d ∷ e ∷ []) ≡ None → IsLongest (c ∷ d ∷ e ∷ cs) 2 (Some q)
-          two_alone h = punct_at (c ∷ d ∷ e ∷ cs) 2 (Some q) (longest_closed is_punctuator is_punctuator-closed 2 (c ∷ d ∷ e ∷ cs) (omega arith) (omega arith) (is_found _ q two) (λ l. not_found _ h)) two
+          two_alone h = punct_at (c ∷ d ∷ e ∷ cs) 2 (Some q)
+              (longest_closed is_punctuator is_punctuator-closed 2 (c ∷ d ∷ e ∷ cs) (omega arith) (omega arith) (is_found _ q two) (λ l. not_found _ h)) two
 
           pub three_of : (x : Punctuator) → punct_of (c ∷ d ∷ e ∷ []) ≡ Some x → IsLongest (c ∷ d ∷ e ∷ cs) 3 (Some x)
           three_of x h =
-              punct_at (c ∷ d ∷ e ∷ cs) 3 (Some x) (longest_closed is_punctuator is_punctuator-closed 3 (c ∷ d ∷ e ∷ cs) (omega arith) (omega arith) (is_found _ x h) (λ l. too_long (take 4 (c ∷ d ∷ e ∷ cs)) (let k = length-take-le 4 (c ∷ d ∷ e ∷ cs) (omega arith) in omega arith))) h
+              punct_at (c ∷ d ∷ e ∷ cs) 3 (Some x) (longest_closed is_punctuator is_punctuator-closed 3 (c ∷ d ∷ e ∷ cs) (omega arith) (omega arith)
+              (is_found _ x h) (λ l. too_long (take 4 (c ∷ d ∷ e ∷ cs)) (let k = length-take-le 4 (c ∷ d ∷ e ∷ cs) (omega arith) in omega arith))) h

@@ -26,7 +26,11 @@ along ss last r x y e h = record { value = h.value; state = e ∙ h.state }
 module _ (last : Spot) (new : Reading) where
   pub taken_none : (ss : List Spot) → next_is None ss → new ≡ record { rest = ss; last = last } → IsTaken ss last None new
   unfolding punct_of
-  taken_none [] f n = record { value = ap (λ k. punct_of (take k [])) (sym (longest_empty is_punctuator)); state = n ∙ ap (λ k. advanced_of k [] last) (sym (longest_empty is_punctuator)) }
+  taken_none [] f n = record {
+    value = ap (λ k. punct_of (take k [])) (sym (longest_empty is_punctuator));
+    state = n
+        ∙ ap (λ k. advanced_of k [] last) (sym (longest_empty is_punctuator));
+  }
   taken_none (s ∷ ss) f n = cc
 
   pub taken_bad : (c : ℕ) (ss : List Spot) → next_is (Some c) ss → punct_of (c ∷ []) ≡ None → new ≡ record { rest = ss; last = last } → IsTaken ss last None new
@@ -44,7 +48,8 @@ module _ (last : Spot) (new : Reading) where
     taken_one_end (s ∷ t ∷ ss) f g n = cc
 
     module _ (d : ℕ) where
-      pub taken_one : (ss : List Spot) → next_is (Some c) ss → next_is (Some d) (past ss last).rest → punct_of (c ∷ d ∷ []) ≡ None → new ≡ past ss last → IsTaken ss last (Some p) new
+      pub taken_one : (ss : List Spot) → next_is (Some c) ss → next_is (Some d) (past ss last).rest → punct_of (c ∷ d ∷ []) ≡ None
+          → new ≡ past ss last → IsTaken ss last (Some p) new
       taken_one [] f g h n = cc
       taken_one (s ∷ []) f g h n = cc
       taken_one (s ∷ t ∷ ss) f g h n =
@@ -55,7 +60,8 @@ module _ (last : Spot) (new : Reading) where
           along (s ∷ t ∷ ss) last (Some p) _ new n (taken_of (s ∷ t ∷ ss) last 1 (Some p) (one_alone s.c p one' t.c (letters ss) h'))
 
       module _ (q : Punctuator) (two : punct_of (c ∷ d ∷ []) ≡ Some q) where
-        pub taken_two_end : (ss : List Spot) → next_is (Some c) ss → next_is (Some d) (past ss last).rest → next_is None (after_first (past ss last)).rest → new ≡ after_first (past ss last)
+        pub taken_two_end : (ss : List Spot) → next_is (Some c) ss → next_is (Some d) (past ss last).rest
+            → next_is None (after_first (past ss last)).rest → new ≡ after_first (past ss last)
             → IsTaken ss last (Some q) new
         taken_two_end [] f g h n = cc
         taken_two_end (s ∷ []) f g h n = cc
@@ -68,7 +74,8 @@ module _ (last : Spot) (new : Reading) where
         taken_two_end (s ∷ t ∷ u ∷ ss) f g h n = cc
 
         module _ (e : ℕ) where
-          pub taken_two : (ss : List Spot) → next_is (Some c) ss → next_is (Some d) (past ss last).rest → next_is (Some e) (after_first (past ss last)).rest → punct_of (c ∷ d ∷ e ∷ []) ≡ None
+          pub taken_two : (ss : List Spot) → next_is (Some c) ss → next_is (Some d) (past ss last).rest
+              → next_is (Some e) (after_first (past ss last)).rest → punct_of (c ∷ d ∷ e ∷ []) ≡ None
               → new ≡ after_first (past ss last) → IsTaken ss last (Some q) new
           taken_two [] f g i h n = cc
           taken_two (s ∷ []) f g i h n = cc
@@ -80,10 +87,12 @@ module _ (last : Spot) (new : Reading) where
               let one' : punct_of (s.c ∷ []) ≡ Some p = ap (λ x. punct_of (x ∷ [])) (sym k) ∙ one in
               let two' : punct_of (s.c ∷ t.c ∷ []) ≡ Some q = ap (λ x. punct_of (x ∷ t.c ∷ [])) (sym k) ∙ ap (λ y. punct_of (c ∷ y ∷ [])) (sym l) ∙ two in
               let h' : punct_of (s.c ∷ t.c ∷ u.c ∷ []) ≡ None =
-              ap (λ x. punct_of (x ∷ t.c ∷ u.c ∷ [])) (sym k) ∙ ap (λ y. punct_of (c ∷ y ∷ u.c ∷ [])) (sym l) ∙ ap (λ z. punct_of (c ∷ d ∷ z ∷ [])) (sym m) ∙ h in
+              ap (λ x. punct_of (x ∷ t.c ∷ u.c ∷ [])) (sym k) ∙ ap (λ y. punct_of (c ∷ y ∷ u.c ∷ [])) (sym l)
+              ∙ ap (λ z. punct_of (c ∷ d ∷ z ∷ [])) (sym m) ∙ h in
               along (s ∷ t ∷ u ∷ ss) last (Some q) _ new n (taken_of (s ∷ t ∷ u ∷ ss) last 2 (Some q) (two_alone s.c p one' t.c q two' u.c (letters ss) h'))
 
-          pub taken_three : (x : Punctuator) (ss : List Spot) → next_is (Some c) ss → next_is (Some d) (past ss last).rest → next_is (Some e) (after_first (past ss last)).rest
+          pub taken_three : (x : Punctuator) (ss : List Spot) → next_is (Some c) ss → next_is (Some d) (past ss last).rest
+              → next_is (Some e) (after_first (past ss last)).rest
               → punct_of (c ∷ d ∷ e ∷ []) ≡ Some x → new ≡ after_first (after_first (past ss last)) → IsTaken ss last (Some x) new
           taken_three x [] f g i h n = cc
           taken_three x (s ∷ []) f g i h n = cc
@@ -95,5 +104,7 @@ module _ (last : Spot) (new : Reading) where
               let one' : punct_of (s.c ∷ []) ≡ Some p = ap (λ x. punct_of (x ∷ [])) (sym k) ∙ one in
               let two' : punct_of (s.c ∷ t.c ∷ []) ≡ Some q = ap (λ x. punct_of (x ∷ t.c ∷ [])) (sym k) ∙ ap (λ y. punct_of (c ∷ y ∷ [])) (sym l) ∙ two in
               let h' : punct_of (s.c ∷ t.c ∷ u.c ∷ []) ≡ Some x =
-              ap (λ x. punct_of (x ∷ t.c ∷ u.c ∷ [])) (sym k) ∙ ap (λ y. punct_of (c ∷ y ∷ u.c ∷ [])) (sym l) ∙ ap (λ z. punct_of (c ∷ d ∷ z ∷ [])) (sym m) ∙ h in
-              along (s ∷ t ∷ u ∷ ss) last (Some x) _ new (n ∙ sym (advanced_zero ss u)) (taken_of (s ∷ t ∷ u ∷ ss) last 3 (Some x) (three_of s.c p one' t.c q two' u.c (letters ss) x h'))
+              ap (λ x. punct_of (x ∷ t.c ∷ u.c ∷ [])) (sym k) ∙ ap (λ y. punct_of (c ∷ y ∷ u.c ∷ [])) (sym l)
+              ∙ ap (λ z. punct_of (c ∷ d ∷ z ∷ [])) (sym m) ∙ h in
+              along (s ∷ t ∷ u ∷ ss) last (Some x) _ new (n ∙ sym (advanced_zero ss u))
+              (taken_of (s ∷ t ∷ u ∷ ss) last 3 (Some x) (three_of s.c p one' t.c q two' u.c (letters ss) x h'))

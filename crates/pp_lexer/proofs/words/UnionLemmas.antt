@@ -15,7 +15,8 @@ module _ (P Q : List ℕ → Bool) (cs : List ℕ) where
   within_union zero = refl
   within_union (suc n) = by (P (take (suc n) cs)) (Q (take (suc n) cs)) refl refl (within_union n)
     where
-      by : (a b : Bool) → P (take (suc n) cs) ≡ a → Q (take (suc n) cs) ≡ b → longest_within (λ w. P w || Q w) cs n ≡ max (longest_within P cs n) (longest_within Q cs n)
+      by : (a b : Bool) → P (take (suc n) cs) ≡ a → Q (take (suc n) cs) ≡ b
+          → longest_within (λ w. P w || Q w) cs n ≡ max (longest_within P cs n) (longest_within Q cs n)
           → longest_within (λ w. P w || Q w) cs (suc n) ≡ max (longest_within P cs (suc n)) (longest_within Q cs (suc n))
       by true true e f h = rw (e, f) (omega arith)
       by true false e f h = let q : longest_within Q cs n ≤ n = within_le Q cs n in rw (e, f) (omega arith)

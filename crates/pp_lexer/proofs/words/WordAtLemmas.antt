@@ -31,18 +31,21 @@ module _ (w after : List ℕ) where
   of_number : is_newline_word w ≡ false → is_identifier w ≡ false → is_number w ≡ true → word_outcome w after ≡ number_outcome w after
   of_number a b d = rw (a, b, d) refl
 
-  of_other : is_newline_word w ≡ false → is_identifier w ≡ false → is_number w ≡ false → word_outcome w after ≡ punctuation_outcome (length w) (punctuation_value w)
+  of_other : is_newline_word w ≡ false → is_identifier w ≡ false → is_number w ≡ false
+      → word_outcome w after ≡ punctuation_outcome (length w) (punctuation_value w)
   of_other a b d = rw (a, b, d) refl
 
 pub newline_first : (cs : List ℕ) → begins_with is_line_end cs ≡ true → word_at cs ≡ record { value = Ok NewLine; taken = 1 }
 newline_first cs h = at_len cs 1 (longest_newline cs h) ∙ of_newline (take 1 cs) (drop 1 cs) (newline_alone cs h)
 
-pub identifier_first : (cs : List ℕ) → begins_identifier cs ≡ true → word_at cs ≡ record { value = Ok (Ident (take (longest is_identifier cs) cs)); taken = longest is_identifier cs }
+pub identifier_first : (cs : List ℕ) → begins_identifier cs ≡ true
+    → word_at cs ≡ record { value = Ok (Ident (take (longest is_identifier cs) cs)); taken = longest is_identifier cs }
 identifier_first cs h =
     let n = longest is_identifier cs in
     let b = identifier_begins cs h in
     let o : word_at cs ≡ record { value = Ok (Ident (take n cs)); taken = length (take n cs) } =
-    at_len cs n (longest_identifier_word cs h) ∙ of_identifier (take n cs) (drop n cs) (no_newline_front cs n b.no_newline) (longest_in is_identifier cs (identifier_len cs h)) in
+    at_len cs n (longest_identifier_word cs h) ∙ of_identifier (take n cs) (drop n cs) (no_newline_front cs n b.no_newline)
+    (longest_in is_identifier cs (identifier_len cs h)) in
     let l : length (take n cs) ≡ n = length-take-le n cs (longest_le is_identifier cs) in
     o ∙ (λ i. record { value = Ok (Ident (take n cs)); taken = l i })
 
@@ -51,7 +54,8 @@ unfolding number_at
 number_first cs h =
     let n = longest is_number cs in
     let b = number_begins cs h in
-    at_len cs n (longest_number_word cs h) ∙ of_number (take n cs) (drop n cs) (no_newline_front cs n b.no_newline) (no_identifier_front cs n b.no_identifier) (longest_in is_number cs b.some)
+    at_len cs n (longest_number_word cs h) ∙ of_number (take n cs) (drop n cs) (no_newline_front cs n b.no_newline)
+    (no_identifier_front cs n b.no_identifier) (longest_in is_number cs b.some)
 
 pub other_first : (cs : List ℕ) → begins_with is_line_end cs ≡ false → begins_identifier cs ≡ false → begins_number cs ≡ false → word_at cs ≡ punctuation_at cs
 unfolding punctuation_at
@@ -92,6 +96,8 @@ word_at-some c cs = by_line (begins_with is_line_end (c ∷ cs)) (begins_identif
     by_line false true n e f g = rw (identifier_first (c ∷ cs) f) (identifier_len (c ∷ cs) f)
     by_line false false true e f g =
         let b = number_begins (c ∷ cs) g in
-        let l : length (take (longest is_number (c ∷ cs)) (c ∷ cs)) ≡ longest is_number (c ∷ cs) = length-take-le (longest is_number (c ∷ cs)) (c ∷ cs) (longest_le is_number (c ∷ cs)) in
-        rw (number_first (c ∷ cs) g) (number_some (take (longest is_number (c ∷ cs)) (c ∷ cs)) (drop (longest is_number (c ∷ cs)) (c ∷ cs)) (omega (arith, l, b.some)))
+        let l : length (take (longest is_number (c ∷ cs)) (c ∷ cs)) ≡ longest is_number (c ∷ cs) =
+        length-take-le (longest is_number (c ∷ cs)) (c ∷ cs) (longest_le is_number (c ∷ cs)) in
+        rw (number_first (c ∷ cs) g) (number_some (take (longest is_number (c ∷ cs)) (c ∷ cs)) (drop (longest is_number (c ∷ cs)) (c ∷ cs))
+        (omega (arith, l, b.some)))
     by_line false false false e f g = rw (other_first (c ∷ cs) e f g) (punctuation_some (c ∷ cs) (longest is_punctuation (c ∷ cs)))

@@ -81,7 +81,8 @@ second_no_digit AddAssign = refl
 second_no_digit _ = refl
 
 -- where a character of the class stands, no punctuator and no `#` does
-none_of : (p : ℕ → Bool) → p 35 ≡ false → ((q : Punctuator) → p (first_char q) ≡ false) → (cs : List ℕ) → begins_with p cs ≡ true → longest is_punctuation cs ≡ 0
+none_of : (p : ℕ → Bool) → p 35 ≡ false → ((q : Punctuator) → p (first_char q) ≡ false) → (cs : List ℕ) → begins_with p cs ≡ true
+    → longest is_punctuation cs ≡ 0
 none_of p hash apart [] h = longest_empty is_punctuation
 none_of p hash apart (c ∷ cs) h =
     no_punctuation c cs (ne_eqb c 35 (λ e. false≢true (sym hash ∙ ap p (sym e) ∙ h))) (λ q e. false≢true (sym (apart q) ∙ ap p e ∙ h))
@@ -209,7 +210,8 @@ identifier_begins (c ∷ cs) h = record {
   no_punctuation = none_of is_start (low_no_start 35 (omega arith)) punct_no_start (c ∷ cs) h;
 }
 
-newline_begins : (cs : List ℕ) → begins_with is_line_end cs ≡ true → (begins_identifier cs ≡ false) × (begins_number cs ≡ false) × (longest is_punctuation cs ≡ 0)
+newline_begins : (cs : List ℕ) → begins_with is_line_end cs ≡ true → (begins_identifier cs ≡ false) × (begins_number cs ≡ false)
+    × (longest is_punctuation cs ≡ 0)
 newline_begins [] h = absurd (false≢true h)
 newline_begins (c ∷ cs) h =
     let k : c ≡ 10 = eqb-true c 10 h in
@@ -217,11 +219,13 @@ newline_begins (c ∷ cs) h =
 
 -- The longest word is the longest of the class
 
-word_len : (cs : List ℕ) → longest is_word cs ≡ max (longest is_newline_word cs) (max (longest is_identifier cs) (max (longest is_number cs) (longest is_punctuation cs)))
+word_len : (cs : List ℕ) → longest is_word cs ≡ max (longest is_newline_word cs) (max (longest is_identifier cs)
+    (max (longest is_number cs) (longest is_punctuation cs)))
 unfolding is_word
 word_len cs =
     longest_union is_newline_word (λ w. is_identifier w || (is_number w || is_punctuation w)) cs
-    ∙ ap (max (longest is_newline_word cs)) (longest_union is_identifier (λ w. is_number w || is_punctuation w) cs ∙ ap (max (longest is_identifier cs)) (longest_union is_number is_punctuation cs))
+    ∙ ap (max (longest is_newline_word cs)) (longest_union is_identifier (λ w. is_number w || is_punctuation w) cs
+    ∙ ap (max (longest is_identifier cs)) (longest_union is_number is_punctuation cs))
 
 pub longest_newline : (cs : List ℕ) → begins_with is_line_end cs ≡ true → longest is_word cs ≡ 1
 longest_newline cs h =
@@ -241,7 +245,8 @@ longest_number_word cs h =
     let m = word_len cs in let n = no_newline_len cs b.no_newline in let i = no_identifier_len cs b.no_identifier in
     omega arith
 
-pub longest_other_word : (cs : List ℕ) → begins_with is_line_end cs ≡ false → begins_identifier cs ≡ false → begins_number cs ≡ false → longest is_word cs ≡ longest is_punctuation cs
+pub longest_other_word : (cs : List ℕ) → begins_with is_line_end cs ≡ false → begins_identifier cs ≡ false → begins_number cs ≡ false
+    → longest is_word cs ≡ longest is_punctuation cs
 longest_other_word cs n i d =
     let m = word_len cs in let a = no_newline_len cs n in let b = no_identifier_len cs i in let e = no_number_len cs d in
     omega arith

@@ -50,7 +50,8 @@ impl<'a> Model for LexerCharIterator<'a> {
     ghost view = { λ s. record { rest = spots s.inner.offset s.inner.rest; last = s.last } };
 
     ghost invariant = { λ s. (length (spots s.inner.offset s.inner.rest) < 2 ^ 32)
-        × MatchOption s.ahead ⊤ (λ a. IsAhead a.spot (spots a.after.offset a.after.rest) (spots s.inner.offset s.inner.rest)) };
+        × MatchOption s.ahead ⊤ (λ a. IsAhead a.spot (spots a.after.offset a.after.rest)
+        (spots s.inner.offset s.inner.rest)) };
 }
 
 // Whether no phase looks at the byte.
@@ -64,7 +65,9 @@ fn is_plain(byte: u8) -> bool
 // Takes the next character, if it is plain.
 #[inline(always)]
 fn take_plain(inner: &mut ReplaceComments<'_>) -> Option<Spot>
-    ensures { MatchOption result (inner.new ≡ inner.old) (λ s. IsAhead s (spots inner.new.offset inner.new.rest) (spots inner.old.offset inner.old.rest)) }
+    ensures { MatchOption result (inner.new ≡ inner.old)
+        (λ s. IsAhead s (spots inner.new.offset inner.new.rest)
+        (spots inner.old.offset inner.old.rest)) }
 {
     let left = inner.left();
     let bytes = left.text.as_bytes();
@@ -91,7 +94,8 @@ fn take_plain(inner: &mut ReplaceComments<'_>) -> Option<Spot>
 // The next character after the phases.
 fn next_spot(inner: &mut ReplaceComments<'_>) -> Option<Spot>
     ensures value { result ≡ first_of (spots inner.old.offset inner.old.rest) }
-    ensures state { spots inner.new.offset inner.new.rest ≡ spots_after_first (spots inner.old.offset inner.old.rest) }
+    ensures state { spots inner.new.offset inner.new.rest
+        ≡ spots_after_first (spots inner.old.offset inner.old.rest) }
 {
     if let Some(spot) = take_plain(inner) {
         return Some(spot);

@@ -149,7 +149,8 @@ impl<'a> CharsAndLine<'a> {
     pub(crate) fn next_item(&mut self) -> Option<(char, u32)>
         ensures value { result ≡ first self.old }
         ensures state { self.new ≡ after self.old }
-        ensures room { MatchOption result (self.old.offset ≤ self.new.offset) (λ p. self.old.offset + len_utf8 p.0 ≤ self.new.offset) }
+        ensures room { MatchOption result (self.old.offset ≤ self.new.offset)
+            (λ p. self.old.offset + len_utf8 p.0 ≤ self.new.offset) }
     {
         let (current, rest) = split_piece(self.text)?;
         let line = self.line;

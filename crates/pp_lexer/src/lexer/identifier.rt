@@ -13,8 +13,11 @@ use unicode_ident::is_xid_continue as continues;
 
 // Takes the characters that may continue an identifier.
 fn take_continue(text: &mut Text, inner: &mut LexerCharIterator<'_>) -> Result<(), AllocError>
-    ensures text { OnOk result (text.new ≡ text.old ++ take (front_len is_xid_continue (letters inner.old.rest)) (letters inner.old.rest)) }
-    ensures state { OnOk result (inner.new ≡ advanced (front_len is_xid_continue (letters inner.old.rest)) inner.old) }
+    ensures text { OnOk result (text.new
+        ≡ text.old ++ take (front_len is_xid_continue (letters inner.old.rest))
+        (letters inner.old.rest)) }
+    ensures state { OnOk result (inner.new
+        ≡ advanced (front_len is_xid_continue (letters inner.old.rest)) inner.old) }
 {
     'letters: loop {
         let Some(c) = inner.peek_char() else {
@@ -35,8 +38,10 @@ pub fn parse_identifier(
     inner: &mut LexerCharIterator<'_>,
 ) -> Result<Text, AllocError>
     requires { IsTrue (begins_identifier (letters inner.old.rest)) }
-    ensures text { IfOk result (λ t. t ≡ take (longest is_identifier (letters inner.old.rest)) (letters inner.old.rest)) }
-    ensures state { OnOk result (inner.new ≡ advanced (longest is_identifier (letters inner.old.rest)) inner.old) }
+    ensures text { IfOk result (λ t. t ≡ take (longest is_identifier (letters inner.old.rest))
+        (letters inner.old.rest)) }
+    ensures state { OnOk result (inner.new
+        ≡ advanced (longest is_identifier (letters inner.old.rest)) inner.old) }
 {
     let mut text = Text::new(alloc);
     let Some(first) = inner.next_char() else {

@@ -39,7 +39,8 @@ fn find_width_refusal(
     second: char,
     inner: &mut LexerCharIterator<'_>,
 ) -> Option<PreprocessorError>
-    ensures value { result ≡ width_refusal (λ c. (c == first) || (c == second)) (letters inner.old.rest) }
+    ensures value { result ≡ width_refusal
+        (λ c. (c == first) || (c == second)) (letters inner.old.rest) }
     ensures same { inner.new ≡ inner.old }
 {
     if is_either_next(inner, 'l', 'L') {

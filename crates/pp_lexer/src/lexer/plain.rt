@@ -191,7 +191,8 @@ fn ascii_text(alloc: Global, spelling: &str) -> Result<Text, AllocError>
 #[inline(always)]
 pub fn plain_value(alloc: Global, form: Form, spelling: &str) -> Result<TokenValue, AllocError>
     requires { IsAscii spelling.now }
-    ensures { MatchResult result (λ value. value ≡ value_of form spelling.now) (λ _. (w : _) → holds_memory (value_of form w) ≡ true) }
+    ensures { MatchResult result (λ value. value ≡ value_of form spelling.now)
+        (λ _. (w : _) → holds_memory (value_of form w) ≡ true) }
 {
     Ok(match form {
         Form::Identifier => TokenValue::Ident(ascii_text(alloc, spelling)?),

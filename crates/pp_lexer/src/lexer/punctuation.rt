@@ -82,7 +82,8 @@ fn pair(table: &[(char, char, Punct)], c: char, d: char) -> Option<Punct>
 }
 
 fn triple(table: &[(char, char, char, Punct)], c: char, d: char, e: char) -> Option<Punct>
-    ensures { result ≡ option_map (λ x. x.3) (find (λ x. (x.0 == c) && ((x.1 == d) && (x.2 == e))) table.now) }
+    ensures { result
+        ≡ option_map (λ x. x.3) (find (λ x. (x.0 == c) && ((x.1 == d) && (x.2 == e))) table.now) }
 {
     let entry = table
         .iter()
@@ -92,7 +93,8 @@ fn triple(table: &[(char, char, char, Punct)], c: char, d: char, e: char) -> Opt
 
 // Takes the longest punctuator, if one stands here.
 fn take_punct(inner: &mut LexerCharIterator<'_>) -> Option<Punct>
-    ensures value { result ≡ punct_of (take (longest is_punctuator (letters inner.old.rest)) (letters inner.old.rest)) }
+    ensures value { result ≡ punct_of (take (longest is_punctuator (letters inner.old.rest))
+        (letters inner.old.rest)) }
     ensures state { inner.new ≡ advanced (longest is_punctuator (letters inner.old.rest)) inner.old }
 {
     let first = inner.peek_char()?;

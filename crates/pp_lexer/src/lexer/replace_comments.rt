@@ -112,7 +112,8 @@ fn skip_block(inner: &mut SkipBackslashNewline<'_>)
 fn next_uncommented(inner: &mut SkipBackslashNewline<'_>) -> Option<(char, u32)>
     ensures value { result ≡ first (uncommented inner.old) }
     ensures state { uncommented inner.new ≡ after (uncommented inner.old) }
-    ensures room { MatchOption result (inner.old.offset ≤ inner.new.offset) (λ p. inner.old.offset + len_utf8 p.0 ≤ inner.new.offset) }
+    ensures room { MatchOption result (inner.old.offset ≤ inner.new.offset)
+        (λ p. inner.old.offset + len_utf8 p.0 ≤ inner.new.offset) }
 {
     let (current, line) = inner.next_item()?;
     if current != '/' {
@@ -137,7 +138,8 @@ impl<'a> ReplaceComments<'a> {
     /// A reader at the start of `input`, which has fewer than 2^32 - 1 bytes.
     pub fn new(input: &'a str) -> Self
         requires { length input.now < 2 ^ 32 - 1 }
-        ensures { result ≡ start_of (replaced (length input.now) (continued (lines (chars input.now)))) (length input.now) }
+        ensures { result ≡ start_of (replaced (length input.now)
+            (continued (lines (chars input.now)))) (length input.now) }
     {
         ReplaceComments {
             inner: SkipBackslashNewline::new(input),
@@ -176,7 +178,8 @@ impl<'a> ReplaceComments<'a> {
     pub(crate) fn at(rest: Left<'a>) -> Self
         requires room { rest.at + length rest.text.now < 2 ^ 32 - 1 }
         requires lines { rest.line ≤ rest.at + 1 }
-        ensures { result ≡ uncommented (joined (left rest.entry.line rest.entry.at rest.entry.text.now)) }
+        ensures { result
+            ≡ uncommented (joined (left rest.entry.line rest.entry.at rest.entry.text.now)) }
     {
         Self {
             inner: SkipBackslashNewline::at(rest),
@@ -187,7 +190,8 @@ impl<'a> ReplaceComments<'a> {
     pub(crate) fn next_item(&mut self) -> Option<(char, u32)>
         ensures value { result ≡ first self.old }
         ensures state { self.new ≡ after self.old }
-        ensures room { MatchOption result (self.old.offset ≤ self.new.offset) (λ p. self.old.offset + len_utf8 p.0 ≤ self.new.offset) }
+        ensures room { MatchOption result (self.old.offset ≤ self.new.offset)
+            (λ p. self.old.offset + len_utf8 p.0 ≤ self.new.offset) }
     {
         next_uncommented(&mut self.inner)
     }

@@ -37,7 +37,8 @@ impl<'a> Model for SkipBackslashNewline<'a> {
 fn take_joined(inner: &mut CharsAndLine<'_>) -> Option<(char, u32)>
     ensures value { result ≡ first (joined inner.old) }
     ensures state { joined inner.new ≡ after (joined inner.old) }
-    ensures room { MatchOption result (inner.old.offset ≤ inner.new.offset) (λ p. inner.old.offset + len_utf8 p.0 ≤ inner.new.offset) }
+    ensures room { MatchOption result (inner.old.offset ≤ inner.new.offset)
+        (λ p. inner.old.offset + len_utf8 p.0 ≤ inner.new.offset) }
 {
     'continuations: loop {
         let (current, line) = inner.next_item()?;
@@ -107,7 +108,8 @@ impl<'a> SkipBackslashNewline<'a> {
     pub(crate) fn next_item(&mut self) -> Option<(char, u32)>
         ensures value { result ≡ first self.old }
         ensures state { self.new ≡ after self.old }
-        ensures room { MatchOption result (self.old.offset ≤ self.new.offset) (λ p. self.old.offset + len_utf8 p.0 ≤ self.new.offset) }
+        ensures room { MatchOption result (self.old.offset ≤ self.new.offset)
+            (λ p. self.old.offset + len_utf8 p.0 ≤ self.new.offset) }
     {
         take_joined(&mut self.inner)
     }

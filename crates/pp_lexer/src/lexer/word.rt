@@ -25,7 +25,8 @@ pub fn parse_word(
     inner: &mut LexerCharIterator<'_>,
 ) -> Result<Result<TokenValue, PreprocessorError>, AllocError>
     ensures value { IsGiven result (word_at (letters inner.old.rest)).value }
-    ensures state { OnOk result (inner.new ≡ advanced (word_at (letters inner.old.rest)).taken inner.old) }
+    ensures state { OnOk result (inner.new
+        ≡ advanced (word_at (letters inner.old.rest)).taken inner.old) }
 {
     if is_next(inner, '\n') {
         inner.next_char();

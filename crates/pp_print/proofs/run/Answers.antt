@@ -5,9 +5,11 @@ use Rattle.pp_print.proofs.run.Goals as goal
 pub returns-clause-printed : goal.returns-clause-printed
 returns-clause-printed g c =
     let read = rw (sym c.as_str-text.ensures.value) at (c.in_ok-source.ensures {u = tt}).read in
-    printed_of _ _ _ c.new-items.result c.add_definitions.new.items read c.new-items.ensures.stands (c.in_ok-add_definitions.ensures {u = tt}).added _ _ c.print_items.result c.print_items.ensures.printed
+    printed_of _ _ _ c.new-items.result c.add_definitions.new.items read c.new-items.ensures.stands
+    (c.in_ok-add_definitions.ensures {u = tt}).added _ _ c.print_items.result c.print_items.ensures.printed
 
 pub returns-clause-begun : goal.returns-clause-begun
 returns-clause-begun g c = λ e.
     let read = rw (sym c.as_str-text.ensures.value) at (c.in_ok-source.ensures {u = tt}).read in
-    begun_of _ _ _ c.new-items.result c.add_definitions.new.items read c.new-items.ensures.stands (c.in_ok-add_definitions.ensures {u = tt}).added _ _ _ (c.print_items.ensures.begun e)
+    begun_of _ _ _ c.new-items.result c.add_definitions.new.items read c.new-items.ensures.stands
+    (c.in_ok-add_definitions.ensures {u = tt}).added _ _ _ (c.print_items.ensures.begun e)

@@ -49,7 +49,10 @@ stand_later from end lines = each_weaker (StandsWithin (from + 1) end) (StandsWi
 stand_first : (from end : ℕ) (found : Option BlockLine) (later : List BlockLine) → ((line : BlockLine) → found ≡ Some line → line.position ≡ from) → from < end
     → Each (StandsWithin (from + 1) end) later → Each (StandsWithin from end) (cons_option found later)
 stand_first from end None later at_first room all = stand_later from end later all
-stand_first from end (Some line) later at_first room all = ((omega (arith, at_first line refl), omega (arith, at_first line refl, room)), stand_later from end later all)
+stand_first from end (Some line) later at_first room all = (
+  (omega (arith, at_first line refl), omega (arith, at_first line refl, room)),
+  stand_later from end later all,
+)
 
 stand_within : (from end : ℕ) (items : List Seen) → from + length items ≡ end → Each (StandsWithin from end) (block_lines from items)
 stand_within from end [] e = tt
@@ -72,7 +75,8 @@ module _ (P : BlockLine → Type 0) where
   each_parting inner (line ∷ later) all =
       each_if (parts_block line.part inner) line (parting (inner_after line.part inner) later) all.0 (each_parting (inner_after line.part inner) later all.1)
 
-  each_block_if : (begins : Bool) (block : Block) (blocks : List Block) → Each P (marks block) → Each (λ b. Each P (marks b)) blocks → Each (λ b. Each P (marks b)) (if begins then block ∷ blocks else blocks)
+  each_block_if : (begins : Bool) (block : Block) (blocks : List Block) → Each P (marks block) → Each (λ b. Each P (marks b)) blocks
+      → Each (λ b. Each P (marks b)) (if begins then block ∷ blocks else blocks)
   each_block_if true block blocks here all = (here, all)
   each_block_if false block blocks here all = all
 
@@ -80,7 +84,8 @@ module _ (P : BlockLine → Type 0) where
   pub each_mark : (lines : List BlockLine) → Each P lines → Each (λ block. Each P (marks block)) (open_blocks lines)
   each_mark [] all = tt
   each_mark (line ∷ later) all =
-      each_block_if (opens line.part && stays_open 0 later) (record { first = line; partings = parting 0 later }) (open_blocks later) (all.0, each_parting 0 later all.1) (each_mark later all.1)
+      each_block_if (opens line.part && stays_open 0 later) (record { first = line; partings = parting 0 later }) (open_blocks later)
+      (all.0, each_parting 0 later all.1) (each_mark later all.1)
 
 -- all marks of a block stand before a position
 abbrev pub LiesBefore : ℕ → Block → Type 0
@@ -88,7 +93,8 @@ LiesBefore position block = Each (λ line. line.position < position) (marks bloc
 
 -- it lies before each later position too
 pub lies_before_later : (position later : ℕ) (block : Block) → position ≤ later → LiesBefore position block → LiesBefore later block
-lies_before_later position later block h = each_weaker (λ line. line.position < position) (λ line. line.position < later) (λ line there. omega (arith, there, h)) (marks block)
+lies_before_later position later block h = each_weaker (λ line. line.position < position) (λ line. line.position < later)
+    (λ line there. omega (arith, there, h)) (marks block)
 
 taken_at_most : (n : ℕ) (items : List Seen) → length (take n items) ≤ n
 taken_at_most zero items = omega arith
@@ -98,7 +104,8 @@ taken_at_most (suc n) (s ∷ rest) = omega (arith, taken_at_most n rest)
 -- the lines of blocks before a position stand before it
 pub lines_before : (source : List Seen) (position : ℕ) → Each (λ line. line.position < position) (block_lines 0 (take position source))
 lines_before source position =
-    each_weaker (StandsWithin 0 (0 + length (take position source))) (λ line. line.position < position) (λ line there. omega (arith, there.1, taken_at_most position source))
+    each_weaker (StandsWithin 0 (0 + length (take position source))) (λ line. line.position < position)
+    (λ line there. omega (arith, there.1, taken_at_most position source))
     (block_lines 0 (take position source)) (block_lines_within 0 (take position source))
 
 -- the blocks that are open at a position lie before it
@@ -106,10 +113,14 @@ pub blocks_lie_before : (source : List Seen) (position : ℕ) → Each (LiesBefo
 blocks_lie_before source position = each_mark (λ line. line.position < position) (block_lines 0 (take position source)) (lines_before source position)
 
 -- so does the innermost, and those around it
-pub last_lies_before : (source : List Seen) (position : ℕ) (before : List Block) (block : Block) (inner : List Block) → blocks_at source position ≡ before ++ block ∷ inner → LiesBefore position block
+pub last_lies_before : (source : List Seen) (position : ℕ) (before : List Block) (block : Block) (inner : List Block)
+    → blocks_at source position ≡ before ++ block ∷ inner → LiesBefore position block
 last_lies_before source position before block inner e =
-    (each_after (LiesBefore position) before (block ∷ inner) (subst (λ (blocks : List Block). Each (LiesBefore position) blocks) e (blocks_lie_before source position))).0
+    (each_after (LiesBefore position) before (block ∷ inner)
+    (subst (λ (blocks : List Block). Each (LiesBefore position) blocks) e (blocks_lie_before source position))).0
 
-pub around_lie_before : (source : List Seen) (position : ℕ) (before : List Block) (block : Block) (inner : List Block) → blocks_at source position ≡ before ++ block ∷ inner → Each (LiesBefore position) before
+pub around_lie_before : (source : List Seen) (position : ℕ) (before : List Block) (block : Block) (inner : List Block)
+    → blocks_at source position ≡ before ++ block ∷ inner → Each (LiesBefore position) before
 around_lie_before source position before block inner e =
-    each_before (LiesBefore position) before (block ∷ inner) (subst (λ (blocks : List Block). Each (LiesBefore position) blocks) e (blocks_lie_before source position))
+    each_before (LiesBefore position) before (block ∷ inner)
+    (subst (λ (blocks : List Block). Each (LiesBefore position) blocks) e (blocks_lie_before source position))

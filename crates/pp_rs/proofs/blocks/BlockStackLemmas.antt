@@ -53,7 +53,8 @@ pub record Innermost (source : List Seen) (truths : Truths) (outer : List OpenBl
   pub stands : StandsForBlock source truths kept block
 
 module _ (source : List Seen) (truths : Truths) where
-  pub stands_innermost : (outer : List OpenBlock) (kept : OpenBlock) (blocks : List Block) → StandForBlocks source truths (outer ++ kept ∷ []) blocks → Innermost source truths outer kept blocks
+  pub stands_innermost : (outer : List OpenBlock) (kept : OpenBlock) (blocks : List Block) → StandForBlocks source truths (outer ++ kept ∷ []) blocks
+      → Innermost source truths outer kept blocks
   stands_innermost [] kept [] s = absurd s
   stands_innermost [] kept (block ∷ []) s = record { before = []; block = block; split = refl; around = tt; stands = s.0 }
   stands_innermost [] kept (block ∷ next ∷ blocks) s = absurd s.1
@@ -80,7 +81,8 @@ module _ (source : List Seen) (truths : Truths) where
 
 -- a condition that is read after a block changes nothing of how it is kept
 module _ (source : List Seen) (position : ℕ) (holds : Bool) (truths : Truths) where
-  stands_before : (kept : OpenBlock) (block : Block) → LiesBefore position block → StandsForBlock source truths kept block → StandsForBlock source (with_truth position holds truths) kept block
+  stands_before : (kept : OpenBlock) (block : Block) → LiesBefore position block → StandsForBlock source truths kept block
+      → StandsForBlock source (with_truth position holds truths) kept block
   stands_before kept block before s = record {
     word = s.word;
     live_around = surroundings_before position holds truths source block (omega (arith, before.0)) ∙ s.live_around;
@@ -90,7 +92,8 @@ module _ (source : List Seen) (position : ℕ) (holds : Bool) (truths : Truths) 
     settled = branch.settled_before kept.live_around position holds truths block before s.settled;
   }
 
-  pub stand_before : (kept : List OpenBlock) (blocks : List Block) → Each (LiesBefore position) blocks → StandForBlocks source truths kept blocks → StandForBlocks source (with_truth position holds truths) kept blocks
+  pub stand_before : (kept : List OpenBlock) (blocks : List Block) → Each (LiesBefore position) blocks → StandForBlocks source truths kept blocks
+      → StandForBlocks source (with_truth position holds truths) kept blocks
   stand_before [] [] before s = tt
   stand_before [] (block ∷ blocks) before s = s
   stand_before (first ∷ kept) [] before s = s

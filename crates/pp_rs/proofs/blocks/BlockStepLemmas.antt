@@ -22,21 +22,28 @@ module _ (source : List Seen) (line : BlockLine) (next : ℕ) (adds : AddsLine s
   now_opened : line.part ≡ part.Opens → blocks_at source next ≡ blocks_at source line.position ++ opened line ∷ []
   now_opened is = ap open_blocks adds ∙ opens_one (block_lines 0 (take line.position source)) line is
 
-  now_parted : (before : List Block) (block : Block) → parts_block line.part 0 ≡ true → blocks_at source line.position ≡ before ++ block ∷ [] → blocks_at source next ≡ before ++ parted block line ∷ []
+  now_parted : (before : List Block) (block : Block) → parts_block line.part 0 ≡ true → blocks_at source line.position ≡ before ++ block ∷ []
+      → blocks_at source next ≡ before ++ parted block line ∷ []
   now_parted before block is e = ap open_blocks adds ∙ parts_one (block_lines 0 (take line.position source)) line before block is e
 
-  now_closed : (before : List Block) (block : Block) → line.part ≡ part.Closes → blocks_at source line.position ≡ before ++ block ∷ [] → blocks_at source next ≡ before
+  now_closed : (before : List Block) (block : Block) → line.part ≡ part.Closes → blocks_at source line.position ≡ before ++ block ∷ []
+      → blocks_at source next ≡ before
   now_closed before block is e = ap open_blocks adds ∙ closes_one (block_lines 0 (take line.position source)) line before block is e
 
-  stand_for_more : (truths : Truths) (outer : List OpenBlock) (last : OpenBlock) (before : List Block) (block : Block) → blocks_at source next ≡ before ++ block ∷ []
-      → StandForBlocks source truths outer before → StandsForBlock source truths last block → StandForBlocks source truths (outer ++ last ∷ []) (blocks_at source next)
+  stand_for_more : (truths : Truths) (outer : List OpenBlock) (last : OpenBlock) (before : List Block) (block : Block)
+      → blocks_at source next ≡ before ++ block ∷ []
+      → StandForBlocks source truths outer before → StandsForBlock source truths last block
+      → StandForBlocks source truths (outer ++ last ∷ []) (blocks_at source next)
   stand_for_more truths outer last before block e s h =
-      subst (λ (blocks : List Block). StandForBlocks source truths (outer ++ last ∷ []) blocks) (sym e) (all_zipped_more (StandsForBlock source truths) outer before last block s h)
+      subst (λ (blocks : List Block). StandForBlocks source truths (outer ++ last ∷ []) blocks) (sym e)
+      (all_zipped_more (StandsForBlock source truths) outer before last block s h)
 
   module _ (truths : Truths) where
     -- a line that opens a block in live text: its condition is read
-    pub opens_read : (holds : Bool) (kept : List OpenBlock) → line.part ≡ part.Opens → is_live source truths line.position ≡ true → StandForBlocks source truths kept (blocks_at source line.position)
-        → StandForBlocks source (with_truth line.position holds truths) (kept ++ record { word = line.word; live_around = true; taken = holds; with_else = false; chosen = holds } ∷ []) (blocks_at source next)
+    pub opens_read : (holds : Bool) (kept : List OpenBlock) → line.part ≡ part.Opens → is_live source truths line.position ≡ true
+        → StandForBlocks source truths kept (blocks_at source line.position)
+        → StandForBlocks source (with_truth line.position holds truths)
+        (kept ++ record { word = line.word; live_around = true; taken = holds; with_else = false; chosen = holds } ∷ []) (blocks_at source next)
     opens_read holds kept is live s =
         stand_for_more (with_truth line.position holds truths) kept _ (blocks_at source line.position) (opened line) (now_opened is)
         (stand_before source line.position holds truths kept (blocks_at source line.position) (blocks_lie_before source line.position) s) (record {
@@ -50,8 +57,10 @@ module _ (source : List Seen) (line : BlockLine) (next : ℕ) (adds : AddsLine s
 
     module _ (unread : IsUnread line.position truths) where
       -- a line that opens a block in dead text: its condition is not read
-      pub opens_unread : (kept : List OpenBlock) → line.part ≡ part.Opens → is_live source truths line.position ≡ false → StandForBlocks source truths kept (blocks_at source line.position)
-          → StandForBlocks source truths (kept ++ record { word = line.word; live_around = false; taken = false; with_else = false; chosen = false } ∷ []) (blocks_at source next)
+      pub opens_unread : (kept : List OpenBlock) → line.part ≡ part.Opens → is_live source truths line.position ≡ false
+          → StandForBlocks source truths kept (blocks_at source line.position)
+          → StandForBlocks source truths
+          (kept ++ record { word = line.word; live_around = false; taken = false; with_else = false; chosen = false } ∷ []) (blocks_at source next)
       opens_unread kept is dead s =
           stand_for_more truths kept _ (blocks_at source line.position) (opened line) (now_opened is) s (record {
             word = refl;
@@ -79,7 +88,8 @@ module _ (source : List Seen) (line : BlockLine) (next : ℕ) (adds : AddsLine s
             live_around = i.stands.live_around;
             taken = branch.else_taken kept.live_around truths i.block line is unread i.stands.settled ∙ i.stands.taken;
             with_else = branch.else_parted i.block line ∙ ap (λ other. has_else i.block || other) (ap is_else is) ∙ or-true (has_else i.block);
-            chosen = branch.else_live kept.live_around truths i.block line is unread i.stands.settled ∙ ap (λ taken. kept.live_around && not taken) i.stands.taken;
+            chosen = branch.else_live kept.live_around truths i.block line is unread i.stands.settled
+                ∙ ap (λ taken. kept.live_around && not taken) i.stands.taken;
             settled = branch.else_settled kept.live_around truths i.block line is unread i.stands.settled;
           })
 
@@ -92,9 +102,11 @@ module _ (source : List Seen) (line : BlockLine) (next : ℕ) (adds : AddsLine s
             word = i.stands.word;
             live_around = i.stands.live_around;
             taken = branch.skipped_taken kept.live_around truths i.block line is unread ∙ i.stands.taken;
-            with_else = branch.else_parted i.block line ∙ ap (λ other. has_else i.block || other) (ap is_else is) ∙ branch.or_false (has_else i.block) ∙ i.stands.with_else;
+            with_else = branch.else_parted i.block line ∙ ap (λ other. has_else i.block || other) (ap is_else is)
+                ∙ branch.or_false (has_else i.block) ∙ i.stands.with_else;
             chosen = branch.skipped_live kept.live_around truths i.block line is unread;
-            settled = branch.skipped_settled kept.live_around truths i.block line is unread (ap (λ taken. kept.live_around && not taken) i.stands.taken ∙ skips);
+            settled = branch.skipped_settled kept.live_around truths i.block line is unread
+                (ap (λ taken. kept.live_around && not taken) i.stands.taken ∙ skips);
           })
 
       -- an `#elif` whose condition is read
@@ -104,12 +116,15 @@ module _ (source : List Seen) (line : BlockLine) (next : ℕ) (adds : AddsLine s
           let i = stands_innermost source truths outer kept (blocks_at source line.position) s in
           let before : LiesBefore line.position i.block = last_lies_before source line.position i.before i.block [] i.split in
           let settled : IsSettled true truths i.block = subst (λ (around : Bool). IsSettled around truths i.block) live i.stands.settled in
-          stand_for_more (with_truth line.position holds truths) outer _ i.before (parted i.block line) (now_parted i.before i.block (ap (λ p. parts_block p 0) is) i.split)
-          (stand_before source line.position holds truths outer i.before (around_lie_before source line.position i.before i.block [] i.split) i.around) (record {
+          stand_for_more (with_truth line.position holds truths) outer _ i.before (parted i.block line)
+          (now_parted i.before i.block (ap (λ p. parts_block p 0) is) i.split)
+          (stand_before source line.position holds truths outer i.before
+          (around_lie_before source line.position i.before i.block [] i.split) i.around) (record {
             word = i.stands.word;
             live_around = surroundings_before line.position holds truths source i.block (omega (arith, before.0)) ∙ i.stands.live_around;
             taken = branch.elif_taken truths i.block line holds is before settled (i.stands.taken ∙ untaken);
-            with_else = branch.else_parted i.block line ∙ ap (λ other. has_else i.block || other) (ap is_else is) ∙ branch.or_false (has_else i.block) ∙ i.stands.with_else;
+            with_else = branch.else_parted i.block line ∙ ap (λ other. has_else i.block || other) (ap is_else is)
+                ∙ branch.or_false (has_else i.block) ∙ i.stands.with_else;
             chosen = branch.elif_live truths i.block line holds is before settled (i.stands.taken ∙ untaken);
             settled = subst (λ (around : Bool). IsSettled around (with_truth line.position holds truths) (parted i.block line)) (sym live)
                 (branch.elif_settled truths i.block line holds is before settled (i.stands.taken ∙ untaken));

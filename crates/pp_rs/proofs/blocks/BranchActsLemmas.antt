@@ -49,7 +49,8 @@ module _ (r : SourceReader) (b : HasRead r) where
   condition_keeps word h = value_keeps (line_tokens (after_word r)) (λ tokens. record { step = step.Condition word tokens; after = r }) (λ tokens. h)
 
   item_keeps : (value : List Token → TokenValue) (word : Location) → HasRead (after_line r) → Keeps r (line_item value word r)
-  item_keeps value word h = value_keeps (line_tokens (after_word r)) (λ tokens. given (record { value = value tokens; location = word }) (after_line r)) (λ tokens. h)
+  item_keeps value word h = value_keeps (line_tokens (after_word r)) (λ tokens. given (record { value = value tokens; location = word })
+      (after_line r)) (λ tokens. h)
 
   end_keeps : (block : Option Block) → Keeps r (ended_by block r)
   end_keeps (Some block) = b
@@ -66,7 +67,8 @@ module _ (r : SourceReader) (b : HasRead r) where
 
     elif_keeps : (found : Option Block) → block_here r ≡ found → part_of directive ≡ Some part.Elif → Keeps r (elif_in found word r)
     elif_keeps None found its = b
-    elif_keeps (Some block) found its = elif_with block (has_else block) (not (are_surroundings_live r.items r.truths block) || has_taken_branch r.truths block) found its refl refl
+    elif_keeps (Some block) found its = elif_with block (has_else block)
+        (not (are_surroundings_live r.items r.truths block) || has_taken_branch r.truths block) found its refl refl
 
     else_with : (block : Block) (other : Bool) → block_here r ≡ Some block → part_of directive ≡ Some part.Else → has_else block ≡ other
         → Keeps r (if other then failed (MoreThanOneElse, word) r else passed (after_line r))
@@ -78,7 +80,8 @@ module _ (r : SourceReader) (b : HasRead r) where
     else_in_keeps (Some block) found its = else_with block (has_else block) found its refl
 
     else_keeps : part_of directive ≡ Some part.Else → Keeps r (only_word word r (else_in (block_here r) word r))
-    else_keeps its = value_keeps (ended_line word (after_word r)) (λ end. else_in (block_here r) word r (after_line r)) (λ end. else_in_keeps (block_here r) refl its)
+    else_keeps its = value_keeps (ended_line word (after_word r)) (λ end. else_in (block_here r) word r (after_line r))
+        (λ end. else_in_keeps (block_here r) refl its)
 
     endif_with : (live : Bool) → HasRead (after_line r) → Keeps r (if live then only_word word r passed else skipped r)
     endif_with true h = value_keeps (ended_line word (after_word r)) (λ end. passed (after_line r)) (λ end. h)
@@ -89,8 +92,10 @@ module _ (r : SourceReader) (b : HasRead r) where
     endif_keeps (Some block) found its = endif_with (are_surroundings_live r.items r.truths block) (closing_keeps r b directive word e block found its)
 
   module _ (word : Location) where
-    live_keeps : (directive : Directive) → is_live r.items r.truths r.position ≡ true → sight_of (drop r.position r.items) ≡ sight.Directive directive word → Keeps r (live_directive directive word r)
-    live_keeps d.Define live e = value_keeps (defined_on word (after_word r)) (λ named. record { step = step.Defines named; after = after_line r }) (λ named. line_keeps r b d.Define word e refl)
+    live_keeps : (directive : Directive) → is_live r.items r.truths r.position ≡ true
+        → sight_of (drop r.position r.items) ≡ sight.Directive directive word → Keeps r (live_directive directive word r)
+    live_keeps d.Define live e = value_keeps (defined_on word (after_word r)) (λ named. record { step = step.Defines named; after = after_line r })
+        (λ named. line_keeps r b d.Define word e refl)
     live_keeps d.Undef live e = value_keeps (only_name word (after_word r)) _ (λ name. line_keeps r b d.Undef word e refl)
     live_keeps d.If live e = condition_keeps word (opening_keeps r b d.If word e refl live)
     live_keeps d.Ifdef live e = value_keeps (only_name word (after_word r)) _ (λ name. opening_keeps r b d.Ifdef word e refl live _)
@@ -99,13 +104,15 @@ module _ (r : SourceReader) (b : HasRead r) where
     live_keeps d.Else live e = else_keeps d.Else word e refl
     live_keeps d.Endif live e = endif_keeps d.Endif word e (block_here r) refl refl
     live_keeps d.Error live e = b
-    live_keeps d.Line live e = value_keeps (line_tokens (after_word r)) (λ tokens. record { step = step.LineNumber word tokens; after = r }) (λ tokens. line_keeps r b d.Line word e refl)
+    live_keeps d.Line live e = value_keeps (line_tokens (after_word r)) (λ tokens. record { step = step.LineNumber word tokens; after = r })
+        (λ tokens. line_keeps r b d.Line word e refl)
     live_keeps d.Version live e = item_keeps _ word (line_keeps r b d.Version word e refl)
     live_keeps d.Extension live e = item_keeps _ word (line_keeps r b d.Extension word e refl)
     live_keeps d.Pragma live e = item_keeps _ word (line_keeps r b d.Pragma word e refl)
     live_keeps d.Unknown live e = b
 
-    dead_keeps : (directive : Directive) → is_live r.items r.truths r.position ≡ false → sight_of (drop r.position r.items) ≡ sight.Directive directive word → Keeps r (dead_directive directive word r)
+    dead_keeps : (directive : Directive) → is_live r.items r.truths r.position ≡ false
+        → sight_of (drop r.position r.items) ≡ sight.Directive directive word → Keeps r (dead_directive directive word r)
     dead_keeps d.Define dead e = skipped_keeps (line_keeps r b d.Define word e refl)
     dead_keeps d.Undef dead e = skipped_keeps (line_keeps r b d.Undef word e refl)
     dead_keeps d.If dead e = skipped_keeps (unread_keeps r b d.If word e refl dead)
@@ -121,7 +128,8 @@ module _ (r : SourceReader) (b : HasRead r) where
     dead_keeps d.Pragma dead e = skipped_keeps (line_keeps r b d.Pragma word e refl)
     dead_keeps d.Unknown dead e = unknown_keeps r b d.Unknown word e refl
 
-  sight_keeps : (live : Bool) (shown : Sight) → is_live r.items r.truths r.position ≡ live → sight_of (drop r.position r.items) ≡ shown → Keeps r (if live then live_act shown r else dead_act shown r)
+  sight_keeps : (live : Bool) (shown : Sight) → is_live r.items r.truths r.position ≡ live → sight_of (drop r.position r.items) ≡ shown
+      → Keeps r (if live then live_act shown r else dead_act shown r)
   sight_keeps true sight.End live e = end_keeps _
   sight_keeps true sight.NewLine live e = one_keeps r b sight.NewLine e refl
   sight_keeps true (sight.Fault fault) live e = b

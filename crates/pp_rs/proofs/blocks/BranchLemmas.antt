@@ -30,21 +30,25 @@ either e f = cc
 abbrev pub takes : Truths → BlockLine → Bool
 takes truths mark = is_known_true (truth_at truths mark.position)
 
-last_chosen_more : (truths : Truths) (first line : BlockLine) (lines : List BlockLine) → is_last_chosen truths first (lines ++ line ∷ []) ≡ list_all (fails_at truths) (first ∷ lines) && holds_at truths line
+last_chosen_more : (truths : Truths) (first line : BlockLine) (lines : List BlockLine)
+    → is_last_chosen truths first (lines ++ line ∷ []) ≡ list_all (fails_at truths) (first ∷ lines) && holds_at truths line
 last_chosen_more truths first line [] = ap (λ fails. fails && holds_at truths line) (sym (and-true (fails_at truths first)))
 last_chosen_more truths first line (next ∷ later) =
     ap (λ chosen. fails_at truths first && chosen) (last_chosen_more truths next line later)
     ∙ sym (and_assoc (fails_at truths first) (list_all (fails_at truths) (next ∷ later)) (holds_at truths line))
 
 -- after a line that parts a block, its branch is live where all earlier conditions are false and the line's own holds
-pub branch_live_parted : (truths : Truths) (block : Block) (line : BlockLine) → is_branch_live truths (parted block line) ≡ all_fail truths block && holds_at truths line
+pub branch_live_parted : (truths : Truths) (block : Block) (line : BlockLine)
+    → is_branch_live truths (parted block line) ≡ all_fail truths block && holds_at truths line
 branch_live_parted truths block line = last_chosen_more truths block.first line block.partings
 
 any_more : (test : BlockLine → Bool) (lines : List BlockLine) (line : BlockLine) → list_any test (lines ++ line ∷ []) ≡ list_any test lines || test line
 any_more test [] line = or_false (test line)
-any_more test (first ∷ later) line = ap (λ found. test first || found) (any_more test later line) ∙ sym (or_assoc (test first) (list_any test later) (test line))
+any_more test (first ∷ later) line = ap (λ found. test first || found) (any_more test later line)
+    ∙ sym (or_assoc (test first) (list_any test later) (test line))
 
-pub taken_parted : (truths : Truths) (block : Block) (line : BlockLine) → has_taken_branch truths (parted block line) ≡ has_taken_branch truths block || takes truths line
+pub taken_parted : (truths : Truths) (block : Block) (line : BlockLine)
+    → has_taken_branch truths (parted block line) ≡ has_taken_branch truths block || takes truths line
 taken_parted truths block line = any_more (takes truths) (marks block) line
 
 pub else_parted : (block : Block) (line : BlockLine) → has_else (parted block line) ≡ has_else block || is_else line.part
@@ -52,7 +56,8 @@ else_parted block line = any_more (λ mark. is_else mark.part) block.partings li
 
 all_more : (test : BlockLine → Bool) (lines : List BlockLine) (line : BlockLine) → list_all test (lines ++ line ∷ []) ≡ list_all test lines && test line
 all_more test [] line = and-true (test line)
-all_more test (first ∷ later) line = ap (λ found. test first && found) (all_more test later line) ∙ sym (and_assoc (test first) (list_all test later) (test line))
+all_more test (first ∷ later) line = ap (λ found. test first && found) (all_more test later line)
+    ∙ sym (and_assoc (test first) (list_all test later) (test line))
 
 pub all_fail_parted : (truths : Truths) (block : Block) (line : BlockLine) → all_fail truths (parted block line) ≡ all_fail truths block && fails_at truths line
 all_fail_parted truths block line = all_more (fails_at truths) (marks block) line
@@ -85,9 +90,11 @@ module _ (truths : Truths) (line : BlockLine) where
   fails_else is = ap (λ other. other || is_known_false (truth_at truths line.position)) is
 
 -- a condition that is read after the block says nothing new of it
-pub settled_before : (live : Bool) (position : ℕ) (holds : Bool) (truths : Truths) (block : Block) → LiesBefore position block → IsSettled live truths block → IsSettled live (with_truth position holds truths) block
+pub settled_before : (live : Bool) (position : ℕ) (holds : Bool) (truths : Truths) (block : Block) → LiesBefore position block
+    → IsSettled live truths block → IsSettled live (with_truth position holds truths) block
 settled_before live position holds truths block before settled =
-    all_fail_before position holds truths block before ∙ settled ∙ ap (λ taken. live && not taken) (sym (taken_branch_before position holds truths block before))
+    all_fail_before position holds truths block before ∙ settled
+    ∙ ap (λ taken. live && not taken) (sym (taken_branch_before position holds truths block before))
 
 -- a line that opens a block is no `#else`
 pub opens_no_else : (p : Part) → opens p ≡ true → is_else p ≡ false
@@ -102,7 +109,8 @@ module _ (truths : Truths) (line : BlockLine) (holds : Bool) (begins : opens lin
   opened_live = holds_read (with_truth line.position holds truths) line holds (opens_no_else line.part begins) (truth_here line.position holds truths)
 
   pub opened_taken : has_taken_branch (with_truth line.position holds truths) (opened line) ≡ holds
-  opened_taken = or_false (takes (with_truth line.position holds truths) line) ∙ takes_read (with_truth line.position holds truths) line holds (truth_here line.position holds truths)
+  opened_taken = or_false (takes (with_truth line.position holds truths) line)
+      ∙ takes_read (with_truth line.position holds truths) line holds (truth_here line.position holds truths)
 
   pub opened_settled : IsSettled true (with_truth line.position holds truths) (opened line)
   opened_settled =
@@ -122,7 +130,8 @@ module _ (truths : Truths) (line : BlockLine) (begins : opens line.part ≡ true
   unread_settled = both (fails_unread truths line (opens_no_else line.part begins) unread) refl
 
 -- An `#else` of the block.
-module _ (live : Bool) (truths : Truths) (block : Block) (line : BlockLine) (is : line.part ≡ part.Else) (unread : IsUnread line.position truths) (settled : IsSettled live truths block) where
+module _ (live : Bool) (truths : Truths) (block : Block) (line : BlockLine) (is : line.part ≡ part.Else) (unread : IsUnread line.position truths)
+    (settled : IsSettled live truths block) where
   pub else_live : is_branch_live truths (parted block line) ≡ live && not (has_taken_branch truths block)
   else_live = branch_live_parted truths block line ∙ both refl (holds_else truths line (ap is_else is)) ∙ and-true (all_fail truths block) ∙ settled
 
@@ -161,7 +170,8 @@ module _ (truths : Truths) (block : Block) (line : BlockLine) (holds : Bool) (is
   pub elif_taken : has_taken_branch (with_truth line.position holds truths) (parted block line) ≡ holds
   elif_taken =
       taken_parted (with_truth line.position holds truths) block line
-      ∙ either (taken_branch_before line.position holds truths block before ∙ untaken) (takes_read (with_truth line.position holds truths) line holds (truth_here line.position holds truths))
+      ∙ either (taken_branch_before line.position holds truths block before
+      ∙ untaken) (takes_read (with_truth line.position holds truths) line holds (truth_here line.position holds truths))
 
   pub elif_settled : IsSettled true (with_truth line.position holds truths) (parted block line)
   elif_settled =

@@ -42,7 +42,8 @@ module _ (source : List Seen) (position : ℕ) (holds : Bool) (truths : Truths) 
         ∙ c.chosen;
   }
 
-  pub branched_before : (block : Block) → LiesBefore position block → IsBranched source truths block → IsBranched source (with_truth position holds truths) block
+  pub branched_before : (block : Block) → LiesBefore position block → IsBranched source truths block
+      → IsBranched source (with_truth position holds truths) block
   branched_before block before b =
       let around : are_surroundings_live source (with_truth position holds truths) block ≡ are_surroundings_live source truths block =
       surroundings_before position holds truths source block (omega (arith, before.0)) in
@@ -52,11 +53,13 @@ module _ (source : List Seen) (position : ℕ) (holds : Bool) (truths : Truths) 
         settled = subst (λ (live : Bool). IsSettled live (with_truth position holds truths) block) (sym around)
             (settled_before (are_surroundings_live source truths block) position holds truths block before b.settled);
         covered = λ live any.
-            let c = b.covered (sym around ∙ live) (ap (λ taken. taken || has_else block) (sym (taken_branch_before position holds truths block before)) ∙ any) in
+            let c = b.covered (sym around ∙ live) (ap (λ taken. taken || has_else block)
+            (sym (taken_branch_before position holds truths block before)) ∙ any) in
             (c.0, chosen_before block c.0 before c.1);
       }
 
-  pub all_branched_before : (blocks : List Block) → Each (LiesBefore position) blocks → Each (IsBranched source truths) blocks → Each (IsBranched source (with_truth position holds truths)) blocks
+  pub all_branched_before : (blocks : List Block) → Each (LiesBefore position) blocks → Each (IsBranched source truths) blocks
+      → Each (IsBranched source (with_truth position holds truths)) blocks
   all_branched_before [] before all = tt
   all_branched_before (block ∷ blocks) before all = (branched_before block before.0 all.0, all_branched_before blocks before.1 all.1)
 
@@ -88,7 +91,8 @@ module _ (source : List Seen) (truths : Truths) (line : BlockLine) (begins : ope
     covered = λ around any. let bad : false ≡ true = sym dead ∙ around in cc;
   }
 
-none_parts : (first : BlockLine) (partings : List BlockLine) (line : BlockLine) → is_else first.part ≡ false → list_any (λ mark. is_else mark.part) partings ≡ false → ElseIsLast (first ∷ (partings ++ line ∷ []))
+none_parts : (first : BlockLine) (partings : List BlockLine) (line : BlockLine) → is_else first.part ≡ false
+    → list_any (λ mark. is_else mark.part) partings ≡ false → ElseIsLast (first ∷ (partings ++ line ∷ []))
 none_parts first [] line plain none = (plain, tt)
 none_parts first (next ∷ later) line plain none =
     let n = or_parts (is_else next.part) (list_any (λ mark. is_else mark.part) later) none in
@@ -130,7 +134,8 @@ module _ (source : List Seen) (truths : Truths) (block : Block) (line : BlockLin
         ∙ ap (λ taken. taken || (has_else block || is_else line.part)) (sym (taken_parted truths block line))
         ∙ ap (λ other. has_taken_branch truths (parted block line) || other) (sym (else_parted block line)) ∙ any
 
-    covered_by : (taken holds : Bool) → has_taken_branch truths block ≡ taken → holds_at truths line ≡ holds → has_taken_branch truths (parted block line) || has_else (parted block line) ≡ true
+    covered_by : (taken holds : Bool) → has_taken_branch truths block ≡ taken → holds_at truths line ≡ holds
+        → has_taken_branch truths (parted block line) || has_else (parted block line) ≡ true
         → HasChosen truths (parted block line)
     covered_by true holds t h any =
         let c = b.covered around (ap (λ taken. taken || has_else block) t) in

@@ -50,7 +50,8 @@ module _ (items : List Seen) (position : ℕ) (truths : Truths) (b : BranchesRea
       read = λ place within. at_place place within (cases_lt position place);
     }
       where
-        at_either : (place : ℕ) → (blocks_at items place ≡ blocks_at items position) ⊎ (blocks_at items place ≡ blocks_at items (position + count)) → AreBranched items new (blocks_at items place)
+        at_either : (place : ℕ) → (blocks_at items place ≡ blocks_at items position) ⊎ (blocks_at items place ≡ blocks_at items (position + count))
+            → AreBranched items new (blocks_at items place)
         at_either place (inl e) = subst (λ (blocks : List Block). AreBranched items new blocks) (sym e) (earlier position (omega arith))
         at_either place (inr e) = subst (λ (blocks : List Block). AreBranched items new blocks) (sym e) now
 
@@ -61,7 +62,8 @@ module _ (items : List Seen) (position : ℕ) (truths : Truths) (b : BranchesRea
   -- items that add no line of a block
   pub read_quiet : AddsLines position count (drop position items) [] → BranchesRead items (position + count) truths
   read_quiet adds =
-      let same : blocks_at items (position + count) ≡ blocks_at items position = ap open_blocks (lines_now None adds ∙ append-nil (block_lines 0 (take position items))) in
+      let same : blocks_at items (position + count) ≡ blocks_at items position =
+      ap open_blocks (lines_now None adds ∙ append-nil (block_lines 0 (take position items))) in
       read_further None adds truths (before_later position (position + count) truths (omega arith) b.before) b.read
       (subst (λ (blocks : List Block). AreBranched items truths blocks) (sym same) (b.read position (omega arith)))
 
@@ -71,7 +73,8 @@ skips_branch true false h = cc
 skips_branch false taken h = refl
 
 -- a line of a block
-module _ (items : List Seen) (line : BlockLine) (truths : Truths) (b : BranchesRead items line.position truths) (count : ℕ) (adds : AddsLines line.position count (drop line.position items) (line ∷ [])) where
+module _ (items : List Seen) (line : BlockLine) (truths : Truths) (b : BranchesRead items line.position truths)
+    (count : ℕ) (adds : AddsLines line.position count (drop line.position items) (line ∷ [])) where
   unread : IsUnread line.position truths
   unread = before_unread line.position truths b.before
 
@@ -79,36 +82,44 @@ module _ (items : List Seen) (line : BlockLine) (truths : Truths) (b : BranchesR
   now_open = ap open_blocks (lines_now items line.position truths b count (Some line) adds)
 
   -- no condition is read there
-  known_unread : (blocks : List Block) → open_blocks (block_lines 0 (take line.position items) ++ line ∷ []) ≡ blocks → AreBranched items truths blocks → BranchesRead items (line.position + count) truths
+  known_unread : (blocks : List Block) → open_blocks (block_lines 0 (take line.position items) ++ line ∷ []) ≡ blocks
+      → AreBranched items truths blocks → BranchesRead items (line.position + count) truths
   known_unread blocks e all =
-      read_further items line.position truths b count (Some line) adds truths (before_later line.position (line.position + count) truths (omega arith) b.before) b.read
+      read_further items line.position truths b count (Some line) adds truths
+      (before_later line.position (line.position + count) truths (omega arith) b.before) b.read
       (subst (λ (bs : List Block). AreBranched items truths bs) (sym (now_open ∙ e)) all)
 
   -- it opens a block in dead text
   pub read_unread : line.part ≡ part.Opens → is_live items truths line.position ≡ false → BranchesRead items (line.position + count) truths
   read_unread is dead =
       known_unread (blocks_at items line.position ++ opened line ∷ []) (opens_one (block_lines 0 (take line.position items)) line is)
-      (each_more (IsBranched items truths) (blocks_at items line.position) (opened line) (b.read line.position (omega arith)) (unread_branched items truths line (ap opens is) unread dead))
+      (each_more (IsBranched items truths) (blocks_at items line.position) (opened line) (b.read line.position (omega arith))
+      (unread_branched items truths line (ap opens is) unread dead))
 
   -- its condition is read
   module _ (holds : Bool) (some : 1 ≤ count) where
     earlier : (place : ℕ) → place ≤ line.position → AreBranched items (with_truth line.position holds truths) (blocks_at items place)
     earlier place h =
         all_branched_before items line.position holds truths (blocks_at items place)
-        (each_weaker (LiesBefore place) (LiesBefore line.position) (λ block. lies_before_later place line.position block h) (blocks_at items place) (blocks_lie_before items place))
+        (each_weaker (LiesBefore place) (LiesBefore line.position) (λ block. lies_before_later place line.position block h) (blocks_at items place)
+        (blocks_lie_before items place))
         (b.read place h)
 
-    known_read : (blocks : List Block) → open_blocks (block_lines 0 (take line.position items) ++ line ∷ []) ≡ blocks → AreBranched items (with_truth line.position holds truths) blocks
+    known_read : (blocks : List Block) → open_blocks (block_lines 0 (take line.position items) ++ line ∷ []) ≡ blocks
+        → AreBranched items (with_truth line.position holds truths) blocks
         → BranchesRead items (line.position + count) (with_truth line.position holds truths)
     known_read blocks e all =
-        read_further items line.position truths b count (Some line) adds (with_truth line.position holds truths) (before_more line.position (line.position + count) holds truths (omega (arith, some)) b.before) earlier
+        read_further items line.position truths b count (Some line) adds (with_truth line.position holds truths)
+        (before_more line.position (line.position + count) holds truths (omega (arith, some)) b.before) earlier
         (subst (λ (bs : List Block). AreBranched items (with_truth line.position holds truths) bs) (sym (now_open ∙ e)) all)
 
     -- it opens a block in live text
-    pub read_opened : line.part ≡ part.Opens → is_live items truths line.position ≡ true → BranchesRead items (line.position + count) (with_truth line.position holds truths)
+    pub read_opened : line.part ≡ part.Opens → is_live items truths line.position ≡ true
+        → BranchesRead items (line.position + count) (with_truth line.position holds truths)
     read_opened is live =
         known_read (blocks_at items line.position ++ opened line ∷ []) (opens_one (block_lines 0 (take line.position items)) line is)
-        (each_more (IsBranched items (with_truth line.position holds truths)) (blocks_at items line.position) (opened line) (earlier line.position (omega arith)) (opened_branched items truths line (ap opens is) holds live))
+        (each_more (IsBranched items (with_truth line.position holds truths)) (blocks_at items line.position) (opened line)
+        (earlier line.position (omega arith)) (opened_branched items truths line (ap opens is) holds live))
 
   -- where this block is the innermost
   module _ (before : List Block) (block : Block) (split : blocks_at items line.position ≡ before ++ block ∷ []) where
@@ -120,34 +131,45 @@ module _ (items : List Seen) (line : BlockLine) (truths : Truths) (b : BranchesR
 
     -- an `#endif`
     pub read_closed : line.part ≡ part.Closes → BranchesRead items (line.position + count) truths
-    read_closed is = known_unread before (closes_one (block_lines 0 (take line.position items)) line before block is split) (each_before (IsBranched items truths) before (block ∷ []) all_known)
+    read_closed is = known_unread before (closes_one (block_lines 0 (take line.position items)) line before block is split)
+        (each_before (IsBranched items truths) before (block ∷ []) all_known)
 
     module _ (no_else : has_else block ≡ false) where
-      parted_unread : parts_block line.part 0 ≡ true → IsSettled (are_surroundings_live items truths block) truths (parted block line) → BranchesRead items (line.position + count) truths
+      parted_unread : parts_block line.part 0 ≡ true → IsSettled (are_surroundings_live items truths block) truths (parted block line)
+          → BranchesRead items (line.position + count) truths
       parted_unread is settled =
           known_unread (before ++ parted block line ∷ []) (parts_one (block_lines 0 (take line.position items)) line before block is split)
-          (each_more (IsBranched items truths) before (parted block line) (each_before (IsBranched items truths) before (block ∷ []) all_known) (parted_branched items truths block line this_known no_else settled))
+          (each_more (IsBranched items truths) before (parted block line) (each_before (IsBranched items truths) before (block ∷ []) all_known)
+          (parted_branched items truths block line this_known no_else settled))
 
       -- an `#else`
       pub read_else : line.part ≡ part.Else → BranchesRead items (line.position + count) truths
-      read_else is = parted_unread (ap (λ p. parts_block p 0) is) (else_settled (are_surroundings_live items truths block) truths block line is unread this_known.settled)
+      read_else is = parted_unread (ap (λ p. parts_block p 0) is)
+          (else_settled (are_surroundings_live items truths block) truths block line is unread this_known.settled)
 
       -- an `#elif` that is skipped
-      pub read_skipped : line.part ≡ part.Elif → not (are_surroundings_live items truths block) || has_taken_branch truths block ≡ true → BranchesRead items (line.position + count) truths
+      pub read_skipped : line.part ≡ part.Elif → not (are_surroundings_live items truths block) || has_taken_branch truths block ≡ true
+          → BranchesRead items (line.position + count) truths
       read_skipped is skips =
           parted_unread (ap (λ p. parts_block p 0) is)
-          (skipped_settled (are_surroundings_live items truths block) truths block line is unread (skips_branch (are_surroundings_live items truths block) (has_taken_branch truths block) skips))
+          (skipped_settled (are_surroundings_live items truths block) truths block line is unread
+          (skips_branch (are_surroundings_live items truths block) (has_taken_branch truths block) skips))
 
       -- an `#elif` whose condition is read
-      pub read_elif : (holds : Bool) → 1 ≤ count → line.part ≡ part.Elif → are_surroundings_live items truths block ≡ true → has_taken_branch truths block ≡ false
+      pub read_elif : (holds : Bool) → 1 ≤ count → line.part ≡ part.Elif → are_surroundings_live items truths block ≡ true
+          → has_taken_branch truths block ≡ false
           → BranchesRead items (line.position + count) (with_truth line.position holds truths)
       read_elif holds some is live untaken =
           let new = with_truth line.position holds truths in
           let lies : LiesBefore line.position block = last_lies_before items line.position before block [] split in
-          let all : AreBranched items new (before ++ block ∷ []) = subst (λ (blocks : List Block). AreBranched items new blocks) split (earlier holds some line.position (omega arith)) in
+          let all : AreBranched items new (before ++ block ∷ []) =
+          subst (λ (blocks : List Block). AreBranched items new blocks) split (earlier holds some line.position (omega arith)) in
           let settled : IsSettled true truths block = subst (λ (around : Bool). IsSettled around truths block) live this_known.settled in
-          let around : are_surroundings_live items new block ≡ true = surroundings_before line.position holds truths items block (omega (arith, lies.0)) ∙ live in
-          known_read holds some (before ++ parted block line ∷ []) (parts_one (block_lines 0 (take line.position items)) line before block (ap (λ p. parts_block p 0) is) split)
+          let around : are_surroundings_live items new block ≡ true =
+          surroundings_before line.position holds truths items block (omega (arith, lies.0)) ∙ live in
+          known_read holds some (before ++ parted block line ∷ []) (parts_one (block_lines 0 (take line.position items)) line before block
+          (ap (λ p. parts_block p 0) is) split)
           (each_more (IsBranched items new) before (parted block line) (each_before (IsBranched items new) before (block ∷ []) all)
           (parted_branched items new block line (each_after (IsBranched items new) before (block ∷ []) all).0 no_else
-          (subst (λ (live_around : Bool). IsSettled live_around new (parted block line)) (sym around) (elif_settled truths block line holds is lies settled untaken))))
+          (subst (λ (live_around : Bool). IsSettled live_around new (parted block line)) (sym around)
+          (elif_settled truths block line holds is lies settled untaken))))

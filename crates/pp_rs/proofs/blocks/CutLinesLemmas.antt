@@ -19,7 +19,11 @@ use Rattle.pp_rs.proofs.blocks.BlockPositionLemmas.{StandsWithin, line_stands, e
 use Rattle.pp_rs.proofs.blocks.SurroundingsLemmas.{none_within, open_at}
 
 alone_value : (position : ℕ) (location : Location) (value : LexerTokenValue) (blank at_start comments : Bool)
-    → block_lines position (record { item = Ok (record { value = value; location = location; leading_whitespace = blank; start_of_line = at_start }); had_comments = comments } ∷ []) ≡ []
+    → block_lines position
+    (record {
+      item = Ok (record { value = value; location = location; leading_whitespace = blank; start_of_line = at_start });
+      had_comments = comments;
+    } ∷ []) ≡ []
 alone_value position location Hash blank true comments = refl
 alone_value position location Hash blank false comments = refl
 alone_value position location NewLine blank at_start comments = refl
@@ -46,7 +50,8 @@ pub same_sight : (s next : Seen) (later other : List Seen) → sight_of (s ∷ n
 same_sight s next later other = same_lexeme s.item s.had_comments next later other
 
 -- where the line of a block stands in front, the next item begins none
-word_quiet : (position : ℕ) (s next : Seen) (later : List Seen) (line : BlockLine) (shown : Sight) → sight_of (s ∷ next ∷ later) ≡ shown → line_at position shown ≡ Some line
+word_quiet : (position : ℕ) (s next : Seen) (later : List Seen) (line : BlockLine) (shown : Sight) → sight_of (s ∷ next ∷ later) ≡ shown
+    → line_at position shown ≡ Some line
     → block_lines (position + 1) (next ∷ later) ≡ block_lines (position + 1 + 1) later
 word_quiet position s next later line (sight.Directive directive word) e found =
     let b = begins_directive (s ∷ next ∷ later) directive word e in
@@ -61,7 +66,8 @@ word_quiet position s next later line (sight.Hash location) e found = cc
 word_quiet position s next later line (sight.NoWord fault) e found = cc
 
 -- a line among those of some items stands among them
-among : (position : ℕ) (items : List Seen) (earlier later : List BlockLine) (line : BlockLine) → block_lines position items ≡ earlier ++ line ∷ later → position ≤ line.position
+among : (position : ℕ) (items : List Seen) (earlier later : List BlockLine) (line : BlockLine) → block_lines position items ≡ earlier ++ line ∷ later
+    → position ≤ line.position
 among position items earlier later line e =
     let within = StandsWithin position (position + length items) in
     (each_after within earlier (line ∷ later) (subst (λ (lines : List BlockLine). Each within lines) e (block_lines_within position items))).0.0
@@ -71,7 +77,8 @@ IsCut position n items earlier = block_lines position (take n items) ≡ earlier
 
 -- the lines before a line stand among the items before it
 abbrev IsCutBefore : ℕ → List Seen → BlockLine → List BlockLine → Type 0
-IsCutBefore position items line later = (n : ℕ) (earlier : List BlockLine) → block_lines position items ≡ earlier ++ line ∷ later → line.position ≡ position + n → IsCut position n items earlier
+IsCutBefore position items line later = (n : ℕ) (earlier : List BlockLine) → block_lines position items ≡ earlier ++ line ∷ later
+    → line.position ≡ position + n → IsCut position n items earlier
 
 module _ (position : ℕ) (s : Seen) (line : BlockLine) (later : List BlockLine) where
   -- an item that is no number sign of a directive
@@ -83,7 +90,8 @@ module _ (position : ℕ) (s : Seen) (line : BlockLine) (later : List BlockLine)
 
   module _ (next : Seen) (after : List Seen) where
     -- a number sign after which no line of a block stands
-    cut_none : line_at position (sight_of (s ∷ next ∷ after)) ≡ None → IsCutBefore (position + 1) (next ∷ after) line later → IsCutBefore position (s ∷ next ∷ after) line later
+    cut_none : line_at position (sight_of (s ∷ next ∷ after)) ≡ None → IsCutBefore (position + 1) (next ∷ after) line later
+        → IsCutBefore position (s ∷ next ∷ after) line later
     cut_none none cut n earlier e at_line = cut_at n at_line
       where
         rest_lines : block_lines (position + 1) (next ∷ after) ≡ earlier ++ line ∷ later
@@ -93,20 +101,24 @@ module _ (position : ℕ) (s : Seen) (line : BlockLine) (later : List BlockLine)
         cut_at zero there = absurd (omega (arith, there, among (position + 1) (next ∷ after) earlier later line rest_lines))
         cut_at (suc zero) there = alone position s ∙ cut zero earlier rest_lines (omega (arith, there))
         cut_at (suc (suc m)) there =
-            ap (λ found. cons_option found (block_lines (position + 1) (next ∷ take m after))) (ap (line_at position) (same_sight s next (take m after) after) ∙ none)
+            ap (λ found. cons_option found (block_lines (position + 1) (next ∷ take m after)))
+            (ap (line_at position) (same_sight s next (take m after) after) ∙ none)
             ∙ cut (suc m) earlier rest_lines (omega (arith, there))
 
     -- a line of a block
-    cut_some : (found : BlockLine) → line_at position (sight_of (s ∷ next ∷ after)) ≡ Some found → IsCutBefore (position + 1) (next ∷ after) line later → IsCutBefore position (s ∷ next ∷ after) line later
+    cut_some : (found : BlockLine) → line_at position (sight_of (s ∷ next ∷ after)) ≡ Some found
+        → IsCutBefore (position + 1) (next ∷ after) line later → IsCutBefore position (s ∷ next ∷ after) line later
     cut_some found is cut n earlier e at_line = cut_at n earlier at_line whole
       where
         whole : found ∷ block_lines (position + 1) (next ∷ after) ≡ earlier ++ line ∷ later
         whole = sym (ap (λ f. cons_option f (block_lines (position + 1) (next ∷ after))) is) ∙ e
 
         further : (earlier : List BlockLine) → block_lines (position + 1) (next ∷ after) ≡ earlier ++ line ∷ later → position + 1 + 1 ≤ line.position
-        further earlier e = among (position + 1 + 1) after earlier later line (sym (word_quiet position s next after found (sight_of (s ∷ next ∷ after)) refl is) ∙ e)
+        further earlier e = among (position + 1 + 1) after earlier later line
+            (sym (word_quiet position s next after found (sight_of (s ∷ next ∷ after)) refl is) ∙ e)
 
-        cut_at : (n : ℕ) (earlier : List BlockLine) → line.position ≡ position + n → found ∷ block_lines (position + 1) (next ∷ after) ≡ earlier ++ line ∷ later → IsCut position n (s ∷ next ∷ after) earlier
+        cut_at : (n : ℕ) (earlier : List BlockLine) → line.position ≡ position + n
+            → found ∷ block_lines (position + 1) (next ∷ after) ≡ earlier ++ line ∷ later → IsCut position n (s ∷ next ∷ after) earlier
         cut_at zero [] there e = refl
         cut_at (suc n) [] there e =
             let same : found ≡ line = cc in
@@ -120,14 +132,17 @@ module _ (position : ℕ) (s : Seen) (line : BlockLine) (later : List BlockLine)
         cut_at (suc (suc m)) (first ∷ earlier) there e =
             let rest_lines : block_lines (position + 1) (next ∷ after) ≡ earlier ++ line ∷ later = cc in
             let same : found ≡ first = cc in
-            ap (λ f. cons_option f (block_lines (position + 1) (next ∷ take m after))) (ap (line_at position) (same_sight s next (take m after) after) ∙ is ∙ ap Some same)
+            ap (λ f. cons_option f (block_lines (position + 1) (next ∷ take m after)))
+            (ap (line_at position) (same_sight s next (take m after) after) ∙ is ∙ ap Some same)
             ∙ ap (λ lines. first ∷ lines) (cut (suc m) earlier rest_lines (omega (arith, there)))
 
-    cut_found : (found : Option BlockLine) → line_at position (sight_of (s ∷ next ∷ after)) ≡ found → IsCutBefore (position + 1) (next ∷ after) line later → IsCutBefore position (s ∷ next ∷ after) line later
+    cut_found : (found : Option BlockLine) → line_at position (sight_of (s ∷ next ∷ after)) ≡ found
+        → IsCutBefore (position + 1) (next ∷ after) line later → IsCutBefore position (s ∷ next ∷ after) line later
     cut_found None is cut = cut_none is cut
     cut_found (Some found) is cut = cut_some found is cut
 
-  cut_item : (hash : Bool) (rest : List Seen) → is_directive_hash s.item ≡ hash → IsCutBefore (position + 1) rest line later → IsCutBefore position (s ∷ rest) line later
+  cut_item : (hash : Bool) (rest : List Seen) → is_directive_hash s.item ≡ hash → IsCutBefore (position + 1) rest line later
+      → IsCutBefore position (s ∷ rest) line later
   cut_item false rest is cut = cut_quiet rest is cut
   cut_item true [] is cut = λ n earlier e at_line. absurd (none_within earlier later line (sym (alone position s) ∙ e))
   cut_item true (next ∷ after) is cut = cut_found next after (line_at position (sight_of (s ∷ next ∷ after))) refl cut
@@ -138,7 +153,8 @@ lines_cut [] position line later = λ n earlier e at_line. absurd (none_within e
 lines_cut (s ∷ rest) position line later = cut_item position s line later (is_directive_hash s.item) rest refl (lines_cut rest (position + 1) line later)
 
 -- the blocks around an open block are those that are open at its first line
-pub blocks_around : (source : List Seen) (position : ℕ) (before : List Block) (block : Block) (inner : List Block) → blocks_at source position ≡ before ++ block ∷ inner → blocks_at source block.first.position ≡ before
+pub blocks_around : (source : List Seen) (position : ℕ) (before : List Block) (block : Block) (inner : List Block)
+    → blocks_at source position ≡ before ++ block ∷ inner → blocks_at source block.first.position ≡ before
 blocks_around source position before block inner e =
     let o = open_at (block_lines 0 (take position source)) before block inner e in
     let below : block.first.position ≤ position = omega (arith, (last_lies_before source position before block inner e).0) in

@@ -32,7 +32,8 @@ lines_first (suc (suc n)) position (s ∷ next ∷ later) =
       others = more.others;
       split = ap (λ lines. cons_option (line_at position (sight_of (s ∷ next ∷ later))) lines) more.split
           ∙ cons_more (line_at position (sight_of (s ∷ next ∷ later))) (block_lines (position + 1) (next ∷ take n later)) more.others
-          ∙ ap (λ shown. cons_option (line_at position shown) (block_lines (position + 1) (next ∷ take n later)) ++ more.others) (same_sight s next later (take n later));
+          ∙ ap (λ shown. cons_option (line_at position shown) (block_lines (position + 1) (next ∷ take n later)) ++ more.others)
+          (same_sight s next later (take n later));
     }
 
 -- at most one line is cut in no two
@@ -44,19 +45,22 @@ not_cut (Some one) (line ∷ []) (other ∷ second) e = cc
 not_cut (Some one) (line ∷ next ∷ first) (other ∷ second) e = cc
 
 -- lines between some and one more are those or these
-either_lines : (found : Option BlockLine) (earlier lines all first second : List BlockLine) → all ≡ earlier ++ cons_option found [] → lines ≡ earlier ++ first → all ≡ lines ++ second
+either_lines : (found : Option BlockLine) (earlier lines all first second : List BlockLine) → all ≡ earlier ++ cons_option found []
+    → lines ≡ earlier ++ first → all ≡ lines ++ second
     → (lines ≡ earlier) ⊎ (lines ≡ all)
 either_lines found earlier lines all first second one a b = by_cut (not_cut found first second same)
   where
     same : cons_option found [] ≡ first ++ second
-    same = append_cancel_left earlier (cons_option found []) (first ++ second) (sym one ∙ b ∙ ap (λ front. front ++ second) a ∙ append_assoc earlier first second)
+    same = append_cancel_left earlier (cons_option found []) (first ++ second)
+        (sym one ∙ b ∙ ap (λ front. front ++ second) a ∙ append_assoc earlier first second)
 
     by_cut : (first ≡ []) ⊎ (second ≡ []) → (lines ≡ earlier) ⊎ (lines ≡ all)
     by_cut (inl none) = inl (a ∙ ap (λ more. earlier ++ more) none ∙ append-nil earlier)
     by_cut (inr none) = inr (sym (b ∙ ap (λ more. lines ++ more) none ∙ append-nil lines))
 
 -- Between two places, where at most one line of a block is added from the first to the second, the blocks are open that are open at one of them.
-pub open_between : (items : List Seen) (position next : ℕ) (found : Option BlockLine) → block_lines 0 (take next items) ≡ block_lines 0 (take position items) ++ cons_option found []
+pub open_between : (items : List Seen) (position next : ℕ) (found : Option BlockLine)
+    → block_lines 0 (take next items) ≡ block_lines 0 (take position items) ++ cons_option found []
     → (place : ℕ) → position ≤ place → place ≤ next → (blocks_at items place ≡ blocks_at items position) ⊎ (blocks_at items place ≡ blocks_at items next)
 open_between items position next found adds place after before =
     blocks (either_lines found (block_lines 0 (take position items)) (block_lines 0 (take place items)) (block_lines 0 (take next items)) a.others b.others adds

@@ -35,8 +35,10 @@ module _ (r : SourceReader) (b : HasRead r) where
   one_keeps shown e one = read_quiet r.items r.position r.truths b 1 (λ after. quiet_one r.position (drop r.position r.items) after (ap is_one_item e ∙ one))
 
   -- two items, which are the number sign and the word
-  two_keeps : (hash name : Seen) (rest : List Seen) → drop r.position r.items ≡ hash ∷ name ∷ rest → ((later : List Seen) → block_lines r.position (hash ∷ name ∷ later) ≡ block_lines (r.position + 2) later) → HasRead (moved 2 r)
-  two_keeps hash name rest front quiet = read_quiet r.items r.position r.truths b 2 (λ after. ap (λ items. block_lines r.position (take 2 items ++ after)) front ∙ quiet after)
+  two_keeps : (hash name : Seen) (rest : List Seen) → drop r.position r.items ≡ hash ∷ name ∷ rest
+      → ((later : List Seen) → block_lines r.position (hash ∷ name ∷ later) ≡ block_lines (r.position + 2) later) → HasRead (moved 2 r)
+  two_keeps hash name rest front quiet = read_quiet r.items r.position r.truths b 2
+      (λ after. ap (λ items. block_lines r.position (take 2 items ++ after)) front ∙ quiet after)
 
   lined_here : AreLined (drop r.position r.items)
   lined_here = lined_after r.position r.items b.lined
@@ -58,11 +60,15 @@ module _ (r : SourceReader) (b : HasRead r) where
         let begun = begins_directive (drop r.position r.items) directive word e in
         two_keeps begun.hash begun.name begun.after begun.front (λ later. quiet_word r.position (drop r.position r.items) later directive word begun its)
 
-    line_adds : (its : Option Part) → part_of directive ≡ its → AddsLines r.position (2 + line_length (after_word r)) (drop r.position r.items) (cons_option (line_with r.position word its) [])
+    line_adds : (its : Option Part) → part_of directive ≡ its
+        → AddsLines r.position (2 + line_length (after_word r)) (drop r.position r.items) (cons_option (line_with r.position word its) [])
     line_adds its is =
-        subst (λ (found : Option Part). AddsLines r.position (2 + line_length (after_word r)) (drop r.position r.items) (cons_option (line_with r.position word found) [])) is
-        (subst (λ (after : List Seen). AddsLines r.position (2 + line_length after) (drop r.position r.items) (cons_option (line_with r.position word (part_of directive)) [])) (drop-drop 2 r.position r.items)
-        (directive_adds r.position (drop r.position r.items) directive word e (λ position after. quiet_after_word position (drop r.position r.items) after directive word e lined_here)))
+        subst (λ (found : Option Part). AddsLines r.position (2 + line_length (after_word r)) (drop r.position r.items)
+        (cons_option (line_with r.position word found) [])) is
+        (subst (λ (after : List Seen). AddsLines r.position (2 + line_length after) (drop r.position r.items)
+        (cons_option (line_with r.position word (part_of directive)) [])) (drop-drop 2 r.position r.items)
+        (directive_adds r.position (drop r.position r.items) directive word e
+        (λ position after. quiet_after_word position (drop r.position r.items) after directive word e lined_here)))
 
     -- which is no line of a block
     pub line_keeps : part_of directive ≡ None → HasRead (after_line r)
@@ -71,12 +77,14 @@ module _ (r : SourceReader) (b : HasRead r) where
     -- which opens a block in live text
     pub opening_keeps : part_of directive ≡ Some part.Opens → is_live r.items r.truths r.position ≡ true → (holds : Bool) → HasRead (decided r holds)
     opening_keeps its live holds =
-        read_opened r.items (record { position = r.position; word = word; part = part.Opens }) r.truths b (2 + line_length (after_word r)) (line_adds (Some part.Opens) its) holds (omega arith) refl live
+        read_opened r.items (record { position = r.position; word = word; part = part.Opens }) r.truths b (2 + line_length (after_word r))
+        (line_adds (Some part.Opens) its) holds (omega arith) refl live
 
     -- which opens one in dead text
     pub unread_keeps : part_of directive ≡ Some part.Opens → is_live r.items r.truths r.position ≡ false → HasRead (after_line r)
     unread_keeps its dead =
-        read_unread r.items (record { position = r.position; word = word; part = part.Opens }) r.truths b (2 + line_length (after_word r)) (line_adds (Some part.Opens) its) refl dead
+        read_unread r.items (record { position = r.position; word = word; part = part.Opens }) r.truths b (2 + line_length (after_word r))
+        (line_adds (Some part.Opens) its) refl dead
 
     -- which parts or closes the innermost block:
     module _ (block : Block) (found : block_here r ≡ Some block) where
@@ -86,26 +94,32 @@ module _ (r : SourceReader) (b : HasRead r) where
       -- an `#endif`
       pub closing_keeps : part_of directive ≡ Some part.Closes → HasRead (after_line r)
       closing_keeps its =
-          read_closed r.items (record { position = r.position; word = word; part = part.Closes }) r.truths b (2 + line_length (after_word r)) (line_adds (Some part.Closes) its)
+          read_closed r.items (record { position = r.position; word = word; part = part.Closes }) r.truths b (2 + line_length (after_word r))
+          (line_adds (Some part.Closes) its)
           (take (length (blocks_at r.items r.position) - 1) (blocks_at r.items r.position)) block split refl
 
       -- an `#else`
       pub parting_keeps : part_of directive ≡ Some part.Else → has_else block ≡ false → HasRead (after_line r)
       parting_keeps its none =
-          read_else r.items (record { position = r.position; word = word; part = part.Else }) r.truths b (2 + line_length (after_word r)) (line_adds (Some part.Else) its)
+          read_else r.items (record { position = r.position; word = word; part = part.Else }) r.truths b (2 + line_length (after_word r))
+          (line_adds (Some part.Else) its)
           (take (length (blocks_at r.items r.position) - 1) (blocks_at r.items r.position)) block split none refl
 
       -- an `#elif` that is skipped
-      pub skipping_keeps : part_of directive ≡ Some part.Elif → has_else block ≡ false → not (are_surroundings_live r.items r.truths block) || has_taken_branch r.truths block ≡ true → HasRead (after_line r)
+      pub skipping_keeps : part_of directive ≡ Some part.Elif → has_else block ≡ false
+          → not (are_surroundings_live r.items r.truths block) || has_taken_branch r.truths block ≡ true → HasRead (after_line r)
       skipping_keeps its none skips =
-          read_skipped r.items (record { position = r.position; word = word; part = part.Elif }) r.truths b (2 + line_length (after_word r)) (line_adds (Some part.Elif) its)
+          read_skipped r.items (record { position = r.position; word = word; part = part.Elif }) r.truths b (2 + line_length (after_word r))
+          (line_adds (Some part.Elif) its)
           (take (length (blocks_at r.items r.position) - 1) (blocks_at r.items r.position)) block split none refl skips
 
       -- an `#elif` whose condition is read
-      pub choosing_keeps : part_of directive ≡ Some part.Elif → has_else block ≡ false → not (are_surroundings_live r.items r.truths block) || has_taken_branch r.truths block ≡ false → (holds : Bool) → HasRead (decided r holds)
+      pub choosing_keeps : part_of directive ≡ Some part.Elif → has_else block ≡ false
+          → not (are_surroundings_live r.items r.truths block) || has_taken_branch r.truths block ≡ false → (holds : Bool) → HasRead (decided r holds)
       choosing_keeps its none reads holds =
           let n = reads_branch (are_surroundings_live r.items r.truths block) (has_taken_branch r.truths block) reads in
-          read_elif r.items (record { position = r.position; word = word; part = part.Elif }) r.truths b (2 + line_length (after_word r)) (line_adds (Some part.Elif) its)
+          read_elif r.items (record { position = r.position; word = word; part = part.Elif }) r.truths b (2 + line_length (after_word r))
+          (line_adds (Some part.Elif) its)
           (take (length (blocks_at r.items r.position) - 1) (blocks_at r.items r.position)) block split none holds (omega arith) refl n.0 n.1
         where
           reads_branch : (live taken : Bool) → not live || taken ≡ false → (live ≡ true) × (taken ≡ false)

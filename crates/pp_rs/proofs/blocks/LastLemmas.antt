@@ -2,7 +2,8 @@
 use Rattle.std.proofs.Common.{◌≡◌, ◌∙◌, ◌-◌, List, [], ◌∷◌, ◌++◌, length, take, ap, sym, Some, arith}
 use Rattle.std.specs.List.{slice_get}
 
-last_of_more : {X : Type 0} (first : X) (others : List X) (last : X) → slice_get (first ∷ others) (length others) ≡ Some last → first ∷ others ≡ take (length others) (first ∷ others) ++ last ∷ []
+last_of_more : {X : Type 0} (first : X) (others : List X) (last : X) → slice_get (first ∷ others) (length others) ≡ Some last
+    → first ∷ others ≡ take (length others) (first ∷ others) ++ last ∷ []
 last_of_more first [] last e =
     let same : first ≡ last = cc in
     ap (λ x. x ∷ []) same

@@ -28,11 +28,13 @@ pub no_lines_before : (source : List Seen) → AreLinesBefore source 0 []
 no_lines_before source after = refl
 
 -- the lines of blocks before the position are these
-pub lines_here : (source : List Seen) (position : ℕ) (lines : List BlockLine) → AreLinesBefore source position lines → block_lines 0 (take position source) ≡ lines
+pub lines_here : (source : List Seen) (position : ℕ) (lines : List BlockLine) → AreLinesBefore source position lines
+    → block_lines 0 (take position source) ≡ lines
 lines_here source position lines before = ap (block_lines 0) (sym (append-nil (take position source))) ∙ before [] ∙ append-nil lines
 
 -- before a position further on stand those lines too that the items up to there add
-pub lines_further : (source : List Seen) (position count : ℕ) (lines more : List BlockLine) → AreLinesBefore source position lines → AddsLines position count (drop position source) more
+pub lines_further : (source : List Seen) (position count : ℕ) (lines more : List BlockLine) → AreLinesBefore source position lines
+    → AddsLines position count (drop position source) more
     → AreLinesBefore source (position + count) (lines ++ more)
 lines_further source position count lines more before adds after =
     ap (λ items. block_lines 0 (items ++ after)) (take-add position count source)
@@ -42,7 +44,8 @@ lines_further source position count lines more before adds after =
     ∙ sym (append_assoc lines more (block_lines (position + count) after))
 
 -- where they add one line, it is the only one up to there
-pub adds_one : (source : List Seen) (line : BlockLine) (count : ℕ) (lines : List BlockLine) → AreLinesBefore source line.position lines → AddsLines line.position count (drop line.position source) (line ∷ [])
+pub adds_one : (source : List Seen) (line : BlockLine) (count : ℕ) (lines : List BlockLine) → AreLinesBefore source line.position lines
+    → AddsLines line.position count (drop line.position source) (line ∷ [])
     → AddsLine source line (line.position + count)
 adds_one source line count lines before adds =
     lines_here source (line.position + count) (lines ++ line ∷ []) (lines_further source line.position count lines (line ∷ []) before adds)
@@ -57,7 +60,8 @@ added (Some line) later = refl
 added None later = refl
 
 -- a directive's line adds the line of a block that its word says, if any, and no other
-pub directive_adds : (position : ℕ) (rest : List Seen) (directive : Directive) (word : Location) → sight_of rest ≡ sight.Directive directive word → IsQuietRest (drop 2 rest)
+pub directive_adds : (position : ℕ) (rest : List Seen) (directive : Directive) (word : Location) → sight_of rest ≡ sight.Directive directive word
+    → IsQuietRest (drop 2 rest)
     → AddsLines position (2 + line_length (drop 2 rest)) rest (cons_option (line_with position word (part_of directive)) [])
 directive_adds position rest directive word e quiet after =
     let b = begins_directive rest directive word e in

@@ -24,11 +24,15 @@ at_most_one source truths block b mark other one two = one_branch truths block m
 -- what is known at a reader says it
 live_branches : (r : SourceReader) → HasRead r → HasLiveBranches r
 live_branches r known = record {
-  at_most_one = λ position within. each_weaker (IsBranched r.items r.truths) (AtMostOneIsChosen r.truths) (at_most_one r.items r.truths) (blocks_at r.items position) (known.read position within);
+  at_most_one = λ position within. each_weaker (IsBranched r.items r.truths) (AtMostOneIsChosen r.truths) (at_most_one r.items r.truths)
+      (blocks_at r.items position) (known.read position within);
   one = λ position block after ends with_else live.
-      let all = subst (λ (blocks : List Block). Each (IsBranched r.items r.truths) blocks) (last_split (blocks_at r.items position) block ends.open_there) (known.read position (omega (arith, after))) in
-      let this : IsBranched r.items r.truths block = (each_after (IsBranched r.items r.truths) _ (block ∷ []) all).0 in
-      (this.covered live (ap (λ other. has_taken_branch r.truths block || other) with_else ∙ or-true (has_taken_branch r.truths block)), at_most_one r.items r.truths block this);
+      let all = subst (λ (blocks : List Block). Each (IsBranched r.items r.truths) blocks)
+      (last_split (blocks_at r.items position) block ends.open_there) (known.read position (omega (arith, after))) in
+      let this : IsBranched r.items r.truths block = (each_after (IsBranched r.items r.truths) _ (block ∷ []) all).0 in (
+        this.covered live (ap (λ other. has_taken_branch r.truths block || other) with_else ∙ or-true (has_taken_branch r.truths block)),
+        at_most_one r.items r.truths block this,
+      );
 }
 
 known_at_start : (text : List ℕ) → HasRead (start_of (items_of text))
@@ -47,4 +51,5 @@ module _ (A : Answers) where
   -- in each state of a run of a text
   pub run_has_live_branches : RunHasLiveBranches A
   run_has_live_branches text e reached =
-      live_branches e.reader (reached_keeps A HasRead (record { by_step = step_keeps_branches A; by_definition = λ name tokens r known. known }) (items_of text) e reached (known_at_start text))
+      live_branches e.reader (reached_keeps A HasRead (record { by_step = step_keeps_branches A; by_definition = λ name tokens r known. known })
+      (items_of text) e reached (known_at_start text))

@@ -34,19 +34,28 @@ blocks_after p line (block ∷ next ∷ inner) = block ∷ blocks_after p line (
 
 -- a block that stays open before a line, and the inner ones
 inner_step : (p : Part) (first line : BlockLine) (marks : List BlockLine) (inner : List Block)
-    → (if not (closes_block p (length inner)) then record { first = first; partings = marks ++ (if parts_block p (length inner) then line ∷ [] else []) } ∷ blocks_after p line inner else blocks_after p line inner)
+    → (if not (closes_block p (length inner)) then record {
+      first = first;
+      partings = marks ++ (if parts_block p (length inner) then line ∷ [] else []);
+    } ∷ blocks_after p line inner else blocks_after p line inner)
     ≡ blocks_after p line (record { first = first; partings = marks } ∷ inner)
 inner_step part.Opens first line marks [] = ap (λ (m : List BlockLine). record { first = first; partings = m } ∷ opened line ∷ []) (append-nil marks)
 inner_step part.Closes first line marks [] = refl
 inner_step part.Elif first line marks [] = refl
 inner_step part.Else first line marks [] = refl
-inner_step part.Opens first line marks (next ∷ inner) = ap (λ (m : List BlockLine). record { first = first; partings = m } ∷ blocks_after part.Opens line (next ∷ inner)) (append-nil marks)
-inner_step part.Closes first line marks (next ∷ inner) = rw (is_not_zero (length inner)) (ap (λ (m : List BlockLine). record { first = first; partings = m } ∷ blocks_after part.Closes line (next ∷ inner)) (append-nil marks))
-inner_step part.Elif first line marks (next ∷ inner) = rw (is_not_zero (length inner)) (ap (λ (m : List BlockLine). record { first = first; partings = m } ∷ blocks_after part.Elif line (next ∷ inner)) (append-nil marks))
-inner_step part.Else first line marks (next ∷ inner) = rw (is_not_zero (length inner)) (ap (λ (m : List BlockLine). record { first = first; partings = m } ∷ blocks_after part.Else line (next ∷ inner)) (append-nil marks))
+inner_step part.Opens first line marks (next ∷ inner) =
+    ap (λ (m : List BlockLine). record { first = first; partings = m } ∷ blocks_after part.Opens line (next ∷ inner)) (append-nil marks)
+inner_step part.Closes first line marks (next ∷ inner) = rw (is_not_zero (length inner))
+    (ap (λ (m : List BlockLine). record { first = first; partings = m } ∷ blocks_after part.Closes line (next ∷ inner)) (append-nil marks))
+inner_step part.Elif first line marks (next ∷ inner) = rw (is_not_zero (length inner))
+    (ap (λ (m : List BlockLine). record { first = first; partings = m } ∷ blocks_after part.Elif line (next ∷ inner)) (append-nil marks))
+inner_step part.Else first line marks (next ∷ inner) = rw (is_not_zero (length inner))
+    (ap (λ (m : List BlockLine). record { first = first; partings = m } ∷ blocks_after part.Else line (next ∷ inner)) (append-nil marks))
 
-block_step : (p : Part) (begins stays : Bool) (depth : ℕ) (first line : BlockLine) (marks : List BlockLine) (inner : List Block) → (stays ≡ true → depth ≡ length inner)
-    → (if begins && (stays && (not (closes_block p depth) && true)) then record { first = first; partings = marks ++ (if parts_block p depth then line ∷ [] else []) } ∷ blocks_after p line inner else blocks_after p line inner)
+block_step : (p : Part) (begins stays : Bool) (depth : ℕ) (first line : BlockLine) (marks : List BlockLine) (inner : List Block)
+    → (stays ≡ true → depth ≡ length inner)
+    → (if begins && (stays && (not (closes_block p depth) && true)) then record
+    { first = first; partings = marks ++ (if parts_block p depth then line ∷ [] else []) } ∷ blocks_after p line inner else blocks_after p line inner)
     ≡ blocks_after p line (if begins && stays then record { first = first; partings = marks } ∷ inner else inner)
 block_step p false stays depth first line marks inner e = refl
 block_step p true false depth first line marks inner e = refl
@@ -63,7 +72,8 @@ pub open_blocks_more : (lines : List BlockLine) (line : BlockLine) → open_bloc
 open_blocks_more [] line = first_line line.part line
 open_blocks_more (first ∷ later) line =
     rw (stays_open_append 0 later (line ∷ []), parting_append 0 later (line ∷ []), open_blocks_more later line)
-    (block_step line.part (opens first.part) (stays_open 0 later) (inner_after_lines 0 later) first line (parting 0 later) (open_blocks later) (inner_open later))
+    (block_step line.part (opens first.part) (stays_open 0 later) (inner_after_lines 0 later) first line (parting 0 later) (open_blocks later)
+    (inner_open later))
 
 -- a line that opens a block adds it
 pub after_opens : (line : BlockLine) (blocks : List Block) → blocks_after part.Opens line blocks ≡ blocks ++ opened line ∷ []
@@ -90,7 +100,8 @@ one_parts part.Elif line block h = refl
 one_parts part.Else line block h = refl
 
 -- a line that parts a block parts the last one
-pub after_parts : (p : Part) (line : BlockLine) (before : List Block) (block : Block) → parts_block p 0 ≡ true → blocks_after p line (before ++ block ∷ []) ≡ before ++ parted block line ∷ []
+pub after_parts : (p : Part) (line : BlockLine) (before : List Block) (block : Block) → parts_block p 0 ≡ true
+    → blocks_after p line (before ++ block ∷ []) ≡ before ++ parted block line ∷ []
 after_parts p line [] block h = one_parts p line block h
 after_parts p line (first ∷ []) block h = ap (λ blocks. first ∷ blocks) (one_parts p line block h)
 after_parts p line (first ∷ next ∷ inner) block h = ap (λ blocks. first ∷ blocks) (after_parts p line (next ∷ inner) block h)
@@ -98,12 +109,16 @@ after_parts p line (first ∷ next ∷ inner) block h = ap (λ blocks. first ∷
 pub opens_one : (lines : List BlockLine) (line : BlockLine) → line.part ≡ part.Opens → open_blocks (lines ++ line ∷ []) ≡ open_blocks lines ++ opened line ∷ []
 opens_one lines line is = open_blocks_more lines line ∙ ap (λ p. blocks_after p line (open_blocks lines)) is ∙ after_opens line (open_blocks lines)
 
-pub closes_one : (lines : List BlockLine) (line : BlockLine) (before : List Block) (block : Block) → line.part ≡ part.Closes → open_blocks lines ≡ before ++ block ∷ [] → open_blocks (lines ++ line ∷ []) ≡ before
-closes_one lines line before block is e = open_blocks_more lines line ∙ ap (λ p. blocks_after p line (open_blocks lines)) is ∙ ap (λ blocks. blocks_after part.Closes line blocks) e ∙ after_closes line before block
+pub closes_one : (lines : List BlockLine) (line : BlockLine) (before : List Block) (block : Block) → line.part ≡ part.Closes
+    → open_blocks lines ≡ before ++ block ∷ [] → open_blocks (lines ++ line ∷ []) ≡ before
+closes_one lines line before block is e = open_blocks_more lines line ∙ ap (λ p. blocks_after p line (open_blocks lines)) is
+    ∙ ap (λ blocks. blocks_after part.Closes line blocks) e ∙ after_closes line before block
 
-pub parts_one : (lines : List BlockLine) (line : BlockLine) (before : List Block) (block : Block) → parts_block line.part 0 ≡ true → open_blocks lines ≡ before ++ block ∷ []
+pub parts_one : (lines : List BlockLine) (line : BlockLine) (before : List Block) (block : Block) → parts_block line.part 0 ≡ true
+    → open_blocks lines ≡ before ++ block ∷ []
     → open_blocks (lines ++ line ∷ []) ≡ before ++ parted block line ∷ []
-parts_one lines line before block is e = open_blocks_more lines line ∙ ap (λ blocks. blocks_after line.part line blocks) e ∙ after_parts line.part line before block is
+parts_one lines line before block is e = open_blocks_more lines line ∙ ap (λ blocks. blocks_after line.part line blocks) e
+    ∙ after_parts line.part line before block is
 
 pub closes_none : (lines : List BlockLine) (line : BlockLine) → line.part ≡ part.Closes → open_blocks lines ≡ [] → open_blocks (lines ++ line ∷ []) ≡ []
 closes_none lines line is e = open_blocks_more lines line ∙ ap (λ blocks. blocks_after line.part line blocks) e ∙ ap (λ p. blocks_from_none p line) is

@@ -44,9 +44,11 @@ or_either true b false e = e
 or_either false b true e = refl
 or_either false b false e = e
 
-module _ (old new : Source) (items : List Seen) (truths : Truths) (position : ℕ) (front : old.rest ≡ drop position items) (before : IsRemembered old items truths position) where
+module _ (old new : Source) (items : List Seen) (truths : Truths) (position : ℕ) (front : old.rest ≡ drop position items)
+    (before : IsRemembered old items truths position) where
   -- a directive that was read, or none
-  module _ (count : ℕ) (note : Note) (blocks : List OpenBlock) (b : IsAfter count note blocks old new) (found : Bool) (noted : notes_directive note ≡ found) (adds : AddsDirective count (drop position items) found) where
+  module _ (count : ℕ) (note : Note) (blocks : List OpenBlock) (b : IsAfter count note blocks old new)
+      (found : Bool) (noted : notes_directive note ≡ found) (adds : AddsDirective count (drop position items) found) where
     directive_remembered : new.has_directive ≡ has_directive (take (position + count) items)
     directive_remembered =
         b.has_directive ∙ or_either (notes_directive note) found old.has_directive noted ∙ ap (λ h. h || found) before.directive
@@ -56,8 +58,10 @@ module _ (old new : Source) (items : List Seen) (truths : Truths) (position : �
     apart_remembered = apart_further items position count found before.apart adds
 
   -- an item that is no number sign of a directive
-  module _ (live : Bool) (alive : is_live_in (last_block old.blocks) ≡ live) (is : is_live items truths position ≡ live) (s : Seen) (rest : List Seen) (e : old.rest ≡ s ∷ rest) (quiet : is_directive_hash s.item ≡ false)
-      (note : Note) (text : notes_text note ≡ (live && is_text (sight_of old.rest))) (none : notes_directive note ≡ false) (b : IsAfter 1 note old.blocks old new) where
+  module _ (live : Bool) (alive : is_live_in (last_block old.blocks) ≡ live) (is : is_live items truths position ≡ live)
+      (s : Seen) (rest : List Seen) (e : old.rest ≡ s ∷ rest) (quiet : is_directive_hash s.item ≡ false)
+      (note : Note) (text : notes_text note ≡ (live && is_text (sight_of old.rest))) (none : notes_directive note ≡ false)
+      (b : IsAfter 1 note old.blocks old new) where
     here : drop position items ≡ s ∷ rest
     here = sym front ∙ e
 
@@ -69,9 +73,11 @@ module _ (old new : Source) (items : List Seen) (truths : Truths) (position : �
 
     pub one_remembered : IsRemembered new items truths (position + 1)
     one_remembered =
-        let shown : (live && is_text (sight_of old.rest)) ≡ (live && is_text (sight_of (drop position items))) = ap (λ found. live && is_text (sight_of found)) front in
+        let shown : (live && is_text (sight_of old.rest)) ≡ (live && is_text (sight_of (drop position items))) =
+        ap (λ found. live && is_text (sight_of found)) front in
         record {
-          text = b.has_text ∙ both (notes_text note) (live && is_text (sight_of (drop position items))) old.has_text (has_live_text_before items truths position) (text ∙ shown) before.text ∙ sym (text_one items truths position live is off);
+          text = b.has_text ∙ both (notes_text note) (live && is_text (sight_of (drop position items))) old.has_text
+              (has_live_text_before items truths position) (text ∙ shown) before.text ∙ sym (text_one items truths position live is off);
           directive = directive_remembered 1 note old.blocks b false none adds_none;
           apart = apart_remembered 1 note old.blocks b false none adds_none;
           off_line = λ there left.
@@ -81,17 +87,21 @@ module _ (old new : Source) (items : List Seen) (truths : Truths) (position : �
         }
 
   -- the number sign of a directive in dead text, and what stands after it
-  module _ (dead : is_live_in (last_block old.blocks) ≡ false) (shown : Sight) (e : sight_of old.rest ≡ shown) (begins : begins_with_hash shown ≡ true) (a s : Seen) (rest : List Seen) (two : old.rest ≡ a ∷ s ∷ rest)
-      (note : Note) (text : notes_text note ≡ false) (found : Bool) (noted : notes_directive note ≡ found) (adds : AddsDirective 2 old.rest found) (b : IsAfter 2 note old.blocks old new) where
+  module _ (dead : is_live_in (last_block old.blocks) ≡ false) (shown : Sight) (e : sight_of old.rest ≡ shown)
+      (begins : begins_with_hash shown ≡ true) (a s : Seen) (rest : List Seen) (two : old.rest ≡ a ∷ s ∷ rest)
+      (note : Note) (text : notes_text note ≡ false) (found : Bool) (noted : notes_directive note ≡ found) (adds : AddsDirective 2 old.rest found)
+      (b : IsAfter 2 note old.blocks old new) where
     adds_here : AddsDirective 2 (drop position items) found
     adds_here = subst (λ (shown_items : List Seen). AddsDirective 2 shown_items found) front adds
 
     pub two_remembered : IsRemembered new items truths (position + 2)
     two_remembered =
         let hash : is_directive_hash a.item ≡ true = hash_in_front a (s ∷ rest) shown (ap sight_of (sym two) ∙ e) begins in
-        let none : is_text (sight_of (drop position items)) ≡ false = ap (λ there. is_text (sight_of there)) (sym front) ∙ ap is_text e ∙ begins_no_text shown begins in
+        let none : is_text (sight_of (drop position items)) ≡ false = ap (λ there. is_text (sight_of there)) (sym front) ∙ ap is_text e
+        ∙ begins_no_text shown begins in
         record {
-          text = b.has_text ∙ both (notes_text note) false old.has_text (has_live_text_before items truths position) text before.text ∙ sym (text_two items truths position a s rest (sym front ∙ two) hash none);
+          text = b.has_text ∙ both (notes_text note) false old.has_text (has_live_text_before items truths position) text before.text
+              ∙ sym (text_two items truths position a s rest (sym front ∙ two) hash none);
           directive = directive_remembered 2 note old.blocks b found noted adds_here;
           apart = apart_remembered 2 note old.blocks b found noted adds_here;
           off_line = λ there left.
@@ -100,14 +110,17 @@ module _ (old new : Source) (items : List Seen) (truths : Truths) (position : �
         }
 
   -- a directive's line, with a condition that was read on it or without
-  module _ (directive : Directive) (word : Location) (e : sight_of old.rest ≡ sight.Directive directive word) (later : Truths) (same : has_live_text_before items later position ≡ has_live_text_before items truths position)
+  module _ (directive : Directive) (word : Location) (e : sight_of old.rest ≡ sight.Directive directive word)
+      (later : Truths) (same : has_live_text_before items later position ≡ has_live_text_before items truths position)
       (blocks : List OpenBlock) (b : IsAfter (2 + line_length (drop 2 old.rest)) directive_line blocks old new) where
     line_adds : AddsDirective (2 + line_length (drop 2 old.rest)) (drop position items) true
     line_adds after =
         let d = begins_directive old.rest directive word e in
         let n = line_length (drop 2 old.rest) in
-        let whole : take (2 + n) (drop position items) ≡ d.hash ∷ d.name ∷ take n d.after = ap (λ there. take (2 + n) there) (sym front ∙ d.front) ∙ take_two n d.hash d.name d.after in
-        ap (λ there. has_directive (there ++ after)) whole ∙ ap (λ shown. is_directive shown || has_directive (d.name ∷ (take n d.after ++ after))) (d.seen (take n d.after ++ after))
+        let whole : take (2 + n) (drop position items) ≡ d.hash ∷ d.name ∷ take n d.after = ap (λ there. take (2 + n) there) (sym front ∙ d.front)
+        ∙ take_two n d.hash d.name d.after in
+        ap (λ there. has_directive (there ++ after)) whole ∙ ap (λ shown. is_directive shown || has_directive (d.name ∷ (take n d.after ++ after)))
+        (d.seen (take n d.after ++ after))
 
     pub line_remembered : IsRemembered new items later (position + (2 + line_length (drop 2 old.rest)))
     line_remembered =
@@ -118,13 +131,15 @@ module _ (old new : Source) (items : List Seen) (truths : Truths) (position : �
         let hash : is_directive_hash d.hash.item ≡ true = hash_in_front d.hash (d.name ∷ d.after) (sight.Directive directive word) (d.seen d.after) refl in
         let none : is_text (sight_of (drop position items)) ≡ false = ap (λ found. is_text (sight_of found)) (sym front) ∙ ap is_text e in
         let reaches : has_live_text_before items later (position + (2 + n)) ≡ has_live_text_before items later position
-        = ap (λ found. has_live_text_before items later (position + (2 + line_length found))) two ∙ text_line items later position d.hash d.name d.after there hash d.goes_on none in
+        = ap (λ found. has_live_text_before items later (position + (2 + line_length found))) two
+        ∙ text_line items later position d.hash d.name d.after there hash d.goes_on none in
         record {
           text = b.has_text ∙ before.text ∙ sym same ∙ sym reaches;
           directive = directive_remembered (2 + n) directive_line blocks b true refl line_adds;
           apart = apart_remembered (2 + n) directive_line blocks b true refl line_adds;
           off_line = λ alive left.
-              let after_two : drop (suc (suc position)) items ≡ d.after = one_after items (suc position) d.name d.after (one_after items position d.hash (d.name ∷ d.after) there) in
+              let after_two : drop (suc (suc position)) items ≡ d.after =
+              one_after items (suc position) d.name d.after (one_after items position d.hash (d.name ∷ d.after) there) in
               let place : position + (2 + n) ≡ suc (suc position) + line_length d.after = omega (arith, ap line_length two) in
               ap (is_on_directive_line items) place
               ∙ off_line_after items d.after (suc (suc position)) after_two

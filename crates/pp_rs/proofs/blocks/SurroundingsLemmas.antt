@@ -37,7 +37,8 @@ part_no_outer inner deeper (line ∷ later) h e =
     ap (λ (parts : Bool). if parts then line ∷ parting (inner_after line.part deeper) later else parting (inner_after line.part deeper) later) d.parts
     ∙ part_no_outer (inner_after line.part inner) (inner_after line.part deeper) later d.below d.later
 
-opens_stays : (p : Part) (line : BlockLine) (inner : ℕ) (later : List BlockLine) → opens p ≡ true → stays_open 0 later ≡ true → not (closes_block p inner) && stays_open (inner_after p inner) later ≡ true
+opens_stays : (p : Part) (line : BlockLine) (inner : ℕ) (later : List BlockLine) → opens p ≡ true → stays_open 0 later ≡ true
+    → not (closes_block p inner) && stays_open (inner_after p inner) later ≡ true
 opens_stays part.Opens line inner later is e = stays_deeper 0 (inner + 1) later (omega arith) e
 opens_stays part.Closes line inner later is e = cc
 opens_stays part.Elif line inner later is e = cc
@@ -65,13 +66,16 @@ pub record IsOpen (lines : List BlockLine) (before : List Block) (block : Block)
 
 module _ (line : BlockLine) (later : List BlockLine) (block : Block) where
   -- a line that opens a block around it
-  around_it : (before : List Block) → opens line.part ≡ true → stays_open 0 later ≡ true → IsOpen later before block → IsOpen (line ∷ later) (record { first = line; partings = parting 0 later } ∷ before) block
+  around_it : (before : List Block) → opens line.part ≡ true → stays_open 0 later ≡ true → IsOpen later before block
+      → IsOpen (line ∷ later) (record { first = line; partings = parting 0 later } ∷ before) block
   around_it before begins stays o =
       let depth = inner_after_lines 0 o.earlier in
-      let whole : stays_open 0 o.earlier && stays_open depth (block.first ∷ o.later) ≡ true = sym (stays_open_append 0 o.earlier (block.first ∷ o.later)) ∙ ap (stays_open 0) (sym o.split) ∙ stays in
+      let whole : stays_open 0 o.earlier && stays_open depth (block.first ∷ o.later) ≡ true =
+      sym (stays_open_append 0 o.earlier (block.first ∷ o.later)) ∙ ap (stays_open 0) (sym o.split) ∙ stays in
       let front : stays_open 0 o.earlier ≡ true = first_holds (stays_open 0 o.earlier) (stays_open depth (block.first ∷ o.later)) whole in
       let same : parting 0 o.earlier ≡ parting 0 later =
-      sym (append-nil (parting 0 o.earlier)) ∙ ap (λ more. parting 0 o.earlier ++ more) (sym (opens_parts block.first.part block.first depth o.later o.begins o.stays))
+      sym (append-nil (parting 0 o.earlier)) ∙ ap (λ more. parting 0 o.earlier ++ more)
+      (sym (opens_parts block.first.part block.first depth o.later o.begins o.stays))
       ∙ sym (parting_append 0 o.earlier (block.first ∷ o.later)) ∙ ap (parting 0) (sym o.split) in
       record {
         earlier = line ∷ o.earlier;
@@ -99,13 +103,18 @@ module _ (line : BlockLine) (later : List BlockLine) (block : Block) where
       still true true b f =
           let whole : stays_open 0 later ≡ true =
           ap (stays_open 0) o.split ∙ stays_open_append 0 o.earlier (block.first ∷ o.later)
-          ∙ ap (λ front. front && stays_open (inner_after_lines 0 o.earlier) (block.first ∷ o.later)) f ∙ opens_stays block.first.part block.first (inner_after_lines 0 o.earlier) o.later o.begins o.stays in
+          ∙ ap (λ front. front && stays_open (inner_after_lines 0 o.earlier) (block.first ∷ o.later)) f
+          ∙ opens_stays block.first.part block.first (inner_after_lines 0 o.earlier) o.later o.begins o.stays in
           let wrong : true ≡ false = sym (ap (λ begins. begins && stays_open 0 later) b ∙ whole) ∙ none in
           cc
 
   at_line : (begins stays : Bool) (before inner : List Block) → opens line.part ≡ begins → stays_open 0 later ≡ stays
       → ((around : List Block) → open_blocks later ≡ around ++ block ∷ inner → IsOpen later around block)
-      → (if begins && stays then record { first = line; partings = parting 0 later } ∷ open_blocks later else open_blocks later) ≡ before ++ block ∷ inner → IsOpen (line ∷ later) before block
+      → (if begins && stays then record {
+        first = line;
+        partings =
+            parting 0 later;
+      } ∷ open_blocks later else open_blocks later) ≡ before ++ block ∷ inner → IsOpen (line ∷ later) before block
   at_line true true [] inner b s deeper e = record {
     earlier = [];
     later = later;
@@ -127,7 +136,8 @@ none_within [] after x e = cc
 none_within (first ∷ before) after x e = cc
 
 -- where each block that is open was opened
-pub open_at : (lines : List BlockLine) (before : List Block) (block : Block) (inner : List Block) → open_blocks lines ≡ before ++ block ∷ inner → IsOpen lines before block
+pub open_at : (lines : List BlockLine) (before : List Block) (block : Block) (inner : List Block) → open_blocks lines ≡ before ++ block ∷ inner
+    → IsOpen lines before block
 open_at [] before block inner e = absurd (none_within before inner block e)
 open_at (line ∷ later) before block inner e =
     at_line line later block (opens line.part) (stays_open 0 later) before inner refl refl (λ around. open_at later around block inner) e

@@ -27,7 +27,8 @@ use Rattle.pp_expansion.specs.declared.step.StepExit.TheVariants.{Error, Continu
 use Rattle.pp_rs.proofs.runs.LeftLemmas.{no_more_work}
 
 module _ (name : Name) (tokens : List Token) (old new : Source) (h : IsSetIn name tokens old new) where
-  reader_added : (definitions : List Defined) → IsChanged name (Some (object_like tokens)) old.definitions definitions → (r : SourceReader) → StandsForReader old r → StandsForReader (record old { definitions = definitions }) (adding name tokens r)
+  reader_added : (definitions : List Defined) → IsChanged name (Some (object_like tokens)) old.definitions definitions → (r : SourceReader)
+      → StandsForReader old r → StandsForReader (record old { definitions = definitions }) (adding name tokens r)
   reader_added definitions c r s = record {
     rest = s.rest;
     within = s.within;
@@ -46,9 +47,12 @@ module _ (name : Name) (tokens : List Token) (old new : Source) (h : IsSetIn nam
   }
 
   held_added : (o : Option (Step Token)) (r : SourceReader) → StandsForHeld o old r → StandsForHeld o new (adding name tokens r)
-  held_added None r s = subst (λ (source : Source). StandsForReader source (adding name tokens r)) (sym h.others) (reader_added new.definitions h.definitions r s)
-  held_added (Some (Ok token)) r s = subst (λ (source : Source). StandsForReader source (adding name tokens r)) (sym h.others) (reader_added new.definitions h.definitions r s)
-  held_added (Some (Err Finished)) r s = subst (λ (source : Source). StandsForReader source (adding name tokens r)) (sym h.others) (reader_added new.definitions h.definitions r s)
+  held_added None r s = subst (λ (source : Source). StandsForReader source (adding name tokens r)) (sym h.others)
+      (reader_added new.definitions h.definitions r s)
+  held_added (Some (Ok token)) r s = subst (λ (source : Source). StandsForReader source (adding name tokens r)) (sym h.others)
+      (reader_added new.definitions h.definitions r s)
+  held_added (Some (Err Finished)) r s = subst (λ (source : Source). StandsForReader source (adding name tokens r)) (sym h.others)
+      (reader_added new.definitions h.definitions r s)
   held_added (Some (Err Continue)) r s = s
   held_added (Some (Err (Error fault))) r s = tt
 
@@ -96,13 +100,15 @@ module _ (name : Name) (tokens : List Token) (old new : Source) (h : IsSetIn nam
   reported_added m reported = subst (λ (source : Source). IsReported m source) (sym h.others) reported
 
   -- where nothing was left, nothing is
-  pub none_left_added : (m : Machine) (spent : Bool) → (if spent then 0 else work_of expansion_limit m (of_source old)) ≡ 0 → (if spent then 0 else work_of expansion_limit m (of_source new)) ≡ 0
+  pub none_left_added : (m : Machine) (spent : Bool) → (if spent then 0 else work_of expansion_limit m (of_source old)) ≡ 0
+      → (if spent then 0 else work_of expansion_limit m (of_source new)) ≡ 0
   none_left_added m true e = refl
   none_left_added m false e = no_more_work expansion_limit m old new (ap (λ (s : Source). length s.rest + length s.blocks) h.others) e
 
 -- what a call answers, by what was made of the source
 module _ (old : Preprocessing) (name content : List ℕ) (new : Source) where
-  pub added_now : (tokens : List Token) → content_tokens (items_of content) ≡ Ok tokens → IsSetIn (chars name) tokens old.source new → IsAdded old name content (Ok tt) (record old { source = new })
+  pub added_now : (tokens : List Token) → content_tokens (items_of content) ≡ Ok tokens → IsSetIn (chars name) tokens old.source new
+      → IsAdded old name content (Ok tt) (record old { source = new })
   unfolding Stands is_spent most_items errors_left error_place
   added_now tokens e h = added tokens e refl (record {
     stands = λ state stands. stands_added (chars name) tokens old.source new h old.machine state stands;
@@ -112,7 +118,8 @@ module _ (old : Preprocessing) (name content : List ℕ) (new : Source) where
     place = refl;
   })
 
-  pub faulty_now : (fault : Fault) → content_tokens (items_of content) ≡ Err fault → new ≡ old.source → IsAdded old name content (Err fault) (record old { source = new })
+  pub faulty_now : (fault : Fault) → content_tokens (items_of content) ≡ Err fault → new ≡ old.source
+      → IsAdded old name content (Err fault) (record old { source = new })
   faulty_now fault e same = faulty fault e refl (ap (λ (source : Source). record old { source = source }) same)
 
   pub refused_now : new ≡ old.source → IsAdded old name content (Err out_of_memory) (record old { source = new })

@@ -29,7 +29,8 @@ error_of_more [] more e = refl
 error_of_more (Ok token ∷ items) more e = error_of_more items more e
 error_of_more (Err first ∷ items) more e = cc
 
-tokens_of_more : (items more : List Item) → first_error items ≡ None → tokens_before_error (items ++ more) ≡ tokens_before_error items ++ tokens_before_error more
+tokens_of_more : (items more : List Item) → first_error items ≡ None
+    → tokens_before_error (items ++ more) ≡ tokens_before_error items ++ tokens_before_error more
 tokens_of_more [] more e = refl
 tokens_of_more (Ok token ∷ items) more e = ap (λ ts. token ∷ ts) (tokens_of_more items more e)
 tokens_of_more (Err first ∷ items) more e = cc
@@ -39,10 +40,12 @@ no_tokens_more [] = refl
 no_tokens_more (token ∷ tokens) = ap (λ ts. token ∷ ts) (no_tokens_more tokens)
 
 -- the same run of equal tokens
-run_as : (state : State) (tokens others : List Token) (fault : Fault) → others ≡ tokens → IsRunFrom state tokens (outcome.Fault fault) → IsRunFrom state others (outcome.Fault fault)
+run_as : (state : State) (tokens others : List Token) (fault : Fault) → others ≡ tokens → IsRunFrom state tokens (outcome.Fault fault)
+    → IsRunFrom state others (outcome.Fault fault)
 run_as state tokens others fault e h = subst (λ ts. IsRunFrom state ts (outcome.Fault fault)) (sym e) h
 
-stands_as : (state : State) (items : List Item) (new : Preprocessing) (error other : Option Fault) → other ≡ error → StandsAfterItems state items error new → StandsAfterItems state items other new
+stands_as : (state : State) (items : List Item) (new : Preprocessing) (error other : Option Fault) → other ≡ error
+    → StandsAfterItems state items error new → StandsAfterItems state items other new
 stands_as state items new error other e h = subst (λ x. StandsAfterItems state items x new) (sym e) h
 
 module _ (state : State) (items : List Item) (now new : Preprocessing) where
@@ -50,7 +53,8 @@ module _ (state : State) (items : List Item) (now new : Preprocessing) where
   item_more : (item : Item) (error : Option Fault) → first_error items ≡ error → StandsAfterItems state items error now → IsGivenItem now (Some item) new
       → StandsAfterItems state (items ++ item ∷ []) (first_error (items ++ item ∷ [])) new
   item_more item (Some fault) e h given =
-      stands_as state (items ++ item ∷ []) new (Some fault) _ (error_stays items (item ∷ []) fault e) (run_as state _ _ fault (tokens_stay items (item ∷ []) fault e) h)
+      stands_as state (items ++ item ∷ []) new (Some fault) _ (error_stays items (item ∷ []) fault e)
+      (run_as state _ _ fault (tokens_stay items (item ∷ []) fault e) h)
   item_more (Ok token) None e h given =
       let next = given.item h.after h.stands in
       stands_as state (items ++ Ok token ∷ []) new None _ (error_of_more items (Ok token ∷ []) e) (record {
@@ -69,7 +73,8 @@ module _ (state : State) (items : List Item) (now new : Preprocessing) where
       }))
 
   -- after the last one
-  items_end : (error : Option Fault) → first_error items ≡ error → StandsAfterItems state items error now → IsGivenItem now None new → IsRunFrom state (tokens_before_error items) (error_or_end error)
+  items_end : (error : Option Fault) → first_error items ≡ error → StandsAfterItems state items error now → IsGivenItem now None new
+      → IsRunFrom state (tokens_before_error items) (error_or_end error)
   items_end (Some fault) e h given = h
   items_end None e h given =
       let next = given.item h.after h.stands in
@@ -103,7 +108,8 @@ module _ (now new : Preprocessing) (item : Item) (next : IsNextItem now (Some it
   given_by (inl refused) reported = let bad : is_refusal (Some item) ≡ true = ap is_refusal refused.item in cc
   given_by (inr given) reported = given
 
-  pub gathered_more : (old : Preprocessing) (items more : List Item) → Gathered old items now → is_refusal (Some item) ≡ false → more ≡ items ++ item ∷ [] → Gathered old more new
+  pub gathered_more : (old : Preprocessing) (items more : List Item) → Gathered old items now → is_refusal (Some item) ≡ false
+      → more ≡ items ++ item ∷ [] → Gathered old more new
   gathered_more old items more g reported e =
       let given = given_by ready.1 reported in
       let fresh : is_spent old ≡ false = sym g.spent ∙ ready.0 in
@@ -131,14 +137,16 @@ pub given_up_now : (old : Preprocessing) (items : List Item) (now : Preprocessin
 given_up_now old items now g = given_up_by (is_spent now) old items now g refl
 
 module _ (old : Preprocessing) (items : List Item) (now new : Preprocessing) (g : Gathered old items now) (next : IsNextItem now None new) where
-  end_given : (spent : Bool) → MatchBool spent (◌≡◌ {A = Option Item} None None × (new ≡ now)) (IsRefusedItem None new ⊎ IsGivenItem now None new) → spent ≡ false → IsGivenItem now None new
+  end_given : (spent : Bool) → MatchBool spent (◌≡◌ {A = Option Item} None None × (new ≡ now)) (IsRefusedItem None new ⊎ IsGivenItem now None new)
+      → spent ≡ false → IsGivenItem now None new
   end_given true h ready = cc
   end_given false (inl refused) ready = let bad = refused.item in cc
   end_given false (inr given) ready = given
 
   items_by : (spent : Bool) → is_spent old ≡ spent → MatchBool spent (items ≡ []) ((state : State) → Stands old state → AreItemsFrom state items)
   items_by true e = g.none e
-  items_by false e = λ state stands. items_end state items now new (first_error items) refl (g.stands e state stands) (end_given (is_spent now) next.gives (g.spent ∙ e))
+  items_by false e = λ state stands. items_end state items now new (first_error items) refl (g.stands e state stands)
+      (end_given (is_spent now) next.gives (g.spent ∙ e))
 
   -- all items were gathered
   pub gathered_all : AreItemsOf old items

@@ -18,7 +18,8 @@ use Rattle.pp_expansion.specs.declared.step.StepExit.TheVariants.{Error, Continu
 -- What a step of an expander is to the state that it stands for: it gives the next item, or pauses and keeps that.
 abbrev pub LeadsFrom : Answers → Expander SourceReader → Step Token → Machine → Source → Type 0
 LeadsFrom A e (Ok token) machine source = (f : Expander SourceReader) × Emits source_rules A e (outcome.Token token) f × StandsFor machine source f
-LeadsFrom A e (Err Continue) machine source = (f : Expander SourceReader) × StandsFor machine source f × ((o : Outcome) (g : Expander SourceReader) → Emits source_rules A f o g → Emits source_rules A e o g)
+LeadsFrom A e (Err Continue) machine source = (f : Expander SourceReader) × StandsFor machine source f
+    × ((o : Outcome) (g : Expander SourceReader) → Emits source_rules A f o g → Emits source_rules A e o g)
 LeadsFrom A e (Err Finished) machine source = (f : Expander SourceReader) × Emits source_rules A e outcome.End f × StandsFor machine source f
 LeadsFrom A e (Err (Error fault)) machine source = (f : Expander SourceReader) × Emits source_rules A e (outcome.Fault fault) f
 
@@ -26,14 +27,18 @@ LeadsFrom A e (Err (Error fault)) machine source = (f : Expander SourceReader) �
 pub record Leads (A : Answers) (machine : Machine) (source : Source) (step : Step Token) (machine_then : Machine) (source_then : Source) : Type 0 where
   pub from : (e : Expander SourceReader) → StandsFor machine source e → LeadsFrom A e step machine_then source_then
 
-leads_on : (A : Answers) (e f : Expander SourceReader) (step : Step Token) (machine : Machine) (source : Source) → ((o : Outcome) (g : Expander SourceReader) → Emits source_rules A f o g → Emits source_rules A e o g) → LeadsFrom A f step machine source → LeadsFrom A e step machine source
+leads_on : (A : Answers) (e f : Expander SourceReader) (step : Step Token) (machine : Machine) (source : Source)
+    → ((o : Outcome) (g : Expander SourceReader) → Emits source_rules A f o g → Emits source_rules A e o g) → LeadsFrom A f step machine source
+    → LeadsFrom A e step machine source
 leads_on A e f (Ok token) machine source keeps leads = (leads.0, keeps (outcome.Token token) leads.0 leads.1, leads.2)
 leads_on A e f (Err Continue) machine source keeps leads = (leads.0, leads.1, λ o g emits. keeps o g (leads.2 o g emits))
 leads_on A e f (Err Finished) machine source keeps leads = (leads.0, keeps outcome.End leads.0 leads.1, leads.2)
 leads_on A e f (Err (Error fault)) machine source keeps leads = (leads.0, keeps (outcome.Fault fault) leads.0 leads.1)
 
 -- a pause, and then a step
-pub leads_then : (A : Answers) (machine machine_then machine_last : Machine) (source source_then source_last : Source) (step : Step Token) → Leads A machine source (Err Continue) machine_then source_then → Leads A machine_then source_then step machine_last source_last → Leads A machine source step machine_last source_last
+pub leads_then : (A : Answers) (machine machine_then machine_last : Machine) (source source_then source_last : Source) (step : Step Token)
+    → Leads A machine source (Err Continue) machine_then source_then → Leads A machine_then source_then step machine_last source_last
+    → Leads A machine source step machine_last source_last
 leads_then A machine machine_then machine_last source source_then source_last step pauses leads =
     record {
       from = λ e stands.

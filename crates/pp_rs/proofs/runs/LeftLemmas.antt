@@ -32,30 +32,70 @@ abbrev pub SomethingLeft : Machine → Source → Type 0
 SomethingLeft machine source = HoldsMore machine.held ⊎ (machine.frames ≢ []) ⊎ (source.rest ≢ []) ⊎ (source.blocks ≢ [])
 
 -- a source with nothing left is at its end
-empty_source : (places : List Location) (error_place : Option Location) (definitions : List Defined) (line_offset : ℤ) (has_text has_directive : Bool) (new : Source) (step : Step Token) → StepsSource (record { rest = []; places = places; error_place = error_place; definitions = definitions; blocks = []; line_offset = line_offset; spent = false; has_text = has_text; has_directive = has_directive }) step new → step ≡ Err Finished
+empty_source : (places : List Location) (error_place : Option Location) (definitions : List Defined)
+    (line_offset : ℤ) (has_text has_directive : Bool) (new : Source) (step : Step Token)
+    → StepsSource (record {
+      rest = [];
+      places = places;
+      error_place = error_place;
+      definitions = definitions;
+      blocks = [];
+      line_offset = line_offset;
+      spent = false;
+      has_text = has_text;
+      has_directive = has_directive;
+    }) step new → step ≡ Err Finished
 empty_source places error_place definitions line_offset has_text has_directive new step (inl h) = absurd (h.some_left refl)
 empty_source places error_place definitions line_offset has_text has_directive new step (inr h) = h.0
 
-read_before : (rest : List Seen) (places : List Location) (error_place : Option Location) (definitions : List Defined) (blocks : List OpenBlock) (line_offset : ℤ) (has_text has_directive : Bool) (s : Reader) (step : Step Token)
-    → Reads (of_source (record { rest = rest; places = places; error_place = error_place; definitions = definitions; blocks = blocks; line_offset = line_offset; spent = false; has_text = has_text; has_directive = has_directive })) step s → (step ≡ Err Finished → ⊥) → (rest ≢ []) ⊎ (blocks ≢ [])
+read_before : (rest : List Seen) (places : List Location) (error_place : Option Location) (definitions : List Defined) (blocks : List OpenBlock)
+    (line_offset : ℤ) (has_text has_directive : Bool) (s : Reader) (step : Step Token)
+    → Reads (of_source (record {
+      rest = rest;
+      places = places;
+      error_place = error_place;
+      definitions = definitions;
+      blocks = blocks;
+      line_offset = line_offset;
+      spent = false;
+      has_text = has_text;
+      has_directive = has_directive;
+    })) step s → (step ≡ Err Finished → ⊥)
+    → (rest ≢ []) ⊎ (blocks ≢ [])
 read_before (x ∷ rest) places error_place definitions blocks line_offset has_text has_directive s step h goes = inl (λ e. cc)
 read_before [] places error_place definitions (block ∷ blocks) line_offset has_text has_directive s step h goes = inr (λ e. cc)
-read_before [] places error_place definitions [] line_offset has_text has_directive (of_source new) step h goes = absurd (goes (empty_source places error_place definitions line_offset has_text has_directive new step h.0))
+read_before [] places error_place definitions [] line_offset has_text has_directive (of_source new) step h goes =
+    absurd (goes (empty_source places error_place definitions line_offset has_text has_directive new step h.0))
 read_before [] places error_place definitions [] line_offset has_text has_directive (of_list new) step h goes = absurd h
 
-left_in_source : (old : Source) (s : Reader) (step : Step Token) → old.spent ≡ false → Reads (of_source old) step s → (step ≡ Err Finished → ⊥) → (old.rest ≢ []) ⊎ (old.blocks ≢ [])
+left_in_source : (old : Source) (s : Reader) (step : Step Token) → old.spent ≡ false → Reads (of_source old) step s → (step ≡ Err Finished → ⊥)
+    → (old.rest ≢ []) ⊎ (old.blocks ≢ [])
 left_in_source old s step unspent h goes =
-    read_before old.rest old.places old.error_place old.definitions old.blocks old.line_offset old.has_text old.has_directive s step (subst (λ (b : Bool). Reads (of_source (record { rest = old.rest; places = old.places; error_place = old.error_place; definitions = old.definitions; blocks = old.blocks; line_offset = old.line_offset; spent = b; has_text = old.has_text; has_directive = old.has_directive })) step s) unspent h) goes
+    read_before old.rest old.places old.error_place old.definitions old.blocks old.line_offset old.has_text old.has_directive s step
+    (subst (λ (b : Bool). Reads (of_source (record {
+      rest = old.rest;
+      places = old.places;
+      error_place = old.error_place;
+      definitions = old.definitions;
+      blocks = old.blocks;
+      line_offset = old.line_offset;
+      spent = b;
+      has_text = old.has_text;
+      has_directive =
+          old.has_directive;
+    })) step s) unspent h) goes
 
 reads_more : (frames : List Layer) (old : Source) → (old.rest ≢ []) ⊎ (old.blocks ≢ []) → (frames ≢ []) ⊎ (old.rest ≢ []) ⊎ (old.blocks ≢ [])
 reads_more frames old (inl h) = inr (inl h)
 reads_more frames old (inr h) = inr (inr h)
 
-moved_left : (frames after : List Layer) (old : Source) (s : Reader) (step : Step Token) → old.spent ≡ false → Moves frames (of_source old) step after s → (step ≡ Err Finished → ⊥) → (frames ≢ []) ⊎ (old.rest ≢ []) ⊎ (old.blocks ≢ [])
+moved_left : (frames after : List Layer) (old : Source) (s : Reader) (step : Step Token) → old.spent ≡ false
+    → Moves frames (of_source old) step after s → (step ≡ Err Finished → ⊥) → (frames ≢ []) ⊎ (old.rest ≢ []) ⊎ (old.blocks ≢ [])
 moved_left (f ∷ fs) after old s step unspent moves goes = inl (λ e. cc)
 moved_left [] after old s step unspent moves goes = reads_more [] old (left_in_source old s step unspent moves.1 goes)
 
-taking_left : (m n : Machine) (old : Source) (s : Reader) (step : Step Token) → old.spent ≡ false → StepsTaking m (of_source old) step n s → is_end step ≡ false → SomethingLeft m old
+taking_left : (m n : Machine) (old : Source) (s : Reader) (step : Step Token) → old.spent ≡ false → StepsTaking m (of_source old) step n s
+    → is_end step ≡ false → SomethingLeft m old
 taking_left m n old s step unspent (held step1 m1 n1 r1 s1 is at same) goes = inl (subst HoldsMore (sym is) goes)
 taking_left m n old s step unspent (moved move step1 m1 n1 r1 s1 free moves is none) goes =
     more (moved_left m.frames n.frames old s move unspent moves (λ e. absurd (ends e)))
@@ -96,8 +136,10 @@ holding_more (Some step) xs h = go (is_end step) refl
 regions_some : (m : Machine) (source : Source) → SomethingLeft m source → 0 < total (regions m (of_source source))
 regions_some m source (inl h) = holding_some m.held (regions_of m.frames (most_reads source)) h
 regions_some m source (inr (inl h)) = holding_more m.held (regions_of m.frames (most_reads source)) (frames_some m.frames (most_reads source) (inl h))
-regions_some m source (inr (inr (inl h))) = holding_more m.held (regions_of m.frames (most_reads source)) (frames_some m.frames (most_reads source) (inr (omega (arith, some_there source.rest h))))
-regions_some m source (inr (inr (inr h))) = holding_more m.held (regions_of m.frames (most_reads source)) (frames_some m.frames (most_reads source) (inr (omega (arith, some_there source.blocks h))))
+regions_some m source (inr (inr (inl h))) = holding_more m.held (regions_of m.frames (most_reads source)) (frames_some m.frames (most_reads source)
+    (inr (omega (arith, some_there source.rest h))))
+regions_some m source (inr (inr (inr h))) = holding_more m.held (regions_of m.frames (most_reads source)) (frames_some m.frames (most_reads source)
+    (inr (omega (arith, some_there source.blocks h))))
 
 -- where something is left, there is something to do
 pub left_is_work : (levels : ℕ) (m : Machine) (source : Source) → SomethingLeft m source → 0 < work_of levels m (of_source source)
@@ -108,11 +150,13 @@ left_is_work levels m source left =
     omega (arith, up, regions_some m source left)
 
 -- where nothing is left, there is nothing to do
-pub no_work : (levels : ℕ) (m : Machine) (source : Source) → m.held ≡ None → m.frames ≡ [] → source.rest ≡ [] → source.blocks ≡ [] → work_of levels m (of_source source) ≡ 0
+pub no_work : (levels : ℕ) (m : Machine) (source : Source) → m.held ≡ None → m.frames ≡ [] → source.rest ≡ [] → source.blocks ≡ []
+    → work_of levels m (of_source source) ≡ 0
 no_work levels m source free closed e f =
     let r = of_source source in
     let reads : most_reads source ≡ 0 = omega (arith, ap length e, ap length f) in
-    let xs : regions m r ≡ 0 ∷ [] = ap (λ (o : Option (Step Token)). holding_step o (regions_of m.frames (most_reads source))) free ∙ ap (λ (fs : List Layer). regions_of fs (most_reads source)) closed ∙ ap (λ (k : ℕ). k ∷ []) reads in
+    let xs : regions m r ≡ 0 ∷ [] = ap (λ (o : Option (Step Token)). holding_step o (regions_of m.frames (most_reads source))) free
+    ∙ ap (λ (fs : List Layer). regions_of fs (most_reads source)) closed ∙ ap (λ (k : ℕ). k ∷ []) reads in
     ap (work_in (frame_steps (most_bodies r) (most_open r) levels) (most_open r)) xs
 
 -- no step is more work
@@ -127,7 +171,8 @@ no_steps : (frame : ℕ → ℕ) (names : ℕ) (xs : List ℕ) → total xs ≡ 
 no_steps frame names xs e = subst (λ (k : ℕ). through frame names xs k ≡ 0) (sym e) (through_none frame names xs e)
 
 -- where there is nothing to do, there is nothing to do either in a source of which as much is left
-pub no_more_work : (levels : ℕ) (m : Machine) (old new : Source) → most_reads new ≡ most_reads old → work_of levels m (of_source old) ≡ 0 → work_of levels m (of_source new) ≡ 0
+pub no_more_work : (levels : ℕ) (m : Machine) (old new : Source) → most_reads new ≡ most_reads old → work_of levels m (of_source old) ≡ 0
+    → work_of levels m (of_source new) ≡ 0
 no_more_work levels m old new same e =
     let r = of_source old in
     let s = of_source new in

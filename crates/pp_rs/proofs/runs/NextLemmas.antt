@@ -37,7 +37,8 @@ pub record Reached (machine : Machine) (source : Source) (machine_now : Machine)
   pub errors : errors_of machine_now source_now ≡ errors_of machine source
 
 -- the state that it begins in
-pub reached_first : (machine now : Machine) (source source_now : Source) → now ≡ machine → source_now ≡ source → IsFit now source_now × IsReported now source_now → Reached machine source now source_now
+pub reached_first : (machine now : Machine) (source source_now : Source) → now ≡ machine → source_now ≡ source → IsFit now source_now
+    × IsReported now source_now → Reached machine source now source_now
 reached_first machine now source source_now e f fit = rw (e, f) (record {
   fit = rw (e, f) at fit.0;
   leads = record { from = λ s stands. (s, stands, λ o g emits. emits) };
@@ -54,7 +55,8 @@ module _ (machine now after : Machine) (source source_now source_after : Source)
   turned : (step : Step Token) → Over step → wants_memory step ≡ false → TurnsSource expansion_limit now source_now step after source_after
   turned step h reported = turned_source expansion_limit now after source_now source_after step h reported
 
-  falls : (step : Step Token) → Over step → wants_memory step ≡ false → (step ≡ Err Finished → ⊥) → work_of expansion_limit after (of_source source_after) < work_of expansion_limit now (of_source source_now)
+  falls : (step : Step Token) → Over step → wants_memory step ≡ false → (step ≡ Err Finished → ⊥)
+      → work_of expansion_limit after (of_source source_after) < work_of expansion_limit now (of_source source_now)
   falls step h reported goes = source_lowers expansion_limit now source_now source_after r.fit step after (turned step h reported) reported goes
 
   fits : (step : Step Token) → Over step → wants_memory step ≡ false → IsFit after source_after
@@ -67,12 +69,14 @@ module _ (machine now after : Machine) (source source_now source_after : Source)
 
   leads_last : (step : Step Token) → Over step → wants_memory step ≡ false → Leads (answers_at expansion_limit) machine source step after source_after
   leads_last step h reported =
-      leads_then (answers_at expansion_limit) machine now after source source_now source_after step r.leads (source_turn_leads expansion_limit now after source_now source_after step r.fit (turned step h reported) reported)
+      leads_then (answers_at expansion_limit) machine now after source source_now source_after step r.leads
+      (source_turn_leads expansion_limit now after source_now source_after step r.fit (turned step h reported) reported)
 
   -- what a turn leaves of the errors of the lexer
   errors_last : (step : Step Token) → Over step → wants_memory step ≡ false → ErrorsLeft step (errors_of machine source) after source_after
   errors_last step h reported =
-      subst (λ (es : List ErrorAt). ErrorsLeft step es after source_after) r.errors (turn_errors expansion_limit now after source_now source_after step (turned step h reported) reported r.reported)
+      subst (λ (es : List ErrorAt). ErrorsLeft step es after source_after) r.errors
+      (turn_errors expansion_limit now after source_now source_after step (turned step h reported) reported r.reported)
 
   -- a pause
   pub reached_more : Over (Err Continue) → Reached machine source after source_after
@@ -97,12 +101,18 @@ module _ (machine now after : Machine) (source source_now source_after : Source)
   pub end_fits : Over (Err Finished) → IsFit after source_after × IsReported after source_after
   end_fits h = (fits (Err Finished) h refl, (errors_last (Err Finished) h refl).0)
 
-  pub fault_fits : (fault : Fault) (reported_source : Source) → reported_source ≡ record source_after { error_place = None } → Over (Err (Error fault)) → is_out_of_memory fault.0 ≡ false → IsFit after reported_source × IsReported after reported_source
+  pub fault_fits : (fault : Fault) (reported_source : Source) → reported_source ≡ record source_after { error_place = None }
+      → Over (Err (Error fault)) → is_out_of_memory fault.0 ≡ false → IsFit after reported_source × IsReported after reported_source
   fault_fits fault reported_source is h reported =
       let fit = fits (Err (Error fault)) h reported in
       let free = (errors_last (Err (Error fault)) h reported).0 in
       rw is (
-        record { unspent = fit.unspent; sound = fit.sound; last = subst (λ (o : Option (Step Token)). EndIsLast o after.frames (of_source (record source_after { error_place = None }))) (sym free) tt },
+        record {
+          unspent = fit.unspent;
+          sound = fit.sound;
+          last =
+              subst (λ (o : Option (Step Token)). EndIsLast o after.frames (of_source (record source_after { error_place = None }))) (sym free) tt;
+        },
         subst (λ (o : Option (Step Token)). IsReportedBut o (unreported_of (record source_after { error_place = None }))) (sym free) refl,
       )
 
@@ -116,7 +126,8 @@ module _ (machine now after : Machine) (source source_now source_after : Source)
     unfolding most_items
     most_first = rw (fresh, starts, begins) refl
 
-    as_next : (answer : Option Item) (new : Preprocessing) → IsRefusedItem answer new ⊎ IsGivenItem old answer new → IsLessLeft answer old new → IsNextItem old answer new
+    as_next : (answer : Option Item) (new : Preprocessing) → IsRefusedItem answer new ⊎ IsGivenItem old answer new → IsLessLeft answer old new
+        → IsNextItem old answer new
     unfolding is_spent
     as_next answer new h less = record {
       gives = subst (λ (b : Bool). MatchBool b ((answer ≡ None) × (new ≡ old)) (IsRefusedItem answer new ⊎ IsGivenItem old answer new)) (sym fresh) h;
@@ -124,7 +135,8 @@ module _ (machine now after : Machine) (source source_now source_after : Source)
     }
 
     -- less is left after a token or a fault
-    less_last : (step : Step Token) (place : Location) → Over step → wants_memory step ≡ false → (step ≡ Err Finished → ⊥) → most_items (record { machine = after; source = source_after; spent = false; place = place }) < most_items old
+    less_last : (step : Step Token) (place : Location) → Over step → wants_memory step ≡ false → (step ≡ Err Finished → ⊥)
+        → most_items (record { machine = after; source = source_after; spent = false; place = place }) < most_items old
     unfolding most_items
     less_last step place turn reported goes =
         let lower = falls step turn reported goes in
@@ -141,7 +153,8 @@ module _ (machine now after : Machine) (source source_now source_after : Source)
     next_token token false place fresh_now same turn holds =
         as_next (Some (Ok token)) (record { machine = after; source = source_after; spent = false; place = place }) (inr (record {
           item = λ e stands.
-              let leads : LeadsFrom (answers_at expansion_limit) e (Ok token) after source_after = (leads_last (Ok token) turn refl).from e (stands_first e stands) in
+              let leads : LeadsFrom (answers_at expansion_limit) e (Ok token) after source_after =
+              (leads_last (Ok token) turn refl).from e (stands_first e stands) in
               record { after = leads.0; emits = leads.1; goes_on = leads.2 };
           no_refusal = refl;
           holds = holds;
@@ -161,13 +174,15 @@ module _ (machine now after : Machine) (source source_now source_after : Source)
         let e = source_ends expansion_limit now source_now source_after r.fit after (turned (Err Finished) turn refl) in
         rw (e.0, e.2) refl
 
-    pub next_end : (spent : Bool) (place : Location) → spent ≡ false → place ≡ old.place → Over (Err Finished) → IsNextItem old None (record { machine = after; source = source_after; spent = spent; place = place })
+    pub next_end : (spent : Bool) (place : Location) → spent ≡ false → place ≡ old.place → Over (Err Finished)
+        → IsNextItem old None (record { machine = after; source = source_after; spent = spent; place = place })
     unfolding Stands is_spent errors_left error_place
     next_end true place fresh_now same turn = cc
     next_end false place fresh_now same turn =
         as_next None (record { machine = after; source = source_after; spent = false; place = place }) (inr (record {
           item = λ e stands.
-              let leads : LeadsFrom (answers_at expansion_limit) e (Err Finished) after source_after = (leads_last (Err Finished) turn refl).from e (stands_first e stands) in
+              let leads : LeadsFrom (answers_at expansion_limit) e (Err Finished) after source_after =
+              (leads_last (Err Finished) turn refl).from e (stands_first e stands) in
               record { after = leads.0; emits = leads.1; goes_on = leads.2 };
           no_refusal = refl;
           holds = tt;
@@ -177,17 +192,23 @@ module _ (machine now after : Machine) (source source_now source_after : Source)
 
     -- a fault is reported where it stands: the place that was taken is that of an error of the lexer
     module _ (fault : Fault) (reported_source : Source) (place : Location) (is : reported_source ≡ record source_after { error_place = None }) where
-      error_reported : (taken : Option Location) (left : List ErrorAt) → errors_of machine source ≡ with_read fault taken left → place ≡ unwrap_or taken fault.1 → errors_left (record { machine = after; source = reported_source; spent = false; place = place }) ≡ left
+      error_reported : (taken : Option Location) (left : List ErrorAt) → errors_of machine source ≡ with_read fault taken left
+          → place ≡ unwrap_or taken fault.1 → errors_left (record { machine = after; source = reported_source; spent = false; place = place }) ≡ left
           → IsErrorAt fault old (record { machine = after; source = reported_source; spent = false; place = place })
       unfolding error_place
-      error_reported (Some there) left e at same = of_lexer (errors_first ∙ e ∙ ap (λ (es : List ErrorAt). record { item = fault; place = there } ∷ es) (sym same) ∙ ap (λ (p : Location). record { item = fault; place = p } ∷ errors_left (record { machine = after; source = reported_source; spent = false; place = place })) (sym at))
+      error_reported (Some there) left e at same = of_lexer (errors_first ∙ e
+          ∙ ap (λ (es : List ErrorAt). record { item = fault; place = there } ∷ es) (sym same)
+          ∙ ap (λ (p : Location). record { item = fault; place = p } ∷ errors_left
+          (record { machine = after; source = reported_source; spent = false; place = place })) (sym at))
       error_reported None left e at same = of_its_own at (same ∙ sym e ∙ sym errors_first)
 
-      errors_now : Over (Err (Error fault)) → is_out_of_memory fault.0 ≡ false → errors_left (record { machine = after; source = reported_source; spent = false; place = place }) ≡ (unreported_of source_after).later
+      errors_now : Over (Err (Error fault)) → is_out_of_memory fault.0 ≡ false
+          → errors_left (record { machine = after; source = reported_source; spent = false; place = place }) ≡ (unreported_of source_after).later
       unfolding errors_left
       errors_now turn reported = rw (is, (errors_last (Err (Error fault)) turn reported).0) refl
 
-      less_now : Over (Err (Error fault)) → is_out_of_memory fault.0 ≡ false → most_items (record { machine = after; source = reported_source; spent = false; place = place }) < most_items old
+      less_now : Over (Err (Error fault)) → is_out_of_memory fault.0 ≡ false
+          → most_items (record { machine = after; source = reported_source; spent = false; place = place }) < most_items old
       unfolding most_items
       less_now turn reported = rw is (less_last (Err (Error fault)) place turn reported (λ e. cc))
 
@@ -197,22 +218,28 @@ module _ (machine now after : Machine) (source source_now source_after : Source)
       next_fault turn reported at =
           as_next (Some (Err fault)) (record { machine = after; source = reported_source; spent = false; place = place }) (inr (record {
             item = λ e stands.
-                let leads : LeadsFrom (answers_at expansion_limit) e (Err (Error fault)) after source_after = (leads_last (Err (Error fault)) turn reported).from e (stands_first e stands) in
+                let leads : LeadsFrom (answers_at expansion_limit) e (Err (Error fault)) after source_after =
+                (leads_last (Err (Error fault)) turn reported).from e (stands_first e stands) in
                 record { after = leads.0; emits = leads.1; goes_on = tt };
             no_refusal = reported;
             holds = tt;
-            reports = error_reported source_after.error_place (unreported_of source_after).later (errors_last (Err (Error fault)) turn reported).1 at (errors_now turn reported);
+            reports = error_reported source_after.error_place (unreported_of source_after).later (errors_last (Err (Error fault)) turn reported).1 at
+                (errors_now turn reported);
             spent = refl;
           })) (less_now turn reported)
 
-      next_refusal : Over (Err (Error fault)) → IsNextItem old (Some (Err out_of_memory)) (record { machine = after; source = reported_source; spent = true; place = place })
+      next_refusal : Over (Err (Error fault)) → IsNextItem old (Some (Err out_of_memory))
+          (record { machine = after; source = reported_source; spent = true; place = place })
       unfolding is_spent most_items
       next_refusal turn =
           let left : SomethingLeft machine source = left_now (Err (Error fault)) turn (λ e. cc) in
-          as_next (Some (Err out_of_memory)) (record { machine = after; source = reported_source; spent = true; place = place }) (inl (record { item = refl; spent = refl })) (omega (arith, left_is_work expansion_limit machine source left, most_first))
+          as_next (Some (Err out_of_memory)) (record { machine = after; source = reported_source; spent = true; place = place })
+          (inl (record { item = refl; spent = refl })) (omega (arith, left_is_work expansion_limit machine source left, most_first))
 
-      pub next_error : (want : Bool) → is_out_of_memory fault.0 ≡ want → Over (Err (Error fault)) → place ≡ unwrap_or source_after.error_place (if want then out_of_memory else fault).1
-          → IsNextItem old (Some (Err (if want then out_of_memory else fault))) (record { machine = after; source = reported_source; spent = want; place = place })
+      pub next_error : (want : Bool) → is_out_of_memory fault.0 ≡ want → Over (Err (Error fault))
+          → place ≡ unwrap_or source_after.error_place (if want then out_of_memory else fault).1
+          → IsNextItem old (Some (Err (if want then out_of_memory else fault)))
+          (record { machine = after; source = reported_source; spent = want; place = place })
       next_error true e turn at = next_refusal turn
       next_error false e turn at = next_fault turn e at
 
@@ -220,6 +247,7 @@ module _ (machine now after : Machine) (source source_now source_after : Source)
 pub next_none : (old : Preprocessing) → old.spent ≡ true → IsNextItem old None old
 unfolding is_spent most_items
 next_none old spent = record {
-  gives = subst (λ (b : Bool). MatchBool b (◌≡◌ {A = Option Item} None None × (old ≡ old)) (IsRefusedItem None old ⊎ IsGivenItem old None old)) (sym spent) (refl, refl);
+  gives = subst (λ (b : Bool). MatchBool b (◌≡◌ {A = Option Item} None None × (old ≡ old)) (IsRefusedItem None old ⊎ IsGivenItem old None old))
+      (sym spent) (refl, refl);
   less_left = rw spent refl;
 }

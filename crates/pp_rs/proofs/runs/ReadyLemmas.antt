@@ -76,7 +76,8 @@ next_free m n r s step (later step1 m1 between n1 r1 s1 t1 steps next) = next_fr
 
 pub gather_free : (k : ℕ) (last : Location) (m n : Machine) (r s : Reader) (g : Result Gathered Fault) → GathersNext k last m r g n s → n.held ≡ None
 gather_free k last m n r s g (closed k1 last1 token m1 n1 r1 s1 g1 next out is) = next_free m n r s (Ok token) next
-gather_free k last m n r s g (inside k1 l last1 token m1 between n1 r1 s1 t1 rest g1 next in_call more is) = gather_free l token.location between n s1 s rest more
+gather_free k last m n r s g (inside k1 l last1 token m1 between n1 r1 s1 t1 rest g1 next in_call more is) =
+    gather_free l token.location between n s1 s rest more
 gather_free k last m n r s g (overfull k1 last1 token m1 n1 r1 s1 g1 next out is) = next_free m n r s (Ok token) next
 gather_free k last m n r s g (ended k1 last1 m1 n1 r1 s1 g1 next is) = next_free m n r s (Err Finished) next
 gather_free k last m n r s g (failed k1 last1 fault m1 n1 r1 s1 g1 next reported is) = next_free m n r s (Err (Error fault)) next
@@ -84,21 +85,25 @@ gather_free k last m n r s g (failed k1 last1 fault m1 n1 r1 s1 g1 next reported
 -- the reader stays ready
 step_ready : (m n : Machine) (r s : Reader) (step : Step Token) → IsReady r → StepsTaking m r step n s → wants_memory step ≡ false → IsReady s
 step_ready m n r s step ready (held step1 m1 n1 r1 s1 is at same) reported = subst IsReady (sym same) ready
-step_ready m n r s step ready (moved move step1 m1 n1 r1 s1 free moves is none) reported = moves_ready m.frames n.frames r s move ready moves (taken_reported move n.frames s (rw is at reported))
+step_ready m n r s step ready (moved move step1 m1 n1 r1 s1 free moves is none) reported =
+    moves_ready m.frames n.frames r s move ready moves (taken_reported move n.frames s (rw is at reported))
 
 next_ready : (m n : Machine) (r s : Reader) (step : Step Token) → IsReady r → TakesNext m r step n s → wants_memory step ≡ false → IsReady s
 next_ready m n r s step ready (now step1 m1 n1 r1 s1 steps goes) reported = step_ready m n r s step ready steps reported
-next_ready m n r s step ready (later step1 m1 between n1 r1 s1 t1 steps next) reported = next_ready between n s1 s step (step_ready m between r s1 (Err Continue) ready steps refl) next reported
+next_ready m n r s step ready (later step1 m1 between n1 r1 s1 t1 steps next) reported =
+    next_ready between n s1 s step (step_ready m between r s1 (Err Continue) ready steps refl) next reported
 
 gather_ready : (k : ℕ) (last : Location) (m n : Machine) (r s : Reader) (g : Result Gathered Fault) → IsReady r → GathersNext k last m r g n s → IsReady s
 gather_ready k last m n r s g ready (closed k1 last1 token m1 n1 r1 s1 g1 next out is) = next_ready m n r s (Ok token) ready next refl
-gather_ready k last m n r s g ready (inside k1 l last1 token m1 between n1 r1 s1 t1 rest g1 next in_call more is) = gather_ready l token.location between n s1 s rest (next_ready m between r s1 (Ok token) ready next refl) more
+gather_ready k last m n r s g ready (inside k1 l last1 token m1 between n1 r1 s1 t1 rest g1 next in_call more is) =
+    gather_ready l token.location between n s1 s rest (next_ready m between r s1 (Ok token) ready next refl) more
 gather_ready k last m n r s g ready (overfull k1 last1 token m1 n1 r1 s1 g1 next out is) = next_ready m n r s (Ok token) ready next refl
 gather_ready k last m n r s g ready (ended k1 last1 m1 n1 r1 s1 g1 next is) = next_ready m n r s (Err Finished) ready next refl
 gather_ready k last m n r s g ready (failed k1 last1 fault m1 n1 r1 s1 g1 next reported is) = next_ready m n r s (Err (Error fault)) ready next reported
 
 -- nothing is left where the end is taken
-step_end : (m n : Machine) (r s : Reader) (step : Step Token) → step ≡ Err Finished → IsReady r → EndIsLast m.held m.frames r → StepsTaking m r step n s → (n.frames ≡ []) × NothingIn s
+step_end : (m n : Machine) (r s : Reader) (step : Step Token) → step ≡ Err Finished → IsReady r → EndIsLast m.held m.frames r
+    → StepsTaking m r step n s → (n.frames ≡ []) × NothingIn s
 step_end m n r s step e ready last (held step1 m1 n1 r1 s1 is at same) =
     let all : (m.frames ≡ []) × NothingIn r = subst (λ (o : Option (Step Token)). EndIsLast o m.frames r) (is ∙ ap Some e) last in
     (ap (λ (x : Machine). x.frames) at ∙ all.0, subst NothingIn (sym same) all.1)
@@ -108,10 +113,12 @@ step_end m n r s step e ready last (moved move step1 m1 n1 r1 s1 free moves is n
 free_last : (o : Option (Step Token)) (fs : List Layer) (r : Reader) → o ≡ None → EndIsLast o fs r
 free_last o fs r e = subst (λ (x : Option (Step Token)). EndIsLast x fs r) (sym e) tt
 
-next_end : (m n : Machine) (r s : Reader) (step : Step Token) → step ≡ Err Finished → IsReady r → EndIsLast m.held m.frames r → TakesNext m r step n s → (n.frames ≡ []) × NothingIn s
+next_end : (m n : Machine) (r s : Reader) (step : Step Token) → step ≡ Err Finished → IsReady r → EndIsLast m.held m.frames r
+    → TakesNext m r step n s → (n.frames ≡ []) × NothingIn s
 next_end m n r s step e ready last (now step1 m1 n1 r1 s1 steps goes) = step_end m n r s step e ready last steps
 next_end m n r s step e ready last (later step1 m1 between n1 r1 s1 t1 steps next) =
-    next_end between n s1 s step e (step_ready m between r s1 (Err Continue) ready steps refl) (free_last between.held between.frames s1 (step_free m between r s1 (Err Continue) steps)) next
+    next_end between n s1 s step e (step_ready m between r s1 (Err Continue) ready steps refl)
+    (free_last between.held between.frames s1 (step_free m between r s1 (Err Continue) steps)) next
 
 not_refused : (next : Step Token) → is_refusal next ≡ false → wants_memory next ≡ false
 not_refused (Ok token) h = refl
@@ -130,7 +137,8 @@ exit_reported Finished h = refl
 
 seeks_ready : (m n : Machine) (r s : Reader) (c : Sought) → IsReady r → Seeks m r c n s → IsReady s
 seeks_ready m n r s c ready (alone next m1 n1 r1 s1 c1 taken none reported is) = next_ready m n r s next ready taken (not_refused next reported)
-seeks_ready m n r s c ready (called next paren m1 between n1 r1 s1 t1 g c1 taken at gathers is) = gather_ready 0 paren between n s1 s g (next_ready m between r s1 next ready taken (paren_reported next paren at)) gathers
+seeks_ready m n r s c ready (called next paren m1 between n1 r1 s1 t1 g c1 taken at gathers is) =
+    gather_ready 0 paren between n s1 s g (next_ready m between r s1 next ready taken (paren_reported next paren at)) gathers
 
 -- what is held after a search is what was found, or nothing
 held_last : (next : Step Token) (m n : Machine) (r s : Reader) → IsReady r → m.held ≡ None → TakesNext m r next n s → EndIsLast (Some next) n.frames s
@@ -139,7 +147,8 @@ held_last (Err Continue) m n r s ready free next = tt
 held_last (Err Finished) m n r s ready free next = next_end m n r s (Err Finished) refl ready (free_last m.held m.frames r free) next
 held_last (Err (Error fault)) m n r s ready free next = tt
 
-finds_last : (token : Token) (name : Name) (definition : Definition) (c : Sought) (step : Step Taken) (m n p : Machine) (r s : Reader) → IsReady r → m.held ≡ None → Seeks m r c n s → Finds token name definition c step n p → EndIsLast p.held p.frames s
+finds_last : (token : Token) (name : Name) (definition : Definition) (c : Sought) (step : Step Taken) (m n p : Machine) (r s : Reader) → IsReady r
+    → m.held ≡ None → Seeks m r c n s → Finds token name definition c step n p → EndIsLast p.held p.frames s
 finds_last token name definition c step m n p r s ready free (alone next m1 n1 r1 s1 c1 taken none reported is) found =
     let found' : Finds token name definition (no_call next) step n p = subst (λ (x : Sought). Finds token name definition x step n p) is found in
     rw found'.1 (held_last next m n r s ready free taken)
@@ -152,9 +161,11 @@ finds_last token name definition c step m n p r s ready free (called next paren 
 
 -- a turn
 pub turn_ready : (m n : Machine) (r s : Reader) (step : Step Taken) → IsReady r → TurnsTo m r step n s → wants_taken step ≡ false → IsReady s
-turn_ready m n r s step ready (passes exit step1 m1 n1 r1 s1 steps is) reported = step_ready m n r s (Err exit) ready steps (exit_reported exit (rw is at reported))
+turn_ready m n r s step ready (passes exit step1 m1 n1 r1 s1 steps is) reported =
+    step_ready m n r s (Err exit) ready steps (exit_reported exit (rw is at reported))
 turn_ready m n r s step ready (gives token step1 m1 n1 r1 s1 steps none is) reported = step_ready m n r s (Ok token) ready steps refl
-turn_ready m p r s step ready (object token name definition step1 m1 n p1 r1 s1 steps some plain is at) reported = step_ready m n r s (Ok token) ready steps refl
+turn_ready m p r s step ready (object token name definition step1 m1 n p1 r1 s1 steps some plain is at) reported =
+    step_ready m n r s (Ok token) ready steps refl
 turn_ready m q r t step ready (seeks token name definition c step1 m1 n p q1 r1 s t1 steps some function sought found) reported =
     seeks_ready n p s t c (step_ready m n r s (Ok token) ready steps refl) sought
 
@@ -166,12 +177,14 @@ turn_last m p r s step ready (object token name definition step1 m1 n p1 r1 s1 s
 turn_last m q r t step ready (seeks token name definition c step1 m1 n p q1 r1 s t1 steps some function sought found) =
     finds_last token name definition c step n p q s t (step_ready m n r s (Ok token) ready steps refl) (step_free m n r s (Ok token) steps) sought found
 
-no_end : (token : Token) (name : Name) (definition : Definition) (c : Sought) (step : Step Taken) (n p : Machine) → Finds token name definition c step n p → step ≡ Err Finished → ⊥
+no_end : (token : Token) (name : Name) (definition : Definition) (c : Sought) (step : Step Taken) (n p : Machine)
+    → Finds token name definition c step n p → step ≡ Err Finished → ⊥
 no_end token name definition (no_call next) step n p found e = let k = found.0 in cc
 no_end token name definition (refused fault) step n p found e = let k = found.0 in cc
 no_end token name definition (gathered paren g) step n p found e = let k = found.0 in cc
 
-pub turn_end : (m n : Machine) (r s : Reader) (step : Step Taken) → step ≡ Err Finished → IsReady r → EndIsLast m.held m.frames r → TurnsTo m r step n s → (n.held ≡ None) × (n.frames ≡ []) × NothingIn s
+pub turn_end : (m n : Machine) (r s : Reader) (step : Step Taken) → step ≡ Err Finished → IsReady r → EndIsLast m.held m.frames r
+    → TurnsTo m r step n s → (n.held ≡ None) × (n.frames ≡ []) × NothingIn s
 turn_end m n r s step e ready last (passes exit step1 m1 n1 r1 s1 steps is) =
     let same : ◌≡◌ {A = Step Token} (Err exit) (Err Finished) = ap (λ (x : StepExit). Err x) (exit_same exit (sym is ∙ e)) in
     let h = step_end m n r s (Err exit) same ready last steps in
@@ -181,13 +194,17 @@ turn_end m n r s step e ready last (passes exit step1 m1 n1 r1 s1 steps is) =
     exit_same exit e = cc
 turn_end m n r s step e ready last (gives token step1 m1 n1 r1 s1 steps none is) = cc
 turn_end m p r s step e ready last (object token name definition step1 m1 n p1 r1 s1 steps some plain is at) = cc
-turn_end m q r t step e ready last (seeks token name definition c step1 m1 n p q1 r1 s t1 steps some function sought found) = absurd (no_end token name definition c step p q found e)
+turn_end m q r t step e ready last (seeks token name definition c step1 m1 n p q1 r1 s t1 steps some function sought found) =
+    absurd (no_end token name definition c step p q found e)
 
 -- but for the end, something is taken
 pub turn_some : (m n : Machine) (r s : Reader) (step : Step Taken) → TurnsTo m r step n s → (step ≡ Err Finished → ⊥) → TakesSomething m r
 turn_some m n r s step (passes Continue step1 m1 n1 r1 s1 steps is) goes = record { step = Err Continue; after = n; reader = s; takes = steps; goes = refl }
-turn_some m n r s step (passes (Error fault) step1 m1 n1 r1 s1 steps is) goes = record { step = Err (Error fault); after = n; reader = s; takes = steps; goes = refl }
+turn_some m n r s step (passes (Error fault) step1 m1 n1 r1 s1 steps is) goes =
+    record { step = Err (Error fault); after = n; reader = s; takes = steps; goes = refl }
 turn_some m n r s step (passes Finished step1 m1 n1 r1 s1 steps is) goes = absurd (goes is)
 turn_some m n r s step (gives token step1 m1 n1 r1 s1 steps none is) goes = record { step = Ok token; after = n; reader = s; takes = steps; goes = refl }
-turn_some m p r s step (object token name definition step1 m1 n p1 r1 s1 steps some plain is at) goes = record { step = Ok token; after = n; reader = s; takes = steps; goes = refl }
-turn_some m q r t step (seeks token name definition c step1 m1 n p q1 r1 s t1 steps some function sought found) goes = record { step = Ok token; after = n; reader = s; takes = steps; goes = refl }
+turn_some m p r s step (object token name definition step1 m1 n p1 r1 s1 steps some plain is at) goes =
+    record { step = Ok token; after = n; reader = s; takes = steps; goes = refl }
+turn_some m q r t step (seeks token name definition c step1 m1 n p q1 r1 s t1 steps some function sought found) goes =
+    record { step = Ok token; after = n; reader = s; takes = steps; goes = refl }

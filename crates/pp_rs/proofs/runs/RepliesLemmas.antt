@@ -26,17 +26,23 @@ module _ (old new : Preprocessing) (ready : is_spent old ≡ false) where
   added_answered name content (refused given same) = cc
   added_answered name content (faulty fault has given same) = cc
   added_answered name content (added tokens has given h) =
-      goes_on refl (h.spent ∙ ready) (λ state stands. let after = with_added (chars name) tokens state in (after, adds name content tokens _ _ state after has refl refl refl, h.stands state stands))
+      goes_on refl (h.spent ∙ ready) (λ state stands. let after = with_added (chars name) tokens state in
+      (after, adds name content tokens _ _ state after has refl refl refl, h.stands state stands))
 
   -- one that was refused, for another reason than a refusal of memory
-  pub refused_answered : (name content : List ℕ) (fault : Fault) → is_out_of_memory fault.0 ≡ false → IsAdded old name content (Err fault) new → IsAnswered old (add_define name content) (reply.Refused fault) new
+  pub refused_answered : (name content : List ℕ) (fault : Fault) → is_out_of_memory fault.0 ≡ false → IsAdded old name content (Err fault) new
+      → IsAnswered old (add_define name content) (reply.Refused fault) new
   refused_answered name content fault reported (refused given same) =
       let wanted : fault ≡ out_of_memory = cc in
       let bad : true ≡ false = sym (ap (λ (f : Fault). is_out_of_memory f.0) wanted) ∙ reported in
       cc
   refused_answered name content fault reported (faulty other has given same) =
       let this : other ≡ fault = cc in
-      goes_on refl (ap is_spent same ∙ ready) (λ state stands. (state, refuses name content fault _ _ state state (rw this at has) refl refl refl, subst (λ (p : Preprocessing). Stands p state) (sym same) stands))
+      goes_on refl (ap is_spent same ∙ ready) (λ state stands. (
+        state,
+        refuses name content fault _ _ state state (rw this at has) refl refl refl,
+        subst (λ (p : Preprocessing). Stands p state) (sym same) stands,
+      ))
   refused_answered name content fault reported (added tokens has given h) = cc
 
   unspent : (spent : Bool) (A B : Type 0) → spent ≡ false → MatchBool spent A B → B
@@ -47,16 +53,19 @@ module _ (old new : Preprocessing) (ready : is_spent old ≡ false) where
   pub token_answered : (token : Token) → IsNextItem old (Some (Ok token)) new → IsAnswered old next (reply.Given (outcome.Token token)) new
   token_answered token h = elim (unspent (is_spent old) _ _ ready h.gives) [
     | inl wants ↦ let e = wants.item in cc
-    | inr given ↦ goes_on refl given.spent (λ state stands. let item = given.item state stands in (item.after, gives (outcome.Token token) _ _ state item.after item.emits refl refl refl, item.goes_on))
+    | inr given ↦ goes_on refl given.spent (λ state stands. let item = given.item state stands in
+        (item.after, gives (outcome.Token token) _ _ state item.after item.emits refl refl refl, item.goes_on))
   ]
 
   pub end_answered : IsNextItem old None new → IsAnswered old next (reply.Given outcome.End) new
   end_answered h = elim (unspent (is_spent old) _ _ ready h.gives) [
     | inl wants ↦ let e = wants.item in cc
-    | inr given ↦ goes_on refl given.spent (λ state stands. let item = given.item state stands in (item.after, gives outcome.End _ _ state item.after item.emits refl refl refl, item.goes_on))
+    | inr given ↦ goes_on refl given.spent (λ state stands. let item = given.item state stands in
+        (item.after, gives outcome.End _ _ state item.after item.emits refl refl refl, item.goes_on))
   ]
 
-  pub fault_answered : (fault : Fault) → is_out_of_memory fault.0 ≡ false → IsNextItem old (Some (Err fault)) new → IsAnswered old next (reply.Given (outcome.Fault fault)) new
+  pub fault_answered : (fault : Fault) → is_out_of_memory fault.0 ≡ false → IsNextItem old (Some (Err fault)) new
+      → IsAnswered old next (reply.Given (outcome.Fault fault)) new
   fault_answered fault reported h = elim (unspent (is_spent old) _ _ ready h.gives) [
     | inl wants ↦
         (let e = wants.item in
@@ -67,13 +76,16 @@ module _ (old new : Preprocessing) (ready : is_spent old ≡ false) where
   ]
 
 -- the calls up to one and with it
-pub calls_more : (calls : List Called) (i : ℕ) (other : Called) → i < length calls → map call_of (take (i + 1) calls) ≡ map call_of (take i calls) ++ call_of (get_or calls i other) ∷ []
+pub calls_more : (calls : List Called) (i : ℕ) (other : Called) → i < length calls
+    → map call_of (take (i + 1) calls) ≡ map call_of (take i calls) ++ call_of (get_or calls i other) ∷ []
 calls_more calls i other within = ap (map call_of) (take_more calls i other within) ∙ map-append call_of (take i calls) (get_or calls i other ∷ [])
 
 -- and those after it
-pub calls_cut : (calls : List Called) (i : ℕ) (other : Called) → i < length calls → map call_of calls ≡ map call_of (take i calls) ++ call_of (get_or calls i other) ∷ map call_of (drop (i + 1) calls)
+pub calls_cut : (calls : List Called) (i : ℕ) (other : Called) → i < length calls
+    → map call_of calls ≡ map call_of (take i calls) ++ call_of (get_or calls i other) ∷ map call_of (drop (i + 1) calls)
 calls_cut calls i other within =
-    ap (map call_of) (sym (take-append-drop (i + 1) calls)) ∙ map-append call_of (take (i + 1) calls) (drop (i + 1) calls) ∙ ap (λ (cs : List Call). cs ++ map call_of (drop (i + 1) calls)) (calls_more calls i other within)
+    ap (map call_of) (sym (take-append-drop (i + 1) calls)) ∙ map-append call_of (take (i + 1) calls) (drop (i + 1) calls)
+    ∙ ap (λ (cs : List Call). cs ++ map call_of (drop (i + 1) calls)) (calls_more calls i other within)
     ∙ append_assoc (map call_of (take i calls)) (call_of (get_or calls i other) ∷ []) (map call_of (drop (i + 1) calls))
 
 -- the calls that were answered, and the preprocessor after them
@@ -84,7 +96,8 @@ pub record Replied (source : List ℕ) (calls : List Call) (replies : List Reply
   pub chain : Chain Comes (start (items_of source)) calls replies state
 
 -- none before the first
-pub replied_none : (source : List ℕ) (replies : List Reply) (new : Preprocessing) → is_spent new ≡ false → Stands new (start (items_of source)) → replies ≡ [] → Replied source [] replies new
+pub replied_none : (source : List ℕ) (replies : List Reply) (new : Preprocessing) → is_spent new ≡ false → Stands new (start (items_of source))
+    → replies ≡ [] → Replied source [] replies new
 replied_none source replies new unspent stands is = record {
   unspent = unspent;
   state = start (items_of source);
@@ -92,21 +105,25 @@ replied_none source replies new unspent stands is = record {
   chain = none _ _ [] replies refl is refl;
 }
 
-module _ (source : List ℕ) (before : List Call) (call : Call) (given : List Reply) (answer : Reply) (now new : Preprocessing) (r : Replied source before given now) where
+module _ (source : List ℕ) (before : List Call) (call : Call) (given : List Reply)
+    (answer : Reply) (now new : Preprocessing) (r : Replied source before given now) where
   -- one more
-  pub replied_more : (calls : List Call) (replies : List Reply) → IsAnswered now call answer new → ends_run answer ≡ false → calls ≡ before ++ call ∷ [] → replies ≡ given ++ answer ∷ [] → Replied source calls replies new
+  pub replied_more : (calls : List Call) (replies : List Reply) → IsAnswered now call answer new → ends_run answer ≡ false
+      → calls ≡ before ++ call ∷ [] → replies ≡ given ++ answer ∷ [] → Replied source calls replies new
   replied_more calls replies (goes_on last unspent leads) on cut is =
       let one = leads r.state r.stands in
       record { unspent = unspent; state = one.0; stands = one.2; chain = one_more _ r.state one.0 before calls call given replies answer r.chain one.1 cut is }
   replied_more calls replies (ends fault answers calls_next leads) on cut is = let bad : true ≡ false = sym (ap ends_run answers) ∙ on in cc
 
   -- an error item, whatever calls are left
-  pub replied_last : (calls later : List Call) (replies : List Reply) → IsAnswered now call answer new → ends_run answer ≡ true → calls ≡ before ++ call ∷ later → replies ≡ given ++ answer ∷ [] → IsRun source calls replies
+  pub replied_last : (calls later : List Call) (replies : List Reply) → IsAnswered now call answer new → ends_run answer ≡ true
+      → calls ≡ before ++ call ∷ later → replies ≡ given ++ answer ∷ [] → IsRun source calls replies
   replied_last calls later replies (goes_on last unspent leads) over cut is = let bad : false ≡ true = sym last ∙ over in cc
   replied_last calls later replies (ends fault answers calls_next leads) over cut is =
       let one = leads r.state r.stands in
       rw (cut, is, answers, calls_next) (chain_runs_to_error Comes (start (items_of source)) r.state one.0 before later given fault r.chain one.1)
 
 -- all of them
-pub replied_all : (source : List ℕ) (calls same : List Call) (replies : List Reply) (now : Preprocessing) → Replied source same replies now → calls ≡ same → IsRun source calls replies
+pub replied_all : (source : List ℕ) (calls same : List Call) (replies : List Reply) (now : Preprocessing) → Replied source same replies now
+    → calls ≡ same → IsRun source calls replies
 replied_all source calls same replies now r e = rw e (chain_runs Comes (start (items_of source)) r.state same replies r.chain)

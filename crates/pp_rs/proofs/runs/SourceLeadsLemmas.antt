@@ -34,7 +34,8 @@ reads_source old new x (Err Continue) h = (h.after, h.stands, λ o z reads. late
 reads_source old new x (Err Finished) h = (h.after, here outcome.End x h.after h.steps, h.stands)
 reads_source old new x (Err (Error fault)) h = (h.after, here (outcome.Fault fault) x h.after h.steps)
 
-pub sources_simulate : (r s : Reader) (x : SourceReader) (step : Step Token) → IsSource r x → Reads r step s → wants_memory step ≡ false → ReadsTo source_rules IsSource [] step x s
+pub sources_simulate : (r s : Reader) (x : SourceReader) (step : Step Token) → IsSource r x → Reads r step s → wants_memory step ≡ false
+    → ReadsTo source_rules IsSource [] step x s
 sources_simulate (of_source old) (of_source new) x step stands h reported = reads_source old new x step (source_simulates old new x step stands h.0 reported)
 sources_simulate (of_source old) (of_list new) x step stands h reported = absurd h
 sources_simulate (of_list old) s x step stands h reported = absurd stands
@@ -43,11 +44,14 @@ pub source_shows : (s : Reader) (y : SourceReader) (line : ℕ) → IsSource s y
 source_shows (of_source source) y line stands = ap (λ (k : ℤ). as_line_number (pos line +ℤ k)) stands.line_offset
 source_shows (of_list l) y line stands = absurd stands
 
-pub source_sees : (s : Reader) (y : SourceReader) (name : Name) → IsSource s y → visible s name ≡ (if source_rules.is_reserved name || is_in name [] then None else source_rules.visible y name)
+pub source_sees : (s : Reader) (y : SourceReader) (name : Name) → IsSource s y
+    → visible s name ≡ (if source_rules.is_reserved name || is_in name [] then None else source_rules.visible y name)
 source_sees (of_source source) y name stands = ap (λ (d : Definitions). d name) (sym stands.definitions)
 source_sees (of_list l) y name stands = absurd stands
 
 -- one turn over a source
-pub source_leads : (A : Answers) (m n : Machine) (r s : Reader) (step : Step Taken) (e : Expander SourceReader) → StandsIn source_rules IsSource [] m r e → TurnsTo m r step n s → wants_taken step ≡ false
+pub source_leads : (A : Answers) (m n : Machine) (r s : Reader) (step : Step Taken) (e : Expander SourceReader)
+    → StandsIn source_rules IsSource [] m r e → TurnsTo m r step n s → wants_taken step ≡ false
     → LeadsTo source_rules IsSource [] sources_simulate source_shows source_sees A step e n s
-source_leads A m n r s step e stands turns reported = turn_leads source_rules IsSource [] sources_simulate source_shows source_sees A m n r s step e stands turns reported
+source_leads A m n r s step e stands turns reported = turn_leads source_rules IsSource
+    [] sources_simulate source_shows source_sees A m n r s step e stands turns reported

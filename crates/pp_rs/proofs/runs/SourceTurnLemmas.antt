@@ -56,10 +56,12 @@ module _ (levels : ℕ) (m n : Machine) (r s : Source) where
   goes_token token (inl h) = inl (record { taken = Ok (taken.Token token); between = n; turns = h; follows = (refl, refl) })
   goes_token token (inr h) = let bad = h.fault in cc
 
-  exit_as : (exit : StepExit) (step : Step Token) → ◌≡◌ {A = Step Taken} (Err exit) (Err (Error out_of_memory)) → step ≡ Err exit → step ≡ Err (Error out_of_memory)
+  exit_as : (exit : StepExit) (step : Step Token) → ◌≡◌ {A = Step Taken} (Err exit) (Err (Error out_of_memory)) → step ≡ Err exit
+      → step ≡ Err (Error out_of_memory)
   exit_as exit step e is = cc
 
-  pub goes_exit : (exit : StepExit) (step : Step Token) → TurnsOrRefuses m (of_source r) (Err exit) n (of_source s) → step ≡ Err exit → StepsOver levels m r step n s
+  pub goes_exit : (exit : StepExit) (step : Step Token) → TurnsOrRefuses m (of_source r) (Err exit) n (of_source s) → step ≡ Err exit
+      → StepsOver levels m r step n s
   goes_exit exit step (inl h) is = inl (record { taken = Err exit; between = n; turns = h; follows = (is, refl) })
   goes_exit exit step (inr h) is = inr (record { some = h.some; fault = exit_as exit step h.fault is })
 
@@ -93,15 +95,18 @@ module _ (levels : ℕ) (m : Machine) (old new : Source) (fit : IsFit m old) whe
   free_last : (o : Option (Step Token)) (n : Machine) → o ≡ None → EndIsLast o n.frames (of_source new)
   free_last o n e = subst (λ (x : Option (Step Token)). EndIsLast x n.frames (of_source new)) (sym e) tt
 
-  opened_less : (levels' : ℕ) → levels' ≡ levels → (c : PendingCall) (n p : Machine) → IsPending levels' m (of_source old) c n (of_source new) → IsOpened levels' new.definitions (names_of n.frames ++ []) c n p → IsLess levels' m (of_source old) p (of_source new)
+  opened_less : (levels' : ℕ) → levels' ≡ levels → (c : PendingCall) (n p : Machine) → IsPending levels' m (of_source old) c n (of_source new)
+      → IsOpened levels' new.definitions (names_of n.frames ++ []) c n p → IsLess levels' m (of_source old) p (of_source new)
   opened_less zero e c n p pend o = absurd (let bad : Ok o.arguments ≡ Err _ = o.answers in cc)
   opened_less (suc lower) e c n p pend o =
       let one : suc lower - 1 ≡ lower = omega arith in
       let least : All (λ (a : List Token). length a ≤ most_alone lower new.definitions (length c.tokens)) o.arguments = rw (← one) o.least in
-      let at : p ≡ record { held = None; frames = layer c.name c.closing.line c.definition o.arguments ∷ n.frames } = o.opens ∙ ap (λ (h : Option (Step Token)). record { held = h; frames = layer c.name c.closing.line c.definition o.arguments ∷ n.frames }) pend.free in
+      let at : p ≡ record { held = None; frames = layer c.name c.closing.line c.definition o.arguments ∷ n.frames } = o.opens
+      ∙ ap (λ (h : Option (Step Token)). record { held = h; frames = layer c.name c.closing.line c.definition o.arguments ∷ n.frames }) pend.free in
       rw at (pending_opens lower m (of_source old) c n (of_source new) o.arguments pend least)
 
-  call_after : (c : PendingCall) (n p : Machine) (step : Step Token) → IsPending levels m (of_source old) c n (of_source new) → FollowsCall levels new.definitions c n step p → IsAfter levels m old step p new
+  call_after : (c : PendingCall) (n p : Machine) (step : Step Token) → IsPending levels m (of_source old) c n (of_source new)
+      → FollowsCall levels new.definitions c n step p → IsAfter levels m old step p new
   call_after c n p step pend (opened is o) =
       let less = opened_less levels refl c n p pend o in
       record { less = λ goes. less.falls; sound = less.sound; last = free_last p.held p (ap (λ (x : Machine). x.held) o.opens ∙ pend.free) }
@@ -110,29 +115,42 @@ module _ (levels : ℕ) (m : Machine) (old new : Source) (fit : IsFit m old) whe
       let s = of_source new in
       let level = frame_steps_level (most_bodies r) (most_open r) levels in
       let free : regions n s ≡ regions_of n.frames (reads_left s) = ap (λ o. holding_step o (regions_of n.frames (reads_left s))) pend.free in
-      let falls : Falls (frame_of levels r) (most_open r) (regions m r) (regions n s) = rw free (no_more_falls (frame_of levels r) (most_open r) level (regions m r) (one_more (regions_of n.frames (reads_left s))) (regions_of n.frames (reads_left s)) pend.room (one_more_falls (frame_of levels r) (most_open r) level (regions_of n.frames (reads_left s)))) in
+      let falls : Falls (frame_of levels r) (most_open r) (regions m r) (regions n s) =
+      rw free (no_more_falls (frame_of levels r) (most_open r) level (regions m r) (one_more (regions_of n.frames (reads_left s)))
+      (regions_of n.frames (reads_left s)) pend.room (one_more_falls (frame_of levels r) (most_open r) level (regions_of n.frames (reads_left s)))) in
       rw same (record {
         less = λ goes. falls_work levels m n r s pend.tight falls;
         sound = sound_rest new.definitions c.name (names_of n.frames) pend.sound;
         last = free_last n.held n pend.free;
       })
 
-  less_after : (step : Step Token) (n p : Machine) → p ≡ n → EndIsLast n.held n.frames (of_source new) → IsLess levels m (of_source old) n (of_source new) → IsAfter levels m old step p new
+  less_after : (step : Step Token) (n p : Machine) → p ≡ n → EndIsLast n.held n.frames (of_source new)
+      → IsLess levels m (of_source old) n (of_source new) → IsAfter levels m old step p new
   less_after step n p same last less = rw same (record { less = λ goes. less.falls; sound = less.sound; last = last })
 
-  follows_after : (step : Step Token) (n p : Machine) (t : Step Taken) → TurnsTo m (of_source old) t n (of_source new) → FollowsTurn levels new.definitions t n step p → wants_memory step ≡ false → IsAfter levels m old step p new
+  follows_after : (step : Step Token) (n p : Machine) (t : Step Taken) → TurnsTo m (of_source old) t n (of_source new)
+      → FollowsTurn levels new.definitions t n step p → wants_memory step ≡ false → IsAfter levels m old step p new
   follows_after step n p (Ok (taken.Token token)) turns follows reported =
-      less_after step n p follows.1 (turn_last m n (of_source old) (of_source new) (Ok (taken.Token token)) fit.unspent turns) (turn_falls levels m (of_source old) fit.sound (Ok (taken.Token token)) n (of_source new) turns refl)
-  follows_after step n p (Ok (taken.Call c)) turns follows reported = call_after c n p step (turn_falls levels m (of_source old) fit.sound (Ok (taken.Call c)) n (of_source new) turns refl) follows
+      less_after step n p follows.1 (turn_last m n (of_source old) (of_source new) (Ok (taken.Token token)) fit.unspent turns)
+      (turn_falls levels m (of_source old) fit.sound (Ok (taken.Token token)) n (of_source new) turns refl)
+  follows_after step n p (Ok (taken.Call c)) turns follows reported =
+      call_after c n p step (turn_falls levels m (of_source old) fit.sound (Ok (taken.Call c)) n (of_source new) turns refl) follows
   follows_after step n p (Err Continue) turns follows reported =
-      less_after step n p follows.1 (turn_last m n (of_source old) (of_source new) (Err Continue) fit.unspent turns) (turn_falls levels m (of_source old) fit.sound (Err Continue) n (of_source new) turns refl)
+      less_after step n p follows.1 (turn_last m n (of_source old) (of_source new) (Err Continue) fit.unspent turns)
+      (turn_falls levels m (of_source old) fit.sound (Err Continue) n (of_source new) turns refl)
   follows_after step n p (Err (Error fault)) turns follows reported =
-      less_after step n p follows.1 (turn_last m n (of_source old) (of_source new) (Err (Error fault)) fit.unspent turns) (turn_falls levels m (of_source old) fit.sound (Err (Error fault)) n (of_source new) turns (rw follows.0 at reported))
+      less_after step n p follows.1 (turn_last m n (of_source old) (of_source new) (Err (Error fault)) fit.unspent turns)
+      (turn_falls levels m (of_source old) fit.sound (Err (Error fault)) n (of_source new) turns (rw follows.0 at reported))
   follows_after step n p (Err Finished) turns follows reported =
       let sound : IsSound n (of_source new) = turn_falls levels m (of_source old) fit.sound (Err Finished) n (of_source new) turns refl in
-      rw follows.1 (record { less = λ goes. absurd (goes follows.0); sound = sound; last = turn_last m n (of_source old) (of_source new) (Err Finished) fit.unspent turns })
+      rw follows.1 (record {
+        less = λ goes. absurd (goes follows.0);
+        sound = sound;
+        last = turn_last m n (of_source old) (of_source new) (Err Finished) fit.unspent turns;
+      })
 
-  taken_reported : (step : Step Token) (n p : Machine) (t : Step Taken) → FollowsTurn levels new.definitions t n step p → wants_memory step ≡ false → wants_taken t ≡ false
+  taken_reported : (step : Step Token) (n p : Machine) (t : Step Taken) → FollowsTurn levels new.definitions t n step p → wants_memory step ≡ false
+      → wants_taken t ≡ false
   taken_reported step n p (Ok (taken.Token token)) follows reported = refl
   taken_reported step n p (Ok (taken.Call c)) follows reported = refl
   taken_reported step n p (Err Continue) follows reported = refl
@@ -157,7 +175,8 @@ module _ (levels : ℕ) (m : Machine) (old new : Source) (fit : IsFit m old) whe
   pub source_ends : (n : Machine) → TurnsSource levels m old (Err Finished) n new → (n.held ≡ None) × (n.frames ≡ []) × (new.rest ≡ []) × (new.blocks ≡ [])
   source_ends n h = go h.taken h.between h.turns h.follows
     where
-      go : (t : Step Taken) (k : Machine) → TurnsTo m (of_source old) t k (of_source new) → FollowsTurn levels new.definitions t k (Err Finished) n → (n.held ≡ None) × (n.frames ≡ []) × (new.rest ≡ []) × (new.blocks ≡ [])
+      go : (t : Step Taken) (k : Machine) → TurnsTo m (of_source old) t k (of_source new) → FollowsTurn levels new.definitions t k (Err Finished) n
+          → (n.held ≡ None) × (n.frames ≡ []) × (new.rest ≡ []) × (new.blocks ≡ [])
       go (Ok (taken.Token token)) k turns follows = let bad = follows.0 in cc
       go (Ok (taken.Call c)) k turns (opened is o) = cc
       go (Ok (taken.Call c)) k turns (refused fault is answers same) = cc
@@ -177,7 +196,8 @@ held_in (Some (Err Continue)) source x h = h
 held_in (Some (Err Finished)) source x h = h
 held_in (Some (Err (Error fault))) source x h = tt
 
-held_for : (o : Option (Step Token)) (source : Source) (x : SourceReader) → StandsHeld source_rules IsSource [] o (of_source source) x → StandsForHeld o source x
+held_for : (o : Option (Step Token)) (source : Source) (x : SourceReader) → StandsHeld source_rules IsSource [] o (of_source source) x
+    → StandsForHeld o source x
 held_for None source x h = h
 held_for (Some (Ok token)) source x h = h
 held_for (Some (Err Continue)) source x h = h
@@ -191,11 +211,14 @@ stands_for : (m : Machine) (source : Source) (e : Expander SourceReader) → Sta
 stands_for m source e h = record { held = h.holds; list = h.list; reader = held_for m.held source e.reader h.reader; hidden = h.names }
 
 -- where a call stands
-site_same : (c : PendingCall) (n : Machine) (source : Source) (f : Expander SourceReader) → StandsIn source_rules IsSource [] n (of_source source) f → n.held ≡ None → site_of source_rules f c.paren c.tokens ≡ site_at c source.definitions (names_of n.frames ++ [])
+site_same : (c : PendingCall) (n : Machine) (source : Source) (f : Expander SourceReader) → StandsIn source_rules IsSource [] n (of_source source) f
+    → n.held ≡ None → site_of source_rules f c.paren c.tokens ≡ site_at c source.definitions (names_of n.frames ++ [])
 site_same c n source f stands free =
-    let reader : StandsForReader source f.reader = subst (λ (o : Option (Step Token)). StandsHeld source_rules IsSource [] o (of_source source) f.reader) free stands.reader in
+    let reader : StandsForReader source f.reader = subst (λ (o : Option (Step Token)). StandsHeld source_rules IsSource [] o
+    (of_source source) f.reader) free stands.reader in
     let around : masked f ≡ names_of n.frames ++ [] =
-    ap (λ (es : List Entry). open_names es ++ f.hidden) stands.list ∙ ap (λ (hs : List Name). open_names (flat n.frames) ++ hs) stands.names ∙ ap (λ (ns : List Name). ns ++ []) (open_flat n.frames) in
+    ap (λ (es : List Entry). open_names es ++ f.hidden) stands.list ∙ ap (λ (hs : List Name). open_names (flat n.frames) ++ hs) stands.names
+    ∙ ap (λ (ns : List Name). ns ++ []) (open_flat n.frames) in
     ap (λ (d : Definitions). record { paren = c.paren; arguments = arguments_of c.tokens; visible = d; open_around = masked f }) reader.definitions
     ∙ ap (λ (ns : List Name). record { paren = c.paren; arguments = arguments_of c.tokens; visible = meaning_of source.definitions; open_around = ns }) around
 
@@ -203,32 +226,43 @@ module _ (levels : ℕ) (m : Machine) (old new : Source) (fit : IsFit m old) (e 
   abbrev LeadsBy : Step Taken → Machine → Type 0
   LeadsBy t n = LeadsTo source_rules IsSource [] sources_simulate source_shows source_sees (answers_at levels) t e n (of_source new)
 
-  call_leads : (c : PendingCall) (n p : Machine) (step : Step Token) → n.held ≡ None → LeadsBy (Ok (taken.Call c)) n → FollowsCall levels new.definitions c n step p → LeadsFrom (answers_at levels) e step p new
+  call_leads : (c : PendingCall) (n p : Machine) (step : Step Token) → n.held ≡ None → LeadsBy (Ok (taken.Call c)) n
+      → FollowsCall levels new.definitions c n step p → LeadsFrom (answers_at levels) e step p new
   call_leads c n p step free led (opened is o) =
       let f : Expander SourceReader = record led.0 { list = spliced c.name c.definition c.closing.line o.arguments led.0.list } in
       let k = led.1 in
       rw is (
         f,
-        subst (λ (q : Machine). StandsFor q new f) (sym o.opens) (record { held = k.holds; list = ap (spliced c.name c.definition c.closing.line o.arguments) k.list; reader = held_for n.held new led.0.reader k.reader; hidden = k.names }),
+        subst (λ (q : Machine). StandsFor q new f) (sym o.opens)
+            (record {
+              held = k.holds;
+              list = ap (spliced c.name c.definition c.closing.line o.arguments) k.list;
+              reader = held_for n.held new led.0.reader k.reader;
+              hidden = k.names;
+            }),
         led.3 o.arguments (subst (λ (x : Site). answers_at levels c.definition x (Ok o.arguments)) (sym (site_same c n new led.0 k free)) o.answers),
       )
   call_leads c n p step free led (refused fault is answers same) =
       rw is (led.0, led.2 fault (subst (λ (x : Site). answers_at levels c.definition x (Err fault)) (sym (site_same c n new led.0 led.1 free)) answers))
 
-  follows_lead : (step : Step Token) (n p : Machine) (t : Step Taken) → TurnsTo m (of_source old) t n (of_source new) → LeadsBy t n → FollowsTurn levels new.definitions t n step p → LeadsFrom (answers_at levels) e step p new
+  follows_lead : (step : Step Token) (n p : Machine) (t : Step Taken) → TurnsTo m (of_source old) t n (of_source new) → LeadsBy t n
+      → FollowsTurn levels new.definitions t n step p → LeadsFrom (answers_at levels) e step p new
   follows_lead step n p (Ok (taken.Token token)) turns led follows = rw (follows.0, follows.1) (led.0, led.1, stands_for n new led.0 led.2)
   follows_lead step n p (Ok (taken.Call c)) turns led follows =
-      let pend : IsPending levels m (of_source old) c n (of_source new) = turn_falls levels m (of_source old) fit.sound (Ok (taken.Call c)) n (of_source new) turns refl in
+      let pend : IsPending levels m (of_source old) c n (of_source new) =
+      turn_falls levels m (of_source old) fit.sound (Ok (taken.Call c)) n (of_source new) turns refl in
       call_leads c n p step pend.free led follows
   follows_lead step n p (Err Continue) turns led follows = rw (follows.0, follows.1) (led.0, stands_for n new led.0 led.1, led.2)
   follows_lead step n p (Err Finished) turns led follows = rw (follows.0, follows.1) (led.0, led.1, stands_for n new led.0 led.2)
   follows_lead step n p (Err (Error fault)) turns led follows = rw follows.0 (led.0, led.1)
 
 -- One turn: a token, a fault or the end is the next item, and a pause keeps it.
-pub source_turn_leads : (levels : ℕ) (m n : Machine) (old new : Source) (step : Step Token) → IsFit m old → TurnsSource levels m old step n new → wants_memory step ≡ false → Leads (answers_at levels) m old step n new
+pub source_turn_leads : (levels : ℕ) (m n : Machine) (old new : Source) (step : Step Token) → IsFit m old → TurnsSource levels m old step n new
+    → wants_memory step ≡ false → Leads (answers_at levels) m old step n new
 source_turn_leads levels m n old new step fit h reported = record {
   from = λ e stands.
       follows_lead levels m old new fit e stands step h.between n h.taken h.turns
-      (source_leads (answers_at levels) m h.between (of_source old) (of_source new) h.taken e (stands_in m old e stands) h.turns (taken_reported levels m old new fit step h.between n h.taken h.follows reported))
+      (source_leads (answers_at levels) m h.between (of_source old) (of_source new) h.taken e (stands_in m old e stands) h.turns
+      (taken_reported levels m old new fit step h.between n h.taken h.follows reported))
       h.follows;
 }

@@ -34,7 +34,8 @@ module _ (i : Integer) (old digits : List ℕ) (u : IsUtf8 old) (fits : i.value 
 
   pub unsigned-pushed : (new : List ℕ) → IsUtf8 digits → i.signed ≡ false → new ≡ digits ++ (117 ∷ []) → chars new ≡ chars old ++ integer_literal i
   unfolding chars
-  unsigned-pushed new v e f = rw e (ap chars f ∙ chars-append digits (117 ∷ []) v ∙ ap (λ t. t ++ (117 ∷ [])) chars-digits ∙ append_assoc (chars old) (decimal i.value) (117 ∷ []))
+  unsigned-pushed new v e f = rw e (ap chars f ∙ chars-append digits (117 ∷ []) v ∙ ap (λ t. t ++ (117 ∷ [])) chars-digits
+      ∙ append_assoc (chars old) (decimal i.value) (117 ∷ []))
 
 -- a text put after another puts its characters after those of the other
 pub chars-pushed : {E : Type 0} (r : Result (Unit {0}) E) (new old more : List ℕ) → IsUtf8 old → new ≡ (if is_ok r then old ++ more else old)
@@ -62,7 +63,8 @@ pub spelled_first : (text start : List ℕ) (ts others : List Token) (t : Token)
 spelled_first text start ts others t e f g = rw (e, g, f, chars-nil) (sym (spelled_text-cons t.value (values_of others)))
 
 module _ (whole text : List ℕ) (others : List Token) (i : ℕ) (so_far : chars text ++ spaced_spellings (values_of (drop i others)) ≡ whole) where
-  pub spelled_more : (mid new : List ℕ) (t : Token) → IsUtf8 text → i < length others → t ≡ get_or others i t → mid ≡ text ++ (32 ∷ []) → chars new ≡ chars mid ++ spelling t.value
+  pub spelled_more : (mid new : List ℕ) (t : Token) → IsUtf8 text → i < length others → t ≡ get_or others i t → mid ≡ text ++ (32 ∷ [])
+      → chars new ≡ chars mid ++ spelling t.value
       → chars new ++ spaced_spellings (values_of (drop (i + 1) others)) ≡ whole
   unfolding chars
   spelled_more mid new t u low is e g =
@@ -73,10 +75,12 @@ module _ (whole text : List ℕ) (others : List Token) (i : ℕ) (so_far : chars
       rw (g, q) (simp append_assoc (ap (λ t. chars text ++ t) (sym p) ∙ so_far))
 
   pub spelled_all : length others ≤ i → chars text ≡ whole
-  spelled_all high = sym (append-nil (chars text)) ∙ ap (λ t. chars text ++ t) (sym (at_drop_all (λ ts. spaced_spellings (values_of ts)) others i high)) ∙ so_far
+  spelled_all high = sym (append-nil (chars text)) ∙ ap (λ t. chars text ++ t)
+      (sym (at_drop_all (λ ts. spaced_spellings (values_of ts)) others i high)) ∙ so_far
 
 -- what holds of each token holds of those after the first
-pub all_after_first : (P : Token → Type 0) (ts others : List Token) (t x : Token) (i : ℕ) → All P ts → ts ≡ t ∷ others → i < length others → x ≡ get_or others i x → P x
+pub all_after_first : (P : Token → Type 0) (ts others : List Token) (t x : Token) (i : ℕ) → All P ts → ts ≡ t ∷ others → i < length others
+    → x ≡ get_or others i x → P x
 all_after_first P ts others t x i all e low is =
     let n : length ts ≡ suc (length others) = ap length e in
     subst P (ap (λ l. get_or l (suc i) x) e ∙ sym is) (all (suc i) x (omega arith))

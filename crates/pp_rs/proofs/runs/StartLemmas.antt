@@ -11,7 +11,22 @@ use Rattle.pp_source.proofs.LinedLemmas.{items_lined}
 
 -- what it keeps
 abbrev pub start_of : List ℕ → Preprocessing
-start_of text = record { machine = record { held = None; frames = [] }; source = record { rest = items_of text; places = places_of (spots_of text); error_place = None; definitions = []; blocks = []; line_offset = pos 0; spent = false; has_text = false; has_directive = false }; spent = false; place = nowhere }
+start_of text = record {
+  machine = record { held = None; frames = [] };
+  source = record {
+    rest = items_of text;
+    places = places_of (spots_of text);
+    error_place = None;
+    definitions = [];
+    blocks = [];
+    line_offset = pos 0;
+    spent = false;
+    has_text = false;
+    has_directive = false;
+  };
+  spent = false;
+  place = nowhere;
+}
 
 -- it stands for the state in which a run of its items begins
 pub start_stands : (text : List ℕ) → Stands (start_of text) (start (items_of text))

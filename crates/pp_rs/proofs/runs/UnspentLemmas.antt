@@ -13,12 +13,14 @@ use Rattle.pp_expansion.specs.inner.SourceMoves.{Effect, gives, gives_item, fail
 use Rattle.pp_expansion.specs.declared.step.StepExit.TheVariants.{Finished}
 
 module _ (old new : Source) (step : Step Token) (unspent : old.spent ≡ false) where
-  defines_unspent : (named : Named) (before : Option Definition) (taken : ℕ) (note : Note) → DefinesOver named before taken note old step new → new.spent ≡ false
+  defines_unspent : (named : Named) (before : Option Definition) (taken : ℕ) (note : Note) → DefinesOver named before taken note old step new
+      → new.spent ≡ false
   defines_unspent named None taken note h = h.1.spent
   defines_unspent named (Some before) taken note (inl h) = h.2.spent
   defines_unspent named (Some before) taken note (inr h) = h.2.spent
 
-  decides_unspent : (word : Location) (tokens : List Token) (blocks : Bool → List OpenBlock) (taken : ℕ) (note : Note) → Decides word tokens blocks taken note old step new → new.spent ≡ false
+  decides_unspent : (word : Location) (tokens : List Token) (blocks : Bool → List OpenBlock) (taken : ℕ) (note : Note)
+      → Decides word tokens blocks taken note old step new → new.spent ≡ false
   decides_unspent word tokens blocks taken note (holds value condition h) = h.1.spent
   decides_unspent word tokens blocks taken note (faulty fault condition failed left) = left.spent
 
@@ -43,9 +45,11 @@ module _ (old new : Source) (step : Step Token) (unspent : old.spent ≡ false) 
   effect_unspent (unfinished word) taken note h = h.1.spent
   effect_unspent (renumbers word tokens) taken note h = renumbers_unspent word tokens taken note h
 
-  pub steps_unspent : (spent : Bool) → old.spent ≡ spent → wants_memory step ≡ false → MatchBool spent ((step ≡ Err Finished) × (new ≡ old)) (IsRefusedStep old step ⊎ Makes (move_of old.blocks old.rest) old step new) → new.spent ≡ false
+  pub steps_unspent : (spent : Bool) → old.spent ≡ spent → wants_memory step ≡ false
+      → MatchBool spent ((step ≡ Err Finished) × (new ≡ old)) (IsRefusedStep old step ⊎ Makes (move_of old.blocks old.rest) old step new) → new.spent ≡ false
   steps_unspent true e reported h = cc
   steps_unspent false e reported (inl h) =
       let bad : true ≡ false = rw h.fault at reported in
       cc
-  steps_unspent false e reported (inr h) = effect_unspent (move_of old.blocks old.rest).effect (move_of old.blocks old.rest).taken (move_of old.blocks old.rest).note h
+  steps_unspent false e reported (inr h) = effect_unspent (move_of old.blocks old.rest).effect (move_of old.blocks old.rest).taken
+      (move_of old.blocks old.rest).note h

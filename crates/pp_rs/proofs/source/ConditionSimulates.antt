@@ -32,7 +32,8 @@ use Rattle.pp_rs.proofs.source.StandsBlockLemmas.{opened_read, skipped_last, dec
 use Rattle.pp_rs.proofs.source.StandsLineLemmas.{line_stays}
 use Rattle.pp_rs.proofs.source.StepHereLemmas.{acts_on, act_here, whole_line, PausesAt, fails_here, skip_simulates, line_simulates}
 
-module _ {old : Source} {r : SourceReader} (s : StandsForReader old r) {live : Bool} (alive : is_live_in (last_block old.blocks) ≡ live) (move : Step Token) (new : Source)
+module _ {old : Source} {r : SourceReader} (s : StandsForReader old r) {live : Bool} (alive : is_live_in (last_block old.blocks) ≡ live)
+    (move : Step Token) (new : Source)
     {shown : Sight} (e : sight_of old.rest ≡ shown) (word : Location) (tokens : List Token) where
   -- a line whose condition holds or not, or is at fault
   condition_simulates : (blocks : Bool → List OpenBlock) → acts_on live shown r ≡ record { step = step.Condition word tokens; after = r }
@@ -43,7 +44,11 @@ module _ {old : Source} {r : SourceReader} (s : StandsForReader old r) {live : B
       let there = stands value pauses in
       let same : IsCondition (answers_at expansion_limit) word tokens r.definitions (Ok value) =
       subst (λ (m : Definitions). IsCondition (answers_at expansion_limit) word tokens m (Ok value)) (sym s.definitions) condition in
-      rw there.0 (record { after = decided r value; steps = decides word tokens value None r (decided r value) (ap (λ x. x.step) a) same refl refl; stands = there.1 })
+      rw there.0 (record {
+        after = decided r value;
+        steps = decides word tokens value None r (decided r value) (ap (λ x. x.step) a) same refl refl;
+        stands = there.1;
+      })
   condition_simulates blocks is stands (faulty fault condition failed left) =
       let a = act_here s alive e ∙ is in
       let same : IsCondition (answers_at expansion_limit) word tokens r.definitions (Err fault) =
@@ -51,8 +56,10 @@ module _ {old : Source} {r : SourceReader} (s : StandsForReader old r) {live : B
       rw failed (record { after = r; steps = undecided word tokens fault (Some (outcome.Fault fault)) r r (ap (λ x. x.step) a) same refl refl })
 
 -- an `#if` is the reader's step
-pub if_simulates : {old : Source} {r : SourceReader} (s : StandsForReader old r) (alive : is_live_in (last_block old.blocks) ≡ true) (move : Step Token) (new : Source)
-    {word : Location} → sight_of old.rest ≡ sight.Directive d.If word → Makes (moves.live_move_at (last_block old.blocks) (sight.Directive d.If word) old.rest) old move new → Simulates move r new
+pub if_simulates : {old : Source} {r : SourceReader} (s : StandsForReader old r) (alive : is_live_in (last_block old.blocks) ≡ true)
+    (move : Step Token) (new : Source)
+    {word : Location} → sight_of old.rest ≡ sight.Directive d.If word
+    → Makes (moves.live_move_at (last_block old.blocks) (sight.Directive d.If word) old.rest) old move new → Simulates move r new
 if_simulates {old} {r} s alive move new {word} e h =
     line_simulates s alive move new e line_tokens (λ tokens. record { step = step.Condition word tokens; after = r }) (moves.opens_if word) refl
     (λ tokens read is found. condition_simulates s alive move new e word tokens _ is (λ value. opened_read s e value alive refl) found) h
@@ -72,21 +79,25 @@ read_untaken true true e = cc
 read_untaken false true e = cc
 read_untaken around false e = refl
 
-module _ {old : Source} {r : SourceReader} (s : StandsForReader old r) {live : Bool} (alive : is_live_in (last_block old.blocks) ≡ live) (move : Step Token) (new : Source) {word : Location}
+module _ {old : Source} {r : SourceReader} (s : StandsForReader old r) {live : Bool} (alive : is_live_in (last_block old.blocks) ≡ live)
+    (move : Step Token) (new : Source) {word : Location}
     (e : sight_of old.rest ≡ sight.Directive d.Elif word) where
   elif_in_block : (kept : OpenBlock) (block : Block) (with_else skips : Bool) → last_block old.blocks ≡ Some kept → has_else block ≡ with_else
       → not (are_surroundings_live r.items r.truths block) || has_taken_branch r.truths block ≡ skips → skips_branches kept ≡ skips
       → acts_on live (sight.Directive d.Elif word) r ≡ elif_in (Some block) word r
-      → Makes (moves.taking_more 2 (if with_else then moves.failing (ElifAfterElse, word) else if skips then moves.skip_move (moves.parts (block_skipped kept)) (drop 2 old.rest)
+      → Makes (moves.taking_more 2 (if with_else then moves.failing (ElifAfterElse, word) else if skips then moves.skip_move
+      (moves.parts (block_skipped kept)) (drop 2 old.rest)
       else moves.line_move (line_tokens (drop 2 old.rest)) (moves.parts_if kept word) (line_length (drop 2 old.rest)))) old move new → Simulates move r new
   elif_in_block kept block true skips found other same skipped a h = fails_here s alive move new e (rw other at a) h.0
   elif_in_block kept block false true found other same skipped a h =
       skip_simulates s alive move new e (moves.parts (block_skipped kept)) (rw (other, same) at a)
       (skipped_last s e kept found refl (skipped_dead kept.live_around kept.taken skipped)) h
   elif_in_block kept block false false found other same skipped a h =
-      line_simulates s alive move new e line_tokens (λ tokens. record { step = step.Condition word tokens; after = r }) (moves.parts_if kept word) (rw (other, same) at a)
+      line_simulates s alive move new e line_tokens (λ tokens. record { step = step.Condition word tokens; after = r }) (moves.parts_if kept word)
+      (rw (other, same) at a)
       (λ tokens read is condition. condition_simulates s alive move new e word tokens _ is
-      (λ value. decided_last s e kept found refl (read_live kept.live_around kept.taken skipped) (read_untaken kept.live_around kept.taken skipped) value) condition) h
+      (λ value. decided_last s e kept found refl (read_live kept.live_around kept.taken skipped)
+      (read_untaken kept.live_around kept.taken skipped) value) condition) h
 
   elif_of : (last : Option OpenBlock) → last_block old.blocks ≡ last → acts_on live (sight.Directive d.Elif word) r ≡ elif_line word r
       → Makes (moves.taking_more 2 (moves.elif_move last word (drop 2 old.rest))) old move new → Simulates move r new
@@ -98,7 +109,8 @@ module _ {old : Source} {r : SourceReader} (s : StandsForReader old r) {live : B
       (a ∙ ap (λ block. elif_in block word r) (innermost_here old r s kept found)) h
 
   -- an `#elif` is the reader's step
-  pub elif_simulates : acts_on live (sight.Directive d.Elif word) r ≡ elif_line word r → Makes (moves.taking_more 2 (moves.elif_move (last_block old.blocks) word (drop 2 old.rest))) old move new
+  pub elif_simulates : acts_on live (sight.Directive d.Elif word) r ≡ elif_line word r
+      → Makes (moves.taking_more 2 (moves.elif_move (last_block old.blocks) word (drop 2 old.rest))) old move new
       → Simulates move r new
   elif_simulates is h = elif_of (last_block old.blocks) refl is h
 
@@ -122,7 +134,8 @@ renumbered_stands old r s word n = record {
   off_line = s.off_line;
 }
 
-module _ {old : Source} {r : SourceReader} (s : StandsForReader old r) (alive : is_live_in (last_block old.blocks) ≡ true) (move : Step Token) (new : Source) {word : Location}
+module _ {old : Source} {r : SourceReader} (s : StandsForReader old r) (alive : is_live_in (last_block old.blocks) ≡ true) (move : Step Token)
+    (new : Source) {word : Location}
     (e : sight_of old.rest ≡ sight.Directive d.Line word) where
   number_of_line : (tokens : List Token) → acts_on true (sight.Directive d.Line word) r ≡ record { step = step.LineNumber word tokens; after = r }
       → Renumbers word tokens (whole_line old.rest) moves.directive_line old move new → Simulates move r new

@@ -41,7 +41,8 @@ no_word_quiet position b lined later =
     ap (λ shown. cons_option (line_at position shown) (block_lines (position + 1) (b.name ∷ later))) (b.seen later)
     ∙ quiet_item (position + 1) b.name later (there.0 b.goes_on) ∙ ap (λ n. block_lines n later) (omega arith)
 
-module _ {old : Source} {r : SourceReader} (s : StandsForReader old r) (dead : is_live_in (last_block old.blocks) ≡ false) (move : Step Token) (new : Source) where
+module _ {old : Source} {r : SourceReader} (s : StandsForReader old r) (dead : is_live_in (last_block old.blocks) ≡ false) (move : Step Token)
+    (new : Source) where
   module _ {directive : Directive} {word : Location} (e : sight_of old.rest ≡ sight.Directive directive word)
       (is : dead_act (sight.Directive directive word) r ≡ skipped r) where
     -- a line that is skipped
@@ -49,16 +50,19 @@ module _ {old : Source} {r : SourceReader} (s : StandsForReader old r) (dead : i
     skipped_passes its h = skip_simulates s dead move new e moves.passes is (λ passing. (passing.0, line_stays s e its passing.1 passing.2)) h
 
     -- one that opens a block too
-    skipped_opens : part_of directive ≡ Some part.Opens → Makes (moves.taking_more 2 (moves.skip_move (moves.opens_unread word) (drop 2 old.rest))) old move new → Simulates move r new
+    skipped_opens : part_of directive ≡ Some part.Opens → Makes (moves.taking_more 2
+        (moves.skip_move (moves.opens_unread word) (drop 2 old.rest))) old move new → Simulates move r new
     skipped_opens its h = skip_simulates s dead move new e (moves.opens_unread word) is (opened_unread s e dead its) h
 
   -- an unknown word
-  unknown_passes : (word : Location) → sight_of old.rest ≡ sight.Directive d.Unknown word → Pauses 2 moves.directive_line old.blocks old move new → Simulates move r new
+  unknown_passes : (word : Location) → sight_of old.rest ≡ sight.Directive d.Unknown word → Pauses 2 moves.directive_line old.blocks old move new
+      → Simulates move r new
   unknown_passes word e h =
       let b = begins_directive old.rest d.Unknown word e in
       pauses_here s dead move new e refl (
         h.0,
-        stands_two s dead e b.hash b.name b.after refl refl (word_adds old.rest d.Unknown word e) b.front (λ later. quiet_word r.position old.rest later d.Unknown word b refl) h.1 h.2,
+        stands_two s dead e b.hash b.name b.after refl refl (word_adds old.rest d.Unknown word e) b.front
+            (λ later. quiet_word r.position old.rest later d.Unknown word b refl) h.1 h.2,
       )
 
   -- no word
@@ -67,7 +71,8 @@ module _ {old : Source} {r : SourceReader} (s : StandsForReader old r) (dead : i
       let b = begins_no_word old.rest fault e in
       pauses_here s dead move new e refl (
         h.0,
-        stands_two s dead e b.hash b.name b.after refl refl (no_word_adds old.rest fault e (lined_here old r s)) b.front (no_word_quiet r.position b (lined_here old r s)) h.1 h.2,
+        stands_two s dead e b.hash b.name b.after refl refl (no_word_adds old.rest fault e (lined_here old r s)) b.front
+            (no_word_quiet r.position b (lined_here old r s)) h.1 h.2,
       )
 
   dead_directive_simulates : (directive : Directive) (word : Location) → sight_of old.rest ≡ sight.Directive directive word
@@ -93,7 +98,8 @@ module _ {old : Source} {r : SourceReader} (s : StandsForReader old r) (dead : i
   one_passes e one is h = pauses_here s dead move new e is (h.0, stands_one s dead e one refl refl h.1 h.2)
 
   -- what stands in front in dead text is the reader's step
-  pub dead_simulates : (shown : Sight) → sight_of old.rest ≡ shown → Makes (moves.dead_move_at (last_block old.blocks) shown old.rest) old move new → Simulates move r new
+  pub dead_simulates : (shown : Sight) → sight_of old.rest ≡ shown → Makes (moves.dead_move_at (last_block old.blocks) shown old.rest) old move new
+      → Simulates move r new
   dead_simulates sight.End e h = end_simulates s dead move new e (last_block old.blocks) refl h
   dead_simulates sight.NewLine e h = one_passes e refl refl h
   dead_simulates (sight.Fault fault) e h = fails_here s dead move new e refl h.0

@@ -25,14 +25,17 @@ use Rattle.pp_rs.proofs.source.Simulates.{Simulates}
 use Rattle.pp_rs.proofs.source.StepHereLemmas.{whole_line, act_here, pauses_here, line_simulates}
 use Rattle.pp_rs.proofs.source.StandsLineLemmas.{stands_line, line_stays}
 
-defined_now : {old : Source} {r : SourceReader} (s : StandsForReader old r) (name : Name) {found : Option Definition} → meaning_of old.definitions name ≡ found → r.definitions name ≡ found
+defined_now : {old : Source} {r : SourceReader} (s : StandsForReader old r) (name : Name) {found : Option Definition}
+    → meaning_of old.definitions name ≡ found → r.definitions name ≡ found
 defined_now s name known = ap (λ (m : Definitions). m name) s.definitions ∙ known
 
-module _ {old : Source} {r : SourceReader} (s : StandsForReader old r) (alive : is_live_in (last_block old.blocks) ≡ true) (move : Step Token) (new : Source) {word : Location} where
+module _ {old : Source} {r : SourceReader} (s : StandsForReader old r) (alive : is_live_in (last_block old.blocks) ≡ true) (move : Step Token)
+    (new : Source) {word : Location} where
   module _ (e : sight_of old.rest ≡ sight.Directive d.Define word) (named : Named)
       (is : live_act (sight.Directive d.Define word) r ≡ record { step = step.Defines named; after = after_line r }) where
     -- the name stood for nothing, for the same or for something else
-    define_over : (before : Option Definition) → meaning_of old.definitions named.name ≡ before → DefinesOver named before (whole_line old.rest) moves.directive_line old move new
+    define_over : (before : Option Definition) → meaning_of old.definitions named.name ≡ before
+        → DefinesOver named before (whole_line old.rest) moves.directive_line old move new
         → Simulates move r new
     define_over None known h =
         let a = act_here s alive e ∙ is in
@@ -58,17 +61,20 @@ module _ {old : Source} {r : SourceReader} (s : StandsForReader old r) (alive : 
         })
 
   -- a `#define` is the reader's step
-  pub define_simulates : sight_of old.rest ≡ sight.Directive d.Define word → Makes (moves.live_move_at (last_block old.blocks) (sight.Directive d.Define word) old.rest) old move new
+  pub define_simulates : sight_of old.rest ≡ sight.Directive d.Define word
+      → Makes (moves.live_move_at (last_block old.blocks) (sight.Directive d.Define word) old.rest) old move new
       → Simulates move r new
   define_simulates e h =
       line_simulates s alive move new e (defined_on word) (λ named. record { step = step.Defines named; after = after_line r }) moves.defines refl
       (λ named read is. define_over e named is (meaning_of old.definitions named.name) refl) h
 
   -- an `#undef` is the reader's step
-  pub undef_simulates : sight_of old.rest ≡ sight.Directive d.Undef word → Makes (moves.live_move_at (last_block old.blocks) (sight.Directive d.Undef word) old.rest) old move new
+  pub undef_simulates : sight_of old.rest ≡ sight.Directive d.Undef word
+      → Makes (moves.live_move_at (last_block old.blocks) (sight.Directive d.Undef word) old.rest) old move new
       → Simulates move r new
   undef_simulates e h =
-      line_simulates s alive move new e (only_name word) (λ name. passed (record (after_line r) { definitions = changed r.definitions name None })) moves.undefines refl
+      line_simulates s alive move new e (only_name word)
+      (λ name. passed (record (after_line r) { definitions = changed r.definitions name None })) moves.undefines refl
       (λ name read is undefined. pauses_here s alive move new e is (
         undefined.0,
         stands_line s e (changed r.definitions name None) refl undefined.1

@@ -49,7 +49,8 @@ hash_by item rest true is e = refl
 hash_by item rest false is e = let bad : true ≡ false = sym e ∙ item_begins_none item rest is in cc
 
 -- what stands in front is a number sign then
-pub hash_in_front : (s : Seen) (rest : List Seen) (shown : Sight) → sight_of (s ∷ rest) ≡ shown → begins_with_hash shown ≡ true → is_directive_hash s.item ≡ true
+pub hash_in_front : (s : Seen) (rest : List Seen) (shown : Sight) → sight_of (s ∷ rest) ≡ shown → begins_with_hash shown ≡ true
+    → is_directive_hash s.item ≡ true
 hash_in_front s rest shown e begins = hash_by s.item rest (is_directive_hash s.item) refl (ap begins_with_hash e ∙ begins)
 
 begins_is_directive : (shown : Sight) → begins_with_hash shown ≡ false → is_directive shown ≡ false
@@ -73,7 +74,8 @@ AddsDirective count items found = (after : List Seen) → has_directive (take co
 abbrev pub IsApart : List Seen → ℕ → Type 0
 IsApart source position = (after : List Seen) → has_directive (take position source ++ after) ≡ (has_directive (take position source) || has_directive after)
 
-module _ (source : List Seen) (position count : ℕ) (found : Bool) (apart : IsApart source position) (adds : AddsDirective count (drop position source) found) where
+module _ (source : List Seen) (position count : ℕ) (found : Bool) (apart : IsApart source position)
+    (adds : AddsDirective count (drop position source) found) where
   pub directive_further : has_directive (take (position + count) source) ≡ (has_directive (take position source) || found)
   directive_further =
       ap has_directive (take-add position count source) ∙ apart (take count (drop position source))
@@ -99,4 +101,5 @@ pub no_word_adds : (rest : List Seen) (fault : Fault) → sight_of rest ≡ sigh
 no_word_adds rest fault e lined after =
     let b = begins_no_word rest fault e in
     let there : AreLined (b.hash ∷ b.name ∷ b.after) = subst AreLined b.front lined in
-    ap (λ items. has_directive (take 2 items ++ after)) b.front ∙ ap (λ shown. is_directive shown || has_directive (b.name ∷ after)) (b.seen after) ∙ item_adds_none b.name after (there.0 b.goes_on)
+    ap (λ items. has_directive (take 2 items ++ after)) b.front ∙ ap (λ shown. is_directive shown || has_directive (b.name ∷ after)) (b.seen after)
+    ∙ item_adds_none b.name after (there.0 b.goes_on)

@@ -42,11 +42,14 @@ module _ (source : List Seen) where
   pub on_line_after : (position : ℕ) (s : Seen) (rest : List Seen) → drop position source ≡ s ∷ rest
       → is_on_directive_line source (suc position) ≡ (is_directive_hash s.item || (not (ends_line s.item) && is_on_directive_line source position))
   on_line_after position s rest e =
-      ap (λ (found : Option Seen). is_directive_hash_at found || (not (ends_line_at found) && is_on_directive_line source position)) (item_here source position s rest e)
+      ap (λ (found : Option Seen). is_directive_hash_at found || (not (ends_line_at found) && is_on_directive_line source position))
+      (item_here source position s rest e)
 
   -- after the number sign of a directive it has begun
-  pub on_line_after_hash : (position : ℕ) (s : Seen) (rest : List Seen) → drop position source ≡ s ∷ rest → is_directive_hash s.item ≡ true → is_on_directive_line source (suc position) ≡ true
-  on_line_after_hash position s rest e hash = on_line_after position s rest e ∙ ap (λ b. b || (not (ends_line s.item) && is_on_directive_line source position)) hash
+  pub on_line_after_hash : (position : ℕ) (s : Seen) (rest : List Seen) → drop position source ≡ s ∷ rest → is_directive_hash s.item ≡ true
+      → is_on_directive_line source (suc position) ≡ true
+  on_line_after_hash position s rest e hash = on_line_after position s rest e
+      ∙ ap (λ b. b || (not (ends_line s.item) && is_on_directive_line source position)) hash
 
   goes_on : (hash : Bool) (last on : Bool) → last ≡ false → on ≡ true → (hash || (not last && on)) ≡ true
   goes_on true last on e f = refl
@@ -54,8 +57,10 @@ module _ (source : List Seen) where
   goes_on false false on e f = f
 
   -- and it goes on after an item that doesn't end it
-  pub on_line_further : (position : ℕ) (s : Seen) (rest : List Seen) → drop position source ≡ s ∷ rest → ends_line s.item ≡ false → is_on_directive_line source position ≡ true → is_on_directive_line source (suc position) ≡ true
-  on_line_further position s rest e within on = on_line_after position s rest e ∙ goes_on (is_directive_hash s.item) (ends_line s.item) (is_on_directive_line source position) within on
+  pub on_line_further : (position : ℕ) (s : Seen) (rest : List Seen) → drop position source ≡ s ∷ rest → ends_line s.item ≡ false
+      → is_on_directive_line source position ≡ true → is_on_directive_line source (suc position) ≡ true
+  on_line_further position s rest e within on = on_line_after position s rest e
+      ∙ goes_on (is_directive_hash s.item) (ends_line s.item) (is_on_directive_line source position) within on
 
   ended : (hash last on : Bool) → hash ≡ false → last ≡ true → (hash || (not last && on)) ≡ false
   ended true last on h e = cc
@@ -63,9 +68,11 @@ module _ (source : List Seen) where
   ended false false on h e = cc
 
   -- after the end of a line none goes on
-  off_line_after_end : (position : ℕ) (s : Seen) (rest : List Seen) → drop position source ≡ s ∷ rest → ends_line s.item ≡ true → is_on_directive_line source (suc position) ≡ false
+  off_line_after_end : (position : ℕ) (s : Seen) (rest : List Seen) → drop position source ≡ s ∷ rest → ends_line s.item ≡ true
+      → is_on_directive_line source (suc position) ≡ false
   off_line_after_end position s rest e last =
-      on_line_after position s rest e ∙ ended (is_directive_hash s.item) (ends_line s.item) (is_on_directive_line source position) (end_is_no_hash s.item last) last
+      on_line_after position s rest e ∙ ended (is_directive_hash s.item) (ends_line s.item) (is_on_directive_line source position)
+      (end_is_no_hash s.item last) last
 
   off : (hash last on : Bool) → hash ≡ false → on ≡ false → (hash || (not last && on)) ≡ false
   off true last on h e = cc
@@ -73,12 +80,15 @@ module _ (source : List Seen) where
   off false false on h e = e
 
   -- nor after an item of a line that has none
-  pub off_line_further : (position : ℕ) (s : Seen) (rest : List Seen) → drop position source ≡ s ∷ rest → is_directive_hash s.item ≡ false → is_on_directive_line source position ≡ false → is_on_directive_line source (suc position) ≡ false
-  off_line_further position s rest e quiet on = on_line_after position s rest e ∙ off (is_directive_hash s.item) (ends_line s.item) (is_on_directive_line source position) quiet on
+  pub off_line_further : (position : ℕ) (s : Seen) (rest : List Seen) → drop position source ≡ s ∷ rest → is_directive_hash s.item ≡ false
+      → is_on_directive_line source position ≡ false → is_on_directive_line source (suc position) ≡ false
+  off_line_further position s rest e quiet on = on_line_after position s rest e
+      ∙ off (is_directive_hash s.item) (ends_line s.item) (is_on_directive_line source position) quiet on
 
   off_by : (position : ℕ) (s : Seen) (rest : List Seen) (last : Bool) → drop position source ≡ s ∷ rest → ends_line s.item ≡ last
       → (drop (line_length rest) rest ≢ [] → is_on_directive_line source (suc position + line_length rest) ≡ false)
-      → drop (if last then 1 else 1 + line_length rest) (s ∷ rest) ≢ [] → is_on_directive_line source (position + (if last then 1 else 1 + line_length rest)) ≡ false
+      → drop (if last then 1 else 1 + line_length rest) (s ∷ rest) ≢ []
+      → is_on_directive_line source (position + (if last then 1 else 1 + line_length rest)) ≡ false
   off_by position s rest true e is later left =
       let next : position + 1 ≡ suc position = omega arith in
       ap (is_on_directive_line source) next ∙ off_line_after_end position s rest e is
@@ -88,7 +98,8 @@ module _ (source : List Seen) where
       ap (is_on_directive_line source) next ∙ later (λ none. left (ap (λ k. drop k (s ∷ rest)) more ∙ none))
 
   -- a line that is read to its end leaves no directive's line, where something is left after it
-  pub off_line_after : (rest : List Seen) (position : ℕ) → drop position source ≡ rest → drop (line_length rest) rest ≢ [] → is_on_directive_line source (position + line_length rest) ≡ false
+  pub off_line_after : (rest : List Seen) (position : ℕ) → drop position source ≡ rest → drop (line_length rest) rest ≢ []
+      → is_on_directive_line source (position + line_length rest) ≡ false
   off_line_after [] position e left = absurd (left refl)
   off_line_after (s ∷ rest) position e left =
       off_by position s rest (ends_line s.item) e refl (off_line_after rest (suc position) (one_after source position s rest e)) left

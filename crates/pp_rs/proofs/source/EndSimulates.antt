@@ -36,11 +36,15 @@ module _ {old : Source} {r : SourceReader} (s : StandsForReader old r) (e : sigh
   ended_here : (live : Bool) (block : Option Block) → innermost (blocks_at r.items r.position) ≡ block → acts_on live sight.End r ≡ ended_by block r
   ended_here live block found = ends_here live r ∙ ap (λ blocks. ended_by (innermost blocks) r) end_blocks ∙ ap (λ b. ended_by b r) found
 
-module _ {old : Source} {r : SourceReader} (s : StandsForReader old r) {live : Bool} (alive : is_live_in (last_block old.blocks) ≡ live) (move : Step Token) (new : Source)
+module _ {old : Source} {r : SourceReader} (s : StandsForReader old r) {live : Bool} (alive : is_live_in (last_block old.blocks) ≡ live)
+    (move : Step Token) (new : Source)
     (e : sight_of old.rest ≡ sight.End) where
   -- the end is the reader's step, or the fault of the innermost block that is still open
-  pub end_simulates : (last : Option OpenBlock) → last_block old.blocks ≡ last → HasEffect (moves.end_effect last) 0 moves.unnoted old move new → Simulates move r new
-  end_simulates None found h = rw h.0 (record { after = r; steps = gives_here s alive e (ended_here s e live None (ap innermost (none_here old r s found))); stands = rw h.1 s })
+  pub end_simulates : (last : Option OpenBlock) → last_block old.blocks ≡ last → HasEffect (moves.end_effect last) 0 moves.unnoted old move new
+      → Simulates move r new
+  end_simulates None found h =
+      rw h.0 (record { after = r; steps = gives_here s alive e (ended_here s e live None (ap innermost (none_here old r s found))); stands = rw h.1 s })
   end_simulates (Some kept) found h =
       let i = block_here old r s kept found in
-      fails_here s alive move new e (ended_here s e live (Some i.block) (innermost_here old r s kept found)) (h.0 ∙ ap (λ place. Err (Error (UnfinishedBlock, place))) (sym i.stands.word))
+      fails_here s alive move new e (ended_here s e live (Some i.block) (innermost_here old r s kept found))
+      (h.0 ∙ ap (λ place. Err (Error (UnfinishedBlock, place))) (sym i.stands.word))

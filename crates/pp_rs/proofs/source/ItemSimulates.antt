@@ -33,10 +33,13 @@ entries_move : (value : Result (List Token) Fault) (effect : List Entry → move
 entries_move (Ok tokens) effect taken = refl
 entries_move (Err fault) effect taken = refl
 
-module _ {old : Source} {r : SourceReader} (s : StandsForReader old r) (alive : is_live_in (last_block old.blocks) ≡ true) (move : Step Token) (new : Source) {word : Location} where
-  item_simulates : {directive : Directive} (e : sight_of old.rest ≡ sight.Directive directive word) (item : List Entry → DirectiveItem) (value : List Token → TokenValue) → part_of directive ≡ None
+module _ {old : Source} {r : SourceReader} (s : StandsForReader old r) (alive : is_live_in (last_block old.blocks) ≡ true) (move : Step Token)
+    (new : Source) {word : Location} where
+  item_simulates : {directive : Directive} (e : sight_of old.rest ≡ sight.Directive directive word)
+      (item : List Entry → DirectiveItem) (value : List Token → TokenValue) → part_of directive ≡ None
       → ((tokens : List Token) → value tokens ≡ value_of (item (preorder tokens)) old.has_text old.has_directive)
-      → live_act (sight.Directive directive word) r ≡ line_item value word r → Makes (moves.taking_more 2 (moves.item_move item word (drop 2 old.rest))) old move new → Simulates move r new
+      → live_act (sight.Directive directive word) r ≡ line_item value word r
+      → Makes (moves.taking_more 2 (moves.item_move item word (drop 2 old.rest))) old move new → Simulates move r new
   item_simulates e item value its same is h =
       line_simulates s alive move new e line_tokens (λ tokens. given (record { value = value tokens; location = word }) (after_line r))
       (λ tokens. moves.gives_item (item (preorder tokens)) word) is
@@ -46,7 +49,8 @@ module _ {old : Source} {r : SourceReader} (s : StandsForReader old r) (alive : 
       (entries_move (line_tokens (drop 2 old.rest)) (λ entries. moves.gives_item (item entries) word) (line_length (drop 2 old.rest))) h)
 
   -- a `#version` is the reader's step
-  pub version_simulates : sight_of old.rest ≡ sight.Directive d.Version word → Makes (moves.live_move_at (last_block old.blocks) (sight.Directive d.Version word) old.rest) old move new
+  pub version_simulates : sight_of old.rest ≡ sight.Directive d.Version word
+      → Makes (moves.live_move_at (last_block old.blocks) (sight.Directive d.Version word) old.rest) old move new
       → Simulates move r new
   version_simulates e h =
       item_simulates e (λ entries. version entries (comments_before_end (drop 2 old.rest))) (λ tokens. Version (record {
@@ -56,13 +60,16 @@ module _ {old : Source} {r : SourceReader} (s : StandsForReader old r) (alive : 
       })) refl (λ tokens. rw (s.remembers_text, s.remembers_directive, after_here old r s) refl) refl h
 
   -- an `#extension` is the reader's step
-  pub extension_simulates : sight_of old.rest ≡ sight.Directive d.Extension word → Makes (moves.live_move_at (last_block old.blocks) (sight.Directive d.Extension word) old.rest) old move new
+  pub extension_simulates : sight_of old.rest ≡ sight.Directive d.Extension word
+      → Makes (moves.live_move_at (last_block old.blocks) (sight.Directive d.Extension word) old.rest) old move new
       → Simulates move r new
   extension_simulates e h =
-      item_simulates e extension (λ tokens. Extension (record { tokens = preorder tokens; has_non_directive_before = has_live_text_before r.items r.truths r.position }))
+      item_simulates e extension
+      (λ tokens. Extension (record { tokens = preorder tokens; has_non_directive_before = has_live_text_before r.items r.truths r.position }))
       refl (λ tokens. rw s.remembers_text refl) refl h
 
   -- a `#pragma` is the reader's step
-  pub pragma_simulates : sight_of old.rest ≡ sight.Directive d.Pragma word → Makes (moves.live_move_at (last_block old.blocks) (sight.Directive d.Pragma word) old.rest) old move new
+  pub pragma_simulates : sight_of old.rest ≡ sight.Directive d.Pragma word
+      → Makes (moves.live_move_at (last_block old.blocks) (sight.Directive d.Pragma word) old.rest) old move new
       → Simulates move r new
   pragma_simulates e h = item_simulates e pragma (λ tokens. Pragma (record { tokens = preorder tokens })) refl (λ tokens. refl) refl h

@@ -23,7 +23,8 @@ use Rattle.pp_rs.proofs.source.ConditionSimulates.{if_simulates, elif_simulates,
 use Rattle.pp_rs.proofs.source.DefineSimulates.{define_simulates, undef_simulates}
 use Rattle.pp_rs.proofs.source.ItemSimulates.{version_simulates, extension_simulates, pragma_simulates}
 
-module _ {old : Source} {r : SourceReader} (s : StandsForReader old r) (alive : is_live_in (last_block old.blocks) ≡ true) (move : Step Token) (new : Source) where
+module _ {old : Source} {r : SourceReader} (s : StandsForReader old r) (alive : is_live_in (last_block old.blocks) ≡ true) (move : Step Token)
+    (new : Source) where
   live_directive_simulates : (directive : Directive) (word : Location) → sight_of old.rest ≡ sight.Directive directive word
       → Makes (moves.live_move_at (last_block old.blocks) (sight.Directive directive word) old.rest) old move new → Simulates move r new
   live_directive_simulates d.Define word e h = define_simulates s alive move new e h
@@ -42,11 +43,13 @@ module _ {old : Source} {r : SourceReader} (s : StandsForReader old r) (alive : 
   live_directive_simulates d.Unknown word e h = fails_here s alive move new e refl h.0
 
   -- what stands in front in live text is the reader's step
-  pub live_simulates : (shown : Sight) → sight_of old.rest ≡ shown → Makes (moves.live_move_at (last_block old.blocks) shown old.rest) old move new → Simulates move r new
+  pub live_simulates : (shown : Sight) → sight_of old.rest ≡ shown → Makes (moves.live_move_at (last_block old.blocks) shown old.rest) old move new
+      → Simulates move r new
   live_simulates sight.End e h = end_simulates s alive move new e (last_block old.blocks) refl h
   live_simulates sight.NewLine e h = pauses_here s alive move new e refl (h.0, stands_one s alive e refl refl refl h.1 h.2)
   live_simulates (sight.Fault fault) e h = fails_here s alive move new e refl h.0
-  live_simulates (sight.Token token) e h = rw h.0 (record { after = moved 1 r; steps = gives_here s alive e refl; stands = stands_one s alive e refl refl refl h.1 h.2 })
+  live_simulates (sight.Token token) e h =
+      rw h.0 (record { after = moved 1 r; steps = gives_here s alive e refl; stands = stands_one s alive e refl refl refl h.1 h.2 })
   live_simulates (sight.Hash location) e h = fails_here s alive move new e refl h.0
   live_simulates (sight.NoWord fault) e h = fails_here s alive move new e refl h.0
   live_simulates (sight.Directive directive word) e h = live_directive_simulates directive word e h

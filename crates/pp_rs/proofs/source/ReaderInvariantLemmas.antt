@@ -32,7 +32,8 @@ module _ (A : Answers) (P : SourceReader → Type 0) (kept : IsKept A P) where
   taking_keeps o e f (listed o1 token rest e1 f1 none b is p) h = subst P (sym (ap (λ g. g.reader) p)) h
   taking_keeps o e f (read x o1 reader e1 f1 none b r is p) h = subst P (sym (ap (λ g. g.reader) p)) (reading_keeps x e.reader reader r h)
 
-  gathering_keeps : (n : ℕ) (last : Location) (x : Result Gathered Fault) (e f : Expander SourceReader) → Gathers (source_reading A) n last e x f → P e.reader → P f.reader
+  gathering_keeps : (n : ℕ) (last : Location) (x : Result Gathered Fault) (e f : Expander SourceReader) → Gathers (source_reading A) n last e x f
+      → P e.reader → P f.reader
   gathering_keeps n last x e f (closed n1 l1 token e1 f1 x1 t is p) h = taking_keeps _ e f t h
   gathering_keeps n last x e f (inside n1 k l1 token e1 g f1 rest x1 t is u p) h = gathering_keeps k token.location rest g f u (taking_keeps _ e g t h)
   gathering_keeps n last x e f (overfull n1 l1 token e1 f1 x1 t is p) h = taking_keeps _ e f t h
@@ -47,9 +48,11 @@ module _ (A : Answers) (P : SourceReader → Type 0) (kept : IsKept A P) where
   item_keeps : (o : Outcome) (e f : Expander SourceReader) → Emits (source_reading A) A e o f → P e.reader → P f.reader
   item_keeps o e f (itself o1 e1 f1 t none) h = taking_keeps o e f t h
   item_keeps o e f (object x o1 m e1 g f1 t some k i) h = item_keeps o (opened m m.token.location.line [] g) f i (taking_keeps x e g t h)
-  item_keeps o e f (name_alone x y o1 m e1 g g1 f1 t some k c p q) h = subst P (sym (ap (λ z. z.reader) q)) (call_keeps m.definition _ g g1 c (taking_keeps x e g t h))
+  item_keeps o e f (name_alone x y o1 m e1 g g1 f1 t some k c p q) h =
+      subst P (sym (ap (λ z. z.reader) q)) (call_keeps m.definition _ g g1 c (taking_keeps x e g t h))
   item_keeps o e f (call_refused x o1 fault m e1 g f1 t some k c p) h = call_keeps m.definition _ g f c (taking_keeps x e g t h)
-  item_keeps o e f (call x o1 arguments line m e1 g g1 f1 t some k c i) h = item_keeps o (opened m line arguments g1) f i (call_keeps m.definition _ g g1 c (taking_keeps x e g t h))
+  item_keeps o e f (call x o1 arguments line m e1 g g1 f1 t some k c i) h =
+      item_keeps o (opened m line arguments g1) f i (call_keeps m.definition _ g g1 c (taking_keeps x e g t h))
 
   leading_keeps : (e f : Expander SourceReader) → LeadsTo A e f → P e.reader → P f.reader
   leading_keeps e f (nowhere e1 f1 p) h = subst P (sym (ap (λ g. g.reader) p)) h

@@ -32,4 +32,5 @@ Simulates (Err (Error fault)) r new = SimulatedFault fault r
 
 -- each step of a source, unless memory was refused
 abbrev pub SourceSimulates : Type 0
-SourceSimulates = (old new : Source) (r : SourceReader) (step : Step Token) → StandsForReader old r → StepsSource old step new → wants_memory step ≡ false → Simulates step r new
+SourceSimulates = (old new : Source) (r : SourceReader) (step : Step Token) → StandsForReader old r → StepsSource old step new
+    → wants_memory step ≡ false → Simulates step r new

@@ -33,9 +33,11 @@ pub quiet_skipped : (position : ℕ) (s : Seen) (rest after : List Seen) → end
 quiet_skipped position s rest after e lined = quiet_up_to_end position rest after (lined.0 e) lined.1
 
 -- nor do the items after a directive's word, up to the end of its line
-pub quiet_after_word : (position : ℕ) (rest after : List Seen) (directive : Directive) (word : Location) → sight_of rest ≡ sight.Directive directive word → AreLined rest
+pub quiet_after_word : (position : ℕ) (rest after : List Seen) (directive : Directive) (word : Location)
+    → sight_of rest ≡ sight.Directive directive word → AreLined rest
     → block_lines position (take (line_length (drop 2 rest)) (drop 2 rest) ++ after) ≡ block_lines (position + line_length (drop 2 rest)) after
 quiet_after_word position rest after directive word e lined =
     let b = begins_directive rest directive word e in
     let there : AreLined (b.hash ∷ b.name ∷ b.after) = subst AreLined b.front lined in
-    subst (λ items. IsQuietLine position items after (line_length items)) (sym (ap (λ items. drop 2 items) b.front)) (quiet_skipped position b.name b.after after b.goes_on there.1)
+    subst (λ items. IsQuietLine position items after (line_length items)) (sym (ap (λ items. drop 2 items) b.front))
+    (quiet_skipped position b.name b.after after b.goes_on there.1)

@@ -19,8 +19,10 @@ sight_simulates : (live : Bool) (old new : Source) (r : SourceReader) (move : St
 sight_simulates true old new r move s alive h = live_simulates s alive move new (sight_of old.rest) refl h
 sight_simulates false old new r move s dead h = dead_simulates s dead move new (sight_of old.rest) refl h
 
-step_simulates : (old new : Source) (r : SourceReader) (move : Step Token) (spent : Bool) → StandsForReader old r → old.spent ≡ spent → wants_memory move ≡ false
-    → MatchBool spent ((move ≡ Err Finished) × (new ≡ old)) (IsRefusedStep old move ⊎ Makes (moves.move_of old.blocks old.rest) old move new) → Simulates move r new
+step_simulates : (old new : Source) (r : SourceReader) (move : Step Token) (spent : Bool) → StandsForReader old r → old.spent ≡ spent
+    → wants_memory move ≡ false
+    → MatchBool spent ((move ≡ Err Finished) × (new ≡ old)) (IsRefusedStep old move ⊎ Makes (moves.move_of old.blocks old.rest) old move new)
+    → Simulates move r new
 step_simulates old new r move true s is reported h = let e = s.unspent in cc
 step_simulates old new r move false s is reported (inl h) =
     let bad : true ≡ false = rw h.fault at reported in

@@ -37,11 +37,13 @@ module _ (old : Source) (r : SourceReader) (s : StandsForReader old r) where
   stand_as kept e = subst (λ (bs : List OpenBlock). StandForBlocks r.items r.truths bs (blocks_at r.items r.position)) e s.blocks
 
   -- the outer blocks of the source and its last one stand for those of the reader
-  pub split_here : (kept : OpenBlock) → last_block old.blocks ≡ Some kept → StandForBlocks r.items r.truths (outer_blocks old.blocks ++ kept ∷ []) (blocks_at r.items r.position)
+  pub split_here : (kept : OpenBlock) → last_block old.blocks ≡ Some kept
+      → StandForBlocks r.items r.truths (outer_blocks old.blocks ++ kept ∷ []) (blocks_at r.items r.position)
   split_here kept e = stand_as (outer_blocks old.blocks ++ kept ∷ []) (last_split old.blocks kept e)
 
   -- the innermost block of the source, where one is kept
-  pub block_here : (kept : OpenBlock) → last_block old.blocks ≡ Some kept → Innermost r.items r.truths (outer_blocks old.blocks) kept (blocks_at r.items r.position)
+  pub block_here : (kept : OpenBlock) → last_block old.blocks ≡ Some kept
+      → Innermost r.items r.truths (outer_blocks old.blocks) kept (blocks_at r.items r.position)
   block_here kept e = stands_innermost r.items r.truths (outer_blocks old.blocks) kept (blocks_at r.items r.position) (split_here kept e)
 
   -- the innermost block of the reader is the one that it stands for
@@ -71,19 +73,24 @@ module _ (old : Source) (r : SourceReader) (s : StandsForReader old r) where
   remembered_here = record { text = s.remembers_text; directive = s.remembers_directive; apart = s.directives; off_line = s.off_line }
 
   -- some items further on
-  pub stands_further : (n : ℕ) (definitions : Definitions) (truths : Truths) (more : List BlockLine) (new : Source) → n ≤ length old.rest → new.rest ≡ drop n old.rest → new.spent ≡ false → new.line_offset ≡ old.line_offset
-      → definitions ≡ meaning_of new.definitions → AddsLines r.position n old.rest more → StandForBlocks r.items truths new.blocks (blocks_at r.items (r.position + n)) → AreBefore (r.position + n) truths
-      → IsRemembered new r.items truths (r.position + n) → StandsForReader new (record r { position = r.position + n; definitions = definitions; truths = truths })
+  pub stands_further : (n : ℕ) (definitions : Definitions) (truths : Truths) (more : List BlockLine) (new : Source) → n ≤ length old.rest
+      → new.rest ≡ drop n old.rest → new.spent ≡ false → new.line_offset ≡ old.line_offset
+      → definitions ≡ meaning_of new.definitions → AddsLines r.position n old.rest more
+      → StandForBlocks r.items truths new.blocks (blocks_at r.items (r.position + n)) → AreBefore (r.position + n) truths
+      → IsRemembered new r.items truths (r.position + n) → StandsForReader new (record r
+      { position = r.position + n; definitions = definitions; truths = truths })
   stands_further n definitions truths more new within after unspent offset means adds blocks before remembered =
       let further : AreLinesBefore r.items (r.position + n) (block_lines 0 (take r.position r.items) ++ more) =
-      lines_further r.items r.position n (block_lines 0 (take r.position r.items)) more s.lines (subst (λ (items : List Seen). AddsLines r.position n items more) s.rest adds) in
+      lines_further r.items r.position n (block_lines 0 (take r.position r.items)) more s.lines
+      (subst (λ (items : List Seen). AddsLines r.position n items more) s.rest adds) in
       record {
         rest = after ∙ ap (λ items. drop n items) s.rest ∙ drop-drop n r.position r.items;
         within = omega (arith, s.within, within, ap length s.rest, length-drop r.position r.items);
         definitions = means;
         line_offset = s.line_offset ∙ sym offset;
         lined = s.lined;
-        lines = subst (λ (lines : List BlockLine). AreLinesBefore r.items (r.position + n) lines) (sym (lines_here r.items (r.position + n) (block_lines 0 (take r.position r.items) ++ more) further)) further;
+        lines = subst (λ (lines : List BlockLine). AreLinesBefore r.items (r.position + n) lines)
+            (sym (lines_here r.items (r.position + n) (block_lines 0 (take r.position r.items) ++ more) further)) further;
         blocks = blocks;
         truths = before;
         unfinished = s.unfinished;
@@ -97,5 +104,7 @@ module _ (old : Source) (r : SourceReader) (s : StandsForReader old r) where
   -- where no line of a block is added, the same blocks are open
   pub blocks_stay : (n : ℕ) → AddsLines r.position n old.rest [] → blocks_at r.items (r.position + n) ≡ blocks_at r.items r.position
   blocks_stay n adds =
-      let further = lines_further r.items r.position n (block_lines 0 (take r.position r.items)) [] s.lines (subst (λ (items : List Seen). AddsLines r.position n items []) s.rest adds) in
-      ap open_blocks (lines_here r.items (r.position + n) (block_lines 0 (take r.position r.items) ++ []) further ∙ append-nil (block_lines 0 (take r.position r.items)))
+      let further = lines_further r.items r.position n (block_lines 0 (take r.position r.items)) [] s.lines
+      (subst (λ (items : List Seen). AddsLines r.position n items []) s.rest adds) in
+      ap open_blocks (lines_here r.items (r.position + n) (block_lines 0 (take r.position r.items) ++ []) further
+      ∙ append-nil (block_lines 0 (take r.position r.items)))

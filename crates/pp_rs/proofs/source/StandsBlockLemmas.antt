@@ -28,7 +28,8 @@ use Rattle.pp_rs.proofs.source.StandsLineLemmas.{block_line, line_adds, block_pa
 still_before : {old : Source} {r : SourceReader} (s : StandsForReader old r) → AreBefore (r.position + whole_line old.rest) r.truths
 still_before {old} {r} s = before_later r.position (r.position + whole_line old.rest) r.truths (omega arith) s.truths
 
-module _ {old : Source} {r : SourceReader} (s : StandsForReader old r) {directive : Directive} {word : Location} (e : sight_of old.rest ≡ sight.Directive directive word) where
+module _ {old : Source} {r : SourceReader} (s : StandsForReader old r)
+    {directive : Directive} {word : Location} (e : sight_of old.rest ≡ sight.Directive directive word) where
   adds_here : (p : Part) → part_of directive ≡ Some p → AddsLine r.items (block_line r word p) (r.position + whole_line old.rest)
   adds_here p is =
       adds_one r.items (block_line r word p) (whole_line old.rest) _ s.lines
@@ -47,7 +48,8 @@ module _ {old : Source} {r : SourceReader} (s : StandsForReader old r) {directiv
     pub opened_read : (holds : Bool) → is_live_in (last_block old.blocks) ≡ true → part_of directive ≡ Some part.Opens
         → Pauses (whole_line old.rest) moves.directive_line (old.blocks ++ block_opened word holds ∷ []) old move new → PausesAt move new (decided r holds)
     opened_read holds alive its h =
-        block_pauses s e (with_truth r.position holds r.truths) (old.blocks ++ block_opened word holds ∷ []) its (text_before_truth r.items r.position holds r.truths r.position (omega arith))
+        block_pauses s e (with_truth r.position holds r.truths) (old.blocks ++ block_opened word holds ∷ []) its
+        (text_before_truth r.items r.position holds r.truths r.position (omega arith))
         (opens_read r.items (block_line r word part.Opens) (r.position + whole_line old.rest) (adds_here part.Opens its) r.truths holds old.blocks refl
         (live_now old r s ∙ alive) s.blocks)
         (before_more r.position (r.position + whole_line old.rest) holds r.truths (omega arith) s.truths) h
@@ -57,7 +59,8 @@ module _ {old : Source} {r : SourceReader} (s : StandsForReader old r) {directiv
         → Pauses (whole_line old.rest) moves.directive_line (outer_blocks old.blocks) old move new → PausesAt move new (after_line r)
     closed_last kept found its h =
         block_pauses s e r.truths (outer_blocks old.blocks) its refl
-        (closes_last r.items (block_line r word part.Closes) (r.position + whole_line old.rest) (adds_here part.Closes its) r.truths (outer_blocks old.blocks) kept
+        (closes_last r.items (block_line r word part.Closes) (r.position + whole_line old.rest) (adds_here part.Closes its) r.truths
+        (outer_blocks old.blocks) kept
         (split_here old r s kept found) refl) (still_before s) h
 
     -- an `#else` of the innermost block
@@ -73,14 +76,18 @@ module _ {old : Source} {r : SourceReader} (s : StandsForReader old r) {directiv
         → Pauses (whole_line old.rest) moves.directive_line (outer_blocks old.blocks ++ block_skipped kept ∷ []) old move new → PausesAt move new (after_line r)
     skipped_last kept found its skips h =
         block_pauses s e r.truths (outer_blocks old.blocks ++ block_skipped kept ∷ []) its refl
-        (parts_skipped r.items (block_line r word part.Elif) (r.position + whole_line old.rest) (adds_here part.Elif its) r.truths (outer_blocks old.blocks) kept
+        (parts_skipped r.items (block_line r word part.Elif) (r.position + whole_line old.rest) (adds_here part.Elif its) r.truths
+        (outer_blocks old.blocks) kept
         (split_here old r s kept found) refl (before_unread r.position r.truths s.truths) skips) (still_before s) h
 
     -- an `#elif` of the innermost block whose condition is read
-    pub decided_last : (kept : OpenBlock) → last_block old.blocks ≡ Some kept → part_of directive ≡ Some part.Elif → kept.live_around ≡ true → kept.taken ≡ false → (holds : Bool)
-        → Pauses (whole_line old.rest) moves.directive_line (outer_blocks old.blocks ++ block_decided kept holds ∷ []) old move new → PausesAt move new (decided r holds)
+    pub decided_last : (kept : OpenBlock) → last_block old.blocks ≡ Some kept → part_of directive ≡ Some part.Elif → kept.live_around ≡ true
+        → kept.taken ≡ false → (holds : Bool)
+        → Pauses (whole_line old.rest) moves.directive_line (outer_blocks old.blocks ++ block_decided kept holds ∷ []) old move new
+        → PausesAt move new (decided r holds)
     decided_last kept found its around untaken holds h =
-        block_pauses s e (with_truth r.position holds r.truths) (outer_blocks old.blocks ++ block_decided kept holds ∷ []) its (text_before_truth r.items r.position holds r.truths r.position (omega arith))
+        block_pauses s e (with_truth r.position holds r.truths) (outer_blocks old.blocks ++ block_decided kept holds ∷ []) its
+        (text_before_truth r.items r.position holds r.truths r.position (omega arith))
         (parts_read r.items (block_line r word part.Elif) (r.position + whole_line old.rest) (adds_here part.Elif its) r.truths (outer_blocks old.blocks) kept
         (split_here old r s kept found) holds refl around untaken)
         (before_more r.position (r.position + whole_line old.rest) holds r.truths (omega arith) s.truths) h

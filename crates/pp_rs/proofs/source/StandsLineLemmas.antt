@@ -46,29 +46,36 @@ after_line_is : {old new : Source} {r : SourceReader} (s : StandsForReader old r
     → StandsForReader new (record r { position = r.position + whole_line old.rest; definitions = definitions; truths = truths })
     → StandsForReader new (record (after_line r) { definitions = definitions; truths = truths })
 after_line_is {old} {new} {r} s definitions truths =
-    subst (λ (items : List Seen). StandsForReader new (record r { position = r.position + (2 + line_length items); definitions = definitions; truths = truths })) (sym (after_here old r s))
+    subst (λ (items : List Seen). StandsForReader new (record r
+    { position = r.position + (2 + line_length items); definitions = definitions; truths = truths })) (sym (after_here old r s))
 
-module _ {old : Source} {r : SourceReader} (s : StandsForReader old r) {directive : Directive} {word : Location} (e : sight_of old.rest ≡ sight.Directive directive word) where
+module _ {old : Source} {r : SourceReader} (s : StandsForReader old r)
+    {directive : Directive} {word : Location} (e : sight_of old.rest ≡ sight.Directive directive word) where
   -- a directive's line adds the line of a block that its word says, if any
-  pub line_adds : (found : Option Part) → part_of directive ≡ found → AddsLines r.position (whole_line old.rest) old.rest (cons_option (line_with r.position word found) [])
+  pub line_adds : (found : Option Part) → part_of directive ≡ found
+      → AddsLines r.position (whole_line old.rest) old.rest (cons_option (line_with r.position word found) [])
   line_adds found is =
       subst (λ (part_found : Option Part). AddsLines r.position (whole_line old.rest) old.rest (cons_option (line_with r.position word part_found) [])) is
       (directive_adds r.position old.rest directive word e (λ position after. quiet_after_word position old.rest after directive word e (lined_here old r s)))
 
   module _ {new : Source} where
-    remembers_line : (truths : Truths) (blocks : List OpenBlock) → has_live_text_before r.items truths r.position ≡ has_live_text_before r.items r.truths r.position
+    remembers_line : (truths : Truths) (blocks : List OpenBlock)
+        → has_live_text_before r.items truths r.position ≡ has_live_text_before r.items r.truths r.position
         → IsAfter (whole_line old.rest) moves.directive_line blocks old new → IsRemembered new r.items truths (r.position + whole_line old.rest)
-    remembers_line truths blocks same b = line_remembered old new r.items r.truths r.position s.rest (remembered_here old r s) directive word e truths same blocks b
+    remembers_line truths blocks same b = line_remembered old new r.items r.truths r.position s.rest
+        (remembered_here old r s) directive word e truths same blocks b
 
     -- after a line that is none of a block
     pub stands_line : (definitions : Definitions) → part_of directive ≡ None → IsAfter (whole_line old.rest) moves.directive_line old.blocks old new
         → definitions ≡ meaning_of new.definitions → StandsForReader new (record (after_line r) { definitions = definitions })
     stands_line definitions its b means =
-        after_line_is s definitions r.truths (stands_quiet s (whole_line old.rest) definitions (line_there old.rest directive word e) b means (line_adds None its)
+        after_line_is s definitions r.truths (stands_quiet s (whole_line old.rest) definitions (line_there old.rest directive word e) b means
+        (line_adds None its)
         (remembers_line r.truths old.blocks refl b))
 
     -- the same where no definition changes
-    pub line_stays : part_of directive ≡ None → IsAfter (whole_line old.rest) moves.directive_line old.blocks old new → new.definitions ≡ old.definitions → StandsForReader new (after_line r)
+    pub line_stays : part_of directive ≡ None → IsAfter (whole_line old.rest) moves.directive_line old.blocks old new
+        → new.definitions ≡ old.definitions → StandsForReader new (after_line r)
     line_stays its b same = stands_line r.definitions its b (same_meaning s new same)
 
     -- a pause after a line of a block, where these conditions were read and these blocks are then open
@@ -80,6 +87,7 @@ module _ {old : Source} {r : SourceReader} (s : StandsForReader old r) {directiv
       h.0,
       after_line_is s r.definitions truths (stands_further old r s (whole_line old.rest) r.definitions truths (block_line r word p ∷ []) new
           (line_there old.rest directive word e) h.1.rest h.1.spent h.1.line_offset (same_meaning s new h.2) (line_adds (Some p) is)
-          (subst (λ (kept : List OpenBlock). StandForBlocks r.items truths kept (blocks_at r.items (r.position + whole_line old.rest))) (sym h.1.blocks) stand) before
+          (subst (λ (kept : List OpenBlock). StandForBlocks r.items truths kept (blocks_at r.items (r.position + whole_line old.rest)))
+          (sym h.1.blocks) stand) before
           (remembers_line truths blocks text h.1)),
     )

@@ -38,26 +38,32 @@ module _ {old : Source} {r : SourceReader} (s : StandsForReader old r) {new : So
       (before_later r.position (r.position + n) r.truths (omega arith) s.truths) remembered
 
   -- the same where no definition changes
-  stands_same : (n : ℕ) {note : moves.Note} → n ≤ length old.rest → IsAfter n note old.blocks old new → new.definitions ≡ old.definitions → AddsLines r.position n old.rest []
+  stands_same : (n : ℕ) {note : moves.Note} → n ≤ length old.rest → IsAfter n note old.blocks old new → new.definitions ≡ old.definitions
+      → AddsLines r.position n old.rest []
       → IsRemembered new r.items r.truths (r.position + n) → StandsForReader new (moved n r)
   stands_same n within b same adds remembered = stands_quiet n r.definitions within b (same_meaning s new same) adds remembered
 
   -- after one item, a newline, a token of the text or a number sign that begins no line
   pub stands_one : {live : Bool} (alive : is_live_in (last_block old.blocks) ≡ live) {shown : Sight} (e : sight_of old.rest ≡ shown) {note : moves.Note}
-      → is_one_item shown ≡ true → notes_text note ≡ (live && is_text shown) → notes_directive note ≡ false → IsAfter 1 note old.blocks old new → new.definitions ≡ old.definitions
+      → is_one_item shown ≡ true → notes_text note ≡ (live && is_text shown) → notes_directive note ≡ false → IsAfter 1 note old.blocks old new
+      → new.definitions ≡ old.definitions
       → StandsForReader new (moved 1 r)
   stands_one {live} alive e {note} one text none b same =
       let h : is_one_item (sight_of old.rest) ≡ true = ap is_one_item e ∙ one in
       let f = one_in_front old.rest h in
       let noted : notes_text note ≡ (live && is_text (sight_of old.rest)) = text ∙ ap (λ x. live && is_text x) (sym e) in
       stands_same 1 (one_there old.rest h) b same (λ after. quiet_one r.position old.rest after h)
-      (one_remembered old new r.items r.truths r.position s.rest (remembered_here old r s) live alive (live_now old r s ∙ alive) f.first f.later f.front f.quiet note noted none b)
+      (one_remembered old new r.items r.truths r.position s.rest (remembered_here old r s) live alive
+      (live_now old r s ∙ alive) f.first f.later f.front f.quiet note noted none b)
 
   -- after the number sign of a directive in dead text and what stands after it, where they add no line of a block
-  pub stands_two : (dead : is_live_in (last_block old.blocks) ≡ false) {shown : Sight} (e : sight_of old.rest ≡ shown) {note : moves.Note} (a b : Seen) (rest : List Seen)
+  pub stands_two : (dead : is_live_in (last_block old.blocks) ≡ false) {shown : Sight} (e : sight_of old.rest ≡ shown)
+      {note : moves.Note} (a b : Seen) (rest : List Seen)
       → begins_with_hash shown ≡ true → notes_text note ≡ false → AddsDirective 2 old.rest (notes_directive note) → old.rest ≡ a ∷ b ∷ rest
-      → ((later : List Seen) → block_lines r.position (a ∷ b ∷ later) ≡ block_lines (r.position + 2) later) → IsAfter 2 note old.blocks old new → new.definitions ≡ old.definitions
+      → ((later : List Seen) → block_lines r.position (a ∷ b ∷ later) ≡ block_lines (r.position + 2) later) → IsAfter 2 note old.blocks old new
+      → new.definitions ≡ old.definitions
       → StandsForReader new (moved 2 r)
   stands_two dead {shown} e {note} a b rest begins text adds front quiet after same =
       stands_same 2 (omega (arith, ap length front)) after same (λ later. ap (λ items. block_lines r.position (take 2 items ++ later)) front ∙ quiet later)
-      (two_remembered old new r.items r.truths r.position s.rest (remembered_here old r s) dead shown e begins a b rest front note text (notes_directive note) refl adds after)
+      (two_remembered old new r.items r.truths r.position s.rest (remembered_here old r s) dead shown e begins a b rest front note text
+      (notes_directive note) refl adds after)

@@ -49,15 +49,18 @@ module _ {old : Source} {r : SourceReader} (s : StandsForReader old r) {live : B
         ∙ ap (λ items. acts_on live (sight_of items) r) (sym s.rest) ∙ ap (λ x. acts_on live x r) e
 
     -- the reader's step gives what is given there
-    pub gives_here : {o : Outcome} {t : SourceReader} → acts_on live shown r ≡ record { step = step.Given o; after = t } → Steps (answers_at expansion_limit) r (Some o) t
+    pub gives_here : {o : Outcome} {t : SourceReader} → acts_on live shown r ≡ record { step = step.Given o; after = t }
+        → Steps (answers_at expansion_limit) r (Some o) t
     gives_here {o} {t} is =
         let a = act_here ∙ is in
         gives o (Some o) r t (ap (λ x. x.step) a) refl (sym (ap (λ x. x.after) a))
 
-module _ {old : Source} {r : SourceReader} (s : StandsForReader old r) {live : Bool} (alive : is_live_in (last_block old.blocks) ≡ live) (move : Step Token) (new : Source)
+module _ {old : Source} {r : SourceReader} (s : StandsForReader old r) {live : Bool} (alive : is_live_in (last_block old.blocks) ≡ live)
+    (move : Step Token) (new : Source)
     {shown : Sight} (e : sight_of old.rest ≡ shown) where
   -- where a fault is given, the step that gives it is the reader's
-  pub fails_here : {fault : Fault} {t : SourceReader} → acts_on live shown r ≡ record { step = step.Given (outcome.Fault fault); after = t } → move ≡ Err (Error fault) → Simulates move r new
+  pub fails_here : {fault : Fault} {t : SourceReader} → acts_on live shown r ≡ record { step = step.Given (outcome.Fault fault); after = t }
+      → move ≡ Err (Error fault) → Simulates move r new
   fails_here {fault} {t} is m = rw m (record { after = t; steps = gives_here s alive e is })
 
   -- where nothing is given, a pause is the reader's step
@@ -67,22 +70,26 @@ module _ {old : Source} {r : SourceReader} (s : StandsForReader old r) {live : B
       rw h.0 (record { after = t; steps = passes None r t (ap (λ x. x.step) a) refl (sym (ap (λ x. x.after) a)); stands = h.1 })
 
   -- a line whose value is read after its word
-  module _ {A : Type 0} (read : List Seen → Result A Fault) (next : A → Acted) (effect : A → moves.Effect) (is : acts_on live shown r ≡ acted (read (after_word r)) r next)
+  module _ {A : Type 0} (read : List Seen → Result A Fault)
+      (next : A → Acted) (effect : A → moves.Effect) (is : acts_on live shown r ≡ acted (read (after_word r)) r next)
       (goes_on : (value : A) → read (drop 2 old.rest) ≡ Ok value → acts_on live shown r ≡ next value
       → HasEffect (effect value) (whole_line old.rest) moves.directive_line old move new → Simulates move r new) where
-    line_found : (found : Result A Fault) → read (drop 2 old.rest) ≡ found → Makes (moves.taking_more 2 (moves.line_move found effect (line_length (drop 2 old.rest)))) old move new
+    line_found : (found : Result A Fault) → read (drop 2 old.rest) ≡ found
+        → Makes (moves.taking_more 2 (moves.line_move found effect (line_length (drop 2 old.rest)))) old move new
         → Simulates move r new
     line_found (Ok value) same h = goes_on value same (is ∙ ap (λ found. acted found r next) (ap read (after_here old r s) ∙ same)) h
     line_found (Err fault) same h = fails_here (is ∙ ap (λ found. acted found r next) (ap read (after_here old r s) ∙ same)) h.0
 
     -- the line is the reader's step, where it is with each value that it may have
-    pub line_simulates : Makes (moves.taking_more 2 (moves.line_move (read (drop 2 old.rest)) effect (line_length (drop 2 old.rest)))) old move new → Simulates move r new
+    pub line_simulates : Makes (moves.taking_more 2 (moves.line_move (read (drop 2 old.rest)) effect (line_length (drop 2 old.rest)))) old move new
+        → Simulates move r new
     line_simulates h = line_found (read (drop 2 old.rest)) refl h
 
   -- a line that is skipped
   module _ (effect : moves.Effect) (is : acts_on live shown r ≡ skipped r)
       (stands : HasEffect effect (whole_line old.rest) moves.directive_line old move new → PausesAt move new (after_line r)) where
-    skip_found : (found : Option Fault) → line_fault (drop 2 old.rest) ≡ found → Makes (moves.taking_more 2 (moves.skip_by found effect (line_length (drop 2 old.rest)))) old move new
+    skip_found : (found : Option Fault) → line_fault (drop 2 old.rest) ≡ found
+        → Makes (moves.taking_more 2 (moves.skip_by found effect (line_length (drop 2 old.rest)))) old move new
         → Simulates move r new
     skip_found (Some fault) same h = fails_here (is ∙ ap (λ found. skipped_by found r) (ap line_fault (after_here old r s) ∙ same)) h.0
     skip_found None same h = pauses_here (is ∙ ap (λ found. skipped_by found r) (ap line_fault (after_here old r s) ∙ same)) (stands h)

@@ -30,12 +30,14 @@ text_by false on false h = refl
 
 module _ (source : List Seen) (truths : Truths) where
   -- what one position more adds
-  before_more : (position : ℕ) (found : Bool) → is_live_text source truths position ≡ found → has_live_text_before source truths (position + 1) ≡ (found || has_live_text_before source truths position)
+  before_more : (position : ℕ) (found : Bool) → is_live_text source truths position ≡ found
+      → has_live_text_before source truths (position + 1) ≡ (found || has_live_text_before source truths position)
   before_more position found e =
       let next : position + 1 ≡ suc position = omega arith in
       ap (has_live_text_before source truths) next ∙ ap (λ b. b || has_live_text_before source truths position) e
 
-  none_more : (position : ℕ) → is_live_text source truths position ≡ false → has_live_text_before source truths (position + 1) ≡ has_live_text_before source truths position
+  none_more : (position : ℕ) → is_live_text source truths position ≡ false
+      → has_live_text_before source truths (position + 1) ≡ has_live_text_before source truths position
   none_more position e = before_more position false e
 
   -- an item that is read off all directives' lines
@@ -43,13 +45,16 @@ module _ (source : List Seen) (truths : Truths) where
       → has_live_text_before source truths (position + 1) ≡ ((live && is_text (sight_of (drop position source))) || has_live_text_before source truths position)
   text_one position live is off =
       before_more position (live && is_text (sight_of (drop position source)))
-      (text_by (is_text (sight_of (drop position source))) (is_on_directive_line source position) (is_live source truths position) (λ e. off (sym is ∙ e)) ∙ ap (λ b. b && is_text (sight_of (drop position source))) is)
+      (text_by (is_text (sight_of (drop position source))) (is_on_directive_line source position) (is_live source truths position)
+      (λ e. off (sym is ∙ e)) ∙ ap (λ b. b && is_text (sight_of (drop position source))) is)
 
   on_line_no_text : (position : ℕ) → is_on_directive_line source position ≡ true → is_live_text source truths position ≡ false
-  on_line_no_text position on = on_line_none (is_text (sight_of (drop position source))) (is_on_directive_line source position) (is_live source truths position) on
+  on_line_no_text position on = on_line_none (is_text (sight_of (drop position source))) (is_on_directive_line source position)
+      (is_live source truths position) on
 
   -- two items of which the first is the number sign of a directive
-  pub text_two : (position : ℕ) (a b : Seen) (rest : List Seen) → drop position source ≡ a ∷ b ∷ rest → is_directive_hash a.item ≡ true → is_text (sight_of (drop position source)) ≡ false
+  pub text_two : (position : ℕ) (a b : Seen) (rest : List Seen) → drop position source ≡ a ∷ b ∷ rest → is_directive_hash a.item ≡ true
+      → is_text (sight_of (drop position source)) ≡ false
       → has_live_text_before source truths (position + 2) ≡ has_live_text_before source truths position
   text_two position a b rest e hash quiet =
       let two : position + 2 ≡ suc position + 1 = omega arith in
@@ -69,13 +74,16 @@ module _ (source : List Seen) (truths : Truths) where
       ap (has_live_text_before source truths) next ∙ later refl ∙ ap (has_live_text_before source truths) one ∙ none_more position (on_line_no_text position on)
 
   -- the rest of a directive's line
-  text_rest : (rest : List Seen) (position : ℕ) → drop position source ≡ rest → is_on_directive_line source position ≡ true → has_live_text_before source truths (position + line_length rest) ≡ has_live_text_before source truths position
+  text_rest : (rest : List Seen) (position : ℕ) → drop position source ≡ rest → is_on_directive_line source position ≡ true
+      → has_live_text_before source truths (position + line_length rest) ≡ has_live_text_before source truths position
   text_rest [] position e on = ap (has_live_text_before source truths) (omega arith)
   text_rest (s ∷ rest) position e on =
-      line_by position s rest (ends_line s.item) on (λ within. text_rest rest (suc position) (one_after source position s rest e) (on_line_further source position s rest e within on))
+      line_by position s rest (ends_line s.item) on (λ within. text_rest rest (suc position) (one_after source position s rest e)
+      (on_line_further source position s rest e within on))
 
   -- a directive's line
-  pub text_line : (position : ℕ) (a b : Seen) (rest : List Seen) → drop position source ≡ a ∷ b ∷ rest → is_directive_hash a.item ≡ true → ends_line b.item ≡ false → is_text (sight_of (drop position source)) ≡ false
+  pub text_line : (position : ℕ) (a b : Seen) (rest : List Seen) → drop position source ≡ a ∷ b ∷ rest → is_directive_hash a.item ≡ true
+      → ends_line b.item ≡ false → is_text (sight_of (drop position source)) ≡ false
       → has_live_text_before source truths (position + (2 + line_length rest)) ≡ has_live_text_before source truths position
   text_line position a b rest e hash within quiet =
       let whole : position + (2 + line_length rest) ≡ suc (suc position) + line_length rest = omega arith in
@@ -91,6 +99,7 @@ pub text_before_truth : (source : List Seen) (place : ℕ) (holds : Bool) (truth
     → has_live_text_before source (with_truth place holds truths) position ≡ has_live_text_before source truths position
 text_before_truth source place holds truths zero h = refl
 text_before_truth source place holds truths (suc position) h =
-    ap (λ live. (is_text (sight_of (drop position source)) && not (is_on_directive_line source position) && live) || has_live_text_before source (with_truth place holds truths) position)
+    ap (λ live. (is_text (sight_of (drop position source)) && not (is_on_directive_line source position) && live) || has_live_text_before source
+    (with_truth place holds truths) position)
     (is_live_before place holds truths source position (omega (arith, h)))
     ∙ ap (λ before. is_live_text source truths position || before) (text_before_truth source place holds truths position (omega (arith, h)))

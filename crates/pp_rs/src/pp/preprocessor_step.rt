@@ -10,7 +10,8 @@ use pp_source::directives::DirectiveProcessor;
 
 /// One step of the expander, where the source stands after the frames.
 pub fn step_source(caller: &mut Caller, source: &mut DirectiveProcessor<'_>) -> Step<Taken>
-    ensures turns { TurnsOrRefuses caller.old (of_source source.old) result caller.new (of_source source.new) }
+    ensures turns { TurnsOrRefuses caller.old (of_source source.old) result caller.new
+        (of_source source.new) }
     ensures holds { IfOk result TakenHoldsOrdinary }
 {
     caller.step(source)

@@ -20,7 +20,8 @@ pub fn spell_tokens(
     tokens: &[Token],
 ) -> Result<String, (PreprocessorError, Location)>
     requires ordinary { All (λ t. IsTrue (is_ordinary t.value)) tokens.now }
-    ensures { MatchResult result (λ text. chars (string_bytes text) ≡ spelled_text (values_of tokens.now)) (λ e. e ≡ out_of_memory) }
+    ensures { MatchResult result (λ text. chars (string_bytes text)
+        ≡ spelled_text (values_of tokens.now)) (λ e. e ≡ out_of_memory) }
 {
     match join_spellings(alloc, tokens) {
         Ok(text) => Ok(text),
@@ -50,7 +51,8 @@ fn join_spellings(alloc: Global, tokens: &[Token]) -> Result<String, AllocError>
 /// Fails only where memory is refused, and a part of it may have been put there then.
 pub fn push_value(text: &mut String, value: &TokenValue) -> Result<(), AllocError>
     requires { IsTrue (is_ordinary value.now) }
-    ensures { OnOk result (chars (string_bytes text.new) ≡ chars (string_bytes text.old) ++ spelling value.now) }
+    ensures { OnOk result (chars (string_bytes text.new)
+        ≡ chars (string_bytes text.old) ++ spelling value.now) }
 {
     match value {
         TokenValue::Ident(name) => text.push_str(name.as_str()),
@@ -64,7 +66,8 @@ pub fn push_value(text: &mut String, value: &TokenValue) -> Result<(), AllocErro
 }
 
 fn push_integer(text: &mut String, integer: Integer) -> Result<(), AllocError>
-    ensures { OnOk result (chars (string_bytes text.new) ≡ chars (string_bytes text.old) ++ integer_literal integer) }
+    ensures { OnOk result (chars (string_bytes text.new)
+        ≡ chars (string_bytes text.old) ++ integer_literal integer) }
 {
     write!(text, "{}", integer.value)?;
     if !integer.signed {

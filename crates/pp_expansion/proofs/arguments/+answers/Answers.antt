@@ -22,51 +22,84 @@ use Rattle.pp_expansion.proofs.arguments.+answers.Goals as goal
 
 pub expand_argument-returns-then-are_plain : goal.expand_argument-returns-then-are_plain
 expand_argument-returns-then-are_plain t c = record {
-  alone = plain_alone c.args.levels c.args.definitions.now c.args.hidden.now c.args.tokens (rw c.as_slice.ensures.is at (sym c.are_plain.ensures ∙ c.if-are_plain.true));
+  alone = plain_alone c.args.levels c.args.definitions.now c.args.hidden.now c.args.tokens
+      (rw c.as_slice.ensures.is at (sym c.are_plain.ensures ∙ c.if-are_plain.true));
   least = plain_short c.args.levels c.args.definitions.now (length c.args.tokens);
 }
 
 pub expand_argument-items-init : goal.expand_argument-items-init
-expand_argument-items-init t c = record { reached = reached_start _ _ _ _ _ _ _ c.new-caller.ensures (rw c.into_tokens.ensures.is at c.argument-lexer.ensures) c.in_ok-items.ensures.items; holds = rw c.in_ok-items.ensures.items (All-nil (λ (t : Token). HoldsOrdinary t.value)) }
+expand_argument-items-init t c = record {
+  reached = reached_start _ _ _ _ _ _ _ c.new-caller.ensures
+      (rw c.into_tokens.ensures.is at c.argument-lexer.ensures) c.in_ok-items.ensures.items;
+  holds =
+      rw c.in_ok-items.ensures.items (All-nil (λ (t : Token). HoldsOrdinary t.value));
+}
 
 pub expand_argument-items-smaller-in-Continue-branch-2 : goal.expand_argument-items-smaller-in-Continue-branch-2
-expand_argument-items-smaller-in-Continue-branch-2 t c = token_less _ _ _ _ _ _ _ c.items.invariant.reached _ _ c.in-Ok-Token.token (turned _ _ _ _ _ (rw c.in-Ok-Token.field-0-is at c.in-Ok-Token.ensures.turns) refl)
+expand_argument-items-smaller-in-Continue-branch-2 t c = token_less _ _ _ _ _ _ _ c.items.invariant.reached _ _ c.in-Ok-Token.token (turned _ _ _ _ _
+    (rw c.in-Ok-Token.field-0-is at c.in-Ok-Token.ensures.turns) refl)
 
 pub expand_argument-items-preserved-in-Continue-branch-2 : goal.expand_argument-items-preserved-in-Continue-branch-2
-expand_argument-items-preserved-in-Continue-branch-2 t c = record { reached = reached_token _ _ _ _ _ _ _ c.items.invariant.reached _ _ c.in-Ok-Token.token _ (turned _ _ _ _ _ (rw c.in-Ok-Token.field-0-is at c.in-Ok-Token.ensures.turns) refl) c.in_ok-push-in-Ok-Token.ensures.items; holds = rw c.in_ok-push-in-Ok-Token.ensures.items (All-push (λ (t : Token). HoldsOrdinary t.value) _ _ c.items.invariant.holds (rw c.in-Ok-Token.field-0-is at c.in-Ok-Token.ensures.holds)) }
+expand_argument-items-preserved-in-Continue-branch-2 t c = record {
+  reached =
+      reached_token _ _ _ _ _ _ _ c.items.invariant.reached _ _ c.in-Ok-Token.token _
+      (turned _ _ _ _ _ (rw c.in-Ok-Token.field-0-is at c.in-Ok-Token.ensures.turns) refl) c.in_ok-push-in-Ok-Token.ensures.items;
+  holds =
+      rw c.in_ok-push-in-Ok-Token.ensures.items (All-push (λ (t : Token). HoldsOrdinary t.value) _ _ c.items.invariant.holds
+      (rw c.in-Ok-Token.field-0-is at c.in-Ok-Token.ensures.holds));
+}
 
 pub expand_argument-items-smaller-in-Continue-branch-3 : goal.expand_argument-items-smaller-in-Continue-branch-3
-expand_argument-items-smaller-in-Continue-branch-3 t c = call_less _ _ _ _ _ _ _ c.items.invariant.reached _ _ c.in-Ok-Call.call (turned _ _ _ _ _ (rw c.in-Ok-Call.field-0-is at c.in-Ok-Call.ensures.turns) refl) _ c.in_ok-finish_call-in-Ok-Call.ensures
+expand_argument-items-smaller-in-Continue-branch-3 t c = call_less _ _ _ _ _ _ _ c.items.invariant.reached _ _ c.in-Ok-Call.call (turned _ _ _ _ _
+    (rw c.in-Ok-Call.field-0-is at c.in-Ok-Call.ensures.turns) refl) _ c.in_ok-finish_call-in-Ok-Call.ensures
 
 pub expand_argument-items-preserved-in-Continue-branch-3 : goal.expand_argument-items-preserved-in-Continue-branch-3
-expand_argument-items-preserved-in-Continue-branch-3 t c = record { reached = reached_call _ _ _ _ _ _ _ c.items.invariant.reached _ _ c.in-Ok-Call.call (turned _ _ _ _ _ (rw c.in-Ok-Call.field-0-is at c.in-Ok-Call.ensures.turns) refl) _ c.in_ok-finish_call-in-Ok-Call.ensures; holds = c.items.invariant.holds }
+expand_argument-items-preserved-in-Continue-branch-3 t c = record {
+  reached =
+      reached_call _ _ _ _ _ _ _ c.items.invariant.reached _ _ c.in-Ok-Call.call
+      (turned _ _ _ _ _ (rw c.in-Ok-Call.field-0-is at c.in-Ok-Call.ensures.turns) refl) _ c.in_ok-finish_call-in-Ok-Call.ensures;
+  holds =
+      c.items.invariant.holds;
+}
 
 pub expand_argument-items-smaller : goal.expand_argument-items-smaller
-expand_argument-items-smaller t c = pause_less _ _ _ _ _ _ _ c.items.invariant.reached _ _ (turned _ _ _ _ _ (rw c.in-Err-Continue.field-0-is at c.in-Err-Continue.ensures.turns) refl)
+expand_argument-items-smaller t c = pause_less _ _ _ _ _ _ _ c.items.invariant.reached _ _ (turned _ _ _ _ _
+    (rw c.in-Err-Continue.field-0-is at c.in-Err-Continue.ensures.turns) refl)
 
 pub expand_argument-items-preserved : goal.expand_argument-items-preserved
-expand_argument-items-preserved t c = record { reached = reached_pause _ _ _ _ _ _ _ c.items.invariant.reached _ _ (turned _ _ _ _ _ (rw c.in-Err-Continue.field-0-is at c.in-Err-Continue.ensures.turns) refl); holds = c.items.invariant.holds }
+expand_argument-items-preserved t c = record {
+  reached = reached_pause _ _ _ _ _ _ _ c.items.invariant.reached _ _
+      (turned _ _ _ _ _ (rw c.in-Err-Continue.field-0-is at c.in-Err-Continue.ensures.turns) refl);
+  holds = c.items.invariant.holds;
+}
 
 pub expand_argument-returns-in-Err-Finished-clause-alone : goal.expand_argument-returns-in-Err-Finished-clause-alone
-expand_argument-returns-in-Err-Finished-clause-alone t c = rw c.new.ensures (reached_end _ _ _ _ _ _ _ c.items.invariant.reached _ _ (turned _ _ _ _ _ (rw c.in-Err-Finished.field-0-is at c.in-Err-Finished.ensures.turns) refl))
+expand_argument-returns-in-Err-Finished-clause-alone t c = rw c.new.ensures (reached_end _ _ _ _ _ _ _ c.items.invariant.reached _ _
+    (turned _ _ _ _ _ (rw c.in-Err-Finished.field-0-is at c.in-Err-Finished.ensures.turns) refl))
 
 pub expand_argument-returns-in-Err-Error-clause-alone : goal.expand_argument-returns-in-Err-Error-clause-alone
 expand_argument-returns-in-Err-Error-clause-alone t c =
     let heard = sym c.is_out_of_memory.ensures ∙ c.if-is_out_of_memory.false in
     let reported : is_out_of_memory c.in-Err-Error.fault.0 ≡ false = ap (λ f. is_out_of_memory f.0) (sym c.in-Err-Error.fault-is) ∙ heard in
-    subst (λ (f : Fault). Alone c.args.levels c.args.tokens (meaning_of c.args.definitions.now) c.args.hidden.now (Err f)) (sym c.in-Err-Error.fault-is) (reached_fault _ _ _ _ _ _ _ c.items.invariant.reached _ _ c.in-Err-Error.fault (turned _ _ _ _ (Err (Error c.in-Err-Error.fault)) (rw c.in-Err-Error.field-0-is at c.in-Err-Error.ensures.turns) reported) reported)
+    subst (λ (f : Fault). Alone c.args.levels c.args.tokens (meaning_of c.args.definitions.now) c.args.hidden.now (Err f))
+    (sym c.in-Err-Error.fault-is) (reached_fault _ _ _ _ _ _ _ c.items.invariant.reached _ _ c.in-Err-Error.fault
+    (turned _ _ _ _ (Err (Error c.in-Err-Error.fault)) (rw c.in-Err-Error.field-0-is at c.in-Err-Error.ensures.turns) reported) reported)
 
 pub expand_argument-returns-in_err-finish_call-in-Ok-Call-clause-alone : goal.expand_argument-returns-in_err-finish_call-in-Ok-Call-clause-alone
 expand_argument-returns-in_err-finish_call-in-Ok-Call-clause-alone t c =
     let e = err_from_is_err_and c.from_residual-in_err-finish_call-in-Ok-Call.result c.from_residual-in_err-finish_call-in-Ok-Call.ensures.1 in
     satisfies_exit _ c.in_err-finish_call-in-Ok-Call.field-0.0 _ (e.1 ∙ ap Err e.2)
-    (λ fault is. reached_call_fault _ _ _ _ _ _ _ c.items.invariant.reached _ _ c.in-Ok-Call.call fault (turned _ _ _ _ _ (rw c.in-Ok-Call.field-0-is at c.in-Ok-Call.ensures.turns) refl) (finish_fault c.args.levels c.args.definitions.now c.args.hidden.now c.in-Ok-Call.call c.step_list.new.caller c.finish_call.new.caller c.in_err-finish_call-in-Ok-Call.field-0.0 fault is c.in_err-finish_call-in-Ok-Call.ensures))
+    (λ fault is. reached_call_fault _ _ _ _ _ _ _ c.items.invariant.reached _ _ c.in-Ok-Call.call fault
+    (turned _ _ _ _ _ (rw c.in-Ok-Call.field-0-is at c.in-Ok-Call.ensures.turns) refl)
+    (finish_fault c.args.levels c.args.definitions.now c.args.hidden.now c.in-Ok-Call.call c.step_list.new.caller c.finish_call.new.caller c.in_err-finish_call-in-Ok-Call.field-0.0 fault is c.in_err-finish_call-in-Ok-Call.ensures))
 
 pub expand_arguments-returns-in_err-list-clause-each : goal.expand_arguments-returns-in_err-list-clause-each
 expand_arguments-returns-in_err-list-clause-each t c =
     let e = err_from_is_err_and c.from_residual.result c.from_residual.ensures.1 in
     satisfies_exit _ c.in_err-list.field-0.0 _ (e.1 ∙ ap Err e.2)
-    (λ fault is. c.loop-argument.invariant.goes_on (Err fault) (rw c.in-Some.ensures.steps.0 (first_failed c.in-Some.argument _ fault (Err fault) (fault_of c.in_err-list.field-0.0 fault _ is c.in_err-list.ensures.alone) refl)))
+    (λ fault is. c.loop-argument.invariant.goes_on (Err fault)
+    (rw c.in-Some.ensures.steps.0 (first_failed c.in-Some.argument _ fault (Err fault)
+    (fault_of c.in_err-list.field-0.0 fault _ is c.in_err-list.ensures.alone) refl)))
 
 pub expand_arguments-loop-argument-preserved : goal.expand_arguments-loop-argument-preserved
 expand_arguments-loop-argument-preserved t c =
@@ -74,14 +107,19 @@ expand_arguments-loop-argument-preserved t c =
     record {
       goes_on = λ out h.
           rw (c.in_ok-push.ensures.items, ← after_lists-before c.loop-argument.expanded.items c.in_ok-list.list out)
-          (c.loop-argument.invariant.goes_on (list_before c.in_ok-list.list out) (rw is (more c.in-Some.argument c.in_ok-list.list _ out (list_before c.in_ok-list.list out) c.in_ok-list.ensures.alone h refl)));
+          (c.loop-argument.invariant.goes_on (list_before c.in_ok-list.list out)
+          (rw is (more c.in-Some.argument c.in_ok-list.list _ out (list_before c.in_ok-list.list out) c.in_ok-list.ensures.alone h refl)));
       left = λ n all. All-tail (λ (a : List Token). length a ≤ n) c.in-Some.argument _ (rw is at c.loop-argument.invariant.left n all);
-      short = λ n all. short_more _ c.loop-argument.expanded.items _ c.in_ok-list.list (c.loop-argument.invariant.short n all) (short_list c.args.levels c.args.definitions.now n c.in-Some.argument c.in_ok-list.list (All-head (λ (a : List Token). length a ≤ n) c.in-Some.argument _ (rw is at c.loop-argument.invariant.left n all)) c.in_ok-list.ensures.least) c.in_ok-push.ensures.items;
+      short = λ n all. short_more _ c.loop-argument.expanded.items _ c.in_ok-list.list (c.loop-argument.invariant.short n all)
+          (short_list c.args.levels c.args.definitions.now n c.in-Some.argument c.in_ok-list.list
+          (All-head (λ (a : List Token). length a ≤ n) c.in-Some.argument _
+          (rw is at c.loop-argument.invariant.left n all)) c.in_ok-list.ensures.least) c.in_ok-push.ensures.items;
     }
 
 pub expand_arguments-returns-clause-each : goal.expand_arguments-returns-clause-each
 expand_arguments-returns-clause-each t c = rw (c.new.ensures, ← after_items-end c.loop-argument.expanded.items)
-    (c.loop-argument.invariant.goes_on (Ok []) (rw (nil_from_length (into_iter_items c.loop-argument.argument-iterator) (sym c.loop-argument.argument-iterator.rest.ok.0 ∙ c.in-None.ensures.steps.0)) (none (Ok []) refl)))
+    (c.loop-argument.invariant.goes_on (Ok []) (rw (nil_from_length (into_iter_items c.loop-argument.argument-iterator)
+    (sym c.loop-argument.argument-iterator.rest.ok.0 ∙ c.in-None.ensures.steps.0)) (none (Ok []) refl)))
 
 pub expand_arguments-returns-clause-least : goal.expand_arguments-returns-clause-least
 expand_arguments-returns-clause-least t c = λ n all. rw c.new.ensures (c.loop-argument.invariant.short n all)
@@ -93,5 +131,7 @@ finish_call-returns t c =
     let fits : misfit c.args.call.definition.parameters (arguments_of c.args.call.tokens) ≡ None =
     let known : misfit c.define.result.now.parameters c.in_ok-arguments.arguments ≡ None = sym c.misfit.ensures ∙ c.in-None.is in
     rw (c.define.ensures, left, cut) at known in
-    opens_frame c.args.levels c.args.definitions.now (names_of c.args.caller.now.frames ++ c.args.hidden.now) c.args.call c.args.caller.now c.open_call.new.self c.in_ok-expanded.expanded
-    (λ e. omega (arith, e, c.if-levels-eq0.false)) fits (rw cut at c.in_ok-expanded.ensures.each) (rw cut at c.in_ok-expanded.ensures.least) (rw left at c.in_ok-open_call.ensures)
+    opens_frame c.args.levels c.args.definitions.now
+    (names_of c.args.caller.now.frames ++ c.args.hidden.now) c.args.call c.args.caller.now c.open_call.new.self c.in_ok-expanded.expanded
+    (λ e. omega (arith, e, c.if-levels-eq0.false)) fits (rw cut at c.in_ok-expanded.ensures.each) (rw cut at c.in_ok-expanded.ensures.least)
+    (rw left at c.in_ok-open_call.ensures)

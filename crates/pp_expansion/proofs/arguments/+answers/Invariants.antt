@@ -35,7 +35,9 @@ decreases-expand_argument-items l = work_of l.levels l.caller (of_list l.lexer)
 
 abbrev pub invariant-expand_arguments-loop-argument : goal.invariant-expand_arguments-loop-argument
 invariant-expand_arguments-loop-argument l = record {
-  goes_on : (out : Result (List (List Token)) Fault) → Each (Alone l.levels) (meaning_of l.definitions) l.hidden (into_iter_items l.argument-iterator) out → Each (Alone l.levels) (meaning_of l.definitions) l.hidden l.fn.arguments (after_items l.expanded.items out);
+  goes_on : (out : Result (List (List Token)) Fault) → Each (Alone l.levels) (meaning_of l.definitions) l.hidden
+      (into_iter_items l.argument-iterator) out → Each (Alone l.levels) (meaning_of l.definitions) l.hidden l.fn.arguments (after_items l.expanded.items out);
   left : (n : ℕ) → All (λ (a : List Token). length a ≤ n) l.fn.arguments → All (λ (a : List Token). length a ≤ n) (into_iter_items l.argument-iterator);
-  short : (n : ℕ) → All (λ (a : List Token). length a ≤ n) l.fn.arguments → All (λ (a : List Token). length a ≤ most_alone l.levels l.definitions n) l.expanded.items;
+  short : (n : ℕ) → All (λ (a : List Token). length a ≤ n) l.fn.arguments
+      → All (λ (a : List Token). length a ≤ most_alone l.levels l.definitions n) l.expanded.items;
 }

@@ -10,7 +10,9 @@ pub loop-token-preserved-then-ends_argument : goal.loop-token-preserved-then-end
 loop-token-preserved-then-ends_argument c =
     let is : into_iter_items c.loop-token.token-iterator ≡ c.in-Some.token ∷ into_iter_items c.next.new.self = c.in-Some.ensures.steps.0 in
     record {
-      cut = ends_piece _ _ _ c.in-Some.token c.loop-token.depth _ _ _ _ c.loop-token.invariant.cut is (sym c.ends_argument.ensures ∙ c.if-ends_argument.true) (c.in_ok-push.ensures.items ∙ ap (λ (piece : List Token). c.loop-token.pieces.items ++ piece ∷ []) c.new.ensures) c.new-piece-then-ends_argument.ensures.items;
+      cut = ends_piece _ _ _ c.in-Some.token c.loop-token.depth _ _ _ _ c.loop-token.invariant.cut is
+          (sym c.ends_argument.ensures ∙ c.if-ends_argument.true) (c.in_ok-push.ensures.items
+          ∙ ap (λ (piece : List Token). c.loop-token.pieces.items ++ piece ∷ []) c.new.ensures) c.new-piece-then-ends_argument.ensures.items;
       few = piece_ended _ _ c.in-Some.token c.loop-token.depth _ c.loop-token.invariant.few is;
       holds = rw c.new-piece-then-ends_argument.ensures.items (All-nil (λ (t : Token). HoldsOrdinary t.value));
       left = All-tail (λ (t : Token). HoldsOrdinary t.value) c.in-Some.token _ (rw is at c.loop-token.invariant.left);
@@ -21,8 +23,10 @@ loop-token-preserved c =
     let is : into_iter_items c.loop-token.token-iterator ≡ c.in-Some.token ∷ into_iter_items c.next.new.self = c.in-Some.ensures.steps.0 in
     let all : AllHoldOrdinary (c.in-Some.token ∷ into_iter_items c.next.new.self) = rw is at c.loop-token.invariant.left in
     record {
-      cut = grows_piece _ _ _ c.in-Some.token c.loop-token.depth c.nesting_after-depth.result _ _ _ c.loop-token.invariant.cut is (sym c.ends_argument.ensures ∙ c.if-ends_argument.false) c.nesting_after-depth.ensures c.in_ok-push-2.ensures.items;
+      cut = grows_piece _ _ _ c.in-Some.token c.loop-token.depth c.nesting_after-depth.result _ _ _ c.loop-token.invariant.cut is
+          (sym c.ends_argument.ensures ∙ c.if-ends_argument.false) c.nesting_after-depth.ensures c.in_ok-push-2.ensures.items;
       few = piece_within _ _ c.in-Some.token c.loop-token.depth c.nesting_after-depth.result _ c.loop-token.invariant.few is c.nesting_after-depth.ensures;
-      holds = rw c.in_ok-push-2.ensures.items (All-push (λ (t : Token). HoldsOrdinary t.value) _ _ c.loop-token.invariant.holds (All-head (λ (t : Token). HoldsOrdinary t.value) c.in-Some.token _ all));
+      holds = rw c.in_ok-push-2.ensures.items (All-push (λ (t : Token). HoldsOrdinary t.value) _ _ c.loop-token.invariant.holds
+          (All-head (λ (t : Token). HoldsOrdinary t.value) c.in-Some.token _ all));
       left = All-tail (λ (t : Token). HoldsOrdinary t.value) c.in-Some.token _ all;
     }

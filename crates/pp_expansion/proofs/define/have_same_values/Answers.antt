@@ -7,4 +7,5 @@ use Rattle.pp_expansion.proofs.define.have_same_values.Goals as goal
 pub returns-then-old-new : goal.returns-then-old-new
 returns-then-old-new c =
     values_tested c.all.result c.args.old.now c.args.new.now (search rules)
-    (all_from_yields_List _ c.all.new.self _ _ c.all.ensures.ran (YieldsList-from_zip (YieldsList-from_slice c.args.old.now cc) (YieldsList-from_slice c.args.new.now cc)) (λ x b q k. search (rules, tests)))
+    (all_from_yields_List _ c.all.new.self _ _ c.all.ensures.ran
+    (YieldsList-from_zip (YieldsList-from_slice c.args.old.now cc) (YieldsList-from_slice c.args.new.now cc)) (λ x b q k. search (rules, tests)))

@@ -29,7 +29,10 @@ take_list_spec 𝓤 𝓛 𝓜 𝓡 wired =
     let c = f.clauses 𝓛 𝓜.mem 𝓡.returns in
     proved 𝓛 f.ended row c 𝓜 𝓡 (Goes-ref 𝓛 3 0 tt (plain (λ _. P)), (Goes-ref 𝓛 3 1 tt (plain (λ κs. source_row (named_lft 3 2 tt κs))), tt))
     f.Key.name code.function (code.unfolded 𝓤 𝓛.H 𝓜 𝓡 wired)
-    (λ κs. (mut_vals, (mut_vals, tt))) (λ κs. (mut_Tells (named 0) κs.0 P, (mut_Tells (named 1) κs.1.0 (source_row (named_lft 3 2 tt κs)), tt))) (λ κs qs bounds a _ are.
+    (λ κs. (mut_vals, (mut_vals, tt))) (λ κs. (
+      mut_Tells (named 0) κs.0 P,
+      (mut_Tells (named 1) κs.1.0 (source_row (named_lft 3 2 tt κs)), tt),
+    )) (λ κs qs bounds a _ are.
     let κp = κs.0 in let κ = κs.1.0 in let κ₁ = κs.1.1.0 in let qp = qs.0 in let q = qs.1.0 in let q₁ = qs.1.1.0 in
     let p = a.0 in let r = a.1.0 in let b = r.ref_ptr.0 in let o = r.ref_ptr.1 in
     let R = source_row (named_lft 3 2 tt κs) in let O = result_row token_row exit_row in
@@ -38,14 +41,16 @@ take_list_spec 𝓤 𝓛 𝓜 𝓡 wired =
     let Ref = λ (κ' : Lft) (x : MutBor R.Denot). (MutRef (named 0) κ' R).own_val x (mut_vals r) in
     let Obj = λ (κ' : Lft). MutAny object.name (ty_ref (named 1) mut ty_unit) object.slots lists.own-1 (named 1) κ' in
     qed 𝓛 (((‵ (flft κp qp) ⊛ ‵ (flft κ q) ⊛ ‵ (flft κ₁ q₁) ⊛ ‵ ftrue) ⊛ ‵ (RefP κp p) ⊛ ‵ (Ref κ r) ⊛ ‵ ftrue) ∷ ‵ ftrue ∷ []) ∵
-    split ! $ split ! $ move ! (1 ∷ []) $ split ! $ move ! (1 ∷ []) $ split ! $ move ! (4 ∷ []) $ split ! $ move ! (1 ∷ []) $ split ! $ keep ! (0 ∷ 2 ∷ 3 ∷ 5 ∷ 6 ∷ []) $
+    split ! $ split ! $ move ! (1 ∷ []) $ split ! $ move ! (1 ∷ []) $ split ! $ move ! (4 ∷ []) $ split ! $ move ! (1 ∷ []) $ split ! $ keep !
+    (0 ∷ 2 ∷ 3 ∷ 5 ∷ 6 ∷ []) $
     enter ! _ _ _ _ _ $ alloc_all ! (λ l. pass_all ! refl ((tt, tt), ((tt, tt), tt)) $
     -- [source; processor; the tokens of the source's borrow, of the source, of the processor]
     sets ! (addr ! (through ! refl (stop !))) refl (tt, tt) $
     sets ! (addr ! (through ! refl (stop !))) refl (tt, tt) $
     sets ! (agg ! (and_then ! (get ! refl) (and_then ! (vt_lit !) (no_more !)))) refl (tt, (tt, (tt, tt))) $
     lft_new ! tt (λ β. move ! (2 ∷ 5 ∷ []) $
-    use2 𝓛 (later (some (λ (δ : ℕ). ‵ (RefP (β ∷ []) (record p { ghost_name = δ })) ⊛ ‵ (LentAgain P κp (β ∷ []) qp p.ghost_name p.ref_ptr.0 p.ref_ptr.1 δ p.now))))
+    use2 𝓛 (later (some (λ (δ : ℕ). ‵ (RefP (β ∷ []) (record p { ghost_name = δ })) ⊛ ‵
+    (LentAgain P κp (β ∷ []) qp p.ghost_name p.ref_ptr.0 p.ref_ptr.1 δ p.now))))
     (lends_again 𝓛 P (named 0) κp (β ∷ []) qp p.ghost_name p.ref_ptr.0 p.ref_ptr.1 (named 0) p.now) $ await ! tt $ pick ! (λ δp. split ! $
     -- [the processor's loan; what its lender keeps; the token of β; source; the tokens of the source's borrow, of the source]
     lft_new ! tt (λ α. move ! (4 ∷ 6 ∷ []) $
@@ -54,13 +59,23 @@ take_list_spec 𝓤 𝓛 𝓜 𝓡 wired =
     (lends_again 𝓛 R (named 1) κ κ' q r.ghost_name b o (named 1) r.now) $ await ! tt $ pick ! (λ δ. split ! $
     let x : MutBor R.Denot = record r { ghost_name = δ } in let w = wide_val r.ref_ptr (table_at R (object.slots (lists.entry-1-1 (κ₁, tt)).2)) in
     let long : Incl κ' (κ' ++ R.lives) = ⊑_meet κ' κ' R.lives (⊑_refl κ') (lists.lasts-1-1 (κ₁, tt) κ' (meet_⊑_left κ₁ (α ∷ []))) in
-    use1 𝓛 (‵ ((Obj κ').own_val (mut_hides i x) (w ∷ []))) (hide_mut 𝓛 object.name (ty_ref (named 1) mut ty_unit) object.slots lists.own-1 (named 1) κ' i long x (vptr b o)) $
+    use1 𝓛 (‵ ((Obj κ').own_val (mut_hides i x) (w ∷ []))) (hide_mut 𝓛 object.name (ty_ref (named 1) mut ty_unit) object.slots lists.own-1
+    (named 1) κ' i long x (vptr b o)) $
     -- [the object; what the source's lender keeps; the token of α; the processor's loan; what its lender keeps; the token of β; that of the borrow]
     let Both = sep 𝓤 (𝓛.A.lft κ₁ q₁) (𝓛.A.lft (α ∷ []) full_share) in
     move ! (6 ∷ 2 ∷ []) $ use2 𝓛 (‵ (flft κ' share) ⊛ raw (wand 𝓤 (𝓛.A.lft κ' share) Both)) (lft-common 𝓛 κ₁ (α ∷ []) q₁ full_share) $ split ! $
     -- [the token of κ'; its way back; the object; the source's lender; the processor's loan; its lender; the token of β]
     let G = triple_of 𝓛 (g.signature T) (g.spec T 𝓛 𝓜.mem 𝓡.returns) in
-    let z : G.Ghost = (((β ∷ [], (κ', tt)), (full_share, (share, tt)), tt, (record p { ghost_name = δp }, (mut_hides i x, tt)), (mut_vals p, (w ∷ [], tt))), tt) in
+    let z : G.Ghost = (
+      (
+        (β ∷ [], (κ', tt)),
+        (full_share, (share, tt)),
+        tt,
+        (record p { ghost_name = δp }, (mut_hides i x, tt)),
+        (mut_vals p, (w ∷ [], tt)),
+      ),
+      tt,
+    ) in
     move ! (2 ∷ []) $ nothing ! $ move ! (1 ∷ 0 ∷ []) $ join ! $ move ! (4 ∷ 0 ∷ []) $ join ! $
     nothing ! $ move ! (2 ∷ 0 ∷ []) $ join ! $ move ! (5 ∷ 0 ∷ []) $ join ! $ join ! $
     nothing ! $ move ! (1 ∷ 0 ∷ []) $ use2 𝓛 (raw (G.pre z)) (id⊢ 𝓤 _) $
@@ -68,14 +83,16 @@ take_list_spec 𝓤 𝓛 𝓜 𝓡 wired =
     (met 𝓤 𝓛 𝓜 𝓡 (code.calls-pp_expansion::calls::Caller::take_next 𝓡.env wired) T (Includes-none lists.own-1) (hidden.met-1 𝓤 𝓛 𝓜 𝓡 wired)) z
     (and_then ! (get ! refl) (and_then ! (get ! refl) (no_more !))) (λ v.
     use1 𝓛 (later (some (λ (u : O.Denot). ((‵ (flft (β ∷ []) full_share) ⊛ ‵ (flft κ' share) ⊛ ‵ ftrue) ⊛ ‵ (O.own_val u (v ∷ []))) ⊛
-    some (λ (ws : P.Denot × (R.Denot × Unit {0})). ‵ (lasts (g.ended T) z.0.0 z.0.3 ws) ⊛ (raw (fact 𝓤 (TakesNext p.now (of_list r.now) u ws.0 (of_list ws.1.0))) ⊛ raw (fact 𝓤 (IfOk u (λ (t : Token). HoldsOrdinary t.value)))))))) (id⊢ 𝓤 _) $
+    some (λ (ws : P.Denot × (R.Denot × Unit {0})). ‵ (lasts (g.ended T) z.0.0 z.0.3 ws) ⊛
+    (raw (fact 𝓤 (TakesNext p.now (of_list r.now) u ws.0 (of_list ws.1.0))) ⊛ raw (fact 𝓤 (IfOk u (λ (t : Token). HoldsOrdinary t.value)))))))) (id⊢ 𝓤 _) $
     await ! tt $ pick ! (λ u. split ! $ split ! $ split ! $ move ! (1 ∷ []) $ split ! $
     -- [the token of κ'; nothing; the token of β; the result; the ensures; the way back; the source's lender; the processor's]
     move ! (0 ∷ 5 ∷ []) $ use2 𝓛 (‵ (flft κ₁ q₁) ⊛ ‵ (flft (α ∷ []) full_share)) (apply∗ 𝓤 (𝓛.A.lft κ' share) Both) $ split ! $
     move ! (1 ∷ []) $ lft_end ! tt $ use1 𝓛 (‵ (fdead κ')) (𝓛.lfts.dead-incl κ' (α ∷ []) (meet_⊑_right κ₁ (α ∷ []))) $
     move ! (3 ∷ []) $ lft_end ! tt $
     -- [β is over; κ' is over; the token of the borrow; nothing; the result; the ensures; the source's lender; the processor's]
-    move ! (4 ∷ []) $ peeks ! O (Is O) (shows 𝓛 O) u (v ∷ []) (λ is. lands_as ! refl refl (((result_laws token_row exit_row token_laws exit_laws).lawful 𝓛).typed u _ is).0 $
+    move ! (4 ∷ []) $ peeks ! O (Is O) (shows 𝓛 O) u (v ∷ []) (λ is. lands_as ! refl refl
+    (((result_laws token_row exit_row token_laws exit_laws).lawful 𝓛).typed u _ is).0 $
     move ! (5 ∷ []) $ pick ! (λ ws. split ! $ move ! (1 ∷ []) $ split ! $ heard ! _ (λ turns. heard ! _ (λ holds. fsplit ! $ fsplit ! $
     -- [the processor's last value; its loan; the source's; the result; β is over; κ' is over; the token of the borrow; nothing; the source's lender; the processor's]
     move ! (4 ∷ 9 ∷ 0 ∷ []) $ use3 𝓛 (later (‵ (RefP κp (record p { now = ws.0 })) ⊛ ‵ (flft κp qp)))
@@ -88,5 +105,7 @@ take_list_spec 𝓤 𝓛 𝓜 𝓡 wired =
     suffices ! _ (ends_at 𝓛 f.ended row c ((κs, qs, bounds, a, (mut_vals p, (mut_vals r, tt))), tt) v u (ws.0, (ws.1.0, tt)) (tt, (tt, tt))) $
     nothing ! $ move ! (1 ∷ 0 ∷ []) $ join ! $ move ! (2 ∷ 0 ∷ []) $ join ! $
     nothing ! $ move ! (5 ∷ 0 ∷ []) $ join ! $ move ! (2 ∷ 0 ∷ []) $ join ! $ move ! (2 ∷ 0 ∷ []) $ join ! $
-    group ! 3 $ frame ! $ use0 𝓛 (raw (fact 𝓤 (TakesNext p.now (of_list r.now) u ws.0 (of_list ws.1.0)))) (fact_i 𝓤 (TakesNext p.now (of_list r.now) u ws.0 (of_list ws.1.0)) (emp 𝓤) turns) $ frame ! $
-    use0 𝓛 (raw (fact 𝓤 (IfOk u (λ (t : Token). HoldsOrdinary t.value)))) (fact_i 𝓤 (IfOk u (λ (t : Token). HoldsOrdinary t.value)) (emp 𝓤) holds) $ done !))))))))))))
+    group ! 3 $ frame ! $ use0 𝓛 (raw (fact 𝓤 (TakesNext p.now (of_list r.now) u ws.0 (of_list ws.1.0))))
+    (fact_i 𝓤 (TakesNext p.now (of_list r.now) u ws.0 (of_list ws.1.0)) (emp 𝓤) turns) $ frame ! $
+    use0 𝓛 (raw (fact 𝓤 (IfOk u (λ (t : Token). HoldsOrdinary t.value))))
+    (fact_i 𝓤 (IfOk u (λ (t : Token). HoldsOrdinary t.value)) (emp 𝓤) holds) $ done !))))))))))))

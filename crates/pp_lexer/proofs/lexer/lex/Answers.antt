@@ -6,7 +6,8 @@ use Rattle.pp_lexer.proofs.lexer.lex.Goals as goal
 
 pub returns-in-Some-clause-lexed : goal.returns-in-Some-clause-lexed
 returns-in-Some-clause-lexed c =
-    let taken : IsLexed c.skip_spaces.new.flags c.skip_spaces.new.inner (Ok (Some c.in-Some.item)) c.lex_plain.new.flags c.lex_plain.new.inner = rw c.in-Some.is at c.in_ok-item.ensures.lexed in
+    let taken : IsLexed c.skip_spaces.new.flags c.skip_spaces.new.inner (Ok (Some c.in-Some.item)) c.lex_plain.new.flags c.lex_plain.new.inner =
+    rw c.in-Some.is at c.in_ok-item.ensures.lexed in
     lexed_before _ _ _ _ _ _ _ c.skip_spaces.ensures.same c.skip_spaces.ensures.at_end taken
 
 pub returns-in_err-item-clause-lexed : goal.returns-in_err-item-clause-lexed

@@ -6,7 +6,8 @@ use Rattle.pp_lexer.proofs.lexer.lex_by_characters.Goals as goal
 pub returns-in_default-clause-lexed : goal.returns-in_default-clause-lexed
 returns-in_default-clause-lexed c =
     lexed_before _ _ _ _ _ _ _ c.skip_blanks.ensures.same c.skip_blanks.ensures.at_end
-    (lexed_end c.skip_blanks.new.flags c.final_newline.new.flags c.skip_blanks.new.inner c.peek_spot.new.self c.last_consumed-last.result _ (sym c.in_default.is ∙ c.peek_spot.ensures.value)
+    (lexed_end c.skip_blanks.new.flags c.final_newline.new.flags c.skip_blanks.new.inner c.peek_spot.new.self c.last_consumed-last.result _
+    (sym c.in_default.is ∙ c.peek_spot.ensures.value)
     c.peek_spot.ensures.same c.last_consumed-last.ensures c.final_newline.ensures.value c.final_newline.ensures.rest c.final_newline.ensures.comments)
 
 pub returns-clause-lexed : goal.returns-clause-lexed
@@ -24,7 +25,8 @@ returns-in_err-value-clause-lexed c =
 pub returns-in_default-clause-placed : goal.returns-in_default-clause-placed
 returns-in_default-clause-placed c =
     placed_before _ _ _ _ _ _ _ _ _ c.skip_blanks.ensures.places refl
-    (subst (λ place. IsPlaced c.skip_blanks.new.flags c.skip_blanks.new.inner c.args.place.now c.final_newline.new.flags c.peek_spot.new.self place) (sym c.place_at_end.ensures)
+    (subst (λ place. IsPlaced c.skip_blanks.new.flags c.skip_blanks.new.inner c.args.place.now c.final_newline.new.flags c.peek_spot.new.self place)
+    (sym c.place_at_end.ensures)
     (placed_end c.skip_blanks.new.flags c.final_newline.new.flags c.skip_blanks.new.inner c.peek_spot.new.self c.last_consumed-last.result c.args.place.now (sym c.in_default.is ∙ c.peek_spot.ensures.value)
     c.peek_spot.ensures.same c.last_consumed-last.ensures c.final_newline.ensures.places))
 

@@ -25,7 +25,8 @@ returns-in_err-value-clause-lexed c =
     let n = c.in-Some.word.taken in
     let w : IsFirstWord text c.in-Some.word = c.in-Some.ensures in
     let refused : (err : AllocError) → IsLexed c.args.flags.now c.args.inner.now (Err err) c.args.flags.now c.args.inner.now =
-    λ err. refused_plain c.args.flags.now c.args.inner.now c.left-left.result.line c.left-left.result.at text c.left-left.ensures.rest_is (value_of c.in-Some.word.form (take n text)) n w err (Err err) refl
+    λ err. refused_plain c.args.flags.now c.args.inner.now c.left-left.result.line c.left-left.result.at text c.left-left.ensures.rest_is
+    (value_of c.in-Some.word.form (take n text)) n w err (Err err) refl
     (c.in_err-value.ensures (take n text)) in
     plain_refused c.args.flags.now c.args.inner.now c.from_residual.result c.from_residual.ensures.0 refused
 
@@ -51,5 +52,6 @@ returns-clause-placed c =
     let text = c.left-left.result.text.now in
     let n = c.in-Some.word.taken in
     let w : IsFirstWord text c.in-Some.word = c.in-Some.ensures in
-    placed_plain c.args.flags.now c.args.inner.now c.left-left.result.line c.left-left.result.at text c.left-left.ensures.rest_is (value_of c.in-Some.word.form (take n text)) n w c.go.new.self c.args.place.now
+    placed_plain c.args.flags.now c.args.inner.now c.left-left.result.line c.left-left.result.at text c.left-left.ensures.rest_is
+    (value_of c.in-Some.word.form (take n text)) n w c.go.new.self c.args.place.now
     (gone c.go.new.self c.left-left.result.line c.left-left.result.at n text c.as_bytes.result.now c.range_from.result.now c.go.ensures c.as_bytes.ensures.value c.range_from.ensures.value)

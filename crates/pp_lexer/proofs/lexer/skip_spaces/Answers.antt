@@ -13,7 +13,8 @@ range_from-requires c = λ some.
     let n = c.spaces_length-count.result in
     let u : IsUtf8 text = subst IsUtf8 c.as_bytes-bytes.ensures.value c.as_bytes-bytes.ensures.utf8 in
     let le : n ≤ length text = omega (arith, ap length c.as_bytes-bytes.ensures.value) in
-    let passes : list_all is_space (take n text) ≡ true = ap (λ t. list_all is_space (take n t)) (sym c.as_bytes-bytes.ensures.value) ∙ c.spaces_length-count.ensures.passes in
+    let passes : list_all is_space (take n text) ≡ true = ap (λ t. list_all is_space (take n t)) (sym c.as_bytes-bytes.ensures.value)
+    ∙ c.spaces_length-count.ensures.passes in
     cut_after_plain n text u some le (all_plain is_space space_plain (take n text) passes)
 
 pub returns-clause-same : goal.returns-clause-same
@@ -23,7 +24,8 @@ returns-clause-same c =
     let u : IsUtf8 text = subst IsUtf8 c.as_bytes-bytes.ensures.value c.as_bytes-bytes.ensures.utf8 in
     let le : n ≤ length text = omega (arith, ap length c.as_bytes-bytes.ensures.value) in
     let some : 0 < n = omega arith in
-    let passes : list_all is_space (take n text) ≡ true = ap (λ t. list_all is_space (take n t)) (sym c.as_bytes-bytes.ensures.value) ∙ c.spaces_length-count.ensures.passes in
+    let passes : list_all is_space (take n text) ≡ true = ap (λ t. list_all is_space (take n t)) (sym c.as_bytes-bytes.ensures.value)
+    ∙ c.spaces_length-count.ensures.passes in
     spaces_same c.args.flags.now c.args.inner.now c.left-left.result.line c.left-left.result.at text c.left-left.ensures.rest_is u c.go.new.self n some le passes
     (gone c.go.new.self c.left-left.result.line c.left-left.result.at n text c.as_bytes-bytes.result.now c.range_from.result.now c.go.ensures c.as_bytes-bytes.ensures.value c.range_from.ensures.value)
 
@@ -34,7 +36,8 @@ returns-clause-at_end c =
     let u : IsUtf8 text = subst IsUtf8 c.as_bytes-bytes.ensures.value c.as_bytes-bytes.ensures.utf8 in
     let le : n ≤ length text = omega (arith, ap length c.as_bytes-bytes.ensures.value) in
     let some : 0 < n = omega arith in
-    let passes : list_all is_space (take n text) ≡ true = ap (λ t. list_all is_space (take n t)) (sym c.as_bytes-bytes.ensures.value) ∙ c.spaces_length-count.ensures.passes in
+    let passes : list_all is_space (take n text) ≡ true = ap (λ t. list_all is_space (take n t)) (sym c.as_bytes-bytes.ensures.value)
+    ∙ c.spaces_length-count.ensures.passes in
     spaces_comments c.args.flags.now c.args.inner.now c.left-left.result.line c.left-left.result.at text c.left-left.ensures.rest_is u c.go.new.self n some le passes
     (gone c.go.new.self c.left-left.result.line c.left-left.result.at n text c.as_bytes-bytes.result.now c.range_from.result.now c.go.ensures c.as_bytes-bytes.ensures.value c.range_from.ensures.value)
 
@@ -45,6 +48,7 @@ returns-clause-places c =
     let u : IsUtf8 text = subst IsUtf8 c.as_bytes-bytes.ensures.value c.as_bytes-bytes.ensures.utf8 in
     let le : n ≤ length text = omega (arith, ap length c.as_bytes-bytes.ensures.value) in
     let some : 0 < n = omega arith in
-    let passes : list_all is_space (take n text) ≡ true = ap (λ t. list_all is_space (take n t)) (sym c.as_bytes-bytes.ensures.value) ∙ c.spaces_length-count.ensures.passes in
+    let passes : list_all is_space (take n text) ≡ true = ap (λ t. list_all is_space (take n t)) (sym c.as_bytes-bytes.ensures.value)
+    ∙ c.spaces_length-count.ensures.passes in
     spaces_placed c.args.flags.now c.args.inner.now c.left-left.result.line c.left-left.result.at text c.left-left.ensures.rest_is u c.go.new.self n some le passes
     (gone c.go.new.self c.left-left.result.line c.left-left.result.at n text c.as_bytes-bytes.result.now c.range_from.result.now c.go.ensures c.as_bytes-bytes.ensures.value c.range_from.ensures.value)

@@ -9,7 +9,8 @@ pub returns-in-None : goal.returns-in-None
 returns-in-None c = numbers_out c.args.directive c.args.words _ c.in-Ok.value _ c.in_ok-value.ensures c.in-Ok.is c.as_line_number.ensures c.in-None.is
 
 pub returns-then-value-eq0 : goal.returns-then-value-eq0
-returns-then-value-eq0 c = numbers_alone c.args.directive c.args.words _ c.in-Ok.value _ c.in-Some.number c.in_ok-value.ensures c.in-Ok.is c.as_line_number.ensures c.in-Some.is c.if-value-eq0.true
+returns-then-value-eq0 c =
+    numbers_alone c.args.directive c.args.words _ c.in-Ok.value _ c.in-Some.number c.in_ok-value.ensures c.in-Ok.is c.as_line_number.ensures c.in-Some.is c.if-value-eq0.true
 
 pub returns : goal.returns
 returns c =

@@ -28,7 +28,8 @@ decreases-expand_arguments l = 5 * l.levels + 4
 
 abbrev pub invariant-emit_alone-turns : goal.invariant-emit_alone-turns
 invariant-emit_alone-turns l = record {
-  goes_on : (o : Outcome) (end : Expander Listed) → Emits argument_reading (answers_at l.levels) (seen list_state l.expander) o end → Emits argument_reading (answers_at l.levels) (seen list_state l.initial.expander) o end;
+  goes_on : (o : Outcome) (end : Expander Listed) → Emits argument_reading (answers_at l.levels) (seen list_state l.expander) o end
+      → Emits argument_reading (answers_at l.levels) (seen list_state l.initial.expander) o end;
   spent : l.budget.steps ≤ l.initial.budget.steps;
 }
 
@@ -37,7 +38,8 @@ decreases-emit_alone-turns l = l.budget.steps
 
 abbrev pub invariant-collect-items : goal.invariant-collect-items
 invariant-collect-items l = record {
-  goes_on : (out : Result (List Token) Fault) → Collects argument_reading (answers_at l.levels) (seen list_state l.expander) out → Collects argument_reading (answers_at l.levels) (seen list_state l.initial.expander) (after_items l.items.items out);
+  goes_on : (out : Result (List Token) Fault) → Collects argument_reading (answers_at l.levels) (seen list_state l.expander) out
+      → Collects argument_reading (answers_at l.levels) (seen list_state l.initial.expander) (after_items l.items.items out);
   spent : l.budget.steps ≤ l.initial.budget.steps;
 }
 
@@ -46,6 +48,7 @@ decreases-collect-items l = l.budget.steps
 
 abbrev pub invariant-expand_arguments-loop-argument : goal.invariant-expand_arguments-loop-argument
 invariant-expand_arguments-loop-argument l = record {
-  goes_on : (out : Result (List (List Token)) Fault) → Each (Alone l.levels) (meaning_of l.visible) l.hidden (drop l.argument-index l.arguments) out → Each (Alone l.levels) (meaning_of l.visible) l.hidden l.arguments (after_items l.expanded.items out);
+  goes_on : (out : Result (List (List Token)) Fault) → Each (Alone l.levels) (meaning_of l.visible) l.hidden (drop l.argument-index l.arguments) out
+      → Each (Alone l.levels) (meaning_of l.visible) l.hidden l.arguments (after_items l.expanded.items out);
   spent : l.budget.steps ≤ l.initial.budget.steps;
 }

@@ -9,29 +9,40 @@ use Rattle.pp_plain.proofs.expand.emit.Goals as goal
 
 pub returns-in-Item-clause-emits : goal.returns-in-Item-clause-emits
 returns-in-Item-clause-emits g c =
-    c.turns.invariant.goes_on c.in-Item.outcome (seen g.R.Reader.state c.turn.new.self) (turns_mean g.R.Reader.reading (answers_at c.args.levels) (Item c.in-Item.outcome) (seen g.R.Reader.state c.turns.expander) (seen g.R.Reader.state c.turn.new.self) (rw c.in-Item.is at c.in_ok-outcome.ensures.turns))
+    c.turns.invariant.goes_on c.in-Item.outcome (seen g.R.Reader.state c.turn.new.self)
+    (turns_mean g.R.Reader.reading (answers_at c.args.levels) (Item c.in-Item.outcome) (seen g.R.Reader.state c.turns.expander)
+    (seen g.R.Reader.state c.turn.new.self) (rw c.in-Item.is at c.in_ok-outcome.ensures.turns))
 
 pub turns-preserved-in-Replaced : goal.turns-preserved-in-Replaced
 turns-preserved-in-Replaced g c = record {
-  goes_on = λ o end h. c.turns.invariant.goes_on o end (turns_mean g.R.Reader.reading (answers_at c.args.levels) Replaced (seen g.R.Reader.state c.turns.expander) (seen g.R.Reader.state c.turn.new.self) (rw c.in-Replaced.is at c.in_ok-outcome.ensures.turns) o end h);
+  goes_on = λ o end h. c.turns.invariant.goes_on o end (turns_mean g.R.Reader.reading (answers_at c.args.levels) Replaced
+      (seen g.R.Reader.state c.turns.expander) (seen g.R.Reader.state c.turn.new.self) (rw c.in-Replaced.is at c.in_ok-outcome.ensures.turns) o end h);
   spent = omega arith;
 }
 
 pub returns-in-Some-clause-emits : goal.returns-in-Some-clause-emits
 returns-in-Some-clause-emits g c =
     c.turns.invariant.goes_on (outcome.Fault c.in-Some.fault) (seen g.R.Reader.state c.resolve.new.self)
-    (resolves_fault g.R.Reader.reading (answers_at c.args.levels) (seen g.R.Reader.state c.turns.expander) (seen g.R.Reader.state c.turn.new.self) (seen g.R.Reader.state c.resolve.new.self) c.in-Called.call c.in_ok-answer-in-Called.answer c.in-Some.fault
-    (turns_mean g.R.Reader.reading (answers_at c.args.levels) (Called c.in-Called.call) (seen g.R.Reader.state c.turns.expander) (seen g.R.Reader.state c.turn.new.self) (rw c.in-Called.is at c.in_ok-outcome.ensures.turns))
-    (answer_known g.R.Reader.reading (answers_at c.args.levels) (seen g.R.Reader.state c.turn.new.self) c.in-Called.call (meaning_of c.visible-visible.result.now) c.deref.result.now c.in_ok-answer-in-Called.answer c.visible-visible.ensures (c.deref.ensures.value ∙ c.in_ok-around-in-Called.ensures) c.in_ok-answer-in-Called.ensures.answers)
+    (resolves_fault g.R.Reader.reading (answers_at c.args.levels) (seen g.R.Reader.state c.turns.expander) (seen g.R.Reader.state c.turn.new.self)
+    (seen g.R.Reader.state c.resolve.new.self) c.in-Called.call c.in_ok-answer-in-Called.answer c.in-Some.fault
+    (turns_mean g.R.Reader.reading (answers_at c.args.levels) (Called c.in-Called.call) (seen g.R.Reader.state c.turns.expander)
+    (seen g.R.Reader.state c.turn.new.self) (rw c.in-Called.is at c.in_ok-outcome.ensures.turns))
+    (answer_known g.R.Reader.reading (answers_at c.args.levels) (seen g.R.Reader.state c.turn.new.self) c.in-Called.call
+    (meaning_of c.visible-visible.result.now) c.deref.result.now c.in_ok-answer-in-Called.answer c.visible-visible.ensures
+    (c.deref.ensures.value ∙ c.in_ok-around-in-Called.ensures) c.in_ok-answer-in-Called.ensures.answers)
     (rw c.in-Some.is at c.in_ok-fault-in-Called.ensures))
 
 pub turns-preserved : goal.turns-preserved
 turns-preserved g c = record {
   goes_on = λ o end h.
       c.turns.invariant.goes_on o end
-      (resolves_next g.R.Reader.reading (answers_at c.args.levels) (seen g.R.Reader.state c.turns.expander) (seen g.R.Reader.state c.turn.new.self) (seen g.R.Reader.state c.resolve.new.self) c.in-Called.call c.in_ok-answer-in-Called.answer
-      (turns_mean g.R.Reader.reading (answers_at c.args.levels) (Called c.in-Called.call) (seen g.R.Reader.state c.turns.expander) (seen g.R.Reader.state c.turn.new.self) (rw c.in-Called.is at c.in_ok-outcome.ensures.turns))
-      (answer_known g.R.Reader.reading (answers_at c.args.levels) (seen g.R.Reader.state c.turn.new.self) c.in-Called.call (meaning_of c.visible-visible.result.now) c.deref.result.now c.in_ok-answer-in-Called.answer c.visible-visible.ensures (c.deref.ensures.value ∙ c.in_ok-around-in-Called.ensures) c.in_ok-answer-in-Called.ensures.answers)
+      (resolves_next g.R.Reader.reading (answers_at c.args.levels) (seen g.R.Reader.state c.turns.expander) (seen g.R.Reader.state c.turn.new.self)
+      (seen g.R.Reader.state c.resolve.new.self) c.in-Called.call c.in_ok-answer-in-Called.answer
+      (turns_mean g.R.Reader.reading (answers_at c.args.levels) (Called c.in-Called.call) (seen g.R.Reader.state c.turns.expander)
+      (seen g.R.Reader.state c.turn.new.self) (rw c.in-Called.is at c.in_ok-outcome.ensures.turns))
+      (answer_known g.R.Reader.reading (answers_at c.args.levels) (seen g.R.Reader.state c.turn.new.self) c.in-Called.call
+      (meaning_of c.visible-visible.result.now) c.deref.result.now c.in_ok-answer-in-Called.answer c.visible-visible.ensures
+      (c.deref.ensures.value ∙ c.in_ok-around-in-Called.ensures) c.in_ok-answer-in-Called.ensures.answers)
       (rw c.in_default.is at c.in_ok-fault-in-Called.ensures) o end h);
   spent = omega arith;
 }

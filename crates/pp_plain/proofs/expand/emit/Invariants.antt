@@ -7,7 +7,8 @@ use Rattle.pp_plain.proofs.expand.emit.Given as goal
 
 abbrev pub invariant-turns : goal.invariant-turns
 invariant-turns g l = record {
-  goes_on : (o : Outcome) (end : Expander g.R.Reader.State) → Emits g.R.Reader.reading (answers_at l.levels) (seen g.R.Reader.state l.expander) o end → Emits g.R.Reader.reading (answers_at l.levels) (seen g.R.Reader.state l.initial.expander) o end;
+  goes_on : (o : Outcome) (end : Expander g.R.Reader.State) → Emits g.R.Reader.reading (answers_at l.levels) (seen g.R.Reader.state l.expander) o end
+      → Emits g.R.Reader.reading (answers_at l.levels) (seen g.R.Reader.state l.initial.expander) o end;
   spent : l.budget.steps ≤ l.initial.budget.steps;
 }
 

@@ -8,7 +8,8 @@ use Rattle.pp_plain.proofs.line_words.read_words.Given as goal
 
 abbrev pub invariant-words : goal.invariant-words
 invariant-words l = record {
-  goes_on : (rest : Words) → LineWords l.kind l.directive (answers_at l.levels) (seen line_state l.expander) rest → LineWords l.kind l.directive (answers_at l.levels) (seen line_state l.initial.expander) (after_words l.words.items rest);
+  goes_on : (rest : Words) → LineWords l.kind l.directive (answers_at l.levels) (seen line_state l.expander) rest
+      → LineWords l.kind l.directive (answers_at l.levels) (seen line_state l.initial.expander) (after_words l.words.items rest);
   spent : l.budget.steps ≤ l.initial.budget.steps;
 }
 

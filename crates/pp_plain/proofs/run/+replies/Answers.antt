@@ -7,14 +7,18 @@ use Rattle.pp_plain.proofs.SourceStepLemmas.{ok_more}
 use Rattle.pp_plain.proofs.run.+replies.Goals as goal
 
 pub returns-in_default : goal.returns-in_default
-returns-in_default t c = runs_none (answers_at expansion_limit) (seen source_state c.args.expander.now) c.args.calls.now c.new.result.items (no_calls c.args.calls.now (c.in_default.ensures {u = tt}).cases) c.new.ensures.items
+returns-in_default t c = runs_none (answers_at expansion_limit) (seen source_state c.args.expander.now) c.args.calls.now c.new.result.items
+    (no_calls c.args.calls.now (c.in_default.ensures {u = tt}).cases) c.new.ensures.items
 
 pub returns-then-ends_run : goal.returns-then-ends_run
 returns-then-ends_run t c =
     ok_more _ _ c.only.result
-    (λ replies is. runs_last (answers_at expansion_limit) (seen source_state c.args.expander.now) (seen source_state c.reply_to.new.expander) c.args.calls.now c.in-Some.call.now c.in-Some.others.now c.in_ok-reply.reply replies.items (c.in-Some.ensures {u = tt}).cases.0 (c.in_ok-reply.ensures {u = tt}) (sym c.ends_run.ensures ∙ c.if-ends_run.true) is)
+    (λ replies is. runs_last (answers_at expansion_limit) (seen source_state c.args.expander.now)
+    (seen source_state c.reply_to.new.expander) c.args.calls.now c.in-Some.call.now c.in-Some.others.now c.in_ok-reply.reply replies.items
+    (c.in-Some.ensures {u = tt}).cases.0 (c.in_ok-reply.ensures {u = tt}) (sym c.ends_run.ensures ∙ c.if-ends_run.true) is)
     c.only.ensures
 
 pub returns : goal.returns
 returns t c =
-    runs_on (answers_at expansion_limit) (seen source_state c.args.expander.now) (seen source_state c.reply_to.new.expander) c.args.calls.now c.in-Some.call.now c.in-Some.others.now c.in_ok-reply.reply c.in_ok-rest.rest.items c.insert.new.self.items (c.in-Some.ensures {u = tt}).cases.0 (c.in_ok-reply.ensures {u = tt}) (sym c.ends_run.ensures ∙ c.if-ends_run.false) (c.in_ok-rest.ensures {u = tt}) (c.in_ok-insert.ensures {u = tt}).items
+    runs_on (answers_at expansion_limit) (seen source_state c.args.expander.now)
+    (seen source_state c.reply_to.new.expander) c.args.calls.now c.in-Some.call.now c.in-Some.others.now c.in_ok-reply.reply c.in_ok-rest.rest.items c.insert.new.self.items (c.in-Some.ensures {u = tt}).cases.0 (c.in_ok-reply.ensures {u = tt}) (sym c.ends_run.ensures ∙ c.if-ends_run.false) (c.in_ok-rest.ensures {u = tt}) (c.in_ok-insert.ensures {u = tt}).items

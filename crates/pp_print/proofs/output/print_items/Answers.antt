@@ -13,7 +13,8 @@ loop-item-init g c =
     record {
       ok = c.requires.ready;
       unspent = ap is_spent same ∙ c.requires.unspent;
-      printing = λ start stands. printing_starts start _ (g.W.Sink.contents c.args.writer.now) (subst (λ (items : Preprocessing). Stands items start) (sym same) stands);
+      printing = λ start stands. printing_starts start _ (g.W.Sink.contents c.args.writer.now)
+          (subst (λ (items : Preprocessing). Stands items start) (sym same) stands);
     }
 
 pub loop-item-preserved : goal.loop-item-preserved
@@ -40,18 +41,21 @@ returns-in-Err-OutOfMemory-default-clause-begun g c = λ e start stands. printin
 
 pub returns-in_err-print_line-in-Err-clause-begun : goal.returns-in_err-print_line-in-Err-clause-begun
 returns-in_err-print_line-in-Err-clause-begun g c = λ e start stands.
-    let refused : c.print_line.result ≡ Err OutOfMemory = same_fault _ _ _ _ (c.in_err-print_line-in-Err.was {u = tt}) c.from_residual-in_err-print_line-in-Err.ensures.1 e in
+    let refused : c.print_line.result ≡ Err OutOfMemory = same_fault _ _ _ _
+    (c.in_err-print_line-in-Err.was {u = tt}) c.from_residual-in_err-print_line-in-Err.ensures.1 e in
     rw (c.print_line.ensures.refused refused) (printing_begun start _ _ _ _ (c.loop-item.invariant.printing start stands))
 
 pub returns-in-Err-clause-printed : goal.returns-in-Err-clause-printed
 returns-in-Err-clause-printed g c = λ start stands.
     let printing = c.loop-item.invariant.printing start stands in
-    let next = next_error c.loop-item.item-iterator c.next.new.self c.loop-item.invariant.unspent (c.in-Err.error, c.in-Err.location) (rw c.in-Err.is at c.in-Some.ensures.steps) (search rules) printing.state printing.stands in
+    let next = next_error c.loop-item.item-iterator c.next.new.self c.loop-item.invariant.unspent
+    (c.in-Err.error, c.in-Err.location) (rw c.in-Err.is at c.in-Some.ensures.steps) (search rules) printing.state printing.stands in
     printing_ends start _ _ _ _ _ printing (Stopped c.in-Err.error c.in-Err.location) next.0 next.1 c.in_ok-print_line-in-Err.ensures.written
 
 pub returns-in_err-print_line-clause-begun : goal.returns-in_err-print_line-clause-begun
 returns-in_err-print_line-clause-begun g c = λ e start stands.
-    let refused : c.print_line-2.result ≡ Err OutOfMemory = same_fault _ _ _ _ (c.in_err-print_line.was {u = tt}) c.from_residual-in_err-print_line.ensures.1 e in
+    let refused : c.print_line-2.result ≡ Err OutOfMemory =
+    same_fault _ _ _ _ (c.in_err-print_line.was {u = tt}) c.from_residual-in_err-print_line.ensures.1 e in
     rw (c.print_line-2.ensures.refused refused) (printing_begun start _ _ _ _ (c.loop-item.invariant.printing start stands))
 
 pub returns-clause-printed : goal.returns-clause-printed

@@ -9,5 +9,6 @@ abbrev pub invariant-loop-item : goal.invariant-loop-item
 invariant-loop-item g l = record {
   ok : g.W.Sink.failed l.writer ≡ false;
   unspent : is_spent l.item-iterator ≡ false;
-  printing : (start : State) → Stands l.fn.items start → IsPrinting start l.item-iterator (option_map string_bytes l.line) (g.W.Sink.contents l.fn.writer) (g.W.Sink.contents l.writer);
+  printing : (start : State) → Stands l.fn.items start → IsPrinting start l.item-iterator (option_map string_bytes l.line)
+      (g.W.Sink.contents l.fn.writer) (g.W.Sink.contents l.writer);
 }

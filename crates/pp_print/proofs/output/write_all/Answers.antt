@@ -9,5 +9,9 @@ loop-rest-preserved g c =
     let count = c.in-Ok.count in
     record {
       ok = c.in-Ok.ensures.kept ∙ before.ok;
-      written = (before.written.0 ++ take count rest, written_more _ before.written.0 rest count before.written.1, appends_more _ _ _ before.written.0 (take count rest) before.written.2 c.in-Ok.ensures.bytes);
+      written = (
+        before.written.0 ++ take count rest,
+        written_more _ before.written.0 rest count before.written.1,
+        appends_more _ _ _ before.written.0 (take count rest) before.written.2 c.in-Ok.ensures.bytes,
+      );
     }

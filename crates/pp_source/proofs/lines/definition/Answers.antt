@@ -11,7 +11,8 @@ returns-in-Some-clause-takes c =
     let n = c.in_ok-token.ensures in
     let taken = n.takes c.requires in
     takes_after c.function_after.result 1 _ _ _ _ _ taken c.function_after.ensures.takes
-    (paren_place c.args.lexer.now.rest c.next_token.new.self.rest c.in-Some.token (rw c.in-Some.is at (n.is c.requires)) (sym c.is_attached_paren.ensures ∙ c.if-is_attached_paren.true) taken.rest)
+    (paren_place c.args.lexer.now.rest c.next_token.new.self.rest c.in-Some.token (rw c.in-Some.is at (n.is c.requires))
+    (sym c.is_attached_paren.ensures ∙ c.if-is_attached_paren.true) taken.rest)
 
 pub returns-in_ok-body-in_default-clause-takes : goal.returns-in_ok-body-in_default-clause-takes
 returns-in_ok-body-in_default-clause-takes c =
@@ -24,4 +25,5 @@ returns-in_ok-body-in_default-clause-takes c =
       | in_default-via-in-None-1 w ↦ (let e = w.token-is in cc)
     ] in
     takes_after (Ok c.in_ok-body-in_default.body) 1 _ _ _ _ _ taken c.in_ok-body-in_default.ensures.takes
-    (line_place-next c.args.lexer.now.rest first (ap (λ r. r >>= line_token) (n.is c.requires) ∙ ap line_token same ∙ c.in_ok-first-in_default.ensures.is) ∙ ap (λ r. drop (length_after first r) r) (sym taken.rest))
+    (line_place-next c.args.lexer.now.rest first (ap (λ r. r >>= line_token) (n.is c.requires) ∙ ap line_token same
+    ∙ c.in_ok-first-in_default.ensures.is) ∙ ap (λ r. drop (length_after first r) r) (sym taken.rest))

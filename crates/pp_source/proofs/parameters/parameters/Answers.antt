@@ -12,4 +12,5 @@ returns-in_err-first-clause-is c =
 pub returns-in_err-ends_parameters-clause-is : goal.returns-in_err-ends_parameters-clause-is
 returns-in_err-ends_parameters-clause-is c =
     let e = err_from_is_err_and c.from_residual-in_err-ends_parameters.result c.from_residual-in_err-ends_parameters.ensures.1 in
-    meets_refused _ _ c.in_err-ends_parameters.field-0.0 _ _ c.parameters.lexer.rest _ (e.1 ∙ ap Err e.2) c.parameters.invariant.whole c.in_err-ends_parameters.ensures.is
+    meets_refused _ _ c.in_err-ends_parameters.field-0.0 _ _ c.parameters.lexer.rest _
+    (e.1 ∙ ap Err e.2) c.parameters.invariant.whole c.in_err-ends_parameters.ensures.is

@@ -8,7 +8,8 @@ use Rattle.pp_expansion.proofs.blocks.Blocks.replace_last.Goals.{in-Some, in_def
 set_last : {X : Type 0} (xs : List X) (n : ℕ) (x : X) → n ≡ length xs → 0 < length xs → slice_set xs (n - 1) x ≡ take (length xs - 1) xs ++ x ∷ []
 set_last xs n x e some =
     let last = length xs - 1 in
-    let all : take (length xs) (slice_set xs last x) ≡ slice_set xs last x = ap (λ k. take k (slice_set xs last x)) (sym (length-set xs last x)) ∙ take-length (slice_set xs last x) in
+    let all : take (length xs) (slice_set xs last x) ≡ slice_set xs last x = ap (λ k. take k (slice_set xs last x)) (sym (length-set xs last x))
+    ∙ take-length (slice_set xs last x) in
     rw e (sym all ∙ take-set_at xs last (length xs) x (omega arith) (omega arith))
 
 pub returns : goal.returns

@@ -13,4 +13,12 @@ pub returns-in-NoCall-clause-enters : goal.returns-in-NoCall-clause-enters
 returns-in-NoCall-clause-enters g c = inl (enters_nothing _ _ _ _ _ _ _ c.requires.function (rw c.in-NoCall.is at c.in_ok-seek.ensures.finds))
 
 pub returns-in-Whole-clause-enters : goal.returns-in-Whole-clause-enters
-returns-in-Whole-clause-enters g c = inl (enters_whole _ _ _ _ _ _ _ c.requires.function c.in-Whole.paren c.in-Whole.gathered _ (rw c.in-Whole.is at c.in_ok-seek.ensures.finds) (ap (λ (x : Gathered). record { name = c.args.name; definition = c.args.define.value; paren = c.in-Whole.paren; closing = x.closing; tokens = x.tokens }) c.gathered.view_is))
+returns-in-Whole-clause-enters g c = inl (enters_whole _ _ _ _ _ _ _ c.requires.function c.in-Whole.paren c.in-Whole.gathered _
+    (rw c.in-Whole.is at c.in_ok-seek.ensures.finds)
+    (ap (λ (x : Gathered). record {
+      name = c.args.name;
+      definition = c.args.define.value;
+      paren = c.in-Whole.paren;
+      closing = x.closing;
+      tokens = x.tokens;
+    }) c.gathered.view_is))

@@ -6,22 +6,39 @@ use Rattle.pp_expansion.proofs.taking.MachineLemmas.{gathers_fault, gathers_end,
 use Rattle.pp_expansion.proofs.calls.Caller.gather.Goals as goal
 
 pub returns-in-Err-Error : goal.returns-in-Err-Error
-returns-in-Err-Error g c = record { gathers = gathers_fault _ _ _ _ _ _ _ _ c.tokens.invariant.goes_on _ _ c.in-Err-Error.fault (rw c.in-Err-Error.field-0-is at c.in-Err-Error.ensures.takes) (sym c.is_out_of_memory.ensures ∙ c.if-is_out_of_memory.false) }
+returns-in-Err-Error g c = record {
+  gathers = gathers_fault _ _ _ _ _ _ _ _ c.tokens.invariant.goes_on _ _ c.in-Err-Error.fault
+      (rw c.in-Err-Error.field-0-is at c.in-Err-Error.ensures.takes) (sym c.is_out_of_memory.ensures ∙ c.if-is_out_of_memory.false);
+}
 
 pub returns-in-Err-Finished : goal.returns-in-Err-Finished
-returns-in-Err-Finished g c = record { gathers = gathers_end _ _ _ _ _ _ _ _ c.tokens.invariant.goes_on _ _ (rw c.in-Err-Finished.field-0-is at c.in-Err-Finished.ensures.takes) }
+returns-in-Err-Finished g c = record {
+  gathers = gathers_end _ _ _ _ _ _ _ _ c.tokens.invariant.goes_on _ _
+      (rw c.in-Err-Finished.field-0-is at c.in-Err-Finished.ensures.takes);
+}
 
 pub returns-in-Err-Continue : goal.returns-in-Err-Continue
-returns-in-Err-Continue g c = record { gathers = gathers_never _ _ _ _ _ _ _ _ c.tokens.invariant.goes_on _ _ _ (rw c.in-Err-Continue.field-0-is at c.in-Err-Continue.ensures.takes) }
+returns-in-Err-Continue g c = record {
+  gathers = gathers_never _ _ _ _ _ _ _ _ c.tokens.invariant.goes_on _ _ _
+      (rw c.in-Err-Continue.field-0-is at c.in-Err-Continue.ensures.takes);
+}
 
 pub returns-in-Closes : goal.returns-in-Closes
-returns-in-Closes g c = record { gathers = gathers_closed _ _ _ _ _ _ _ _ c.tokens.invariant.goes_on _ _ c.in-Ok.token c.in-Ok.ensures.takes c.in-Closes.ensures }
+returns-in-Closes g c =
+    record { gathers = gathers_closed _ _ _ _ _ _ _ _ c.tokens.invariant.goes_on _ _ c.in-Ok.token c.in-Ok.ensures.takes c.in-Closes.ensures }
 
 pub returns-in-TooMany : goal.returns-in-TooMany
-returns-in-TooMany g c = record { gathers = gathers_overfull _ _ _ _ _ _ _ _ c.tokens.invariant.goes_on _ _ c.in-Ok.token c.in-Ok.ensures.takes c.in-TooMany.ensures }
+returns-in-TooMany g c =
+    record { gathers = gathers_overfull _ _ _ _ _ _ _ _ c.tokens.invariant.goes_on _ _ c.in-Ok.token c.in-Ok.ensures.takes c.in-TooMany.ensures }
 
 pub tokens-smaller : goal.tokens-smaller
 tokens-smaller g c = next_falls _ _ _ _ c.in-Ok.token c.in-Ok.ensures.takes
 
 pub tokens-preserved : goal.tokens-preserved
-tokens-preserved g c = record { goes_on = gathers_more _ _ _ _ _ _ _ _ c.tokens.invariant.goes_on _ _ c.in-Ok.token _ _ c.in-Ok.ensures.takes c.in-Within.ensures (c.in_ok-push.ensures.items); holds = rw c.in_ok-push.ensures.items (All-push (λ (t : Token). HoldsOrdinary t.value) _ _ c.tokens.invariant.holds c.in-Ok.ensures.holds) }
+tokens-preserved g c =
+    record {
+      goes_on = gathers_more _ _ _ _ _ _ _ _ c.tokens.invariant.goes_on _ _ c.in-Ok.token _ _ c.in-Ok.ensures.takes c.in-Within.ensures
+          (c.in_ok-push.ensures.items);
+      holds = rw c.in_ok-push.ensures.items
+          (All-push (λ (t : Token). HoldsOrdinary t.value) _ _ c.tokens.invariant.holds c.in-Ok.ensures.holds);
+    }

@@ -7,7 +7,8 @@ use Rattle.pp_expansion.proofs.calls.Caller.gather.Given as goal
 -- each token that is gathered stands before those that follow
 abbrev pub invariant-tokens : goal.invariant-tokens
 invariant-tokens o l = record {
-  goes_on : Gathering l.fn.paren l.fn.self ((goal.MeLexer-dyn o l.fn.lexer.now).reader l.fn.lexer.now.1) l.tokens.items l.depth l.last l.self ((goal.MeLexer-dyn o l.lexer.now).reader l.lexer.now.1);
+  goes_on : Gathering l.fn.paren l.fn.self ((goal.MeLexer-dyn o l.fn.lexer.now).reader l.fn.lexer.now.1) l.tokens.items l.depth l.last l.self
+      ((goal.MeLexer-dyn o l.lexer.now).reader l.lexer.now.1);
   holds : AllHoldOrdinary l.tokens.items;
 }
 

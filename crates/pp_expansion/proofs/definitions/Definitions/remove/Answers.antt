@@ -7,4 +7,5 @@ pub returns : goal.returns
 returns c =
     let e = c.remove.ensures in
     rw (← c.self.view_is)
-    (is_removed text_name (λ d. d.value) string_cmp texts_same c.self.inside.defines c.remove.new.self _ _ (text_tests c.args.name.now c.utf8.name) e.updates e.entries (omega (arith, e.len)))
+    (is_removed text_name (λ d. d.value) string_cmp texts_same c.self.inside.defines c.remove.new.self _ _
+    (text_tests c.args.name.now c.utf8.name) e.updates e.entries (omega (arith, e.len)))

@@ -8,7 +8,8 @@ pub loop-other-init : goal.loop-other-init
 loop-other-init c = around_first _ _ c.args.expander c.new-expanders.ensures.items c.in_ok-push.ensures.items
 
 pub loop-other-preserved : goal.loop-other-preserved
-loop-other-preserved c = around_more (names_of c.args.expander.now) _ _ _ c.loop-other.other-index c.other-item.result c.loop-other.invariant c.loop-other-test.true c.other-item.is c.in_ok-push-2.ensures.items
+loop-other-preserved c =
+    around_more (names_of c.args.expander.now) _ _ _ c.loop-other.other-index c.other-item.result c.loop-other.invariant c.loop-other-test.true c.other-item.is c.in_ok-push-2.ensures.items
 
 pub returns : goal.returns
 returns c =

@@ -14,7 +14,8 @@ returns-in_err-value-clause-computes c whole start =
     let stops : Stops (c.args.level + 1) c.loop-operator.self.line = rw c.loop-operator.invariant.line c.requires.over in
     let is = rw (c.left_at.ensures, c.apply.ensures) at (sym c.in_err-value.ensures) in
     halts _ whole c.in_err-value.field-0.0 c.from_residual.result c.from_residual.ensures.1
-    (lemmas.not_computed c.args.level whole c.in-Some.operator c.take_from.new.self c.loop-operator.self.line (to_z w64 c.loop-operator.value-bits) c.in_err-value.field-0.0 taken.tight stops operand is)
+    (lemmas.not_computed c.args.level whole c.in-Some.operator c.take_from.new.self c.loop-operator.self.line
+    (to_z w64 c.loop-operator.value-bits) c.in_err-value.field-0.0 taken.tight stops operand is)
 
 pub loop-operator-preserved : goal.loop-operator-preserved
 loop-operator-preserved c = record {
@@ -27,5 +28,6 @@ loop-operator-preserved c = record {
       let stops : Stops (c.args.level + 1) c.loop-operator.self.line = rw c.loop-operator.invariant.line c.requires.over in
       let is = sym c.apply.ensures ∙ steps.located_ok c.left_at.result c.apply.result x (sym c.in_ok-value.ensures) in
       rw (to_z-of_z w64 x fits)
-      (lemmas.computed c.args.level whole c.in-Some.operator c.take_from.new.self c.loop-operator.self.line (to_z w64 c.loop-operator.value-bits) x c.requires.low taken.tight stops operand is);
+      (lemmas.computed c.args.level whole c.in-Some.operator c.take_from.new.self c.loop-operator.self.line
+      (to_z w64 c.loop-operator.value-bits) x c.requires.low taken.tight stops operand is);
 }

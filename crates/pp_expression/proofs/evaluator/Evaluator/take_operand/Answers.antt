@@ -20,6 +20,7 @@ returns-in_err-number-clause-leads c whole start =
 pub returns-in-Some-2-clause-leads : goal.returns-in-Some-2-clause-leads
 returns-in-Some-2-clause-leads c whole start =
     let fits : FitsSigned w64 c.literal.result = search rules in
-    let atom : located (length c.args.self.now.line.symbols) (atom_at c.args.self.now.line) ≡ Ok (Some c.in-Some-2.number) = cc (c.in_ok-number.ensures.value, c.in-Some-2.is) in
+    let atom : located (length c.args.self.now.line.symbols) (atom_at c.args.self.now.line) ≡ Ok (Some c.in-Some-2.number) =
+    cc (c.in_ok-number.ensures.value, c.in-Some-2.is) in
     rw (c.take_atom.ensures.rest, to_z-of_z w64 c.literal.result fits, c.literal.ensures)
     (lemmas.number_read whole c.args.self.now.pending c.args.self.now.line c.in-Some-2.number start atom)

@@ -23,7 +23,8 @@ returns-clause-leads c whole start =
     let loose = rw c.level_of.ensures at c.in_ok-left.ensures.loose in
     let stands : binary_at c.compute_from.new.self.line ≡ Ok (Some c.args.operator) = rw c.compute_from.ensures.line c.requires in
     rw (c.in_ok-push.ensures, c.pass.ensures, to_z-of_z w64 c.in_ok-left.left left_fits)
-    (lemmas.operator_taken whole c.compute_from.new.self.pending c.compute_from.new.self.line c.args.operator c.in_ok-left.left loose (rw c.level_of.ensures at left) stands)
+    (lemmas.operator_taken whole c.compute_from.new.self.pending c.compute_from.new.self.line c.args.operator c.in_ok-left.left loose
+    (rw c.level_of.ensures at left) stands)
 
 pub compute_from-requires-clause-low : goal.compute_from-requires-clause-low
 compute_from-requires-clause-low c = rw c.level_of.ensures (low_operator c.args.operator)

@@ -15,10 +15,12 @@ after_unsigned r r1 found e f =
 pub returns-in-Some-clause-value : goal.returns-in-Some-clause-value
 returns-in-Some-clause-value c =
     let l = after_unsigned _ _ _ c.take_suffix-unsigned.ensures.test c.take_suffix-unsigned.ensures.state in
-    ap (λ o. unless_refused o (integer_value (not (begins_with is_u (letters c.args.inner.now.rest))) c.args.word.now)) (c.in-Some.ensures.value ∙ ap (width_refusal is_s) l)
+    ap (λ o. unless_refused o (integer_value (not (begins_with is_u (letters c.args.inner.now.rest))) c.args.word.now))
+    (c.in-Some.ensures.value ∙ ap (width_refusal is_s) l)
 
 pub returns-clause-value : goal.returns-clause-value
 returns-clause-value c =
     let l = after_unsigned _ _ _ c.take_suffix-unsigned.ensures.test c.take_suffix-unsigned.ensures.state in
     c.read_integer.ensures ∙ ap (λ b. integer_value (not b) c.args.word.now) c.take_suffix-unsigned.ensures.test
-    ∙ ap (λ o. unless_refused o (integer_value (not (begins_with is_u (letters c.args.inner.now.rest))) c.args.word.now)) (c.in_default.ensures.value ∙ ap (width_refusal is_s) l)
+    ∙ ap (λ o. unless_refused o (integer_value (not (begins_with is_u (letters c.args.inner.now.rest))) c.args.word.now))
+    (c.in_default.ensures.value ∙ ap (width_refusal is_s) l)

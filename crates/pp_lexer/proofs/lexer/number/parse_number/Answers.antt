@@ -10,33 +10,41 @@ use Rattle.pp_lexer.proofs.lexer.number.parse_number.Goals as goal
 pub returns-then-is_float-clause-value : goal.returns-then-is_float-clause-value
 returns-then-is_float-clause-value c =
     let w : c.new-word.result ≡ take (longest is_number (letters c.args.inner.now.rest)) (letters c.args.inner.now.rest) =
-    c.new-word.ensures ∙ ap (λ r. take c.take_number-length.result (letters r.rest)) c.twin-start.ensures.same ∙ ap (λ n. take n (letters c.args.inner.now.rest)) c.take_number-length.ensures.length in
+    c.new-word.ensures ∙ ap (λ r. take c.take_number-length.result (letters r.rest)) c.twin-start.ensures.same
+    ∙ ap (λ n. take n (letters c.args.inner.now.rest)) c.take_number-length.ensures.length in
     let l = letters_after c.args.inner.now c.take_number-length.new.inner c.take_number-length.ensures.state in
-    let o = at_float (letters c.args.inner.now.rest) c.new-word.result (letters c.take_number-length.new.inner.rest) w l (sym c.is_float.ensures ∙ c.if-is_float.true) in
+    let o = at_float (letters c.args.inner.now.rest) c.new-word.result (letters c.take_number-length.new.inner.rest) w l
+    (sym c.is_float.ensures ∙ c.if-is_float.true) in
     subst (λ x. IsGiven c.finish_float.result x.value) o c.finish_float.ensures.value
 
 pub returns-then-is_float-clause-state : goal.returns-then-is_float-clause-state
 returns-then-is_float-clause-state c =
     let w : c.new-word.result ≡ take (longest is_number (letters c.args.inner.now.rest)) (letters c.args.inner.now.rest) =
-    c.new-word.ensures ∙ ap (λ r. take c.take_number-length.result (letters r.rest)) c.twin-start.ensures.same ∙ ap (λ n. take n (letters c.args.inner.now.rest)) c.take_number-length.ensures.length in
+    c.new-word.ensures ∙ ap (λ r. take c.take_number-length.result (letters r.rest)) c.twin-start.ensures.same
+    ∙ ap (λ n. take n (letters c.args.inner.now.rest)) c.take_number-length.ensures.length in
     let l = letters_after c.args.inner.now c.take_number-length.new.inner c.take_number-length.ensures.state in
-    let o = at_float (letters c.args.inner.now.rest) c.new-word.result (letters c.take_number-length.new.inner.rest) w l (sym c.is_float.ensures ∙ c.if-is_float.true) in
+    let o = at_float (letters c.args.inner.now.rest) c.new-word.result (letters c.take_number-length.new.inner.rest) w l
+    (sym c.is_float.ensures ∙ c.if-is_float.true) in
     after_suffix float_suffix_len c.new-word.result c.args.inner.now c.take_number-length.new.inner _ w c.take_number-length.ensures.state c.finish_float.ensures.state
     ∙ ap (λ x. advanced x.taken c.args.inner.now) o
 
 pub returns-clause-value : goal.returns-clause-value
 returns-clause-value c =
     let w : c.new-word.result ≡ take (longest is_number (letters c.args.inner.now.rest)) (letters c.args.inner.now.rest) =
-    c.new-word.ensures ∙ ap (λ r. take c.take_number-length.result (letters r.rest)) c.twin-start.ensures.same ∙ ap (λ n. take n (letters c.args.inner.now.rest)) c.take_number-length.ensures.length in
+    c.new-word.ensures ∙ ap (λ r. take c.take_number-length.result (letters r.rest)) c.twin-start.ensures.same
+    ∙ ap (λ n. take n (letters c.args.inner.now.rest)) c.take_number-length.ensures.length in
     let l = letters_after c.args.inner.now c.take_number-length.new.inner c.take_number-length.ensures.state in
-    let o = at_integer (letters c.args.inner.now.rest) c.new-word.result (letters c.take_number-length.new.inner.rest) w l (sym c.is_float.ensures ∙ c.if-is_float.false) in
+    let o = at_integer (letters c.args.inner.now.rest) c.new-word.result (letters c.take_number-length.new.inner.rest) w l
+    (sym c.is_float.ensures ∙ c.if-is_float.false) in
     inl (ap Ok (c.finish_integer.ensures.value ∙ ap (λ x. x.value) o))
 
 pub returns-clause-state : goal.returns-clause-state
 returns-clause-state c =
     let w : c.new-word.result ≡ take (longest is_number (letters c.args.inner.now.rest)) (letters c.args.inner.now.rest) =
-    c.new-word.ensures ∙ ap (λ r. take c.take_number-length.result (letters r.rest)) c.twin-start.ensures.same ∙ ap (λ n. take n (letters c.args.inner.now.rest)) c.take_number-length.ensures.length in
+    c.new-word.ensures ∙ ap (λ r. take c.take_number-length.result (letters r.rest)) c.twin-start.ensures.same
+    ∙ ap (λ n. take n (letters c.args.inner.now.rest)) c.take_number-length.ensures.length in
     let l = letters_after c.args.inner.now c.take_number-length.new.inner c.take_number-length.ensures.state in
-    let o = at_integer (letters c.args.inner.now.rest) c.new-word.result (letters c.take_number-length.new.inner.rest) w l (sym c.is_float.ensures ∙ c.if-is_float.false) in
+    let o = at_integer (letters c.args.inner.now.rest) c.new-word.result (letters c.take_number-length.new.inner.rest) w l
+    (sym c.is_float.ensures ∙ c.if-is_float.false) in
     after_suffix unsigned_suffix_len c.new-word.result c.args.inner.now c.take_number-length.new.inner _ w c.take_number-length.ensures.state c.finish_integer.ensures.state
     ∙ ap (λ x. advanced x.taken c.args.inner.now) o

@@ -26,7 +26,8 @@ returns-in-Some-clause-value c =
 pub returns-in-Some-clause-state : goal.returns-in-Some-clause-state
 returns-in-Some-clause-state c =
     let o = at_punct _ _ (sym c.is_next.ensures.test ∙ c.if-is_next.false) (c.in-Some.ensures.value ∙ ap sought c.is_next.ensures.same) in
-    c.in-Some.ensures.state ∙ ap (λ r. advanced (longest is_punctuator (letters r.rest)) r) c.is_next.ensures.same ∙ ap (λ x. advanced x.taken c.args.inner.now) (sym o)
+    c.in-Some.ensures.state ∙ ap (λ r. advanced (longest is_punctuator (letters r.rest)) r) c.is_next.ensures.same
+    ∙ ap (λ x. advanced x.taken c.args.inner.now) (sym o)
 
 pub returns-clause-value : goal.returns-clause-value
 returns-clause-value c =
@@ -40,5 +41,6 @@ returns-clause-state c =
     c.in_default.ensures.state ∙ ap (λ r. advanced (longest is_punctuator (letters r.rest)) r) c.is_next.ensures.same
     ∙ ap (λ n. advanced n c.args.inner.now) (none_passed (letters c.args.inner.now.rest) f) ∙ advanced-zero c.args.inner.now in
     let one : c.next_char-2.new.self ≡ advanced 1 c.args.inner.now = c.next_char-2.ensures.state ∙ ap after_first still ∙ after_first-one c.args.inner.now in
-    let two : c.next_char-3.new.self ≡ advanced 2 c.args.inner.now = c.next_char-3.ensures.state ∙ ap after_first one ∙ after_first-advanced 1 c.args.inner.now in
+    let two : c.next_char-3.new.self ≡ advanced 2 c.args.inner.now = c.next_char-3.ensures.state ∙ ap after_first one
+    ∙ after_first-advanced 1 c.args.inner.now in
     c.next_char-4.ensures.state ∙ ap after_first two ∙ after_first-advanced 2 c.args.inner.now ∙ ap (λ x. advanced x.taken c.args.inner.now) (sym o)

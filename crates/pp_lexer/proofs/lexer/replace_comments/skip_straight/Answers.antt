@@ -11,7 +11,8 @@ range_from-requires c = λ some.
     let n = c.straight_length-count.result in
     let u : IsUtf8 text = subst IsUtf8 c.as_bytes-bytes.ensures.value c.as_bytes-bytes.ensures.utf8 in
     let le : n ≤ length text = omega (arith, ap length c.as_bytes-bytes.ensures.value) in
-    let passes : list_all is_straight (take n text) ≡ true = ap (λ t. list_all is_straight (take n t)) (sym c.as_bytes-bytes.ensures.value) ∙ c.straight_length-count.ensures.passes in
+    let passes : list_all is_straight (take n text) ≡ true = ap (λ t. list_all is_straight (take n t)) (sym c.as_bytes-bytes.ensures.value)
+    ∙ c.straight_length-count.ensures.passes in
     cut_after_straight n text u some le passes
 
 pub returns-clause-state : goal.returns-clause-state
@@ -20,7 +21,8 @@ returns-clause-state c =
     let n = c.straight_length-count.result in
     let u : IsUtf8 text = subst IsUtf8 c.as_bytes-bytes.ensures.value c.as_bytes-bytes.ensures.utf8 in
     let le : n ≤ length text = omega (arith, ap length c.as_bytes-bytes.ensures.value) in
-    let passes : list_all is_straight (take n text) ≡ true = ap (λ t. list_all is_straight (take n t)) (sym c.as_bytes-bytes.ensures.value) ∙ c.straight_length-count.ensures.passes in
+    let passes : list_all is_straight (take n text) ≡ true = ap (λ t. list_all is_straight (take n t)) (sym c.as_bytes-bytes.ensures.value)
+    ∙ c.straight_length-count.ensures.passes in
     straight_passed c.args.inner.now c.at.result c.left-left.result.line c.left-left.result.at n text c.range_from.result.now u le passes c.left-left.ensures.value c.range_from.ensures.value c.at.ensures
 
 pub returns-clause-forward : goal.returns-clause-forward

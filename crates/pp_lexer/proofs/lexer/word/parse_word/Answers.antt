@@ -29,14 +29,16 @@ returns-then-begins_identifier-clause-value c =
     let here : begins_identifier (letters c.args.inner.now.rest) ≡ true =
     ap (λ r. begins_identifier (letters r.rest)) (sym c.is_next.ensures.same) ∙ sym c.begins_identifier.ensures.test ∙ c.if-begins_identifier.true in
     let same = c.begins_identifier.ensures.same ∙ c.is_next.ensures.same in
-    inl (ap (λ t. Ok (Ok (Ident t))) (c.in_ok-name.ensures.text ∙ ap (λ r. take (longest is_identifier (letters r.rest)) (letters r.rest)) same) ∙ ap (λ x. Ok x.value) (sym (identifier_first _ here)))
+    inl (ap (λ t. Ok (Ok (Ident t))) (c.in_ok-name.ensures.text ∙ ap (λ r. take (longest is_identifier (letters r.rest)) (letters r.rest)) same)
+    ∙ ap (λ x. Ok x.value) (sym (identifier_first _ here)))
 
 pub returns-then-begins_identifier-clause-state : goal.returns-then-begins_identifier-clause-state
 returns-then-begins_identifier-clause-state c =
     let here : begins_identifier (letters c.args.inner.now.rest) ≡ true =
     ap (λ r. begins_identifier (letters r.rest)) (sym c.is_next.ensures.same) ∙ sym c.begins_identifier.ensures.test ∙ c.if-begins_identifier.true in
     let same = c.begins_identifier.ensures.same ∙ c.is_next.ensures.same in
-    c.in_ok-name.ensures.state ∙ ap (λ r. advanced (longest is_identifier (letters r.rest)) r) same ∙ ap (λ x. advanced x.taken c.args.inner.now) (sym (identifier_first _ here))
+    c.in_ok-name.ensures.state ∙ ap (λ r. advanced (longest is_identifier (letters r.rest)) r) same
+    ∙ ap (λ x. advanced x.taken c.args.inner.now) (sym (identifier_first _ here))
 
 pub returns-in_err-name-clause-value : goal.returns-in_err-name-clause-value
 returns-in_err-name-clause-value c =
@@ -47,23 +49,27 @@ returns-in_err-name-clause-value c =
 pub returns-then-begins_number-clause-value : goal.returns-then-begins_number-clause-value
 returns-then-begins_number-clause-value c =
     let there = c.begins_identifier.ensures.same ∙ c.is_next.ensures.same in
-    let here : begins_number (letters c.args.inner.now.rest) ≡ true = ap (λ r. begins_number (letters r.rest)) (sym there) ∙ sym c.begins_number.ensures.test ∙ c.if-begins_number.true in
+    let here : begins_number (letters c.args.inner.now.rest) ≡ true = ap (λ r. begins_number (letters r.rest)) (sym there)
+    ∙ sym c.begins_number.ensures.test ∙ c.if-begins_number.true in
     let same = c.begins_number.ensures.same ∙ there in
     subst (λ x. IsGiven c.parse_number.result x.value) (ap (λ r. number_at (letters r.rest)) same ∙ sym (number_first _ here)) c.parse_number.ensures.value
 
 pub returns-then-begins_number-clause-state : goal.returns-then-begins_number-clause-state
 returns-then-begins_number-clause-state c =
     let there = c.begins_identifier.ensures.same ∙ c.is_next.ensures.same in
-    let here : begins_number (letters c.args.inner.now.rest) ≡ true = ap (λ r. begins_number (letters r.rest)) (sym there) ∙ sym c.begins_number.ensures.test ∙ c.if-begins_number.true in
+    let here : begins_number (letters c.args.inner.now.rest) ≡ true = ap (λ r. begins_number (letters r.rest)) (sym there)
+    ∙ sym c.begins_number.ensures.test ∙ c.if-begins_number.true in
     let same = c.begins_number.ensures.same ∙ there in
-    on_ok c.parse_number.result _ (c.parse_number.ensures.state ∙ ap (λ r. advanced (number_at (letters r.rest)).taken r) same ∙ ap (λ x. advanced x.taken c.args.inner.now) (sym (number_first _ here)))
+    on_ok c.parse_number.result _ (c.parse_number.ensures.state ∙ ap (λ r. advanced (number_at (letters r.rest)).taken r) same
+    ∙ ap (λ x. advanced x.taken c.args.inner.now) (sym (number_first _ here)))
 
 pub returns-clause-value : goal.returns-clause-value
 returns-clause-value c =
     let there = c.begins_identifier.ensures.same ∙ c.is_next.ensures.same in
     let identifier : begins_identifier (letters c.args.inner.now.rest) ≡ false =
     ap (λ r. begins_identifier (letters r.rest)) (sym c.is_next.ensures.same) ∙ sym c.begins_identifier.ensures.test ∙ c.if-begins_identifier.false in
-    let number : begins_number (letters c.args.inner.now.rest) ≡ false = ap (λ r. begins_number (letters r.rest)) (sym there) ∙ sym c.begins_number.ensures.test ∙ c.if-begins_number.false in
+    let number : begins_number (letters c.args.inner.now.rest) ≡ false = ap (λ r. begins_number (letters r.rest)) (sym there)
+    ∙ sym c.begins_number.ensures.test ∙ c.if-begins_number.false in
     let same = c.begins_number.ensures.same ∙ there in
     let o = other_first _ (sym c.is_next.ensures.test ∙ c.if-is_next.false) identifier number in
     inl (ap Ok (c.parse_punctuation.ensures.value ∙ ap (λ r. (punctuation_at (letters r.rest)).value) same ∙ ap (λ x. x.value) (sym o)))
@@ -73,7 +79,8 @@ returns-clause-state c =
     let there = c.begins_identifier.ensures.same ∙ c.is_next.ensures.same in
     let identifier : begins_identifier (letters c.args.inner.now.rest) ≡ false =
     ap (λ r. begins_identifier (letters r.rest)) (sym c.is_next.ensures.same) ∙ sym c.begins_identifier.ensures.test ∙ c.if-begins_identifier.false in
-    let number : begins_number (letters c.args.inner.now.rest) ≡ false = ap (λ r. begins_number (letters r.rest)) (sym there) ∙ sym c.begins_number.ensures.test ∙ c.if-begins_number.false in
+    let number : begins_number (letters c.args.inner.now.rest) ≡ false = ap (λ r. begins_number (letters r.rest)) (sym there)
+    ∙ sym c.begins_number.ensures.test ∙ c.if-begins_number.false in
     let same = c.begins_number.ensures.same ∙ there in
     let o = other_first _ (sym c.is_next.ensures.test ∙ c.if-is_next.false) identifier number in
     c.parse_punctuation.ensures.state ∙ ap (λ r. advanced (punctuation_at (letters r.rest)).taken r) same ∙ ap (λ x. advanced x.taken c.args.inner.now) (sym o)

@@ -9,7 +9,9 @@ returns-in_default-clause-finds g c =
 
 pub returns-in_ok-arguments-in-Ok-clause-finds : goal.returns-in_ok-arguments-in-Ok-clause-finds
 returns-in_ok-arguments-in-Ok-clause-finds g c =
-    whole c.in-Ok.gathered _ _ _ _ _ (rw c.in-Some.is at c.in_ok-paren.ensures.takes) (rw c.in-Ok.is at c.in_ok-gathered.ensures.gathers) (ap (λ (e : Gathered). e.closing.line) c.gathered.view_is) (c.in_ok-arguments-in-Ok.ensures ∙ ap (λ (e : Gathered). arguments_of e.tokens) c.gathered.view_is) refl
+    whole c.in-Ok.gathered _ _ _ _ _ (rw c.in-Some.is at c.in_ok-paren.ensures.takes) (rw c.in-Ok.is at c.in_ok-gathered.ensures.gathers)
+    (ap (λ (e : Gathered). e.closing.line) c.gathered.view_is)
+    (c.in_ok-arguments-in-Ok.ensures ∙ ap (λ (e : Gathered). arguments_of e.tokens) c.gathered.view_is) refl
 
 pub returns-in-Err-clause-finds : goal.returns-in-Err-clause-finds
 returns-in-Err-clause-finds g c =

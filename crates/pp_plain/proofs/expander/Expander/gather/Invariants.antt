@@ -8,7 +8,9 @@ use Rattle.pp_plain.proofs.expander.Expander.gather.Given as goal
 
 abbrev pub invariant-tokens : goal.invariant-tokens
 invariant-tokens g l = record {
-  goes_on : (rest : Result Gathered Fault) (end : Expander g.R.Reader.State) → Gathers g.R.Reader.reading l.depth l.last (seen g.R.Reader.state l.self) rest end → Gathers g.R.Reader.reading 0 l.fn.paren (seen g.R.Reader.state l.initial.self) (after_tokens l.tokens.items rest) end;
+  goes_on : (rest : Result Gathered Fault) (end : Expander g.R.Reader.State)
+      → Gathers g.R.Reader.reading l.depth l.last (seen g.R.Reader.state l.self) rest end
+      → Gathers g.R.Reader.reading 0 l.fn.paren (seen g.R.Reader.state l.initial.self) (after_tokens l.tokens.items rest) end;
   spent : l.budget.steps ≤ l.initial.budget.steps;
 }
 

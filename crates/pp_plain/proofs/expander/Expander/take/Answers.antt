@@ -5,7 +5,8 @@ use Rattle.pp_plain.proofs.expander.Expander.take.Goals as goal
 
 pub returns-in-Some-clause-takes : goal.returns-in-Some-clause-takes
 returns-in-Some-clause-takes g c =
-    takes_held g.R.Reader.reading c.in-Some.outcome c.args.self.now.held c.take.new.self c.args.self.now.list.items (g.R.Reader.state c.args.self.now.reader) c.args.self.now.hidden.items (sym c.take.ensures.value ∙ c.in-Some.is) c.take.ensures.after
+    takes_held g.R.Reader.reading c.in-Some.outcome c.args.self.now.held c.take.new.self c.args.self.now.list.items
+    (g.R.Reader.state c.args.self.now.reader) c.args.self.now.hidden.items (sym c.take.ensures.value ∙ c.in-Some.is) c.take.ensures.after
 
 pub returns-in-Some-take_token-clause-takes : goal.returns-in-Some-take_token-clause-takes
 returns-in-Some-take_token-clause-takes g c =

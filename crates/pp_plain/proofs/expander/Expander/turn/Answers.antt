@@ -9,4 +9,5 @@ returns-in-Ok-None-clause-turns g c =
 
 pub returns-in-Ok-Some-clause-turns : goal.returns-in-Ok-Some-clause-turns
 returns-in-Ok-Some-clause-turns g c =
-    IfOk-weaker c.turn_at.result _ _ (λ turn h. opens c.in_ok-taken.taken c.in-Ok-Some.opening turn _ _ _ c.in_ok-taken.ensures.takes (sym (rw c.in-Ok-Some.field-0-is at c.in-Ok-Some.ensures)) h) c.turn_at.ensures.turns
+    IfOk-weaker c.turn_at.result _ _ (λ turn h. opens c.in_ok-taken.taken c.in-Ok-Some.opening turn _ _ _ c.in_ok-taken.ensures.takes
+    (sym (rw c.in-Ok-Some.field-0-is at c.in-Ok-Some.ensures)) h) c.turn_at.ensures.turns

@@ -9,7 +9,8 @@ use Rattle.pp_plain.proofs.source.SourceReaderImpl.read.Given as goal
 -- what is read from here on is what was to be read from the start
 abbrev pub invariant-lines : goal.invariant-lines
 invariant-lines l = record {
-  goes_on : (o : Outcome) (t : SourceReader) → Reads (answers_at expansion_limit) (reader_of l.self.reader) o t → Reads (answers_at expansion_limit) (reader_of l.initial.self.reader) o t;
+  goes_on : (o : Outcome) (t : SourceReader) → Reads (answers_at expansion_limit) (reader_of l.self.reader) o t
+      → Reads (answers_at expansion_limit) (reader_of l.initial.self.reader) o t;
   spent : l.budget.steps ≤ l.initial.budget.steps;
 }
 

@@ -13,14 +13,20 @@ reply_to-requires-clause-unspent c = c.loop-call.invariant.unspent
 pub returns-then-is_last : goal.returns-then-is_last
 returns-then-is_last c =
     let i = c.loop-call.call-index in
-    replied_last c.args.source.now (map call_of (take i c.args.calls.now)) _ c.loop-call.replies.items c.in_ok-reply.reply c.loop-call.pp c.reply_to.new.pp c.loop-call.invariant (map call_of c.args.calls.now) (map call_of (drop (i + 1) c.args.calls.now)) c.push.new.self.items
-    (c.in_ok-reply.ensures {u = tt}) (sym c.ends_run-is_last.ensures ∙ c.if-is_last.true) (calls_cut c.args.calls.now i _ c.loop-call-test.true) (c.in_ok-push.ensures {u = tt}).items
+    replied_last c.args.source.now
+    (map call_of (take i c.args.calls.now)) _ c.loop-call.replies.items c.in_ok-reply.reply c.loop-call.pp c.reply_to.new.pp c.loop-call.invariant (map call_of c.args.calls.now) (map call_of (drop (i + 1) c.args.calls.now)) c.push.new.self.items
+    (c.in_ok-reply.ensures {u = tt}) (sym c.ends_run-is_last.ensures ∙ c.if-is_last.true) (calls_cut c.args.calls.now i _ c.loop-call-test.true)
+    (c.in_ok-push.ensures {u = tt}).items
 
 pub loop-call-preserved : goal.loop-call-preserved
 loop-call-preserved c =
     let i = c.loop-call.call-index in
-    replied_more c.args.source.now (map call_of (take i c.args.calls.now)) _ c.loop-call.replies.items c.in_ok-reply.reply c.loop-call.pp c.reply_to.new.pp c.loop-call.invariant (map call_of (take (i + 1) c.args.calls.now)) c.push.new.self.items
-    (c.in_ok-reply.ensures {u = tt}) (sym c.ends_run-is_last.ensures ∙ c.if-is_last.false) (calls_more c.args.calls.now i _ c.loop-call-test.true) (c.in_ok-push.ensures {u = tt}).items
+    replied_more c.args.source.now
+    (map call_of (take i c.args.calls.now)) _ c.loop-call.replies.items c.in_ok-reply.reply c.loop-call.pp c.reply_to.new.pp c.loop-call.invariant (map call_of (take (i + 1) c.args.calls.now)) c.push.new.self.items
+    (c.in_ok-reply.ensures {u = tt}) (sym c.ends_run-is_last.ensures ∙ c.if-is_last.false) (calls_more c.args.calls.now i _ c.loop-call-test.true)
+    (c.in_ok-push.ensures {u = tt}).items
 
 pub returns : goal.returns
-returns c = replied_all c.args.source.now (map call_of c.args.calls.now) (map call_of (take c.loop-call.call-index c.args.calls.now)) c.loop-call.replies.items c.loop-call.pp c.loop-call.invariant (ap (map call_of) (sym (take_all c.loop-call.call-index c.args.calls.now (omega (arith, c.loop-call-test.false)))))
+returns c = replied_all c.args.source.now (map call_of c.args.calls.now)
+    (map call_of (take c.loop-call.call-index c.args.calls.now)) c.loop-call.replies.items c.loop-call.pp c.loop-call.invariant
+    (ap (map call_of) (sym (take_all c.loop-call.call-index c.args.calls.now (omega (arith, c.loop-call-test.false)))))

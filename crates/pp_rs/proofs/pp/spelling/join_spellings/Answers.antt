@@ -21,7 +21,8 @@ pub loop-token-preserved : goal.loop-token-preserved
 loop-token-preserved c =
     let p = c.in_ok-push.ensures {u = tt} in
     let k = c.in_ok-push_value-2.ensures {u = tt} in
-    spelled_more _ _ c.in-Some.others.now c.loop-token.token-index c.loop-token.invariant _ _ _ (IsUtf8-string_bytes c.loop-token.text) (omega arith) c.token-item.is
+    spelled_more _ _ c.in-Some.others.now c.loop-token.token-index c.loop-token.invariant _ _ _ (IsUtf8-string_bytes c.loop-token.text)
+    (omega arith) c.token-item.is
     (p.bytes ∙ ap (λ t. string_bytes c.loop-token.text ++ t) (p.ascii (omega arith))) k
 
 pub returns : goal.returns

@@ -8,7 +8,8 @@ pub returns-in_ok-push : goal.returns-in_ok-push
 returns-in_ok-push c =
     let h = c.in_ok-write.ensures {u = tt} in
     let k = c.in_ok-push.ensures {u = tt} in
-    unsigned-pushed c.args.integer _ _ (IsUtf8-string_bytes c.args.text.now) (search rules) h.bytes _ (IsUtf8-string_bytes c.write.new.self) c.if-not-integer.true (k.bytes ∙ ap (λ t. string_bytes c.write.new.self ++ t) (k.ascii (omega arith)))
+    unsigned-pushed c.args.integer _ _ (IsUtf8-string_bytes c.args.text.now) (search rules) h.bytes _
+    (IsUtf8-string_bytes c.write.new.self) c.if-not-integer.true (k.bytes ∙ ap (λ t. string_bytes c.write.new.self ++ t) (k.ascii (omega arith)))
 
 pub returns-else-not-integer : goal.returns-else-not-integer
 returns-else-not-integer c =

@@ -14,4 +14,5 @@ returns-clause-acts c =
     let p = c.self.inside in
     let e = c.in_ok-line.ensures in
     rw (← c.self.view_is)
-    (define_acts p.definitions p.blocks p.line_offset p.has_text p.has_directive p.lexer c.define_line.new.lexer c.args.word (named c.in_ok-line.line) c.add.result c.add.new.self e.is e.takes c.add.ensures.acts)
+    (define_acts p.definitions p.blocks p.line_offset p.has_text p.has_directive p.lexer c.define_line.new.lexer c.args.word
+    (named c.in_ok-line.line) c.add.result c.add.new.self e.is e.takes c.add.ensures.acts)

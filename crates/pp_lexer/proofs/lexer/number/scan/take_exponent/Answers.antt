@@ -6,10 +6,12 @@ use Rattle.pp_lexer.proofs.numbers.ScanLemmas.{then_takes, either_then, either_s
 use Rattle.pp_lexer.proofs.lexer.number.scan.take_exponent.Goals as goal
 
 pub returns-then-not-take_either : goal.returns-then-not-take_either
-returns-then-not-take_either c = either_stop exponent is_e _ _ _ c.take_either.ensures.test c.take_either.ensures.moved c.if-not-take_either.true (exponent_none _)
+returns-then-not-take_either c = either_stop exponent is_e _ _ _ c.take_either.ensures.test c.take_either.ensures.moved c.if-not-take_either.true
+    (exponent_none _)
 
 pub returns : goal.returns
 returns c =
     either_then exponent signed_digits is_e _ _ _ _ c.take_either.ensures.test c.take_either.ensures.moved c.if-not-take_either.false (exponent_len _)
-    (then_takes signed_digits digits (if c.take_either-2.result then 1 else 0) _ _ _ (signed_after _ _ c.take_either-2.ensures.test) c.take_either-2.ensures.moved
+    (then_takes signed_digits digits (if c.take_either-2.result then 1 else 0) _ _ _
+    (signed_after _ _ c.take_either-2.ensures.test) c.take_either-2.ensures.moved
     (all_taken is_decimal _ _ c.take_digits.ensures))

@@ -15,4 +15,5 @@ returns-then-not-take_char c =
 pub returns : goal.returns
 returns c =
     then_takes (many is_hex hex_tail) hex_tail (front_len is_hex (upcoming c.args.text.now)) _ _ _ (hex_len _) c.take_digits.ensures
-    (either_then hex_tail fraction is_point _ _ _ _ c.take_char.ensures.test c.take_char.ensures.moved c.if-not-take_char.false (hex_tail_len _) c.take_fraction.ensures)
+    (either_then hex_tail fraction is_point _ _ _ _ c.take_char.ensures.test c.take_char.ensures.moved c.if-not-take_char.false
+    (hex_tail_len _) c.take_fraction.ensures)

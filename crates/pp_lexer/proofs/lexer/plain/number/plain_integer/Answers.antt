@@ -10,7 +10,8 @@ returns-then-ends_number c =
       | else-bytes-eq48-via-then-bytes-eq48+else-digits-gt1 w ↦ λ e. omega arith
       | else-bytes-eq48-via-else-bytes-eq48 w ↦ λ e. omega arith
     ] in
-    plain_integer c.args.bytes.now c.args.digits c.in_ok-value.value c.requires.utf8 (omega arith) c.requires.within c.requires.digits octal (omega arith) (sym c.in_ok-value.ensures)
+    plain_integer c.args.bytes.now c.args.digits c.in_ok-value.value c.requires.utf8 (omega arith) c.requires.within c.requires.digits octal
+    (omega arith) (sym c.in_ok-value.ensures)
     (c.ends_number.ensures c.if-ends_number.true)
 
 pub returns-then-ends_in_suffix : goal.returns-then-ends_in_suffix
@@ -20,5 +21,6 @@ returns-then-ends_in_suffix c =
       | else-bytes-eq48-via-then-bytes-eq48+else-digits-gt1 w ↦ λ e. omega arith
       | else-bytes-eq48-via-else-bytes-eq48 w ↦ λ e. omega arith
     ] in
-    plain_unsigned c.args.bytes.now c.args.digits c.in_ok-value.value c.requires.utf8 (omega arith) c.requires.within c.requires.digits octal (omega arith) (sym c.in_ok-value.ensures)
+    plain_unsigned c.args.bytes.now c.args.digits c.in_ok-value.value c.requires.utf8 (omega arith) c.requires.within c.requires.digits octal
+    (omega arith) (sym c.in_ok-value.ensures)
     (c.ends_in_suffix.ensures c.if-ends_in_suffix.true)

@@ -11,7 +11,8 @@ returns-then-ends_number c =
     let m = c.digits_length-fraction.result in
     let rest : take (length bytes - from) (drop from bytes) ≡ drop from bytes = length_whole from bytes in
     let within : m ≤ length (drop from bytes) = omega (arith, c.digits_length-fraction.ensures.within, ap length rest) in
-    let passes : list_all is_decimal (take m (drop from bytes)) ≡ true = ap (λ t. list_all is_decimal (take m t)) (sym rest) ∙ c.digits_length-fraction.ensures.passes in
+    let passes : list_all is_decimal (take m (drop from bytes)) ≡ true = ap (λ t. list_all is_decimal (take m t)) (sym rest)
+    ∙ c.digits_length-fraction.ensures.passes in
     plain_float bytes c.digits_length-whole.result m c.requires (omega arith) (omega arith) c.digits_length-whole.ensures.passes within passes (omega arith)
     (c.ends_number.ensures c.if-ends_number.true)
 
@@ -22,6 +23,7 @@ returns-then-ends_in_suffix c =
     let m = c.digits_length-fraction.result in
     let rest : take (length bytes - from) (drop from bytes) ≡ drop from bytes = length_whole from bytes in
     let within : m ≤ length (drop from bytes) = omega (arith, c.digits_length-fraction.ensures.within, ap length rest) in
-    let passes : list_all is_decimal (take m (drop from bytes)) ≡ true = ap (λ t. list_all is_decimal (take m t)) (sym rest) ∙ c.digits_length-fraction.ensures.passes in
+    let passes : list_all is_decimal (take m (drop from bytes)) ≡ true = ap (λ t. list_all is_decimal (take m t)) (sym rest)
+    ∙ c.digits_length-fraction.ensures.passes in
     plain_suffixed bytes c.digits_length-whole.result m c.requires (omega arith) (omega arith) c.digits_length-whole.ensures.passes within passes (omega arith)
     (c.ends_in_suffix.ensures c.if-ends_in_suffix.true)

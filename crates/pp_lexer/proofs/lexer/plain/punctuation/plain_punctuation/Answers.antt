@@ -18,4 +18,5 @@ pub returns-in-None : goal.returns-in-None
 returns-in-None c =
     let one : punct_of (get_or c.args.bytes.now 0 0 ∷ []) ≡ Some c.in_ok-one.one = single_is (get_or c.args.bytes.now 0 0) ∙ sym c.in_ok-one.ensures in
     single_word c.args.bytes.now c.in_ok-one.one c.requires.utf8 c.requires.some one
-    (stops_single c.args.bytes.now (c.ends_plainly.ensures c.if-not-ends_plainly.false) (λ l. sym c.pair.ensures ∙ c.in-None.is) (λ l. sym c.begins_other.ensures ∙ c.if-begins_other.false))
+    (stops_single c.args.bytes.now (c.ends_plainly.ensures c.if-not-ends_plainly.false)
+    (λ l. sym c.pair.ensures ∙ c.in-None.is) (λ l. sym c.begins_other.ensures ∙ c.if-begins_other.false))

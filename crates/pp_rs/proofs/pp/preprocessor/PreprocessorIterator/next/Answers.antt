@@ -26,10 +26,13 @@ pub invariant_of-self : goal.invariant_of-self
 invariant_of-self c = λ e. token_fits _ _ _ _ _ _ c.loop-token.invariant.reached c.in-Ok.token c.in-Ok.ensures.turns
 
 pub invariant_of-self-in-Err-Finished : goal.invariant_of-self-in-Err-Finished
-invariant_of-self-in-Err-Finished c = λ e. end_fits _ _ _ _ _ _ c.loop-token.invariant.reached (rw c.in-Err-Finished.field-0-is at c.in-Err-Finished.ensures.turns)
+invariant_of-self-in-Err-Finished c = λ e. end_fits _ _ _ _ _ _ c.loop-token.invariant.reached
+    (rw c.in-Err-Finished.field-0-is at c.in-Err-Finished.ensures.turns)
 
 pub invariant_of-self-in-Err-Error : goal.invariant_of-self-in-Err-Error
-invariant_of-self-in-Err-Error c = λ e. fault_fits _ _ _ _ _ _ c.loop-token.invariant.reached c.in-Err-Error.error c.take_error_place.new.self c.take_error_place.ensures.others (rw c.in-Err-Error.field-0-is at c.in-Err-Error.ensures.turns) (sym c.is_out_of_memory-self-inside.ensures ∙ e)
+invariant_of-self-in-Err-Error c =
+    λ e. fault_fits _ _ _ _ _ _ c.loop-token.invariant.reached c.in-Err-Error.error c.take_error_place.new.self c.take_error_place.ensures.others
+    (rw c.in-Err-Error.field-0-is at c.in-Err-Error.ensures.turns) (sym c.is_out_of_memory-self-inside.ensures ∙ e)
 
 pub returns-then-self-clause-steps : goal.returns-then-self-clause-steps
 returns-then-self-clause-steps c = next_none c.args.self.now (ap (λ p. p.spent) (sym c.self.view_is) ∙ c.if-self.true)
@@ -54,7 +57,9 @@ pub returns-in-Err-Error-clause-steps : goal.returns-in-Err-Error-clause-steps
 returns-in-Err-Error-clause-steps c =
     let fresh : c.args.self.now.spent ≡ false = ap (λ p. p.spent) (sym c.self.view_is) ∙ c.if-self.false in
     let error = c.in-Err-Error.error in
-    let at = c.unwrap_or-self-inside.ensures ∙ ap (λ (o : Option Location). unwrap_or o c.place_refusal-error.result.1) c.take_error_place.ensures.place ∙ ap (λ (e : Fault). unwrap_or c.turn_source.new.source.error_place e.1) c.place_refusal-error.ensures in
+    let at = c.unwrap_or-self-inside.ensures
+    ∙ ap (λ (o : Option Location). unwrap_or o c.place_refusal-error.result.1) c.take_error_place.ensures.place
+    ∙ ap (λ (e : Fault). unwrap_or c.turn_source.new.source.error_place e.1) c.place_refusal-error.ensures in
     rw (c.place_refusal-error.ensures, c.is_out_of_memory-self-inside.ensures)
     (next_error _ _ _ _ _ _ c.loop-token.invariant.reached c.args.self.now fresh refl refl error c.take_error_place.new.self c.unwrap_or-self-inside.result c.take_error_place.ensures.others (is_out_of_memory error.0) refl (rw c.in-Err-Error.field-0-is at c.in-Err-Error.ensures.turns) at)
 
@@ -62,6 +67,8 @@ pub returns-in-Err-Error-clause-goes : goal.returns-in-Err-Error-clause-goes
 returns-in-Err-Error-clause-goes c =
     let fresh : c.args.self.now.spent ≡ false = ap (λ p. p.spent) (sym c.self.view_is) ∙ c.if-self.false in
     let error = c.in-Err-Error.error in
-    let at = c.unwrap_or-self-inside.ensures ∙ ap (λ (o : Option Location). unwrap_or o c.place_refusal-error.result.1) c.take_error_place.ensures.place ∙ ap (λ (e : Fault). unwrap_or c.turn_source.new.source.error_place e.1) c.place_refusal-error.ensures in
+    let at = c.unwrap_or-self-inside.ensures
+    ∙ ap (λ (o : Option Location). unwrap_or o c.place_refusal-error.result.1) c.take_error_place.ensures.place
+    ∙ ap (λ (e : Fault). unwrap_or c.turn_source.new.source.error_place e.1) c.place_refusal-error.ensures in
     let next = next_error _ _ _ _ _ _ c.loop-token.invariant.reached c.args.self.now fresh refl refl error c.take_error_place.new.self c.unwrap_or-self-inside.result c.take_error_place.ensures.others (is_out_of_memory error.0) refl (rw c.in-Err-Error.field-0-is at c.in-Err-Error.ensures.turns) at in
     record { on = λ finite. (tt, tt, rw c.is_out_of_memory-self-inside.ensures next.less_left); keeps = tt; rests = λ finite. tt }
