@@ -47,17 +47,23 @@ fn show_requirements(
 // Prints a `#version` with its number, or an `#extension` with its name.
 fn show_requirement(rt: &impl Print, token: &Token) -> io::Result<()> {
     let line = token.location.line;
-    let (kind, tokens) = match &token.value {
-        TokenValue::Version(version) => ("version", version.tokens.as_slice()),
-        TokenValue::Extension(extension) => ("extension", extension.tokens.as_slice()),
-        _ => return Ok(()),
-    };
-    let Some(first) = tokens.first() else {
-        return println!(rt; "line {}: {}", line, kind);
-    };
-    match &first.value {
-        TokenValue::Ident(name) => println!(rt; "line {}: {} {}", line, kind, name.as_str()),
-        TokenValue::Integer(number) => println!(rt; "line {}: {} {}", line, kind, number.value),
-        _ => println!(rt; "line {}: {}", line, kind),
+    match &token.value {
+        TokenValue::Version(version) => show_version(rt, line, version.tokens.as_slice()),
+        TokenValue::Extension(extension) => show_extension(rt, line, extension.tokens.as_slice()),
+        _ => Ok(()),
+    }
+}
+
+fn show_version(rt: &impl Print, line: u32, tokens: &[Token]) -> io::Result<()> {
+    match tokens.first().map(|token| &token.value) {
+        Some(TokenValue::Integer(number)) => println!(rt; "line {line}: version {}", number.value),
+        _ => println!(rt; "line {line}: version"),
+    }
+}
+
+fn show_extension(rt: &impl Print, line: u32, tokens: &[Token]) -> io::Result<()> {
+    match tokens.first().map(|token| &token.value) {
+        Some(TokenValue::Ident(name)) => println!(rt; "line {line}: extension {}", name.as_str()),
+        _ => println!(rt; "line {line}: extension"),
     }
 }
