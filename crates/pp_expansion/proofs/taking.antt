@@ -11,4 +11,5 @@ pub mod ListedLeadsLemmas
 pub mod ListLeadsLemmas
 pub mod AnswerLemmas
 pub mod SeekLemmas
+pub mod FrameTurnLemmas
 pub mod ListedLemmas

@@ -12,6 +12,7 @@ pub mod Frames
 pub mod OpenNames
 pub mod OpenAround
 pub mod Turns
+pub mod Ahead
 pub mod Work
 pub mod LineReading
 pub mod Reach

@@ -1,11 +1,11 @@
 //! Calls of function-like macros: taking, and the search for their arguments.
 
-ghost use Rattle.std.specs.Prelude.{◌≡◌, ◌⊎◌, ◌∷◌, ◌++◌, [], OnOk, ℕ, Bool, true, false, All, IfOk, IfSome, MatchResult, Ok, Err, Some, None, IsSome, option_map};
+ghost use Rattle.std.specs.Prelude.{◌≡◌, ◌⊎◌, ◌∷◌, ◌++◌, [], OnOk, ℕ, Bool, true, false, All, IfOk, IfSome, MatchResult, Ok, Err, Some, None, IsSome, is_some, option_map};
 ghost use Rattle.pp_lexer.specs.PreprocessorError.{out_of_memory};
 ghost use Rattle.pp_model.specs.Calls.{is_left_paren, is_right_paren, nesting};
 ghost use Rattle.pp_expansion.specs.inner.CallNesting.{nesting_named};
 ghost use Rattle.pp_expansion.specs.inner.Seeking.{FindsBy, Enters, FollowsToken};
-ghost use Rattle.pp_expansion.specs.inner.Frames.{layer, names_of};
+ghost use Rattle.pp_expansion.specs.inner.Frames.{layer, names_of, outermost_frame_line};
 ghost use Rattle.pp_expansion.specs.Held.{HoldsOrdinary, AllHoldOrdinary};
 ghost use Rattle.pp_expansion.specs.inner.Idle.{is_idle};
 ghost use Rattle.pp_expansion.specs.inner.CallTurns.{TurnsOrRefuses, is_refusal, paren_of, TakenHoldsOrdinary};
@@ -15,8 +15,8 @@ ghost use Rattle.pp_lexer.specs.declared.token.TokenValue.TheVariants as value;
 ghost use Rattle.pp_expansion.specs.declared.step.StepExit.TheVariants.{Error, Continue};
 
 use crate::define::Define;
-use crate::expander::{MacroProcessor, gives_line_name};
-use crate::frames::TokenList;
+use crate::expander::{MacroProcessor, gives_line_name, is_line_name};
+use crate::frames::{TokenList, copy_of};
 use crate::halt::Halt;
 use crate::open_around::OpenAround;
 use crate::reader::MeLexer;
@@ -507,9 +507,8 @@ impl Caller {
         }
     }
 
-    /// One step: a token is taken, and is given, or opens its macro, or begins a call that is gathered.
-    #[inline(always)]
-    pub fn step(&mut self, lexer: &mut dyn MeLexer) -> Step<Taken>
+    // One step, whatever is taken.
+    fn step_any(&mut self, lexer: &mut dyn MeLexer) -> Step<Taken>
         ensures turns { TurnsOrRefuses self.old (reader lexer.old) result self.new (reader lexer.new) }
         ensures holds { IfOk result TakenHoldsOrdinary }
     {
@@ -517,6 +516,40 @@ impl Caller {
             Ok(token) => self.follow(lexer, token),
             Err(exit) => Err(exit),
         }
+    }
+
+    // One step of the innermost frame, where nothing is held. Its token is copied once.
+    #[inline(never)]
+    fn step_frame(&mut self, lexer: &mut dyn MeLexer) -> Step<Taken>
+        requires free { self.old.held ≡ None }
+        requires open { is_some (outermost_frame_line self.old.frames) ≡ true }
+        ensures turns { TurnsOrRefuses self.old (reader lexer.old) result self.new (reader lexer.new) }
+        ensures holds { IfOk result TakenHoldsOrdinary }
+    {
+        let Some(token) = self.processor.token() else {
+            self.processor.pass();
+            return Err(StepExit::Continue);
+        };
+        if is_line_name(&token.value) {
+            return self.step_any(lexer);
+        }
+        let Ok(copy) = copy_of(self.alloc, token) else {
+            return refused();
+        };
+        self.processor.pass();
+        self.follow(lexer, copy)
+    }
+
+    /// One step: a token is taken, and is given, or opens its macro, or begins a call that is gathered.
+    #[inline(always)]
+    pub fn step(&mut self, lexer: &mut dyn MeLexer) -> Step<Taken>
+        ensures turns { TurnsOrRefuses self.old (reader lexer.old) result self.new (reader lexer.new) }
+        ensures holds { IfOk result TakenHoldsOrdinary }
+    {
+        if self.held.is_none() && !self.processor.is_idle() {
+            return self.step_frame(lexer);
+        }
+        self.step_any(lexer)
     }
 
     /// The macros that are open here or around.

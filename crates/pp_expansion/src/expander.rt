@@ -1,6 +1,6 @@
 //! The expander: open macros over a reader.
 
-ghost use Rattle.std.specs.Prelude.{◌≡◌, ◌⊎◌, ◌∷◌, [], drop, IfOk, OnOk, MatchResult, Ok, Err, option_map, is_some, not, pos, false};
+ghost use Rattle.std.specs.Prelude.{◌≡◌, ◌⊎◌, ◌∷◌, [], drop, IfOk, IfSome, OnOk, MatchResult, Ok, Err, option_map, is_some, not, pos, false};
 ghost use Rattle.std.specs.Str.{chars};
 ghost use Rattle.pp_lexer.specs.PreprocessorError.{out_of_memory};
 ghost use Rattle.pp_lexer.specs.declared.token.PreprocessorError.TheVariants.{LineOverflow};
@@ -9,11 +9,12 @@ ghost use Rattle.pp_model.specs.Names.{is_in, is_identifier, line_name};
 ghost use Rattle.pp_model.specs.declared.outcome.Outcome.TheVariants as outcome;
 ghost use Rattle.pp_expansion.specs.inner.Frames.{layer, names_of, outermost_frame_line};
 ghost use Rattle.pp_expansion.specs.Held.{HoldsOrdinary};
+ghost use Rattle.pp_expansion.specs.inner.Ahead.{given_next, frames_after};
 ghost use Rattle.pp_expansion.specs.inner.Turns.{Moves, taken_in, gives_line_name, opens_value};
 ghost use Rattle.pp_expansion.specs.declared.step.StepExit.TheVariants.{Error, Continue};
 
 use crate::define::Define;
-use crate::frames::{Frame, TokenList};
+use crate::frames::{Frame, TokenList, give};
 use crate::open_names::OpenNames;
 use crate::reader::MeLexer;
 use crate::step::{Step, StepExit};
@@ -116,7 +117,8 @@ impl MacroProcessor {
         }
     }
 
-    // Closes the innermost frame.
+    // Closes the innermost frame. It stands apart, since most steps close none.
+    #[inline(never)]
     fn close(&mut self)
         ensures { self.new ≡ drop 1 self.old }
     {
@@ -127,20 +129,47 @@ impl MacroProcessor {
             .close(frame.name().as_str(), self.frames.len());
     }
 
+    /// The token that the innermost frame gives next: none where that is a pause.
+    pub fn token(&self) -> Option<&Token>
+        ensures token { option_map (λ token. token.now) result ≡ given_next self.now }
+        ensures holds { IfSome result (λ token. HoldsOrdinary token.now.value) }
+    {
+        match self.frames.last() {
+            Some(frame) => frame.token(),
+            None => None,
+        }
+    }
+
+    /// Goes on by one step of the innermost frame. A frame at its end is closed.
+    #[inline(never)]
+    pub fn pass(&mut self)
+        ensures { self.new ≡ frames_after self.old }
+    {
+        let Some(frame) = self.frames.last_mut() else {
+            return;
+        };
+        if frame.is_spent() {
+            self.close();
+            return;
+        }
+        frame.pass();
+    }
+
     // One step of the innermost frame, or of the reader where no macro is open. A frame at its
     // end is closed.
     pub fn advance(&mut self, lexer: &mut dyn MeLexer) -> Step<Token>
         ensures moves { Moves self.old (reader lexer.old) result self.new (reader lexer.new) }
         ensures holds { IfOk result (λ token. HoldsOrdinary token.value) }
     {
-        let Some(frame) = self.frames.last_mut() else {
+        if self.is_idle() {
             return lexer.step();
-        };
-        if frame.is_spent() {
-            self.close();
-            return Err(StepExit::Continue);
         }
-        frame.advance(self.alloc)
+        let step = match self.token() {
+            Some(token) => give(self.alloc, token),
+            None => Err(StepExit::Continue),
+        };
+        self.pass();
+        step
     }
 
     // A token that is taken: `__LINE__` becomes a number at once.

@@ -6,13 +6,13 @@ ghost use Rattle.pp_model.specs.Names.{is_same_name};
 ghost use Rattle.pp_model.specs.SpliceList.{parameter_of};
 ghost use Rattle.pp_expansion.specs.inner.Frames.{layer, argument_at, advance};
 ghost use Rattle.pp_expansion.specs.Held.{HoldsOrdinary, AllHoldOrdinary};
-ghost use Rattle.pp_expansion.specs.inner.Turns.{as_pause};
-ghost use Rattle.pp_expansion.specs.declared.step.StepExit.TheVariants.{Error, Continue};
+ghost use Rattle.pp_expansion.specs.inner.Ahead.{given_by, frame_after};
+ghost use Rattle.pp_expansion.specs.declared.step.StepExit.TheVariants.{Error};
 
 use crate::define::Define;
 use crate::step::{Step, StepExit};
 use pp_lexer::token::{Text, Token, TokenValue, out_of_memory};
-use std::alloc::Global;
+use std::alloc::{AllocError, Global};
 use std::marker::Model;
 use std::rc::Rc;
 
@@ -89,7 +89,8 @@ impl Model for Frame {
     } };
 }
 
-// The position of the name among the names.
+// The position of the name among the names. It stands apart, since most tokens are no names.
+#[inline(never)]
 fn position_of(names: &[Text], name: &Text) -> Option<usize>
     ensures { result ≡ position (is_same_name name.now) names.now }
 {
@@ -97,6 +98,7 @@ fn position_of(names: &[Text], name: &Text) -> Option<usize>
 }
 
 // The position of the parameter that the value names.
+#[inline(always)]
 fn parameter_of(parameters: &[Text], value: &TokenValue) -> Option<usize>
     ensures { result ≡ parameter_of parameters.now value.now }
 {
@@ -129,11 +131,33 @@ fn argument_token(arguments: &[TokenList], index: usize, position: usize) -> Opt
     }
 }
 
+/// A copy of a token.
+pub fn copy_of(alloc: Global, token: &Token) -> Result<Token, AllocError>
+    ensures { IfOk result (λ copy. copy ≡ token.now) }
+{
+    Ok(Token {
+        value: copy_of_value(alloc, &token.value)?,
+        location: token.location,
+    })
+}
+
+// A copy of a value. A punctuator and an integer are copied at once.
+fn copy_of_value(alloc: Global, value: &TokenValue) -> Result<TokenValue, AllocError>
+    ensures { IfOk result (λ copy. copy ≡ value.now) }
+{
+    match value {
+        TokenValue::Punct(punct) => Ok(TokenValue::Punct(*punct)),
+        TokenValue::Integer(integer) => Ok(TokenValue::Integer(*integer)),
+        TokenValue::Ident(name) => Ok(TokenValue::Ident(name.try_clone(alloc)?)),
+        other => other.clone(alloc).map_err(|_| AllocError),
+    }
+}
+
 /// A copy of a token as what a step gives.
 pub fn give(alloc: Global, token: &Token) -> Step<Token>
     ensures { (result ≡ Err (Error out_of_memory)) ⊎ (result ≡ Ok token.now) }
 {
-    match token.clone(alloc) {
+    match copy_of(alloc, token) {
         Ok(copy) => Ok(copy),
         Err(_) => refused_token(),
     }
@@ -187,32 +211,43 @@ impl Frame {
         }
     }
 
-    /// The next step of the frame. A parameter and the end of an argument are pauses, and so is
-    /// the end of the body.
-    pub fn advance(&mut self, alloc: Global) -> Step<Token>
-        ensures step { (result ≡ Err (Error out_of_memory))
-            ⊎ MatchOption (advance self.old) (result ≡ Err Continue)
-            (λ step. (result ≡ as_pause step.gives) × (self.new ≡ step.after)) }
-        ensures name { self.new.name ≡ self.old.name }
-        ensures holds { IfOk result (λ token. HoldsOrdinary token.value) }
+    /// The token that its next step gives. A parameter and the end of an argument are pauses, and
+    /// so is the end of the body.
+    pub fn token(&self) -> Option<&Token>
+        ensures token { option_map (λ token. token.now) result ≡ given_by (advance self.now) }
+        ensures holds { IfSome result (λ token. HoldsOrdinary token.now.value) }
     {
         if let Some(index) = self.expanding {
-            let Some(token) = argument_token(&self.arguments, index, self.argument_position) else {
-                self.expanding = None;
-                return Err(StepExit::Continue);
-            };
-            self.argument_position += 1;
-            return give(alloc, token);
+            return argument_token(&self.arguments, index, self.argument_position);
         }
         let Some(token) = token_at(self.define.body(), self.position) else {
-            return Err(StepExit::Continue);
+            return None;
+        };
+        match parameter_of(self.define.parameters(), &token.value) {
+            Some(_) => None,
+            None => Some(token),
+        }
+    }
+
+    /// Goes on by one step. A frame at its end stays as it is.
+    pub fn pass(&mut self)
+        ensures step { self.new ≡ frame_after self.old (advance self.old) }
+        ensures name { self.new.name ≡ self.old.name }
+    {
+        if let Some(index) = self.expanding {
+            match argument_token(&self.arguments, index, self.argument_position) {
+                Some(_) => self.argument_position += 1,
+                None => self.expanding = None,
+            }
+            return;
+        }
+        let Some(token) = token_at(self.define.body(), self.position) else {
+            return;
         };
         self.position += 1;
         if let Some(index) = parameter_of(self.define.parameters(), &token.value) {
             self.expanding = Some(index);
             self.argument_position = 0;
-            return Err(StepExit::Continue);
         }
-        give(alloc, token)
     }
 }

@@ -77,6 +77,29 @@ fn print_token<W: Sink>(
         push_word(alloc, line, &token.value)?;
         return Ok(());
     }
+    print_directive(alloc, token, line, writer)
+}
+
+// Prints a directive item, and before it the line. It stands apart, since most tokens are ordinary.
+#[inline(never)]
+fn print_directive<W: Sink>(
+    alloc: Global,
+    token: Token,
+    line: &mut Option<String>,
+    writer: &mut W,
+) -> Result<(), RunFault>
+    requires directive { is_ordinary token.value ≡ false }
+    requires item { HoldsOrdinary token.value }
+    requires ready { W.failed writer.old ≡ false }
+    ensures line { OnOk result (option_map string_bytes line.new
+        ≡ line_after (option_map string_bytes line.old) token.value) }
+    ensures written { OnOk result (Appends (W.contents writer.old) (W.contents writer.new)
+        (written_lines (ended_lines (option_map string_bytes line.old) token.value))) }
+    ensures refused { IsErrOf result RunFault.OutOfMemory → writer.new ≡ writer.old }
+    ensures ok { OnOk result (W.failed writer.new ≡ false) }
+    ensures err { IfErr result (λ fault. IsDeviceFault RunFault.WriteFailed fault
+        (W.failed writer.new)) }
+{
     let directive = spell_directive(alloc, &token.value)?;
     let mut lines = end_line(alloc, line.take())?;
     lines.push_str(directive.as_str())?;

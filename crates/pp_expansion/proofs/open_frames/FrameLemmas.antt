@@ -1,15 +1,13 @@
 -- What a frame gives, as its step says.
-use Rattle.std.proofs.Common.{◌≡◌, ◌∙◌, ℕ, ◌+◌, ◌<◌, ◌⊎◌, List, [], ◌∷◌, length, get_or, ◌≤◌, arith, true, false, drop, refl, sym, ap, Option, Some, None, slice_get, MatchOption, Ok, Err, inl, inr}
+use Rattle.std.proofs.Common.{◌≡◌, ◌∙◌, ℕ, ◌+◌, ◌<◌, ◌⊎◌, List, [], ◌∷◌, length, get_or, ◌≤◌, arith, true, false, drop, refl, sym, ap, Option, Some, None, slice_get, inl, inr}
 use Rattle.std.specs.Prelude.{is_none, leb}
 use Rattle.std.proofs.lemmas.Bool.Decides.{leb_tells}
 use Rattle.std.proofs.lemmas.Option.{slice_get_within, get_or_from_slice_get, slice_get_cases}
 use Rattle.std.proofs.lemmas.List.{drop_more, drop_all, length-drop}
-use Rattle.pp_lexer.specs.PreprocessorError.{out_of_memory}
 use Rattle.pp_lexer.specs.declared.token.Token.{Token}
-use Rattle.pp_expansion.specs.inner.Frames.{Layer, Advance, advance}
-use Rattle.pp_expansion.specs.Item.{Step}
-use Rattle.pp_expansion.specs.inner.Turns.{as_pause}
-use Rattle.pp_expansion.specs.declared.step.StepExit.TheVariants.{Error, Continue}
+use Rattle.pp_expansion.specs.inner.Ahead.{given_by, frame_after}
+use Rattle.pp_expansion.specs.inner.Frames.{Layer, Advance, advance, body_token}
+use Rattle.pp_model.specs.SpliceList.{parameter_of}
 
 -- the item at a place, and what stands after it
 pub drop-some : {X : Type 0} (xs : List X) (k : ℕ) (x : X) → slice_get xs k ≡ Some x → drop k xs ≡ x ∷ drop (k + 1) xs
@@ -22,24 +20,29 @@ drop-some xs k x e =
 pub drop-none : {X : Type 0} (xs : List X) (k : ℕ) → slice_get xs k ≡ None → drop k xs ≡ []
 drop-none xs k e = elim (slice_get_cases xs k).1 [ inl w ↦ cc | inr w ↦ drop_all k xs w.0 ]
 
--- what a frame answers is its step, unless memory is refused; a frame at its end pauses
-abbrev pub ReportsStep : Option Advance → Step Token → Layer → Type 0
-ReportsStep advanced step new = (step ≡ Err (Error out_of_memory))
-    ⊎ MatchOption advanced (step ≡ Err Continue) (λ a. (step ≡ as_pause a.gives) × (new ≡ a.after))
+-- a frame that reads an argument gives its token
+pub given_reading : (f : Layer) (xs : List Token) (k : ℕ) (o : Option Token) → f.reading ≡ Some (drop k xs) → o ≡ slice_get xs k → o ≡ given_by (advance f)
+given_reading f xs k o reads is = is ∙ go (slice_get xs k) refl
+  where
+    go : (s : Option Token) → slice_get xs k ≡ s → s ≡ given_by (advance f)
+    go None e = rw (reads, drop-none xs k e) refl
+    go (Some x) e = rw (reads, drop-some xs k x e) refl
 
--- a copy of the token is given
-pub advances_to : (advanced : Option Advance) (token : Token) (step : Step Token) (new : Layer)
-    → advanced ≡ Some (record { gives = Some token; after = new }) → (step ≡ Err (Error out_of_memory)) ⊎ (step ≡ Ok token) → ReportsStep advanced step new
-advances_to advanced token step new e (inl refused) = inl refused
-advances_to advanced token step new e (inr given) = inr (rw e (given, refl))
+-- one that reads none gives the next token of its body, unless that is a parameter
+pub given_body : (f : Layer) (body : List Token) (k : ℕ) (x : Token) (p : Option ℕ) → f.reading ≡ None → f.body ≡ drop k body → slice_get body k ≡ Some x
+    → parameter_of f.parameters x.value ≡ p → (body_token f x (drop (k + 1) body) p).gives ≡ given_by (advance f)
+given_body f body k x p reads is at parameter = rw (reads, is, drop-some body k x at, parameter) refl
 
--- nothing is given
-pub pauses : (advanced : Option Advance) (new : Layer) → advanced ≡ Some (record { gives = None; after = new }) → ReportsStep advanced (Err Continue) new
-pauses advanced new e = inr (rw e (refl, refl))
+pub given_end : (f : Layer) (body : List Token) (k : ℕ) → f.reading ≡ None → f.body ≡ drop k body → slice_get body k ≡ None → None ≡ given_by (advance f)
+given_end f body k reads is at = rw (reads, is, drop-none body k at) refl
 
--- the frame is at its end
-pub finishes : (advanced : Option Advance) (new : Layer) → advanced ≡ None → ReportsStep advanced (Err Continue) new
-finishes advanced new e = inr (rw e refl)
+-- a frame after its step
+pub passes_to : (f : Layer) (advanced : Option Advance) (given : Option Token) (new : Layer) → advanced ≡ Some (record { gives = given; after = new })
+    → new ≡ frame_after f advanced
+passes_to f advanced given new e = rw e refl
+
+pub stays : (f : Layer) (advanced : Option Advance) → advanced ≡ None → f ≡ frame_after f advanced
+stays f advanced e = rw e refl
 
 -- a frame that reads no argument is at its end where its body has no token left
 body_ends : (f : Layer) (body : List Token) (position : ℕ) → f.reading ≡ None → f.body ≡ drop position body → length body ≤ position

@@ -1,19 +1,14 @@
 -- Open macros, which the expander keeps with the innermost last.
-use Rattle.std.proofs.Common.{◌≡◌, ◌∙◌, ℕ, ◌-◌, ◌+◌, ◌<◌, ◌⊎◌, Bool, true, false, ◌||◌, List, [], ◌∷◌, ◌++◌, length, get_or, take, drop, reverse, set, refl, ap, sym, arith, Option, Some, None, slice_get, Err, inl, inr, get_or-set_same}
+use Rattle.std.proofs.Common.{◌≡◌, ◌∙◌, ℕ, ◌-◌, ◌+◌, ◌<◌, Bool, true, false, ◌||◌, List, [], ◌∷◌, ◌++◌, length, get_or, take, reverse, set, refl, ap, sym, arith, Option, Some, None, slice_get, get_or-set_same}
 use Rattle.std.specs.List.{list_any}
 use Rattle.std.specs.Prelude.{is_none}
 use Rattle.std.proofs.Math.Seq.{take-length}
 use Rattle.std.proofs.lemmas.List.{reverse-append, length-map, length-reverse, take_more, length-set, take-set}
-use Rattle.pp_lexer.specs.PreprocessorError.{out_of_memory}
-use Rattle.pp_lexer.specs.declared.token.Token.{Token}
 use Rattle.pp_model.specs.Names.{Name, is_in, is_same_name}
 use Rattle.pp_expansion.specs.inner.Frames.{Layer, Advance, advance, names_of, outermost_frame_line}
-use Rattle.pp_expansion.specs.Item.{Step}
-use Rattle.pp_expansion.specs.inner.Reader.{Reader}
-use Rattle.pp_expansion.specs.inner.Turns.{Moves, frame_move}
-use Rattle.pp_expansion.specs.declared.step.StepExit.TheVariants.{Error, Continue}
+use Rattle.pp_expansion.specs.inner.Ahead.{frame_after, frames_after}
+use Rattle.pp_expansion.specs.inner.Turns.{frame_move}
 use Rattle.pp_expansion.specs.inner.OpenNames.{Position, AreNamesOf, IsOpenedAt, IsClosedAt}
-use Rattle.pp_expansion.proofs.open_frames.FrameLemmas.{ReportsStep}
 use Rattle.pp_expansion.proofs.open_frames.OpenNamesLemmas.{names_open, names_close}
 
 or_left_comm : (a b c : Bool) → (a || (b || c)) ≡ (b || (a || c))
@@ -75,43 +70,18 @@ reverse_set_last xs v some =
     rw (e, get_or-set_same, take-set) at h
 
 -- a step of the innermost frame, which stays open
-frame_moves : (advanced : Option Advance) (fs : List Layer) (v : Layer) (step : Step Token) → is_none advanced ≡ false → ReportsStep advanced step v
-    → ((step ≡ (frame_move fs advanced).gives) × (v ∷ fs ≡ (frame_move fs advanced).after)) ⊎ (step ≡ Err (Error out_of_memory))
-frame_moves advanced fs v step goes (inl refused) = inr refused
-frame_moves (Some a) fs v step goes (inr (given, after)) = inl (given, ap (λ w. w ∷ fs) after)
-frame_moves None fs v step goes (inr none) = cc
+frame_passes : (advanced : Option Advance) (f v : Layer) (fs : List Layer) → is_none advanced ≡ false → v ≡ frame_after f advanced
+    → v ∷ fs ≡ (frame_move fs advanced).after
+frame_passes (Some a) f v fs goes is = ap (λ w. w ∷ fs) is
+frame_passes None f v fs goes is = cc
 
 -- a step of the last of them is a step of the frames
-pub last_moves : (fs : List Layer) (f v : Layer) (step : Step Token) (reader : Reader) (n : ℕ) → n ≡ length fs → 0 < n → f ≡ get_or fs (n - 1) f
-    → is_none (advance f) ≡ false → ReportsStep (advance f) step v → Moves (reverse fs) reader step (reverse (set fs (n - 1) v)) reader
-last_moves fs f v step reader n e some last goes advances =
+pub last_passes : (fs : List Layer) (f v : Layer) (n : ℕ) → n ≡ length fs → 0 < n → f ≡ get_or fs (n - 1) f
+    → is_none (advance f) ≡ false → v ≡ frame_after f (advance f) → reverse (set fs (n - 1) v) ≡ frames_after (reverse fs)
+last_passes fs f v n e some last goes passes =
     let more = rw e at some in
     let is = rw e at last in
-    rw (e, reverse_last fs f more, ← is, reverse_set_last fs v more) (refl, frame_moves (advance f) (reverse (take (length fs - 1) fs)) v step goes advances)
-
--- what a move of the frames gives, and the frames after it
-abbrev EndsFrame : List Layer → Option Advance → List Layer → Step Token → Type 0
-EndsFrame fs advanced after step = ((step ≡ (frame_move fs advanced).gives) × (after ≡ (frame_move fs advanced).after)) ⊎ (step ≡ Err (Error out_of_memory))
-
--- the innermost frame is at its end
-frame_ends : (advanced : Option Advance) (fs after : List Layer) → is_none advanced ≡ true → after ≡ fs
-    → EndsFrame fs advanced after (Err Continue)
-frame_ends (Some a) fs after ends is = cc
-frame_ends None fs after ends is = inl (refl, is)
-
--- the last of them is closed
-pub last_closes : (fs after : List Layer) (f : Layer) (reader : Reader) (n : ℕ) → n ≡ length fs → 0 < n → f ≡ get_or fs (n - 1) f
-    → is_none (advance f) ≡ true → after ≡ drop 1 (reverse (set fs (n - 1) f))
-    → Moves (reverse fs) reader (Err Continue) after reader
-last_closes fs after f reader n e some last ends is =
-    let more = rw e at some in
-    let at_end = rw e at last in
-    let left = rw e at is in
-    rw (reverse_last fs f more, ← at_end) (
-      refl,
-      frame_ends (advance f) (reverse (take (length fs - 1) fs)) after ends
-          (left ∙ ap (drop 1) (reverse_set_last fs f more)),
-    )
+    rw (e, reverse_last fs f more, ← is, reverse_set_last fs v more) (frame_passes (advance f) f v (reverse (take (length fs - 1) fs)) goes passes)
 
 -- a step keeps the names
 pub names_kept : (fs : List Layer) (f v : Layer) (n : ℕ) → n ≡ length fs → 0 < n → f ≡ get_or fs (n - 1) f → v.name ≡ f.name

@@ -1,31 +1,31 @@
 use Rattle.std.proofs.Common.{◌≡◌, ◌∙◌, ◌+◌, [], ◌∷◌, Some, None, drop, ap, sym, refl}
 use Rattle.pp_model.specs.SpliceList.{parameter_of}
 use Rattle.pp_expansion.specs.inner.Frames.{argument_at, advance}
-use Rattle.pp_expansion.proofs.open_frames.FrameLemmas.{drop-some, drop-none, advances_to, pauses, finishes}
-use Rattle.pp_expansion.proofs.frames.Frame.advance.Goals as goal
+use Rattle.pp_expansion.proofs.open_frames.FrameLemmas.{drop-some, drop-none, passes_to, stays}
+use Rattle.pp_expansion.proofs.frames.Frame.pass.Goals as goal
 
-pub returns-in_default-argument_token-clause-step : goal.returns-in_default-argument_token-clause-step
-returns-in_default-argument_token-clause-step c =
+pub returns-in-Some-argument_token-clause-step : goal.returns-in-Some-argument_token-clause-step
+returns-in-Some-argument_token-clause-step c =
+    let e : drop c.self.inside.argument_position
+    (argument_at c.self.inside.arguments.items c.in-Some.index) ≡ c.in-Some-argument_token.field-0.now ∷ drop (c.self.inside.argument_position + 1)
+    (argument_at c.self.inside.arguments.items c.in-Some.index)
+    = drop-some (argument_at c.self.inside.arguments.items c.in-Some.index) c.self.inside.argument_position c.in-Some-argument_token.field-0.now
+    (rw c.deref.ensures.value at (sym c.in-Some-argument_token.ensures.token)) in
+    passes_to _ _ (Some c.in-Some-argument_token.field-0.now) _ (ap advance (sym c.self.view_is) ∙ (rw (c.in-Some.is, e) refl))
+
+pub returns-in-None-clause-step : goal.returns-in-None-clause-step
+returns-in-None-clause-step c =
     let e : drop c.self.inside.argument_position (argument_at c.self.inside.arguments.items c.in-Some.index) ≡ []
     = drop-none (argument_at c.self.inside.arguments.items c.in-Some.index) c.self.inside.argument_position
-    (rw c.deref.ensures.value at (sym c.in_default-argument_token.ensures.token)) in
-    pauses _ _ (ap advance (sym c.self.view_is) ∙ (rw (c.in-Some.is, e) refl))
-
-pub returns-in-Some-clause-step : goal.returns-in-Some-clause-step
-returns-in-Some-clause-step c =
-    let e : drop c.self.inside.argument_position
-    (argument_at c.self.inside.arguments.items c.in-Some.index) ≡ c.in-Some-argument_token.token.now ∷ drop (c.self.inside.argument_position + 1)
-    (argument_at c.self.inside.arguments.items c.in-Some.index)
-    = drop-some (argument_at c.self.inside.arguments.items c.in-Some.index) c.self.inside.argument_position c.in-Some-argument_token.token.now
-    (rw c.deref.ensures.value at (sym c.in-Some-argument_token.ensures.token)) in
-    advances_to _ c.in-Some-argument_token.token.now _ _ (ap advance (sym c.self.view_is) ∙ (rw (c.in-Some.is, e) refl)) c.give.ensures
+    (rw c.deref.ensures.value at (sym c.in-None.ensures.token)) in
+    passes_to _ _ None _ (ap advance (sym c.self.view_is) ∙ (rw (c.in-Some.is, e) refl))
 
 pub returns-in_default-token_at-clause-step : goal.returns-in_default-token_at-clause-step
 returns-in_default-token_at-clause-step c =
     let e : drop c.self.inside.position c.self.inside.define.value.body ≡ []
     = drop-none c.self.inside.define.value.body c.self.inside.position
     (rw (c.body.ensures.is, c.deref-2.ensures) at (sym c.in_default-token_at.ensures.token)) in
-    finishes _ _ (ap advance (sym c.self.view_is) ∙ (rw (c.in_default.is, e) refl))
+    stays _ _ (ap advance (sym c.self.view_is) ∙ (rw (c.in_default.is, e) refl))
 
 pub returns-in-Some-parameter_of-clause-step : goal.returns-in-Some-parameter_of-clause-step
 returns-in-Some-parameter_of-clause-step c =
@@ -35,14 +35,14 @@ returns-in-Some-parameter_of-clause-step c =
     (rw (c.body.ensures.is, c.deref-2.ensures) at (sym c.in-Some-token_at.ensures.token)) in
     let p : parameter_of c.self.inside.define.value.parameters c.in-Some-token_at.token.now.value ≡ Some c.in-Some-parameter_of.index
     = rw (c.parameters.ensures, c.deref-3.ensures) at (sym c.in-Some-parameter_of.ensures) in
-    pauses _ _ (ap advance (sym c.self.view_is) ∙ (rw (c.in_default.is, e, p) refl))
+    passes_to _ _ None _ (ap advance (sym c.self.view_is) ∙ (rw (c.in_default.is, e, p) refl))
 
-pub returns-clause-step : goal.returns-clause-step
-returns-clause-step c =
+pub returns-in_default-parameter_of-clause-step : goal.returns-in_default-parameter_of-clause-step
+returns-in_default-parameter_of-clause-step c =
     let e : drop c.self.inside.position c.self.inside.define.value.body ≡ c.in-Some-token_at.token.now ∷ drop
     (c.self.inside.position + 1) c.self.inside.define.value.body
     = drop-some c.self.inside.define.value.body c.self.inside.position c.in-Some-token_at.token.now
     (rw (c.body.ensures.is, c.deref-2.ensures) at (sym c.in-Some-token_at.ensures.token)) in
     let p : parameter_of c.self.inside.define.value.parameters c.in-Some-token_at.token.now.value ≡ None
     = rw (c.parameters.ensures, c.deref-3.ensures) at (sym c.in_default-parameter_of.ensures) in
-    advances_to _ c.in-Some-token_at.token.now _ _ (ap advance (sym c.self.view_is) ∙ (rw (c.in_default.is, e, p) refl)) c.give-2.ensures
+    passes_to _ _ (Some c.in-Some-token_at.token.now) _ (ap advance (sym c.self.view_is) ∙ (rw (c.in_default.is, e, p) refl))
