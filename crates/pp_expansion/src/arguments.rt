@@ -7,7 +7,7 @@ ghost use Rattle.pp_model.specs.Calls.{arguments_of, misfit, is_one_empty, is_co
 ghost use Rattle.pp_model.specs.Emitting.{Alone, Each};
 ghost use Rattle.pp_expansion.specs.inner.CallTurns.{TurnsTo};
 ghost use Rattle.pp_expansion.specs.inner.Defined.{meaning_of};
-ghost use Rattle.pp_expansion.specs.inner.Finishing.{Finishes, IsShort, AreShort};
+ghost use Rattle.pp_expansion.specs.inner.Finishing.{Finishes, IsAtStart, IsShort, AreShort, read_to_end};
 ghost use Rattle.pp_expansion.specs.inner.Frames.{layer, names_of};
 ghost use Rattle.pp_expansion.specs.Held.{AllHoldOrdinary};
 ghost use Rattle.pp_expansion.specs.inner.Left.{most_alone};
@@ -21,11 +21,11 @@ use crate::define::Define;
 use crate::definitions::Definitions;
 use crate::expander::is_line_name;
 use crate::frames::TokenList;
-use crate::halt::Halt;
+use crate::halt::{Halt, halt_of};
 use crate::list_lexer::ListLexer;
 use crate::list_step::step_list;
 use crate::open_around::OpenAround;
-use crate::step::{Step, StepExit, is_out_of_memory};
+use crate::step::StepExit;
 use pp_lexer::token::{Location, PreprocessorError, Punct, Token, TokenValue};
 use std::alloc::{AllocError, Global};
 use std::rc::Rc;
@@ -207,24 +207,48 @@ fn expand_argument(
     if are_plain(tokens.as_slice(), definitions) {
         return Ok(tokens);
     }
+    let mut items = Vec::with_capacity(alloc, 16)?;
     let mut lexer = ListLexer::argument(tokens.into_tokens(), definitions, &*hidden);
     let mut caller = Caller::new(alloc);
-    let mut items = Vec::with_capacity(alloc, 16)?;
+    expand_list(
+        alloc,
+        &mut caller,
+        &mut lexer,
+        &mut items,
+        definitions,
+        hidden,
+        levels,
+    )?;
+    Ok(TokenList::new(items))
+}
+
+// Expands the tokens of a list to its end.
+#[cycle(answers)]
+fn expand_list(
+    alloc: Global,
+    caller: &mut Caller,
+    lexer: &mut ListLexer<'_>,
+    items: &mut Vec<Token>,
+    definitions: &Definitions,
+    hidden: &OpenAround<'_>,
+    levels: u32,
+) -> Result<(), Halt>
+    requires { IsAtStart definitions.now hidden.now caller.old lexer.old items.old.items }
+    ensures alone { Satisfies result (λ end. Alone levels lexer.old.tokens
+        (meaning_of definitions.now) hidden.now (read_to_end items.new.items end)) }
+    ensures least { OnOk result (IsShort levels definitions.now (length lexer.old.tokens)
+        items.new.items) }
+    ensures holds { OnOk result (AllHoldOrdinary items.new.items) }
+{
     'items: loop {
-        match step_list(&mut caller, &mut lexer) {
+        match step_list(&mut *caller, &mut *lexer) {
             Ok(Taken::Token(token)) => items.push(token)?,
             Ok(Taken::Call(call)) => {
-                finish_call(alloc, &mut caller, call, definitions, hidden, levels)?
+                finish_call(alloc, &mut *caller, call, definitions, hidden, levels)?
             }
             Err(StepExit::Continue) => {}
-            Err(StepExit::Finished) => return Ok(TokenList::new(items)),
-            Err(StepExit::Error(fault)) => {
-                if is_out_of_memory(&fault.0) {
-                    drop(fault);
-                    return Err(Halt::OutOfMemory);
-                }
-                return Err(Halt::Fault(fault));
-            }
+            Err(StepExit::Finished) => return Ok(()),
+            Err(StepExit::Error(fault)) => return Err(halt_of(fault)),
         }
     }
 }

@@ -1,6 +1,9 @@
 //! Why a part of the source has no value.
 
-use crate::step::StepExit;
+ghost use Rattle.std.specs.Prelude.{◌≡◌};
+ghost use Rattle.pp_expansion.specs.Halting.{halt_of};
+
+use crate::step::{StepExit, is_out_of_memory};
 use pp_lexer::token::{Location, PreprocessorError, out_of_memory};
 use std::alloc::{AllocError, AllocFailed};
 
@@ -58,4 +61,15 @@ impl From<Halt> for StepExit {
             Halt::OutOfMemory => StepExit::Error(out_of_memory()),
         }
     }
+}
+
+/// The fault of a step, or that memory was refused.
+pub fn halt_of(fault: (PreprocessorError, Location)) -> Halt
+    ensures { result ≡ halt_of fault }
+{
+    if is_out_of_memory(&fault.0) {
+        drop(fault);
+        return Halt::OutOfMemory;
+    }
+    Halt::Fault(fault)
 }

@@ -6,7 +6,6 @@ ghost use Rattle.pp_model.specs.inner.LineWords.{is_open_paren, is_close_paren};
 ghost use Rattle.pp_model.specs.Names.{is_identifier, defined_name};
 ghost use Rattle.pp_model.specs.inner.WordsRead.{reading_named, unwanted_read, IsOf};
 ghost use Rattle.pp_expansion.specs.inner.Defined.{meaning_of};
-ghost use Rattle.pp_expansion.specs.Halting.{halt_of};
 ghost use Rattle.pp_expansion.specs.Held.{AllHoldOrdinary};
 ghost use Rattle.pp_source.specs.inner.IfParsing.{Stands, GivesItem, TakesOff, GivesTaken, IsNameOrFault, GivesOperand, GivesParenthesized, GivesClosed, AreWordsOf, AreWordsOfLine};
 ghost use Rattle.pp_source.specs.inner.LineItems.{outcome_of};
@@ -14,11 +13,11 @@ ghost use Rattle.pp_source.specs.inner.LineItems.{outcome_of};
 use pp_expansion::arguments::finish_call;
 use pp_expansion::calls::{Caller, Taken, is_left_paren, is_right_paren};
 use pp_expansion::definitions::Definitions;
-use pp_expansion::halt::Halt;
+use pp_expansion::halt::{Halt, halt_of};
 use pp_expansion::list_lexer::ListLexer;
 use pp_expansion::list_step::{step_list, take_list};
 use pp_expansion::open_around::OpenAround;
-use pp_expansion::step::{StepExit, is_out_of_memory};
+use pp_expansion::step::StepExit;
 use pp_lexer::token::{Integer, Location, PreprocessorError, Text, Token, TokenValue};
 use pp_model::names::is_defined_name;
 use pp_model::outcome::Fault;
@@ -59,17 +58,6 @@ struct IfParser<'a> {
     directive: Location,
     definitions: &'a Definitions,
     levels: u32,
-}
-
-// The fault of a step, or that memory was refused.
-fn halt_of(fault: Fault) -> Halt
-    ensures { result ≡ halt_of fault }
-{
-    if is_out_of_memory(&fault.0) {
-        drop(fault);
-        return Halt::OutOfMemory;
-    }
-    Halt::Fault(fault)
 }
 
 // The fault of a token that is not wanted.

@@ -1,12 +1,14 @@
 -- Calls that are finished, as the code finishes them.
 use Rattle.std.proofs.Common.{◌≡◌, ◌≢◌, ℕ, zero, suc, ◌+◌, ◌-◌, ◌≤◌, arith, All, List, [], ◌∷◌, ◌++◌, length, refl, sym, subst, Option, None, le_trans, true, false, Bool}
-use Rattle.std.specs.Prelude.{Result, Ok, Err, ◌&&◌, ◌==◌}
+use Rattle.std.specs.Prelude.{if◌then◌else◌, Result, Ok, Err, ◌&&◌, ◌==◌}
 use Rattle.std.proofs.lemmas.List.Elements.{All-cons, All-nil, All-append}
 use Rattle.pp_lexer.specs.declared.token.Token.{Token}
 use Rattle.pp_lexer.specs.declared.token.PreprocessorError.{PreprocessorError}
 use Rattle.pp_model.specs.Names.{Name}
 use Rattle.pp_model.specs.Calls.{Fault, pieces, arguments_of, misfit, cut_before, Pieces, is_comma, nesting_after}
 use Rattle.pp_model.specs.Emitting.{Alone, Each, EachOrRefused, answers_at}
+use Rattle.pp_expansion.specs.Halting.{halt_of}
+use Rattle.pp_expansion.specs.Item.{is_out_of_memory}
 use Rattle.pp_expansion.specs.inner.Calling.{PendingCall}
 use Rattle.pp_expansion.specs.inner.Defined.{Defined, meaning_of, body_tokens}
 use Rattle.pp_expansion.specs.inner.Finishing.{site_at, Finishes, IsOpened, AreShort}
@@ -23,6 +25,15 @@ pub satisfies_exit : {A : Type 0} (r : Result A Halt) (h : Halt) (P : Result A F
     → ((fault : Fault) → h ≡ halt.Fault fault → P (Err fault)) → Satisfies r P
 satisfies_exit {A} r (halt.Fault fault) P is passes = subst (λ (x : Result A Halt). Satisfies x P) (sym is) (passes fault refl)
 satisfies_exit {A} r halt.OutOfMemory P is passes = subst (λ (x : Result A Halt). Satisfies x P) (sym is) tt
+
+-- the fault of a step, unless it is that memory was refused
+pub satisfies_fault : {A : Type 0} (h : Halt) (fault : Fault) (P : Result A Fault → Type 0) → h ≡ halt_of fault
+    → (is_out_of_memory fault.0 ≡ false → P (Err fault)) → Satisfies {A = A} (Err h) P
+satisfies_fault {A} h fault P is passes = subst (λ (x : Halt). Satisfies {A = A} (Err x) P) (sym is) (decided (is_out_of_memory fault.0) refl)
+  where
+    decided : (refused : Bool) → is_out_of_memory fault.0 ≡ refused → Satisfies {A = A} (Err (if refused then halt.OutOfMemory else halt.Fault fault)) P
+    decided true heard = tt
+    decided false heard = passes heard
 
 pub fault_of : {A : Type 0} (h : Halt) (fault : Fault) (P : Result A Fault → Type 0) → h ≡ halt.Fault fault → Satisfies {A = A} (Err h) P → P (Err fault)
 fault_of {A} h fault P e s = let k : Satisfies {A = A} (Err (halt.Fault fault)) P = subst (λ (x : Halt). Satisfies {A = A} (Err x) P) e s in k

@@ -1,7 +1,7 @@
 -- How a call goes on whose tokens were gathered: its arguments are expanded, and its frame opens (docs/RULES.md, Expansion 7 to 9).
-use Rattle.std.specs.Prelude.{◌≡◌, ◌≤◌, ◌-◌, ℕ, List, ◌∷◌, ◌++◌, All, length, Result, Ok, Err, ⊤}
+use Rattle.std.specs.Prelude.{◌≡◌, ◌≤◌, ◌-◌, ℕ, false, List, [], ◌∷◌, ◌++◌, All, length, None, Result, Ok, Err, ⊤}
 use Rattle.pp_lexer.specs.declared.token.Token.{Token}
-use Rattle.pp_model.specs.Calls.{Site, arguments_of}
+use Rattle.pp_model.specs.Calls.{Fault, Site, arguments_of}
 use Rattle.pp_model.specs.Emitting.{answers_at}
 use Rattle.pp_model.specs.Names.{Name}
 use Rattle.pp_expansion.specs.inner.Calling.{PendingCall}
@@ -9,6 +9,7 @@ use Rattle.pp_expansion.specs.inner.Defined.{Defined, meaning_of}
 use Rattle.pp_expansion.specs.inner.Frames.{layer, names_of}
 use Rattle.pp_expansion.specs.inner.Left.{most_alone}
 use Rattle.pp_expansion.specs.inner.Machine.{Machine}
+use Rattle.pp_expansion.specs.inner.Reader.{Listing}
 use Rattle.pp_expansion.specs.declared.halt.Halt.{Halt}
 use Rattle.pp_expansion.specs.declared.halt.Halt.TheVariants as halt
 
@@ -36,3 +37,14 @@ IsShort levels definitions n out = length out ≤ most_alone levels definitions 
 -- each argument, where none of them had more tokens than this
 abbrev pub AreShort : ℕ → List Defined → List (List Token) → List (List Token) → Type 0
 AreShort levels definitions arguments outs = (n : ℕ) → All (λ argument. length argument ≤ n) arguments → All (λ out. length out ≤ most_alone levels definitions n) outs
+
+-- nothing is open or held, the list is an argument where these definitions and names stand, and it gave no item yet
+pub record IsAtStart (definitions : List Defined) (hidden : List Name) (m : Machine) (l : Listing) (items : List Token) : Type 0 where
+  pub idle : m ≡ record { held = None; frames = [] }
+  pub argument : l ≡ record { tokens = l.tokens; definitions = definitions; hidden = hidden; is_line = false }
+  pub empty : items ≡ []
+
+-- what a list comes to whose items are these, where it was read to its end
+abbrev pub read_to_end : List Token → Result (Unit {0}) Fault → Result (List Token) Fault
+read_to_end items (Ok done) = Ok items
+read_to_end items (Err fault) = Err fault

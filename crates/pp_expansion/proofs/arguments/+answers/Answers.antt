@@ -1,20 +1,18 @@
-use Rattle.std.proofs.Common.{◌≡◌, ◌≤◌, refl, subst, arith, ◌∙◌, sym, ap, false, List, [], ◌∷◌, ◌++◌, length}
+use Rattle.std.proofs.Common.{◌≡◌, ◌≤◌, refl, arith, ◌∙◌, sym, ap, List, [], ◌∷◌, ◌++◌, length}
 use Rattle.std.specs.Prelude.{Ok, Err, None}
 use Rattle.std.specs.Vec.Iter.{into_iter_items}
-use Rattle.pp_model.specs.Calls.{Fault, arguments_of, misfit}
+use Rattle.pp_model.specs.Calls.{arguments_of, misfit}
 use Rattle.pp_expansion.specs.inner.Frames.{names_of}
 use Rattle.std.proofs.lemmas.Result.{err_from_is_err_and}
-use Rattle.pp_model.specs.Emitting.{Alone, first_failed, more, none}
+use Rattle.pp_model.specs.Emitting.{first_failed, more, none}
 use Rattle.pp_model.specs.inner.Emitting.{list_before}
 use Rattle.pp_model.proofs.CollectLemmas.{after_lists-before, after_items-end}
-use Rattle.pp_expansion.specs.inner.Defined.{meaning_of}
-use Rattle.pp_expansion.specs.Item.{is_out_of_memory}
 use Rattle.pp_expansion.specs.declared.step.StepExit.TheVariants.{Error}
 use Rattle.std.proofs.lemmas.List.{nil_from_length}
 use Rattle.std.proofs.lemmas.List.Elements.{All-push, All-nil, All-head, All-tail}
 use Rattle.pp_lexer.specs.declared.token.Token.{Token}
 use Rattle.pp_expansion.specs.Held.{HoldsOrdinary}
-use Rattle.pp_expansion.proofs.taking.AnswerLemmas.{satisfies_exit, fault_of, finish_fault, opens_frame, short_more, short_list}
+use Rattle.pp_expansion.proofs.taking.AnswerLemmas.{satisfies_exit, satisfies_fault, fault_of, finish_fault, opens_frame, short_more, short_list}
 use Rattle.pp_expansion.proofs.taking.ListLeadsLemmas.{reached_start, reached_token, token_less, reached_pause, pause_less, reached_end, reached_fault, reached_call_fault, call_less, reached_call}
 use Rattle.pp_expansion.proofs.taking.ListedLeadsLemmas.{turned}
 use Rattle.pp_expansion.proofs.taking.PlainLemmas.{plain_alone, plain_short}
@@ -27,20 +25,18 @@ expand_argument-returns-then-are_plain t c = record {
   least = plain_short c.args.levels c.args.definitions.now (length c.args.tokens);
 }
 
-pub expand_argument-items-init : goal.expand_argument-items-init
-expand_argument-items-init t c = record {
-  reached = reached_start _ _ _ _ _ _ _ c.new-caller.ensures
-      (rw c.into_tokens.ensures.is at c.argument-lexer.ensures) c.in_ok-items.ensures.items;
-  holds =
-      rw c.in_ok-items.ensures.items (All-nil (λ (t : Token). HoldsOrdinary t.value));
+pub expand_list-items-init : goal.expand_list-items-init
+expand_list-items-init t c = record {
+  reached = reached_start _ _ _ _ _ _ _ c.requires.idle c.requires.argument c.requires.empty;
+  holds = rw c.requires.empty (All-nil (λ (t : Token). HoldsOrdinary t.value));
 }
 
-pub expand_argument-items-smaller-in-Continue-branch-2 : goal.expand_argument-items-smaller-in-Continue-branch-2
-expand_argument-items-smaller-in-Continue-branch-2 t c = token_less _ _ _ _ _ _ _ c.items.invariant.reached _ _ c.in-Ok-Token.token (turned _ _ _ _ _
+pub expand_list-items-smaller-in-Continue-1 : goal.expand_list-items-smaller-in-Continue-1
+expand_list-items-smaller-in-Continue-1 t c = token_less _ _ _ _ _ _ _ c.items.invariant.reached _ _ c.in-Ok-Token.token (turned _ _ _ _ _
     (rw c.in-Ok-Token.field-0-is at c.in-Ok-Token.ensures.turns) refl)
 
-pub expand_argument-items-preserved-in-Continue-branch-2 : goal.expand_argument-items-preserved-in-Continue-branch-2
-expand_argument-items-preserved-in-Continue-branch-2 t c = record {
+pub expand_list-items-preserved-in-Continue-1 : goal.expand_list-items-preserved-in-Continue-1
+expand_list-items-preserved-in-Continue-1 t c = record {
   reached =
       reached_token _ _ _ _ _ _ _ c.items.invariant.reached _ _ c.in-Ok-Token.token _
       (turned _ _ _ _ _ (rw c.in-Ok-Token.field-0-is at c.in-Ok-Token.ensures.turns) refl) c.in_ok-push-in-Ok-Token.ensures.items;
@@ -49,12 +45,12 @@ expand_argument-items-preserved-in-Continue-branch-2 t c = record {
       (rw c.in-Ok-Token.field-0-is at c.in-Ok-Token.ensures.holds));
 }
 
-pub expand_argument-items-smaller-in-Continue-branch-3 : goal.expand_argument-items-smaller-in-Continue-branch-3
-expand_argument-items-smaller-in-Continue-branch-3 t c = call_less _ _ _ _ _ _ _ c.items.invariant.reached _ _ c.in-Ok-Call.call (turned _ _ _ _ _
+pub expand_list-items-smaller-in-Continue-branch-2 : goal.expand_list-items-smaller-in-Continue-branch-2
+expand_list-items-smaller-in-Continue-branch-2 t c = call_less _ _ _ _ _ _ _ c.items.invariant.reached _ _ c.in-Ok-Call.call (turned _ _ _ _ _
     (rw c.in-Ok-Call.field-0-is at c.in-Ok-Call.ensures.turns) refl) _ c.in_ok-finish_call-in-Ok-Call.ensures
 
-pub expand_argument-items-preserved-in-Continue-branch-3 : goal.expand_argument-items-preserved-in-Continue-branch-3
-expand_argument-items-preserved-in-Continue-branch-3 t c = record {
+pub expand_list-items-preserved-in-Continue-branch-2 : goal.expand_list-items-preserved-in-Continue-branch-2
+expand_list-items-preserved-in-Continue-branch-2 t c = record {
   reached =
       reached_call _ _ _ _ _ _ _ c.items.invariant.reached _ _ c.in-Ok-Call.call
       (turned _ _ _ _ _ (rw c.in-Ok-Call.field-0-is at c.in-Ok-Call.ensures.turns) refl) _ c.in_ok-finish_call-in-Ok-Call.ensures;
@@ -62,31 +58,28 @@ expand_argument-items-preserved-in-Continue-branch-3 t c = record {
       c.items.invariant.holds;
 }
 
-pub expand_argument-items-smaller : goal.expand_argument-items-smaller
-expand_argument-items-smaller t c = pause_less _ _ _ _ _ _ _ c.items.invariant.reached _ _ (turned _ _ _ _ _
+pub expand_list-items-smaller : goal.expand_list-items-smaller
+expand_list-items-smaller t c = pause_less _ _ _ _ _ _ _ c.items.invariant.reached _ _ (turned _ _ _ _ _
     (rw c.in-Err-Continue.field-0-is at c.in-Err-Continue.ensures.turns) refl)
 
-pub expand_argument-items-preserved : goal.expand_argument-items-preserved
-expand_argument-items-preserved t c = record {
+pub expand_list-items-preserved : goal.expand_list-items-preserved
+expand_list-items-preserved t c = record {
   reached = reached_pause _ _ _ _ _ _ _ c.items.invariant.reached _ _
       (turned _ _ _ _ _ (rw c.in-Err-Continue.field-0-is at c.in-Err-Continue.ensures.turns) refl);
   holds = c.items.invariant.holds;
 }
 
-pub expand_argument-returns-in-Err-Finished-clause-alone : goal.expand_argument-returns-in-Err-Finished-clause-alone
-expand_argument-returns-in-Err-Finished-clause-alone t c = rw c.new.ensures (reached_end _ _ _ _ _ _ _ c.items.invariant.reached _ _
-    (turned _ _ _ _ _ (rw c.in-Err-Finished.field-0-is at c.in-Err-Finished.ensures.turns) refl))
+pub expand_list-returns-in-Err-Finished-clause-alone : goal.expand_list-returns-in-Err-Finished-clause-alone
+expand_list-returns-in-Err-Finished-clause-alone t c = reached_end _ _ _ _ _ _ _ c.items.invariant.reached _ _
+    (turned _ _ _ _ _ (rw c.in-Err-Finished.field-0-is at c.in-Err-Finished.ensures.turns) refl)
 
-pub expand_argument-returns-in-Err-Error-clause-alone : goal.expand_argument-returns-in-Err-Error-clause-alone
-expand_argument-returns-in-Err-Error-clause-alone t c =
-    let heard = sym c.is_out_of_memory.ensures ∙ c.if-is_out_of_memory.false in
-    let reported : is_out_of_memory c.in-Err-Error.fault.0 ≡ false = ap (λ f. is_out_of_memory f.0) (sym c.in-Err-Error.fault-is) ∙ heard in
-    subst (λ (f : Fault). Alone c.args.levels c.args.tokens (meaning_of c.args.definitions.now) c.args.hidden.now (Err f))
-    (sym c.in-Err-Error.fault-is) (reached_fault _ _ _ _ _ _ _ c.items.invariant.reached _ _ c.in-Err-Error.fault
+pub expand_list-returns-in-Err-Error-clause-alone : goal.expand_list-returns-in-Err-Error-clause-alone
+expand_list-returns-in-Err-Error-clause-alone t c = satisfies_fault c.halt_of.result c.in-Err-Error.fault _ c.halt_of.ensures
+    (λ reported. reached_fault _ _ _ _ _ _ _ c.items.invariant.reached _ _ c.in-Err-Error.fault
     (turned _ _ _ _ (Err (Error c.in-Err-Error.fault)) (rw c.in-Err-Error.field-0-is at c.in-Err-Error.ensures.turns) reported) reported)
 
-pub expand_argument-returns-in_err-finish_call-in-Ok-Call-clause-alone : goal.expand_argument-returns-in_err-finish_call-in-Ok-Call-clause-alone
-expand_argument-returns-in_err-finish_call-in-Ok-Call-clause-alone t c =
+pub expand_list-returns-in_err-finish_call-in-Ok-Call-clause-alone : goal.expand_list-returns-in_err-finish_call-in-Ok-Call-clause-alone
+expand_list-returns-in_err-finish_call-in-Ok-Call-clause-alone t c =
     let e = err_from_is_err_and c.from_residual-in_err-finish_call-in-Ok-Call.result c.from_residual-in_err-finish_call-in-Ok-Call.ensures.1 in
     satisfies_exit _ c.in_err-finish_call-in-Ok-Call.field-0.0 _ (e.1 ∙ ap Err e.2)
     (λ fault is. reached_call_fault _ _ _ _ _ _ _ c.items.invariant.reached _ _ c.in-Ok-Call.call fault

@@ -13,25 +13,28 @@ use Rattle.pp_expansion.proofs.taking.ListLeadsLemmas.{Reached}
 use Rattle.pp_expansion.proofs.arguments.+answers.Given as goal
 
 abbrev pub decreases-finish_call : goal.decreases-finish_call
-decreases-finish_call l = 4 * l.levels
+decreases-finish_call l = 5 * l.levels
+
+abbrev pub decreases-expand_list : goal.decreases-expand_list
+decreases-expand_list l = 5 * l.levels + 1
 
 abbrev pub decreases-expand_argument : goal.decreases-expand_argument
-decreases-expand_argument l = 4 * l.levels + 1
+decreases-expand_argument l = 5 * l.levels + 2
 
 abbrev pub decreases-expand_arguments : goal.decreases-expand_arguments
-decreases-expand_arguments l = 4 * l.levels + 2
+decreases-expand_arguments l = 5 * l.levels + 3
 
 abbrev pub decreases-expand_within : goal.decreases-expand_within
-decreases-expand_within l = 4 * l.levels + 3
+decreases-expand_within l = 5 * l.levels + 4
 
-abbrev pub invariant-expand_argument-items : goal.invariant-expand_argument-items
-invariant-expand_argument-items l = record {
-  reached : Reached l.levels l.definitions l.hidden l.fn.tokens l.caller l.lexer l.items.items;
+abbrev pub invariant-expand_list-items : goal.invariant-expand_list-items
+invariant-expand_list-items l = record {
+  reached : Reached l.levels l.definitions l.hidden l.fn.lexer.tokens l.caller l.lexer l.items.items;
   holds : AllHoldOrdinary l.items.items;
 }
 
-abbrev pub decreases-expand_argument-items : goal.decreases-expand_argument-items
-decreases-expand_argument-items l = work_of l.levels l.caller (of_list l.lexer)
+abbrev pub decreases-expand_list-items : goal.decreases-expand_list-items
+decreases-expand_list-items l = work_of l.levels l.caller (of_list l.lexer)
 
 abbrev pub invariant-expand_arguments-loop-argument : goal.invariant-expand_arguments-loop-argument
 invariant-expand_arguments-loop-argument l = record {
