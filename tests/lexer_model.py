@@ -81,7 +81,8 @@ def uncommented(source):
 
 def shown_characters(characters, source):
     """What pp_calls prints of them."""
-    return [f"{ord(c)} {line} {offset}" for c, line, offset in characters] + [f"None {len(source.encode())}"]
+    shown = [f"{ord(c)} {line} {offset}" for c, line, offset in characters]
+    return ["from 0", *shown, f"None {len(source.encode())}"]
 
 
 def number_at(text, i):

@@ -9,17 +9,30 @@
 //! | `next` | `next`, once |
 //! | `rest` | `next` up to the first `None`, and then twice more |
 //! | `all` | `preprocess_all` |
-//! | `spell` | `spell_tokens`, of the tokens that were given so far |
-//! | `copy` | `clone`, of all items that were given so far |
+//! | `drain` | `drain` |
+//! | `errors` | `next` up to the first `None`, and after each error `place`: only errors are printed |
+//! | `spell`, `afresh` | `spell_tokens` and `are_read_afresh`, of the tokens that were given so far |
+//! | `copy` | `clone`, of all items that were given so far, of what they hold, and of errors of their values |
 //! | `replies`, `plain` | `replies` and the plain program, over the calls of `add_define` and `next` that were made so far |
 //! | `lexer` | `next` of a `Lexer` of the source, up to the first `None` and then once more |
-//! | `lines`, `joined`, `uncommented` | the same of `CharsAndLine`, `SkipBackslashNewline` and `ReplaceComments` |
+//! | `convert` | `clone`, `convert_lexer_token` and `convert_lexer_token_to_step`, of each token of a `Lexer` |
+//! | `lines`, `joined`, `uncommented` | `next` and `get_current_offset` of `CharsAndLine`, `SkipBackslashNewline` and `ReplaceComments` |
+//! | `copies` | `clone` of each of the three after its first character, and then the same |
+//! | `sheet` | those of the cases of a sheet, which the source is |
+//!
+//! The cases of a sheet stand apart by empty lines, and each begins anew. Its lines are printed before what they answer:
+//!
+//!     = TEXT           more of its source: \n, \r, \t and \\ stand for LF, CR, a tab and a backslash
+//!     * N TEXT         the text N times
+//!     > WORD           a word
+//!     any other line   what the case shows
 //!
 //! The status is 0 unless its own memory, its input or its output fails. Scripts of tests run it.
 #![tactic(auto)]
 
 mod phases;
 mod session;
+mod sheet;
 mod shown;
 
 use session::Session;
@@ -31,6 +44,9 @@ fn main(rt: HostRuntime) -> io::Result<()> {
     // The first is the program's name.
     let words: Vec<String> = arguments.skip(1).collect(rt.alloc())?;
     let source = io::read_to_string(rt.alloc(), rt.stdin())?;
+    if matches!(words.as_slice(), [word] if word.as_str() == "sheet") {
+        return sheet::read(&rt, rt.alloc(), source.as_str());
+    }
     let mut session = Session::new(rt.alloc(), source.as_str());
     for word in &words {
         act(
@@ -44,7 +60,7 @@ fn main(rt: HostRuntime) -> io::Result<()> {
     Ok(())
 }
 
-// Makes the calls of a word.
+// Makes the calls of a word over a source.
 fn act<'a>(
     rt: &impl Print,
     alloc: Global,
@@ -62,14 +78,22 @@ fn act<'a>(
         }
         "rest" => session.rest(rt),
         "all" => session.all(rt),
+        "drain" => {
+            session.drain();
+            Ok(())
+        }
+        "errors" => session.errors(rt),
         "spell" => session.spell(rt),
+        "afresh" => session.afresh(rt),
         "copy" => session.copy(rt),
         "replies" => session.replies(rt),
         "plain" => session.plain(rt),
         "lexer" => shown::lexer(rt, alloc, source),
+        "convert" => shown::convert(rt, alloc, source),
         "lines" => phases::lines(rt, source),
         "joined" => phases::joined(rt, source),
         "uncommented" => phases::uncommented(rt, source),
+        "copies" => phases::copies(rt, source),
         _ => println!(rt; "not understood: {word}"),
     }
 }

@@ -3,16 +3,19 @@
 ghost use Rattle.std.specs.Prelude.{IsTrue, All};
 ghost use Rattle.pp_model.specs.Run.{HasRoom};
 
-use crate::shown::{copy_error, copy_token, refused, replies};
+use crate::shown::{copy_error, copy_token, refused, replies, stands};
 use pp_plain::run::run;
-use pp_rs::pp::{self, Call, Preprocessor, PreprocessorItem, Reply, preprocess_all, spell_tokens};
+use pp_rs::pp::{
+    self, Call, Preprocessor, PreprocessorItem, Reply, are_read_afresh, drain, preprocess_all,
+    spell_tokens,
+};
 use pp_rs::token::{PreprocessorError, Token};
 use pp_shown::{item, reply};
 use std::alloc::Global;
 use std::io;
 
 /// A source or content has fewer bytes.
-pub const BYTES: usize = 4_294_967_295;
+pub(crate) const BYTES: usize = 4_294_967_295;
 
 // The steps that the plain program may take.
 const STEPS: u64 = 200_000;
@@ -35,7 +38,7 @@ fn have_room(calls: &[Call<'_>]) -> bool
 
 /// A preprocessor of a source, the calls that were made, and what they gave.
 #[derive(Drop)]
-pub struct Session<'a> {
+pub(crate) struct Session<'a> {
     alloc: Global,
     source: &'a str,
     pp: Preprocessor<'a>,
@@ -46,7 +49,7 @@ pub struct Session<'a> {
 
 impl<'a> Session<'a> {
     /// Nothing was done yet. Of a source that is too long it has none.
-    pub fn new(alloc: Global, source: &'a str) -> Session<'a> {
+    pub(crate) fn new(alloc: Global, source: &'a str) -> Session<'a> {
         let source = if source.len() < BYTES { source } else { "" };
         Session {
             alloc,
@@ -59,7 +62,12 @@ impl<'a> Session<'a> {
     }
 
     /// Lets a name stand for a content.
-    pub fn add(&mut self, rt: &impl Print, name: &'a str, content: &'a str) -> io::Result<()> {
+    pub(crate) fn add(
+        &mut self,
+        rt: &impl Print,
+        name: &'a str,
+        content: &'a str,
+    ) -> io::Result<()> {
         if content.len() >= BYTES {
             return Ok(());
         }
@@ -84,7 +92,7 @@ impl<'a> Session<'a> {
     }
 
     /// Asks for one item. Answers whether there was one.
-    pub fn next(&mut self, rt: &impl Print) -> io::Result<bool> {
+    pub(crate) fn next(&mut self, rt: &impl Print) -> io::Result<bool> {
         self.calls.push(Call::Next)?;
         match self.pp.next() {
             Some(given) => {
@@ -99,7 +107,7 @@ impl<'a> Session<'a> {
     }
 
     /// Asks for all items that are left, and then twice more.
-    pub fn rest(&mut self, rt: &impl Print) -> io::Result<()> {
+    pub(crate) fn rest(&mut self, rt: &impl Print) -> io::Result<()> {
         for _ in 0..u64::MAX {
             if !self.next(rt)? {
                 break;
@@ -111,7 +119,7 @@ impl<'a> Session<'a> {
     }
 
     /// Gathers all items that are left.
-    pub fn all(&mut self, rt: &impl Print) -> io::Result<()> {
+    pub(crate) fn all(&mut self, rt: &impl Print) -> io::Result<()> {
         match preprocess_all(self.alloc, &mut self.pp) {
             Ok(items) => {
                 for given in items {
@@ -123,8 +131,24 @@ impl<'a> Session<'a> {
         }
     }
 
+    /// Drops all items that are left.
+    pub(crate) fn drain(&mut self) {
+        drain(&mut self.pp);
+    }
+
+    /// Asks for all items that are left, and shows each error with the place where it stands in the source.
+    pub(crate) fn errors(&mut self, rt: &impl Print) -> io::Result<()> {
+        for _ in 0..u64::MAX {
+            let Some(given) = self.pp.next() else {
+                break;
+            };
+            stands(rt, self.alloc, &given, self.pp.place())?;
+        }
+        Ok(())
+    }
+
     /// Spells the tokens that were given, where all of them are ordinary.
-    pub fn spell(&self, rt: &impl Print) -> io::Result<()> {
+    pub(crate) fn spell(&self, rt: &impl Print) -> io::Result<()> {
         if !self.tokens.iter().all(|token| token.is_ordinary()) {
             return println!(rt; "not all are ordinary");
         }
@@ -134,8 +158,19 @@ impl<'a> Session<'a> {
         }
     }
 
+    /// Says whether the text of the tokens that were given gives them again, where all of them are ordinary.
+    pub(crate) fn afresh(&self, rt: &impl Print) -> io::Result<()> {
+        if !self.tokens.iter().all(|token| token.is_ordinary()) {
+            return println!(rt; "not all are ordinary");
+        }
+        match are_read_afresh(self.alloc, &self.tokens) {
+            Ok(answer) => println!(rt; "afresh={answer}"),
+            Err(fault) => refused(rt, self.alloc, fault),
+        }
+    }
+
     /// Copies what was given.
-    pub fn copy(&self, rt: &impl Print) -> io::Result<()> {
+    pub(crate) fn copy(&self, rt: &impl Print) -> io::Result<()> {
         for token in &self.tokens {
             copy_token(rt, self.alloc, token)?;
         }
@@ -146,7 +181,7 @@ impl<'a> Session<'a> {
     }
 
     /// Makes the same calls once more, by `replies`.
-    pub fn replies(&self, rt: &impl Print) -> io::Result<()> {
+    pub(crate) fn replies(&self, rt: &impl Print) -> io::Result<()> {
         if self.source.len() < BYTES && have_room(&self.calls) {
             let given = match pp::replies(self.alloc, self.source, &self.calls) {
                 Ok(replies) => Ok(Some(replies)),
@@ -158,7 +193,7 @@ impl<'a> Session<'a> {
     }
 
     /// Makes the same calls once more, by the plain program.
-    pub fn plain(&self, rt: &impl Print) -> io::Result<()> {
+    pub(crate) fn plain(&self, rt: &impl Print) -> io::Result<()> {
         if self.source.len() < BYTES && have_room(&self.calls) {
             let given = run(self.alloc, self.source, &self.calls, STEPS);
             return replies(rt, self.alloc, "plain", given);

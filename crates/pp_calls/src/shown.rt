@@ -1,10 +1,12 @@
 //! Items of the lexer, copies and replies, printed.
 
 use crate::session::BYTES;
-use pp_rs::lexer::{Lexer, LexerItem};
-use pp_rs::pp::Reply;
+use pp_rs::lexer::{self, Lexer, LexerItem};
+use pp_rs::pp::{
+    PreprocessorItem, Reply, Step, StepExit, convert_lexer_token, convert_lexer_token_to_step,
+};
 use pp_rs::token::{Location, PreprocessorError, Token, TokenValue};
-use pp_shown::{error, lexer_value, place, reply};
+use pp_shown::{error, item, lexer_value, place, reply};
 use std::alloc::{AllocError, Global};
 use std::io;
 
@@ -31,7 +33,7 @@ fn lexer_item(alloc: Global, item: &LexerItem) -> Result<String, AllocError> {
 }
 
 /// The items of a `Lexer`, each with whether a comment was passed and where it stands.
-pub fn lexer(rt: &impl Print, alloc: Global, source: &str) -> io::Result<()> {
+pub(crate) fn lexer(rt: &impl Print, alloc: Global, source: &str) -> io::Result<()> {
     if source.len() < BYTES {
         let mut items = Lexer::new(alloc, source);
         for _ in 0..u64::MAX {
@@ -47,8 +49,76 @@ pub fn lexer(rt: &impl Print, alloc: Global, source: &str) -> io::Result<()> {
     Ok(())
 }
 
+// Prints what a token is converted to.
+fn converted(
+    rt: &impl Print,
+    alloc: Global,
+    answer: Result<Token, (PreprocessorError, Location)>,
+) -> io::Result<()> {
+    let shown = item(alloc, &answer)?;
+    println!(rt; "{}", shown.as_str())
+}
+
+// Prints what a token is converted to as a step.
+fn converted_step(rt: &impl Print, alloc: Global, answer: Step<Token>) -> io::Result<()> {
+    match answer {
+        Ok(token) => converted(rt, alloc, Ok(token)),
+        Err(StepExit::Error(fault)) => converted(rt, alloc, Err(fault)),
+        Err(StepExit::Continue) => println!(rt; "Continue"),
+        Err(StepExit::Finished) => println!(rt; "Finished"),
+    }
+}
+
+// Copies a token of the lexer and its value.
+fn lexer_copy(alloc: Global, token: &lexer::Token) -> Result<bool, (PreprocessorError, Location)> {
+    Ok(token.clone(alloc)? == *token && token.value.clone(alloc)? == token.value)
+}
+
+// Copies and converts an item of the lexer.
+fn convert_item(rt: &impl Print, alloc: Global, item: LexerItem) -> io::Result<()> {
+    let Ok(token) = item else {
+        return Ok(());
+    };
+    copied(rt, alloc, lexer_copy(alloc, &token))?;
+    if token.value == lexer::TokenValue::NewLine {
+        return Ok(());
+    }
+    match token.clone(alloc) {
+        Ok(copy) => converted(rt, alloc, convert_lexer_token(copy))?,
+        Err(fault) => refused(rt, alloc, fault)?,
+    }
+    converted_step(rt, alloc, convert_lexer_token_to_step(token))
+}
+
+/// Copies and converts the tokens of a `Lexer`.
+pub(crate) fn convert(rt: &impl Print, alloc: Global, source: &str) -> io::Result<()> {
+    if source.len() < BYTES {
+        let items = Lexer::new(alloc, source);
+        println!(rt; "comments={}", items.had_comments())?;
+        for item in items {
+            convert_item(rt, alloc, item)?;
+        }
+    }
+    Ok(())
+}
+
+/// An error by its name, with where it stands in the source. Of a token nothing.
+pub(crate) fn stands(
+    rt: &impl Print,
+    alloc: Global,
+    given: &PreprocessorItem,
+    location: Location,
+) -> io::Result<()> {
+    let Err((fault, _)) = given else {
+        return Ok(());
+    };
+    let name = error(alloc, fault)?;
+    let at = place(alloc, location)?;
+    println!(rt; "{} {}", name.as_str(), at.as_str())
+}
+
 /// An error that a call answered.
-pub fn refused(
+pub(crate) fn refused(
     rt: &impl Print,
     alloc: Global,
     fault: (PreprocessorError, Location),
@@ -58,7 +128,7 @@ pub fn refused(
 }
 
 /// Replies to a list of calls, a line each.
-pub fn replies(
+pub(crate) fn replies(
     rt: &impl Print,
     alloc: Global,
     by: &str,
@@ -113,13 +183,26 @@ fn error_copy(
     Ok(error.clone(alloc)? == *error)
 }
 
-/// Copies a token, and what its value holds.
-pub fn copy_token(rt: &impl Print, alloc: Global, token: &Token) -> io::Result<()> {
+// Copies an error that the token's value is.
+fn unexpected_copy(alloc: Global, token: &Token) -> Result<bool, (PreprocessorError, Location)> {
+    error_copy(
+        alloc,
+        &PreprocessorError::UnexpectedToken(token.value.clone(alloc)?),
+    )
+}
+
+/// Copies a token, what its value holds, and an error of that value.
+pub(crate) fn copy_token(rt: &impl Print, alloc: Global, token: &Token) -> io::Result<()> {
     copied(rt, alloc, token_copy(alloc, token))?;
-    copied(rt, alloc, held_copy(alloc, &token.value))
+    copied(rt, alloc, held_copy(alloc, &token.value))?;
+    copied(rt, alloc, unexpected_copy(alloc, token))
 }
 
 /// Copies an error.
-pub fn copy_error(rt: &impl Print, alloc: Global, error: &PreprocessorError) -> io::Result<()> {
+pub(crate) fn copy_error(
+    rt: &impl Print,
+    alloc: Global,
+    error: &PreprocessorError,
+) -> io::Result<()> {
     copied(rt, alloc, error_copy(alloc, error))
 }

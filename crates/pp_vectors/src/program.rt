@@ -253,7 +253,7 @@ fn differences(alloc: Global, rows: &[Row]) -> Result<String, AllocError> {
 #[test]
 fn rows_are_printed(rt: HostRuntime) -> Result<(), Fail> {
     let found = differences(rt.alloc(), &ROWS)?;
-    assert_eq!(rt; found.as_str(), "");
+    assert!(rt; found.is_empty(), "{}", found.as_str());
     Ok(())
 }
 
@@ -557,7 +557,9 @@ fn unrefused(alloc: Global, rows: &[Refusal]) -> Option<usize> {
 
 #[test]
 fn refusals_come_before_anything_is_written(rt: HostRuntime) {
-    assert_eq!(rt; unrefused(rt.alloc(), &REFUSALS), None);
+    if let Some(index) = unrefused(rt.alloc(), &REFUSALS) {
+        panic!(rt; "row {index}");
+    }
 }
 
 // Sources without errors with the number of bytes that are printed of each, one a write.
@@ -566,29 +568,28 @@ const PRINTED_BYTES: [(&str, usize); 2] = [
     ("int x=0x1Fu+2; // note\n/* */y<<=1.5f\n\\\n;", 30),
 ];
 
-// How a run ends where so many writes succeed, each of one byte, and whether the output failed.
-fn written(alloc: Global, source: &str, writes: usize) -> (Result<RunEnd, RunFault>, bool) {
+// Whether a run fails with its output, or is done, where so many writes succeed, each of one byte.
+fn is_written(alloc: Global, source: &str, writes: usize, is_enough: bool) -> bool {
     let mut reader = FakeSource::new(source.as_bytes(), 3, 1000);
     let mut writer = FakeSink::new(alloc, 1, writes);
     let end = run(alloc, &[], &mut reader, &mut writer);
-    (end, writer.has_failed())
+    if is_enough {
+        matches!(end, Ok(RunEnd::Done)) && !writer.has_failed()
+    } else {
+        matches!(end, Err(RunFault::WriteFailed)) && writer.has_failed()
+    }
 }
 
 #[test]
 fn a_failed_write_ends_the_run(rt: HostRuntime) {
     for (source, bytes) in PRINTED_BYTES {
-        for writes in 0..bytes {
-            let wanted = (Err(RunFault::WriteFailed), true);
-            assert_eq!(rt;
-                written(rt.alloc(), source, writes),
-                wanted,
+        for writes in 0..=bytes {
+            let is_enough = writes == bytes;
+            assert!(rt;
+                is_written(rt.alloc(), source, writes, is_enough),
                 "after {writes}"
             );
         }
-        assert_eq!(rt;
-            written(rt.alloc(), source, bytes),
-            (Ok(RunEnd::Done), false)
-        );
     }
 }
 
@@ -604,7 +605,7 @@ const WORDS: [(&str, Option<(&str, &str)>); 6] = [
 #[test]
 fn words_are_cut(rt: HostRuntime) {
     for (word, parts) in WORDS {
-        assert_eq!(rt; split_word(word), parts);
+        assert!(rt; split_word(word) == parts, "{word}");
     }
 }
 
@@ -635,7 +636,7 @@ const ENDS: [(Result<RunEnd, RunFault>, u8, &str); 8] = [
 fn it_is_said_how_a_run_ended(rt: HostRuntime) -> Result<(), Fail> {
     for (end, code, line) in &ENDS {
         let said = message(rt.alloc(), end)?;
-        assert_eq!(rt; (status(end), said.as_str()), (*code, *line));
+        assert!(rt; status(end) == *code && said.as_str() == *line, "{line}");
     }
     Ok(())
 }

@@ -1,11 +1,11 @@
-//! Tokens, texts and errors: copies, names and conversions.
+//! Texts, lists of tokens, errors and exits: what they hold, their copies, and what is no output.
 
+use pp_rs::pp::{EXPANSION_LIMIT, StepExit, are_read_afresh};
 use pp_rs::token::{
-    Extension, Float, Integer, Location, Pragma, PreprocessorError, Punct, Text, Token, TokenValue,
-    Tokens, Version, out_of_memory,
+    Location, PreprocessorError, Punct, Text, Token, TokenValue, Tokens, out_of_memory,
 };
+use pp_rs::{laws, lexer};
 use std::alloc::{AllocError, Global};
-use std::process::Abort;
 use std::test::Fail;
 
 const PLACE: Location = Location {
@@ -14,167 +14,115 @@ const PLACE: Location = Location {
     line: 2,
 };
 
-const SEVEN: Integer = Integer {
-    value: 7,
-    signed: false,
-    width: 32,
+const NOWHERE: Location = Location {
+    start: 0,
+    end: 0,
+    line: 1,
 };
 
-fn text(alloc: Global, content: &str) -> Result<Text, AllocError> {
-    Ok(Text::from(String::from_str(alloc, content)?))
+fn name(alloc: Global, content: &str) -> Result<TokenValue, AllocError> {
+    let text = Text::from(String::from_str(alloc, content)?);
+    Ok(TokenValue::Ident(text))
 }
 
-fn float(alloc: Global) -> Result<Float, AllocError> {
-    Ok(Float {
-        text: text(alloc, "1.5e3")?,
-        width: 32,
-    })
+fn placed(value: TokenValue) -> Token {
+    Token {
+        value,
+        location: PLACE,
+    }
+}
+
+// Whether a text that grows by each character of a string is that string.
+fn grows_to(alloc: Global, wanted: &str) -> Result<bool, AllocError> {
+    let mut grown = Text::new(alloc);
+    let is_empty_first = grown.is_empty();
+    for character in wanted.chars() {
+        grown.push(character)?;
+    }
+    let copy = grown.try_clone(alloc)?;
+    let other = Text::from(String::from_str(alloc, wanted)?);
+    let is_wanted = !grown.is_empty() && grown.as_str() == wanted;
+    let is_same = grown == copy && grown == other;
+    let string = grown.into_string();
+    Ok(is_empty_first && is_wanted && is_same && string.as_str() == wanted)
 }
 
 // `(` and a name
-fn tokens(alloc: Global) -> Result<Tokens, AllocError> {
+fn call_front(alloc: Global) -> Result<Vec<Token>, AllocError> {
     let mut items = Vec::new(alloc);
-    for value in [
-        TokenValue::Punct(Punct::LeftParen),
-        TokenValue::Ident(text(alloc, "été")?),
-    ] {
-        items.push(Token {
-            value,
-            location: PLACE,
-        })?;
+    items.push(placed(TokenValue::Punct(Punct::LeftParen)))?;
+    items.push(placed(name(alloc, "été")?))?;
+    Ok(items)
+}
+
+// Whether a list of tokens holds those that it was made of.
+fn holds_its_tokens(alloc: Global) -> Result<bool, AllocError> {
+    let items = call_front(alloc)?;
+    let list = Tokens::from(call_front(alloc)?);
+    let is_long = !list.is_empty() && list.len() == 2;
+    let is_placed = matches!(list.as_slice(), [_, second] if second.location == PLACE);
+    let is_same = list.into_vec().as_slice() == items.as_slice();
+    Ok(is_long && is_placed && is_same)
+}
+
+fn is_exit_copied(alloc: Global, exit: StepExit) -> bool {
+    match exit.clone(alloc) {
+        Ok(copy) => copy == exit,
+        Err(_) => false,
     }
-    Ok(Tokens::from(items))
 }
 
-fn version(alloc: Global) -> Result<Version, AllocError> {
-    Ok(Version {
-        tokens: tokens(alloc)?,
-        is_first_directive: true,
-        has_comments_before: false,
-    })
+// Whether the tokens are ordinary, and their text gives them again.
+fn is_output(alloc: Global, tokens: &[Token]) -> bool {
+    if !tokens.iter().all(|token| token.is_ordinary()) {
+        return false;
+    }
+    match are_read_afresh(alloc, tokens) {
+        Ok(answer) => answer,
+        Err(_) => false,
+    }
 }
 
-fn extension(alloc: Global) -> Result<Extension, AllocError> {
-    Ok(Extension {
-        tokens: tokens(alloc)?,
-        has_non_directive_before: true,
-    })
-}
-
-fn pragma(alloc: Global) -> Result<Pragma, AllocError> {
-    Ok(Pragma {
-        tokens: tokens(alloc)?,
-    })
-}
-
-// Copies of the value, as such and in a token and an error, are equal to it.
-fn assert_copied(
-    rt: &impl Abort,
-    alloc: Global,
-    value: TokenValue,
-    is_ordinary: bool,
-) -> Result<(), Fail> {
-    assert_eq!(rt; value.clone(alloc)?, value);
-    let token = Token {
-        value,
-        location: PLACE,
-    };
-    assert_eq!(rt; token.is_ordinary(), is_ordinary);
-    let copy = token.clone(alloc)?;
-    assert_eq!(rt; copy, token);
-    let error = PreprocessorError::UnexpectedToken(copy.value);
-    assert_eq!(rt; error.clone(alloc)?, error);
+#[test]
+fn texts_and_lists_hold_what_they_are_made_of(rt: HostRuntime) -> Result<(), Fail> {
+    assert!(rt; grows_to(rt.alloc(), "été")?);
+    assert!(rt; Tokens::from(Vec::new(rt.alloc())).is_empty());
+    assert!(rt; holds_its_tokens(rt.alloc())?);
+    let comma = lexer::TokenValue::from(Punct::Comma);
+    assert!(rt; comma == lexer::TokenValue::Punct(Punct::Comma));
     Ok(())
 }
 
 #[test]
-fn each_kind_is_copied(rt: HostRuntime) -> Result<(), Fail> {
-    let alloc = rt.alloc();
-    assert_copied(&rt, alloc, TokenValue::Ident(text(alloc, "été")?), true)?;
-    assert_copied(&rt, alloc, TokenValue::Integer(SEVEN), true)?;
-    assert_copied(
-        &rt,
-        alloc,
-        TokenValue::Float(float(alloc)?.clone(alloc)?),
-        true,
-    )?;
-    assert_copied(&rt, alloc, TokenValue::Punct(Punct::Question), true)?;
-    assert_copied(
-        &rt,
-        alloc,
-        TokenValue::Version(version(alloc)?.clone(alloc)?),
-        false,
-    )?;
-    assert_copied(
-        &rt,
-        alloc,
-        TokenValue::Extension(extension(alloc)?.clone(alloc)?),
-        false,
-    )?;
-    assert_copied(
-        &rt,
-        alloc,
-        TokenValue::Pragma(pragma(alloc)?.clone(alloc)?),
-        false,
-    )?;
+fn exits_are_copied(rt: HostRuntime) -> Result<(), Fail> {
+    let error = PreprocessorError::UnexpectedToken(name(rt.alloc(), "word")?);
+    assert!(rt; is_exit_copied(rt.alloc(), StepExit::Error((error, PLACE))));
+    assert!(rt; is_exit_copied(rt.alloc(), StepExit::Continue));
+    assert!(rt; is_exit_copied(rt.alloc(), StepExit::Finished));
     Ok(())
 }
 
+// A name with a blank in it comes of no source, and its text gives two tokens.
 #[test]
-fn errors_have_names(rt: HostRuntime) {
-    for (error, name) in [
-        (PreprocessorError::IntegerOverflow, "IntegerOverflow"),
-        (
-            PreprocessorError::UnexpectedToken(TokenValue::Integer(SEVEN)),
-            "UnexpectedToken",
-        ),
-        (
-            PreprocessorError::NotSupported16BitLiteral,
-            "NotSupported16BitLiteral",
-        ),
-        (PreprocessorError::OutOfMemory, "OutOfMemory"),
-    ] {
-        assert_eq!(rt; error.name(), name);
-    }
+fn what_is_no_output_is_not_read_afresh(rt: HostRuntime) -> Result<(), Fail> {
+    let mut tokens = Vec::new(rt.alloc());
+    tokens.push(placed(name(rt.alloc(), "a b")?))?;
+    assert!(rt; !is_output(rt.alloc(), &tokens));
+    Ok(())
 }
 
 #[test]
 fn refused_memory_stands_nowhere(rt: HostRuntime) {
-    let nowhere = Location {
-        start: 0,
-        end: 0,
-        line: 1,
-    };
-    assert_eq!(rt; Location::default(), nowhere);
-    assert_eq!(rt; out_of_memory(), (PreprocessorError::OutOfMemory, nowhere));
+    let (error, location) = out_of_memory();
+    assert!(rt; error.name() == "OutOfMemory");
+    assert!(rt; matches!(error, PreprocessorError::OutOfMemory));
+    assert!(rt; location == NOWHERE && Location::default() == NOWHERE);
 }
 
+// The laws say something by their contracts alone.
 #[test]
-fn a_text_is_a_string(rt: HostRuntime) -> Result<(), Fail> {
-    let alloc = rt.alloc();
-    let mut grown = Text::new(alloc);
-    assert!(rt; grown.is_empty());
-    for character in ['é', 't', 'é'] {
-        grown.push(character)?;
-    }
-    assert!(rt; !grown.is_empty());
-    assert_eq!(rt; grown.as_str(), "été");
-    assert_eq!(rt; grown, text(alloc, "été")?);
-    assert_eq!(rt; grown.try_clone(alloc)?, grown);
-    assert_eq!(rt; grown.into_string(), String::from_str(alloc, "été")?);
-    Ok(())
-}
-
-#[test]
-fn tokens_are_a_vec(rt: HostRuntime) -> Result<(), Fail> {
-    let alloc = rt.alloc();
-    assert!(rt; Tokens::from(Vec::new(alloc)).is_empty());
-    let list = tokens(alloc)?;
-    assert!(rt; !list.is_empty());
-    assert_eq!(rt; list.len(), 2);
-    let second = list.as_slice().get(1).ok_or("no second token")?;
-    assert_eq!(rt; second.location, PLACE);
-    let items = list.into_vec();
-    assert_eq!(rt; items.as_slice(), tokens(alloc)?.as_slice());
-    Ok(())
+fn laws_and_limits(rt: HostRuntime) {
+    laws::places();
+    laws::line_ends();
+    assert!(rt; EXPANSION_LIMIT == 128);
 }

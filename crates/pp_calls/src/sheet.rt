@@ -1,0 +1,75 @@
+//! Sheets of cases.
+
+use crate::act;
+use crate::session::Session;
+use std::alloc::{AllocError, Global};
+use std::io;
+
+/// Makes the calls of each case of a sheet, and prints the sheet with what they answer.
+pub(crate) fn read(rt: &impl Print, alloc: Global, sheet: &str) -> io::Result<()> {
+    for case in sheet.split("\n\n") {
+        make_calls(rt, alloc, case)?;
+    }
+    Ok(())
+}
+
+fn make_calls(rt: &impl Print, alloc: Global, case: &str) -> io::Result<()> {
+    let source = source_of(alloc, case)?;
+    let mut session = Session::new(alloc, source.as_str());
+    for line in case.lines() {
+        println!(rt; "{line}")?;
+        if let Some(word) = line.strip_prefix("> ") {
+            act(rt, alloc, &mut session, source.as_str(), word)?;
+        }
+    }
+    Ok(())
+}
+
+fn source_of(alloc: Global, case: &str) -> Result<String, AllocError> {
+    let mut source = String::new(alloc);
+    for line in case.lines() {
+        if let Some(text) = line.strip_prefix("= ") {
+            add_text(&mut source, text)?;
+        } else if let Some(text) = line.strip_prefix("* ") {
+            add_times(&mut source, text)?;
+        }
+    }
+    Ok(source)
+}
+
+// Adds `N TEXT`: the text so many times.
+fn add_times(source: &mut String, text: &str) -> Result<(), AllocError> {
+    let Some((count, text)) = text.split_once(' ') else {
+        return Ok(());
+    };
+    for _ in 0..count.parse::<u32>().unwrap_or(0) {
+        add_text(source, text)?;
+    }
+    Ok(())
+}
+
+// Adds the characters that a text stands for.
+fn add_text(source: &mut String, text: &str) -> Result<(), AllocError> {
+    let mut is_escaped = false;
+    for c in text.chars() {
+        if is_escaped {
+            source.push(escaped(c))?;
+            is_escaped = false;
+        } else if c == '\\' {
+            is_escaped = true;
+        } else {
+            source.push(c)?;
+        }
+    }
+    Ok(())
+}
+
+// The character that is written as this one after a backslash.
+fn escaped(c: char) -> char {
+    match c {
+        'n' => '\n',
+        'r' => '\r',
+        't' => '\t',
+        _ => c,
+    }
+}
