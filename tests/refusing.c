@@ -6,7 +6,8 @@
                                fails, stops or short
        write HOW N             the Nth write of standard output does so; where HOW is none, it takes nothing
 
-   N counts from 1, and 0 means each. The first time it says "refused" on standard error. It needs glibc on x86-64. */
+   N counts from 1, and 0 means each. The first time it says "refused" on standard error. Where the variable STEP is set,
+   each read of standard input and each write of standard output moves so many bytes at most. It needs glibc on x86-64. */
 
 typedef unsigned long size;
 
@@ -41,6 +42,14 @@ static void read_wish(void) {
     for (word = next_word(word); *word >= '0' && *word <= '9'; word++) number = 10 * number + *word - '0';
 }
 
+/* How many bytes a read or write moves at most. */
+static size most(void) {
+    const char *digits = getenv("STEP");
+    size step = 0;
+    for (; digits && *digits >= '0' && *digits <= '9'; digits++) step = 10 * step + *digits - '0';
+    return step ? step : -1ul;
+}
+
 /* Whether this request is one to be refused. */
 static int is_refused(char kind) {
     if (number < 0) read_wish();
@@ -58,13 +67,14 @@ static long fails(int why) {
 }
 
 static long moved(long call, int file, char *bytes, size count) {
-    if (file == (call == READ ? 0 : 1) && is_refused(call == READ ? 'r' : 'w')) {
+    if (file != (call == READ ? 0 : 1)) return syscall(call, file, bytes, count);
+    if (is_refused(call == READ ? 'r' : 'w')) {
         if (how == 'f') return fails(FAILED);
         if (how == 's') return fails(INTERRUPTED);
         if (how == 'n') return 0;
         if (count > 1) count = 1;
     }
-    return syscall(call, file, bytes, count);
+    return syscall(call, file, bytes, count < most() ? count : most());
 }
 
 void *malloc(size count) {

@@ -1,6 +1,6 @@
-//! Tests that no data can hold: of values that come of no source, of fake sources and outputs, and of symbols. What data
-//! can hold stands in `pp_cases` and `pp_calls`, whose programs read it. The tests of all crates are here, since a crate
-//! with tests is proved twice.
+//! Tests that no data can hold: of values that come of no source, of symbols, of readers and writers of std, and of how
+//! a run ends. What data can hold stands in `pp_cases` and `pp_calls`, whose programs read it, and in the scripts of
+//! `tests`. The tests of all crates are here, since a crate with tests is proved twice.
 #![tactic(auto)]
 
 #[cfg(test)]
