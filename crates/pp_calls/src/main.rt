@@ -10,7 +10,7 @@
 //! | `rest` | `next` up to the first `None`, and then twice more |
 //! | `all` | `preprocess_all` |
 //! | `drain` | `drain` |
-//! | `errors` | `next` up to the first `None`, and after each error `place`: only errors are printed |
+//! | `errors` | `next` up to the first `None`, and `place` after each error: errors alone are printed, with that place |
 //! | `spell`, `afresh` | `spell_tokens` and `are_read_afresh`, of the tokens that were given so far |
 //! | `copy` | `clone`, of all items that were given so far, of what they hold, and of errors of their values |
 //! | `replies`, `plain` | `replies` and the plain program, over the calls of `add_define` and `next` that were made so far |
@@ -18,7 +18,7 @@
 //! | `convert` | `clone`, `convert_lexer_token` and `convert_lexer_token_to_step`, of each token of a `Lexer` |
 //! | `lines`, `joined`, `uncommented` | `next` and `get_current_offset` of `CharsAndLine`, `SkipBackslashNewline` and `ReplaceComments` |
 //! | `copies` | `clone` of each of the three after its first character, and then the same |
-//! | `sheet` | those of the cases of a sheet, which the source is |
+//! | `sheet`, alone | those of the cases of a sheet, which the source is |
 //!
 //! The cases of a sheet stand apart by empty lines, and each begins anew. Its lines are printed before what they answer:
 //!

@@ -3,14 +3,14 @@
 ghost use Rattle.std.specs.Prelude.{IsTrue, All};
 ghost use Rattle.pp_model.specs.Run.{HasRoom};
 
-use crate::shown::{copy_error, copy_token, refused, replies, stands};
+use crate::shown::{copy_error, copy_token, print_item, refused, replies};
 use pp_plain::run::run;
 use pp_rs::pp::{
     self, Call, Preprocessor, PreprocessorItem, Reply, are_read_afresh, drain, preprocess_all,
     spell_tokens,
 };
 use pp_rs::token::{PreprocessorError, Token};
-use pp_shown::{item, reply};
+use pp_shown::reply;
 use std::alloc::Global;
 use std::io;
 
@@ -82,8 +82,7 @@ impl<'a> Session<'a> {
 
     // Shows an item, and keeps it.
     fn keep(&mut self, rt: &impl Print, given: PreprocessorItem) -> io::Result<()> {
-        let shown = item(self.alloc, &given)?;
-        println!(rt; "{}", shown.as_str())?;
+        print_item(rt, self.alloc, &given)?;
         match given {
             Ok(token) => self.tokens.push(token)?,
             Err((error, _)) => self.errors.push(error)?,
@@ -142,7 +141,12 @@ impl<'a> Session<'a> {
             let Some(given) = self.pp.next() else {
                 break;
             };
-            stands(rt, self.alloc, &given, self.pp.place())?;
+            match given {
+                Ok(token) => drop(token),
+                Err((fault, _location)) => {
+                    print_item(rt, self.alloc, &Err((fault, self.pp.place())))?;
+                }
+            }
         }
         Ok(())
     }

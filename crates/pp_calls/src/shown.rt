@@ -49,21 +49,21 @@ pub(crate) fn lexer(rt: &impl Print, alloc: Global, source: &str) -> io::Result<
     Ok(())
 }
 
-// Prints what a token is converted to.
-fn converted(
+/// Prints an item with its place.
+pub(crate) fn print_item(
     rt: &impl Print,
     alloc: Global,
-    answer: Result<Token, (PreprocessorError, Location)>,
+    given: &PreprocessorItem,
 ) -> io::Result<()> {
-    let shown = item(alloc, &answer)?;
+    let shown = item(alloc, given)?;
     println!(rt; "{}", shown.as_str())
 }
 
 // Prints what a token is converted to as a step.
 fn converted_step(rt: &impl Print, alloc: Global, answer: Step<Token>) -> io::Result<()> {
     match answer {
-        Ok(token) => converted(rt, alloc, Ok(token)),
-        Err(StepExit::Error(fault)) => converted(rt, alloc, Err(fault)),
+        Ok(token) => print_item(rt, alloc, &Ok(token)),
+        Err(StepExit::Error(fault)) => print_item(rt, alloc, &Err(fault)),
         Err(StepExit::Continue) => println!(rt; "Continue"),
         Err(StepExit::Finished) => println!(rt; "Finished"),
     }
@@ -84,7 +84,7 @@ fn convert_item(rt: &impl Print, alloc: Global, item: LexerItem) -> io::Result<(
         return Ok(());
     }
     match token.clone(alloc) {
-        Ok(copy) => converted(rt, alloc, convert_lexer_token(copy))?,
+        Ok(copy) => print_item(rt, alloc, &convert_lexer_token(copy))?,
         Err(fault) => refused(rt, alloc, fault)?,
     }
     converted_step(rt, alloc, convert_lexer_token_to_step(token))
@@ -100,21 +100,6 @@ pub(crate) fn convert(rt: &impl Print, alloc: Global, source: &str) -> io::Resul
         }
     }
     Ok(())
-}
-
-/// An error by its name, with where it stands in the source. Of a token nothing.
-pub(crate) fn stands(
-    rt: &impl Print,
-    alloc: Global,
-    given: &PreprocessorItem,
-    location: Location,
-) -> io::Result<()> {
-    let Err((fault, _)) = given else {
-        return Ok(());
-    };
-    let name = error(alloc, fault)?;
-    let at = place(alloc, location)?;
-    println!(rt; "{} {}", name.as_str(), at.as_str())
 }
 
 /// An error that a call answered.
