@@ -1,7 +1,7 @@
 -- Texts that a call gives where it finds memory
 use Rattle.std.specs.Result.{IsErrAnd}
 use Rattle.std.specs.Str.{chars, encode_utf8_all, IsUtf8}
-use Rattle.std.proofs.Common.{◌≡◌, ℕ, List, [], ◌∷◌, ◌++◌, codes, Option, Some, None, Result, Ok, Err, IfOk, OnOk, IsTrue, ◌∙◌, ap, sym, append_assoc}
+use Rattle.std.proofs.Common.{◌≡◌, ℕ, List, [], ◌∷◌, ◌++◌, codes, Option, Some, None, Result, Ok, Err, IfOk, OnOk, IsTrue, subst, ◌∙◌, ap, sym, append_assoc}
 use Rattle.std.proofs.lemmas.Str.{encodes-append, encodes-chars}
 use Rattle.pp_rs.specs.declared.token.TokenValue.{TokenValue}
 use Rattle.pp_rs.specs.Spelling.{spelling}
@@ -22,6 +22,12 @@ error_parts name name' start end e = ap (λ n. codes "error " ++ (n ++ (codes " 
 pub same_fault : {A B E : Type 0} (r : Result A E) (s : Result B E) (x y : E) → r ≡ Err x → IsErrAnd s (λ e. e ≡ x) → s ≡ Err y → r ≡ Err y
 same_fault r (Ok b) x y e h f = absurd h
 same_fault r (Err z) x y e h f = let same : z ≡ y = cc in cc
+
+-- what is so of a value, where a call gives that value alone
+pub IfOk-one : {A E : Type 0} (r : Result A E) (P Q : A → Type 0) (R : Type 0) (only : A) → IfOk r (λ x. (x ≡ only) × P x) → OnOk r R
+    → (P only → R → Q only) → IfOk r Q
+IfOk-one (Ok x) P Q R only h done goes = subst Q (sym h.0) (goes (subst P h.0 h.1) done)
+IfOk-one (Err _) P Q R only h done goes = tt
 
 -- characters that were pushed onto a text are bytes that were
 bytes_pushed : (old new word : List ℕ) → IsUtf8 old → IsUtf8 new → chars new ≡ chars old ++ word → new ≡ old ++ encode_utf8_all word

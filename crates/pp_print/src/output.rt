@@ -12,11 +12,12 @@ ghost use Rattle.pp_print.specs.inner.Input.{IsDeviceFault};
 ghost use Rattle.pp_print.specs.Output.{AllOrdinary, with_tokens, directive_text, written_lines};
 ghost use Rattle.pp_print.specs.inner.Printing.{begun_line, line_after, ended_lines, ArePrinted, AreBegun};
 ghost use Rattle.pp_print.specs.Runs.{IsStoppedBySource};
+ghost use Rattle.pp_print.specs.declared.ends.RunEnd.TheVariants.{Stopped};
 
 use super::devices::Sink;
 use super::ends::{RunEnd, RunFault};
 use pp_rs::pp::{Preprocessor, push_value, spell_tokens};
-use pp_rs::token::{PreprocessorError, Token, TokenValue, Tokens};
+use pp_rs::token::{Location, PreprocessorError, Token, TokenValue, Tokens};
 use std::alloc::{AllocError, Global};
 
 /// Prints the items up to the first error item, which it gives with its place: each longest run of
@@ -24,7 +25,7 @@ use std::alloc::{AllocError, Global};
 /// memory is refused, not at all.
 pub fn print_items<W: Sink>(
     alloc: Global,
-    items: Preprocessor<'_>,
+    mut items: Preprocessor<'_>,
     writer: &mut W,
 ) -> Result<RunEnd, RunFault>
     requires ready { W.failed writer.old ≡ false }
@@ -38,21 +39,62 @@ pub fn print_items<W: Sink>(
     ensures err { IfErr result (λ fault. IsDeviceFault RunFault.WriteFailed fault
         (W.failed writer.new)) }
 {
+    print_rest(alloc, &mut items, writer)
+}
+
+// Prints the items that are left. It stands apart, so that the preprocessor is dropped in one place.
+fn print_rest<W: Sink>(
+    alloc: Global,
+    items: &mut Preprocessor<'_>,
+    writer: &mut W,
+) -> Result<RunEnd, RunFault>
+    requires ready { W.failed writer.old ≡ false }
+    requires unspent { is_spent items.old ≡ false }
+    ensures printed { IfOk result (λ end. ArePrinted items.old end (W.contents writer.old)
+        (W.contents writer.new)) }
+    ensures begun { IsErrOf result RunFault.OutOfMemory
+        → AreBegun items.old (W.contents writer.old) (W.contents writer.new) }
+    ensures stopped { IfOk result IsStoppedBySource }
+    ensures ok { OnOk result (W.failed writer.new ≡ false) }
+    ensures err { IfErr result (λ fault. IsDeviceFault RunFault.WriteFailed fault
+        (W.failed writer.new)) }
+{
     // A run of tokens that may go on. It is kept as text, which is smaller than its tokens.
     let mut line = None;
-    for item in items {
+    'items: while let Some(item) = items.next() {
         match item {
             Ok(token) => print_token(alloc, token, &mut line, writer)?,
-            // Its run of tokens may have gone on, so it isn't printed.
-            Err((PreprocessorError::OutOfMemory, _)) => return Err(RunFault::OutOfMemory),
-            Err((error, location)) => {
-                print_line(alloc, line, writer)?;
-                return Ok(RunEnd::Stopped { error, location });
-            }
+            Err(refusal) => return print_stop(alloc, refusal, line, writer),
         }
     }
     print_line(alloc, line, writer)?;
     Ok(RunEnd::Done)
+}
+
+// Prints the line that was begun before an error item, unless that is a refusal of memory: the line's
+// run of tokens may have gone on then.
+fn print_stop<W: Sink>(
+    alloc: Global,
+    refusal: (PreprocessorError, Location),
+    line: Option<String>,
+    writer: &mut W,
+) -> Result<RunEnd, RunFault>
+    requires { W.failed writer.old ≡ false }
+    ensures stopped { IfOk result (λ end. (end ≡ Stopped refusal.0 refusal.1)
+        × IsStoppedBySource end) }
+    ensures written { OnOk result (Appends (W.contents writer.old) (W.contents writer.new)
+        (written_lines (begun_line (option_map string_bytes line)))) }
+    ensures refused { IsErrOf result RunFault.OutOfMemory → writer.new ≡ writer.old }
+    ensures ok { OnOk result (W.failed writer.new ≡ false) }
+    ensures err { IfErr result (λ fault. IsDeviceFault RunFault.WriteFailed fault
+        (W.failed writer.new)) }
+{
+    if matches!(refusal.0, PreprocessorError::OutOfMemory) {
+        return Err(RunFault::OutOfMemory);
+    }
+    print_line(alloc, line, writer)?;
+    let (error, location) = refusal;
+    Ok(RunEnd::Stopped { error, location })
 }
 
 // Takes an ordinary token into the line, and prints a directive item, and before it the line.

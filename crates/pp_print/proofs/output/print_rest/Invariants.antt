@@ -3,12 +3,12 @@ use Rattle.std.specs.Option.{option_map}
 use Rattle.pp_rs.specs.Comes.{State}
 use Rattle.pp_rs.specs.Kept.{Stands, is_spent}
 use Rattle.pp_print.proofs.RunLemmas.{IsPrinting}
-use Rattle.pp_print.proofs.output.print_items.Given as goal
+use Rattle.pp_print.proofs.output.print_rest.Given as goal
 
-abbrev pub invariant-loop-item : goal.invariant-loop-item
-invariant-loop-item g l = record {
+abbrev pub invariant-items : goal.invariant-items
+invariant-items g l = record {
   ok : g.W.Sink.failed l.writer ≡ false;
-  unspent : is_spent l.item-iterator ≡ false;
-  printing : (start : State) → Stands l.fn.items start → IsPrinting start l.item-iterator (option_map string_bytes l.line)
+  unspent : is_spent l.items ≡ false;
+  printing : (start : State) → Stands l.fn.items start → IsPrinting start l.items (option_map string_bytes l.line)
       (g.W.Sink.contents l.fn.writer) (g.W.Sink.contents l.writer);
 }
