@@ -44,18 +44,24 @@ fn main(rt: HostRuntime) -> io::Result<()> {
     // The first is the program's name.
     let words: Vec<String> = arguments.skip(1).collect(rt.alloc())?;
     let source = io::read_to_string(rt.alloc(), rt.stdin())?;
+    let source = source.as_str();
     if matches!(words.as_slice(), [word] if word.as_str() == "sheet") {
-        return sheet::read(&rt, rt.alloc(), source.as_str());
+        return sheet::read(&rt, rt.alloc(), source);
     }
-    let mut session = Session::new(rt.alloc(), source.as_str());
-    for word in &words {
-        act(
-            &rt,
-            rt.alloc(),
-            &mut session,
-            source.as_str(),
-            word.as_str(),
-        )?;
+    let mut session = Session::new(rt.alloc(), source);
+    make_calls(&rt, rt.alloc(), &mut session, source, &words)
+}
+
+// Makes the calls of the words in turn.
+fn make_calls<'a>(
+    rt: &impl Print,
+    alloc: Global,
+    session: &mut Session<'a>,
+    source: &'a str,
+    words: &'a [String],
+) -> io::Result<()> {
+    for word in words {
+        act(rt, alloc, &mut *session, source, word.as_str())?;
     }
     Ok(())
 }

@@ -15,11 +15,22 @@ pub(crate) fn read(rt: &impl Print, alloc: Global, sheet: &str) -> io::Result<()
 
 fn make_calls(rt: &impl Print, alloc: Global, case: &str) -> io::Result<()> {
     let source = source_of(alloc, case)?;
-    let mut session = Session::new(alloc, source.as_str());
+    let source = source.as_str();
+    answer(rt, alloc, &mut Session::new(alloc, source), source, case)
+}
+
+// Prints the lines of a case with what its words answer.
+fn answer<'a>(
+    rt: &impl Print,
+    alloc: Global,
+    session: &mut Session<'a>,
+    source: &'a str,
+    case: &'a str,
+) -> io::Result<()> {
     for line in case.lines() {
         println!(rt; "{line}")?;
         if let Some(word) = line.strip_prefix("> ") {
-            act(rt, alloc, &mut session, source.as_str(), word)?;
+            act(rt, alloc, &mut *session, source, word)?;
         }
     }
     Ok(())

@@ -10,26 +10,46 @@ use pp_shown::{error, item, lexer_value, place, reply};
 use std::alloc::{AllocError, Global};
 use std::io;
 
-// An item of the lexer with its place and flags.
+// A token of the lexer with its place and flags.
+fn lexer_token(alloc: Global, token: &lexer::Token) -> Result<String, AllocError> {
+    let value = lexer_value(alloc, &token.value)?;
+    let at = place(alloc, token.location)?;
+    let leading = token.leading_whitespace;
+    let start = token.start_of_line;
+    format!(in alloc;
+        "{} {} leading={leading} start={start}",
+        value.as_str(),
+        at.as_str()
+    )
+}
+
+// An error of the lexer with its place.
+fn lexer_error(
+    alloc: Global,
+    fault: &PreprocessorError,
+    location: Location,
+) -> Result<String, AllocError> {
+    let name = error(alloc, fault)?;
+    let at = place(alloc, location)?;
+    format!(in alloc; "Error {} {}", name.as_str(), at.as_str())
+}
+
 fn lexer_item(alloc: Global, item: &LexerItem) -> Result<String, AllocError> {
     match item {
-        Ok(token) => {
-            let value = lexer_value(alloc, &token.value)?;
-            let at = place(alloc, token.location)?;
-            let leading = token.leading_whitespace;
-            let start = token.start_of_line;
-            format!(in alloc;
-                "{} {} leading={leading} start={start}",
-                value.as_str(),
-                at.as_str()
-            )
-        }
-        Err((fault, location)) => {
-            let name = error(alloc, fault)?;
-            let at = place(alloc, *location)?;
-            format!(in alloc; "Error {} {}", name.as_str(), at.as_str())
-        }
+        Ok(token) => lexer_token(alloc, token),
+        Err((fault, location)) => lexer_error(alloc, fault, *location),
     }
+}
+
+// Prints an item of the lexer, with whether a comment was passed.
+fn print_lexer_item(
+    rt: &impl Print,
+    alloc: Global,
+    item: &LexerItem,
+    comments: bool,
+) -> io::Result<()> {
+    let shown = lexer_item(alloc, item)?;
+    println!(rt; "{} comments={comments}", shown.as_str())
 }
 
 /// The items of a `Lexer`, each with whether a comment was passed and where it stands.
@@ -40,8 +60,7 @@ pub(crate) fn lexer(rt: &impl Print, alloc: Global, source: &str) -> io::Result<
             let Some(item) = items.next() else {
                 break;
             };
-            let shown = lexer_item(alloc, &item)?;
-            println!(rt; "{} comments={}", shown.as_str(), items.had_comments())?;
+            print_lexer_item(rt, alloc, &item, items.had_comments())?;
         }
         let again = items.next().is_some();
         println!(rt; "None again={again} comments={}", items.had_comments())?;
@@ -71,7 +90,20 @@ fn converted_step(rt: &impl Print, alloc: Global, answer: Step<Token>) -> io::Re
 
 // Copies a token of the lexer and its value.
 fn lexer_copy(alloc: Global, token: &lexer::Token) -> Result<bool, (PreprocessorError, Location)> {
-    Ok(token.clone(alloc)? == *token && token.value.clone(alloc)? == token.value)
+    Ok(whole_copy(alloc, token)? && value_copy(alloc, &token.value)?)
+}
+
+// Copies a token of the lexer.
+fn whole_copy(alloc: Global, token: &lexer::Token) -> Result<bool, (PreprocessorError, Location)> {
+    Ok(token.clone(alloc)? == *token)
+}
+
+// Copies the value of a token of the lexer.
+fn value_copy(
+    alloc: Global,
+    value: &lexer::TokenValue,
+) -> Result<bool, (PreprocessorError, Location)> {
+    Ok(value.clone(alloc)? == *value)
 }
 
 // Copies and converts an item of the lexer.
