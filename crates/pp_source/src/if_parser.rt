@@ -165,7 +165,21 @@ impl<'a> IfParser<'a> {
         ensures reads { GivesItem self.now line.old result line.new }
         ensures less { TakesOff self.now line.old result line.new }
     {
-        let hidden = OpenAround::nothing(self.alloc);
+        let nothing = OpenAround::nothing(self.alloc);
+        self.item_inside(line, &nothing)
+    }
+
+    // The next item of the line, where no macro is open around it.
+    fn item_inside(
+        &self,
+        line: &mut LineExpander<'_>,
+        around: &OpenAround<'_>,
+    ) -> Result<Option<Token>, Halt>
+        requires stands { Stands self.now line.old }
+        requires alone { around.now ≡ [] }
+        ensures reads { GivesItem self.now line.old result line.new }
+        ensures less { TakesOff self.now line.old result line.new }
+    {
         'items: loop {
             match step_list(&mut line.caller, &mut line.lexer) {
                 Ok(Taken::Token(token)) => return Ok(Some(token)),
@@ -174,7 +188,7 @@ impl<'a> IfParser<'a> {
                     &mut line.caller,
                     call,
                     self.definitions,
-                    &hidden,
+                    around,
                     self.levels,
                 )?,
                 Err(StepExit::Continue) => {}

@@ -1,7 +1,7 @@
 use Rattle.pp_expansion.specs.inner.Left.{work_of}
 use Rattle.pp_expansion.specs.inner.Reader.{of_list}
 use Rattle.pp_source.proofs.LineReadLemmas.{ItemsOn}
-use Rattle.pp_source.proofs.if_parser.IfParser.next_item.Given as goal
+use Rattle.pp_source.proofs.if_parser.IfParser.item_inside.Given as goal
 
 abbrev pub invariant-items : goal.invariant-items
 invariant-items l = ItemsOn l.self.levels l.self.definitions.now l.initial.line.caller l.initial.line.lexer l.line.caller l.line.lexer
