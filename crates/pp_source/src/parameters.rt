@@ -7,6 +7,7 @@ ghost use Rattle.pp_expansion.specs.inner.LineReading as spec;
 ghost use Rattle.pp_expansion.specs.inner.ParameterReading.{ends_parameters, one_parameter, first_parameter, alone, GoesOn};
 ghost use Rattle.pp_expansion.specs.inner.SourceLexed.{unreported_at};
 ghost use Rattle.pp_expansion.specs.inner.Unreported.{Reports};
+ghost use Rattle.pp_source.specs.inner.ReadNames.{parameters_to};
 
 use crate::lines::{first_token, refused_token};
 use crate::source_lexer::SourceLexer;
@@ -74,6 +75,30 @@ fn ends_parameters(word: Location, lexer: &mut SourceLexer<'_>) -> Result<bool, 
     }
 }
 
+// Reads the parameters of a macro after its `(` into a list that is empty.
+fn read_parameters(
+    word: Location,
+    lexer: &mut SourceLexer<'_>,
+    names: &mut Vec<Text>,
+) -> Result<(), Halt>
+    requires unspent { lexer.old.spent ≡ false }
+    requires empty { names.old.items ≡ [] }
+    ensures is { spec.Meets (λ t. parameters_to names.new.items lexer.new) result
+        (parameters word lexer.old.rest) }
+    ensures goes { GoesOn result lexer.old lexer.new }
+    ensures errors { Reports result (unreported_at lexer.old) (unreported_at lexer.new) }
+{
+    let Some(first) = first_parameter(word, lexer)? else {
+        return Ok(());
+    };
+    names.push(first)?;
+    'parameters: while !ends_parameters(word, lexer)? {
+        let name = one_parameter(&*names, word, lexer)?;
+        names.push(name)?;
+    }
+    Ok(())
+}
+
 /// The parameters of a macro, after its `(`.
 pub fn parameters(
     alloc: Global,
@@ -81,18 +106,12 @@ pub fn parameters(
     lexer: &mut SourceLexer<'_>,
 ) -> Result<Vec<Text>, Halt>
     requires { lexer.old.spent ≡ false }
-    ensures is { spec.Meets (λ names. record { names = names.items; after = lexer.new.rest }) result (parameters word lexer.old.rest) }
+    ensures is { spec.Meets (λ names. parameters_to names.items lexer.new) result
+        (parameters word lexer.old.rest) }
     ensures goes { GoesOn result lexer.old lexer.new }
     ensures errors { Reports result (unreported_at lexer.old) (unreported_at lexer.new) }
 {
     let mut names = Vec::new(alloc);
-    let Some(first) = first_parameter(word, lexer)? else {
-        return Ok(names);
-    };
-    names.push(first)?;
-    'parameters: while !ends_parameters(word, lexer)? {
-        let name = one_parameter(&names, word, lexer)?;
-        names.push(name)?;
-    }
+    read_parameters(word, lexer, &mut names)?;
     Ok(names)
 }

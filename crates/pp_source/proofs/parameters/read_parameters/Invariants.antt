@@ -1,7 +1,7 @@
 use Rattle.std.proofs.Common.{◌≡◌, false, ◌≤◌, length}
 use Rattle.pp_model.specs.DefineLines.{parameters, after_parameter}
 use Rattle.pp_expansion.specs.inner.SourceLexed.{unreported_at}
-use Rattle.pp_source.proofs.parameters.parameters.Given as goal
+use Rattle.pp_source.proofs.parameters.read_parameters.Given as goal
 
 -- what goes on after these parameters is the whole
 abbrev pub invariant-parameters : goal.invariant-parameters

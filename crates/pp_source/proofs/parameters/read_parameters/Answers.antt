@@ -2,7 +2,7 @@ use Rattle.std.proofs.Common.{◌∙◌, ap, Err}
 use Rattle.std.proofs.lemmas.Result.{err_from_is_err_and}
 use Rattle.pp_expansion.specs.inner.ParameterReading.{alone}
 use Rattle.pp_expansion.proofs.work.ParameterLemmas.{meets_first, meets_refused}
-use Rattle.pp_source.proofs.parameters.parameters.Goals as goal
+use Rattle.pp_source.proofs.parameters.read_parameters.Goals as goal
 
 pub returns-in_err-first-clause-is : goal.returns-in_err-first-clause-is
 returns-in_err-first-clause-is c =
