@@ -104,13 +104,20 @@ fn unwanted_word(alloc: Global, word: &Word) -> Result<Fault, AllocError>
     }
 }
 
+// The fault of a line that ends too early.
+fn ended_early(directive: Location) -> Fault
+    ensures { result ≡ ended_early directive }
+{
+    (PreprocessorError::UnexpectedEndOfInput, directive)
+}
+
 // The fault of a `defined` with its operand, or else that of a line that ends too early.
 fn fault_of_operand(alloc: Global, directive: Location, word: &Word) -> Result<Fault, AllocError>
     ensures { IfOk result (λ fault. fault ≡ fault_of_operand (ended_early directive) word.now) }
 {
     match word {
         Word::Defined(_, Err(fault)) => copy_of(alloc, fault),
-        _ => Ok((PreprocessorError::UnexpectedEndOfInput, directive)),
+        _ => Ok(ended_early(directive)),
     }
 }
 
@@ -123,22 +130,21 @@ fn reported_fault(
 ) -> Result<Fault, AllocError>
     ensures { IfOk result (λ fault. fault ≡ reported_fault directive words.now found) }
 {
-    let early = (PreprocessorError::UnexpectedEndOfInput, directive);
     match found.kind {
         ExpressionFault::IntegerOverflow => Ok((PreprocessorError::IntegerOverflow, directive)),
         ExpressionFault::DivisionByZero => Ok((PreprocessorError::DivisionByZero, directive)),
-        ExpressionFault::UnexpectedEndOfInput => Ok(early),
+        ExpressionFault::UnexpectedEndOfInput => Ok(ended_early(directive)),
         ExpressionFault::Unexpected => match word_from_end(words, found.left) {
             Some(word) => unwanted_word(alloc, word),
-            None => Ok(early),
+            None => Ok(ended_early(directive)),
         },
         ExpressionFault::Unread => match &words.ending {
             Some(fault) => copy_of(alloc, fault),
-            None => Ok(early),
+            None => Ok(ended_early(directive)),
         },
         ExpressionFault::Operand => match word_from_end(words, found.left) {
             Some(word) => fault_of_operand(alloc, directive, word),
-            None => Ok(early),
+            None => Ok(ended_early(directive)),
         },
     }
 }
@@ -228,23 +234,21 @@ fn as_line_number(value: Value) -> Option<u32>
     u32::try_from(value.value).ok()
 }
 
-// The words after an expression.
-fn words_after(words: Words, left: usize) -> Words
-    ensures { result ≡ words_after left words }
+// Passes the words of an expression.
+fn pass_words(words: &mut Words, left: usize)
+    ensures { words.new ≡ words_after left words.old }
 {
-    let mut words = words;
     let count = words.words.len().saturating_sub(left);
     words.words.drain(..count);
-    words
 }
 
-// What the words of a `#line` come to.
-fn numbers(alloc: Global, directive: Location, words: Words) -> Result<u32, Halt>
-    ensures { Satisfies result (Numbers directive words) }
+// What the words of a `#line` come to. The words after its first number are left.
+fn read_numbers(alloc: Global, directive: Location, words: &mut Words) -> Result<u32, Halt>
+    ensures { Satisfies result (Numbers directive words.old) }
 {
-    let value = match evaluation(alloc, &words)? {
+    let value = match evaluation(alloc, &*words)? {
         Ok(value) => value,
-        Err(found) => return Err(Halt::Fault(reported_fault(alloc, directive, &words, found)?)),
+        Err(found) => return Err(Halt::Fault(reported_fault(alloc, directive, &*words, found)?)),
     };
     let number = match as_line_number(value) {
         Some(number) => number,
@@ -253,8 +257,16 @@ fn numbers(alloc: Global, directive: Location, words: Words) -> Result<u32, Halt
     if value.left == 0 {
         return Ok(number);
     }
-    let after = words_after(words, value.left);
-    followed(alloc, directive, &after, number)
+    pass_words(&mut *words, value.left);
+    followed(alloc, directive, &*words, number)
+}
+
+// What the words of a `#line` come to.
+fn numbers(alloc: Global, directive: Location, words: Words) -> Result<u32, Halt>
+    ensures { Satisfies result (Numbers directive words) }
+{
+    let mut words = words;
+    read_numbers(alloc, directive, &mut words)
 }
 
 /// The line number of a `#line`, or its first fault.
