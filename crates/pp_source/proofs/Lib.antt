@@ -15,3 +15,4 @@ pub mod LineReadLemmas
 pub mod LineOperandLemmas
 pub mod LineWordsLemmas
 pub mod LineValueLemmas
+pub mod ParametersLemmas
