@@ -1,18 +1,22 @@
 -- What a line whose value was read makes of the source.
-use Rattle.std.proofs.Common.{◌≡◌, ℕ, Bool, List, [], ◌∷◌, ◌++◌, refl, Ok}
+use Rattle.std.proofs.Common.{◌≡◌, ℕ, Bool, List, [], ◌∷◌, ◌++◌, refl, Ok, Err, arith}
 use Rattle.std.specs.Prelude.{ℤ, pos, ◌-ℤ◌}
 use Rattle.pp_lexer.specs.declared.token.Location.{Location}
 use Rattle.pp_lexer.specs.declared.token.Token.{Token}
 use Rattle.pp_model.specs.Lines.{line_length, line_tokens}
 use Rattle.pp_expansion.specs.inner.Defined.{Defined}
-use Rattle.pp_expansion.specs.inner.LineReading.{HasTaken}
+use Rattle.pp_expansion.specs.inner.LineReading.{HasTaken, Meets, TakesItems}
 use Rattle.pp_expansion.specs.inner.OpenBlocks.{outer_blocks, block_opened, block_decided}
 use Rattle.pp_expansion.specs.declared.blocks.OpenBlock.{OpenBlock}
 use Rattle.pp_expansion.specs.inner.Source.{IsAfter, Condition, LineNumber, holds, numbers}
-use Rattle.pp_source.specs.inner.SourceActs.{Acts}
+use Rattle.pp_expansion.specs.inner.Machine.{Satisfies}
+use Rattle.pp_expansion.specs.declared.halt.Halt.{Halt}
+use Rattle.pp_expansion.specs.declared.halt.Halt.TheVariants as halt
+use Rattle.pp_source.specs.inner.SourceActs.{Acts, HasKept}
 use Rattle.pp_expansion.specs.inner.SourceLexed.{SourceLexed}
-use Rattle.pp_expansion.specs.inner.SourceMoves.{opens_if, parts_if, renumbers, unnoted, line_move}
-use Rattle.pp_source.proofs.SourceActsLemmas.{source_of}
+use Rattle.pp_expansion.specs.inner.SourceMoves.{Effect, opens_if, parts_if, renumbers, unnoted, line_move}
+use Rattle.pp_source.proofs.LineReadingLemmas.{drop_fewer}
+use Rattle.pp_source.proofs.SourceActsLemmas.{source_of, acts_failed}
 
 module _ (definitions : List Defined) (blocks : List OpenBlock)
     (line_offset : ℤ) (has_text has_directive : Bool) (old new : SourceLexed) (word : Location) (tokens : List Token)
@@ -39,3 +43,37 @@ module _ (definitions : List Defined) (blocks : List OpenBlock)
       → Acts (line_move (line_tokens old.rest) (renumbers word) (line_length old.rest))
       (source_of old definitions blocks line_offset has_text has_directive) (Ok tt) (source_of new definitions blocks offset has_text has_directive)
   line_numbers n offset number made = rw (is, made) (numbers n number (refl, after_line (pos n -ℤ pos word.line) blocks, refl))
+
+  kept : HasKept (source_of old definitions blocks line_offset has_text has_directive) (source_of new definitions blocks line_offset has_text has_directive)
+  kept = record { left = omega (arith, drop_fewer old.rest new.rest (line_length old.rest) taken.rest); definitions = refl; spent = taken.spent }
+
+  -- the condition of an `#if` is at fault
+  pub if_failed : (h : Halt) → Satisfies {A = Bool} (Err h) (Condition word tokens definitions)
+      → Acts (line_move (line_tokens old.rest) (opens_if word) (line_length old.rest))
+      (source_of old definitions blocks line_offset has_text has_directive) (Err h) (source_of new definitions blocks line_offset has_text has_directive)
+  if_failed (halt.Fault fault) condition = rw is (condition, kept)
+  if_failed halt.OutOfMemory condition = tt
+
+  -- so is that of an `#elif`
+  pub elif_failed : (block : OpenBlock) (h : Halt) → Satisfies {A = Bool} (Err h) (Condition word tokens definitions)
+      → Acts (line_move (line_tokens old.rest) (parts_if block word) (line_length old.rest))
+      (source_of old definitions blocks line_offset has_text has_directive) (Err h) (source_of new definitions blocks line_offset has_text has_directive)
+  elif_failed block (halt.Fault fault) condition = rw is (condition, kept)
+  elif_failed block halt.OutOfMemory condition = tt
+
+  -- so is the number of a `#line`
+  pub number_failed : (h : Halt) → Satisfies {A = ℕ} (Err h) (LineNumber word tokens definitions)
+      → Acts (line_move (line_tokens old.rest) (renumbers word) (line_length old.rest))
+      (source_of old definitions blocks line_offset has_text has_directive) (Err h) (source_of new definitions blocks line_offset has_text has_directive)
+  number_failed (halt.Fault fault) number = rw is (number, kept)
+  number_failed halt.OutOfMemory number = tt
+
+-- the tokens of a line are at fault
+pub tokens_failed : (effect : List Token → Effect) (h : Halt) (definitions : List Defined) (blocks : List OpenBlock)
+    (line_offset : ℤ) (has_text has_directive : Bool) (old new : SourceLexed) → Meets {A = List Token} (λ tokens. tokens) (Err h) (line_tokens old.rest)
+    → TakesItems {A = List Token} (line_length old.rest) old (Err h) new
+    → Acts (line_move (line_tokens old.rest) effect (line_length old.rest))
+    (source_of old definitions blocks line_offset has_text has_directive) (Err h) (source_of new definitions blocks line_offset has_text has_directive)
+tokens_failed effect h definitions blocks line_offset has_text has_directive old new m t =
+    acts_failed {A = List Token} (λ tokens. tokens) h (line_tokens old.rest) effect (line_length old.rest) (line_length old.rest)
+    definitions blocks line_offset has_text has_directive old new m t

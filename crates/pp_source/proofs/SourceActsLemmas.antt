@@ -46,7 +46,7 @@ source_of l definitions blocks line_offset has_text has_directive =
     }
 
 -- a line at fault, or without memory for it
-acts_failed : {A B : Type 0} (shows : A → B) (h : Halt) (line : Result B Fault) (effect : B → Effect) (n taken : ℕ) (definitions : List Defined)
+pub acts_failed : {A B : Type 0} (shows : A → B) (h : Halt) (line : Result B Fault) (effect : B → Effect) (n taken : ℕ) (definitions : List Defined)
     (blocks : List OpenBlock) (line_offset : ℤ) (has_text has_directive : Bool) (old new : SourceLexed)
     → Meets shows (Err h) line → TakesItems {A = A} taken old (Err h) new
     → Acts (line_move line effect n) (source_of old definitions blocks line_offset has_text has_directive) (Err h)
