@@ -132,6 +132,6 @@ pub no_more : {A : Type 0} (shows : A → Parameters) (r : Result A Halt) (h : H
     → Meets shows r whole
 no_more {A} shows r h word shown names rest middle whole ends fails so_far is ended at same one =
     let read : Meets (with_one names) (Err h) (one_parameter word names middle) =
-        subst (λ (x : List Name). Meets (with_one x) (Err h) (one_parameter word x middle)) same one in
+    subst (λ (x : List Name). Meets (with_one x) (Err h) (one_parameter word x middle)) same one in
     subst (λ (x : Result A Halt). Meets shows x whole) (sym fails)
     (one_fault shows h word names middle whole (goes_on word names rest middle whole ends so_far is ended at) read)

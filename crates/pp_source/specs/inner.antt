@@ -5,3 +5,4 @@ pub mod SourceActs
 pub mod SettingContent
 pub mod LineItems
 pub mod IfParsing
+pub mod Starting

@@ -2,9 +2,6 @@
 
 ghost use Rattle.std.specs.Prelude.{◌≡◌, ◌≢◌, ◌||◌, ◌-◌, ◌^◌, ◌<◌, [], length, drop, false, true, Ok, Err, is_ok, IfOk, IfSome, option_map, Some, None, pos, ◌+ℤ◌, ◌-ℤ◌};
 ghost use Rattle.std.specs.Str.{chars};
-ghost use Rattle.pp_lexer.specs.Items.{places_of};
-ghost use Rattle.pp_lexer.specs.Lexed.{start_of};
-ghost use Rattle.pp_lexer.specs.Spots.{spots_of};
 ghost use Rattle.pp_lexer.specs.declared.lexer.item.TokenValue.TheVariants.{NewLine};
 ghost use Rattle.pp_model.specs.Conversions.{conversion};
 ghost use Rattle.pp_model.specs.Lines.{only_name, line_tokens, line_length, first_name, first_token};
@@ -20,6 +17,7 @@ ghost use Rattle.pp_expansion.specs.inner.OpenBlocks.{last_block, is_live_in, bl
 ghost use Rattle.pp_source.specs.inner.SettingContent.{SetsContent};
 ghost use Rattle.pp_expansion.specs.inner.Source.{StepsSource, unreported_of};
 ghost use Rattle.pp_source.specs.inner.SourceActs.{Acts, ActsAs, Gives, live_word_move, dead_word_move, word_move, defining};
+ghost use Rattle.pp_source.specs.inner.Starting.{source_start};
 ghost use Rattle.pp_expansion.specs.inner.SourceMoves as moves;
 ghost use Rattle.pp_expansion.specs.inner.Unreported.{Reports, ExitReports, StepReports};
 
@@ -71,7 +69,7 @@ impl<'a> DirectiveProcessor<'a> {
     /// Takes no memory and reads nothing yet.
     pub fn new(alloc: Global, input: &'a str) -> DirectiveProcessor<'a>
         requires { length input.now < 2 ^ 32 - 1 }
-        ensures { result ≡ record { rest = (start_of (spots_of input.now)).rest; places = places_of (spots_of input.now); error_place = None; definitions = []; blocks = []; line_offset = pos 0; spent = false; has_text = false; has_directive = false } }
+        ensures { result ≡ source_start input.now }
     {
         DirectiveProcessor {
             alloc,
