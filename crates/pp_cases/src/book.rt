@@ -9,7 +9,7 @@ use std::io;
 
 /// A book that is being read: what was read so far, and the case that is open.
 #[derive(Drop)]
-pub struct Book {
+pub(crate) struct Book {
     alloc: Global,
     heading: String,
     under_heading: u32,
@@ -19,7 +19,7 @@ pub struct Book {
 
 impl Book {
     /// A book of which nothing was read.
-    pub fn new(alloc: Global) -> Book {
+    pub(crate) fn new(alloc: Global) -> Book {
         Book {
             alloc,
             heading: String::new(alloc),
@@ -30,7 +30,7 @@ impl Book {
     }
 
     /// Reads one line.
-    pub fn read(&mut self, rt: &impl Print, line: &str) -> io::Result<()> {
+    pub(crate) fn read(&mut self, rt: &impl Print, line: &str) -> io::Result<()> {
         if let Some(name) = line.strip_prefix("## ") {
             self.end_case(rt)?;
             self.case = Some(Case::new(self.alloc, name)?);
@@ -48,7 +48,7 @@ impl Book {
     }
 
     /// Ends the book, and prints how many cases it has.
-    pub fn end(&mut self, rt: &impl Print) -> io::Result<()> {
+    pub(crate) fn end(&mut self, rt: &impl Print) -> io::Result<()> {
         self.end_heading(rt)?;
         println!(rt; "{} cases", self.cases)
     }

@@ -4,7 +4,7 @@ use std::alloc::{AllocError, Global};
 
 /// What is done before the items that are left are asked for.
 #[derive(Drop)]
-pub enum Act {
+pub(crate) enum Act {
     /// A name is made to stand for a content.
     Add {
         /// The name.
@@ -18,23 +18,23 @@ pub enum Act {
 
 /// A source, what is done with it, and what it comes to.
 #[derive(Drop)]
-pub struct Case {
+pub(crate) struct Case {
     /// What it shows.
-    pub name: String,
+    pub(crate) name: String,
     /// The source, its lines joined by LF.
-    pub source: String,
+    pub(crate) source: String,
     /// What is done before the items that are left are asked for.
-    pub acts: Vec<Act>,
+    pub(crate) acts: Vec<Act>,
     /// What it comes to, up to the end or its first error.
-    pub expected: Option<String>,
+    pub(crate) expected: Option<String>,
     /// What the preprocessor gives after the error.
-    pub after: Option<String>,
+    pub(crate) after: Option<String>,
     has_line: bool,
 }
 
 impl Case {
     /// A case of this name, with nothing else.
-    pub fn new(alloc: Global, name: &str) -> Result<Case, AllocError> {
+    pub(crate) fn new(alloc: Global, name: &str) -> Result<Case, AllocError> {
         Ok(Case {
             name: String::from_str(alloc, name)?,
             source: String::new(alloc),
@@ -46,7 +46,7 @@ impl Case {
     }
 
     /// One more line of the source.
-    pub fn add_line(&mut self, line: &str) -> Result<(), AllocError> {
+    pub(crate) fn add_line(&mut self, line: &str) -> Result<(), AllocError> {
         if self.has_line {
             self.source.push('\n')?;
         }
@@ -55,7 +55,7 @@ impl Case {
     }
 
     /// More of the last line, so many times.
-    pub fn add_times(&mut self, times: u32, text: &str) -> Result<(), AllocError> {
+    pub(crate) fn add_times(&mut self, times: u32, text: &str) -> Result<(), AllocError> {
         for _ in 0..times {
             self.source.push_str(text)?;
         }
@@ -63,7 +63,7 @@ impl Case {
     }
 
     /// One more line of the content that was added last, or `false` where none was.
-    pub fn add_content_line(&mut self, line: &str) -> Result<bool, AllocError> {
+    pub(crate) fn add_content_line(&mut self, line: &str) -> Result<bool, AllocError> {
         match self.acts.last_mut() {
             Some(Act::Add { content, .. }) => {
                 content.push('\n')?;

@@ -42,7 +42,7 @@ fn call_of<'a>(act: &'a Act) -> Call<'a> {
 }
 
 /// The calls of a case: what it does, and then one for each item that is left.
-pub fn calls_of<'a>(alloc: Global, case: &'a Case) -> Result<Vec<Call<'a>>, AllocError> {
+pub(crate) fn calls_of<'a>(alloc: Global, case: &'a Case) -> Result<Vec<Call<'a>>, AllocError> {
     let mut calls = Vec::new(alloc);
     for act in &case.acts {
         calls.push(call_of(act))?;
@@ -66,7 +66,7 @@ fn shown(alloc: Global, replies: &[Reply]) -> Result<String, AllocError> {
 }
 
 /// What the calls answer by the plain program, up to the end or the first error.
-pub fn by_the_plain_program(
+pub(crate) fn by_the_plain_program(
     alloc: Global,
     source: &str,
     calls: &[Call<'_>],
@@ -80,7 +80,11 @@ pub fn by_the_plain_program(
 }
 
 /// The same by the preprocessor.
-pub fn by_replies(alloc: Global, source: &str, calls: &[Call<'_>]) -> Result<String, AllocError> {
+pub(crate) fn by_replies(
+    alloc: Global,
+    source: &str,
+    calls: &[Call<'_>],
+) -> Result<String, AllocError> {
     if source.len() < BYTES && have_room(calls) {
         let replies = pp::replies(alloc, source, calls)?;
         return shown(alloc, &replies);
@@ -90,11 +94,11 @@ pub fn by_replies(alloc: Global, source: &str, calls: &[Call<'_>]) -> Result<Str
 
 /// Items as text.
 #[derive(Drop)]
-pub struct Items {
+pub(crate) struct Items {
     /// Those up to the end or the first error.
-    pub first: Vec<String>,
+    pub(crate) first: Vec<String>,
     /// Those after the first error, up to the end.
-    pub after: Vec<String>,
+    pub(crate) after: Vec<String>,
     failed: bool,
 }
 
@@ -155,7 +159,7 @@ fn items_left(
 }
 
 /// What a case comes to by the preprocessor, item by item, past errors too.
-pub fn by_items(alloc: Global, case: &Case) -> Result<Items, AllocError> {
+pub(crate) fn by_items(alloc: Global, case: &Case) -> Result<Items, AllocError> {
     let mut items = Items {
         first: Vec::new(alloc),
         after: Vec::new(alloc),
