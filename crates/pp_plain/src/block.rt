@@ -4,6 +4,7 @@ ghost use Rattle.std.specs.Prelude.{◌≡◌, ◌+◌, ◌^◌, ◌<◌, ◌≤
 ghost use Rattle.std.specs.List.{list_all, list_any};
 ghost use Rattle.pp_model.specs.Blocks as spec;
 ghost use Rattle.pp_model.specs.inner.Blocks as parts;
+ghost use Rattle.pp_model.specs.Sights as sights;
 
 use crate::item::SourceItem;
 use crate::sight::sight_of;
@@ -59,6 +60,18 @@ fn line_at(position: usize, sight: &Sight) -> Option<BlockLine>
     }
 }
 
+// The block line that stands first among these items, if one does, where that is this position.
+fn first_line(
+    alloc: Global,
+    position: usize,
+    items: &[SourceItem],
+) -> Result<Option<BlockLine>, Stop>
+    ensures { IfOk result (λ line. line ≡ spec.line_at position (sights.sight_of items.now)) }
+{
+    let sight = sight_of(alloc, items)?;
+    Ok(line_at(position, &sight))
+}
+
 /// The lines that open, part or close blocks among these items, of which the first has this position.
 pub fn block_lines(
     alloc: Global,
@@ -71,9 +84,9 @@ pub fn block_lines(
     let Some((_, rest)) = items.split_first() else {
         return Ok(Vec::new(alloc));
     };
+    let first = first_line(alloc, position, items)?;
     let mut lines = block_lines(alloc, position + 1, rest)?;
-    let sight = sight_of(alloc, items)?;
-    if let Some(line) = line_at(position, &sight) {
+    if let Some(line) = first {
         lines.insert(0, line)?;
     }
     Ok(lines)

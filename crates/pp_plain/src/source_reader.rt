@@ -490,8 +490,9 @@ impl<'a> SourceReader<'a> {
         ensures acts { ActsAs result (spec.act (reader_of self.old)) (reader_of self.new) }
         ensures line { HasLineIfOk result self.new }
     {
+        let live = is_live(alloc, self.items, &self.truths, self.position)?;
         let sight = sight_of(alloc, &self.items[self.position..])?;
-        if is_live(alloc, self.items, &self.truths, self.position)? {
+        if live {
             self.act_live(alloc, sight)
         } else {
             self.act_dead(alloc, sight)

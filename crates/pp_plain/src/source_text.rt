@@ -28,6 +28,22 @@ fn is_text(sight: &Sight) -> bool
     matches!(sight, Sight::Token(_))
 }
 
+// Whether a directive stands first among these items.
+fn begins_with_directive(alloc: Global, items: &[SourceItem]) -> Result<bool, Stop>
+    ensures { IfOk result (λ begins. begins ≡ sights.is_directive (sights.sight_of items.now)) }
+{
+    let sight = sight_of(alloc, items)?;
+    Ok(is_directive(&sight))
+}
+
+// Whether a token of the text stands first among these items.
+fn begins_with_text(alloc: Global, items: &[SourceItem]) -> Result<bool, Stop>
+    ensures { IfOk result (λ begins. begins ≡ sights.is_text (sights.sight_of items.now)) }
+{
+    let sight = sight_of(alloc, items)?;
+    Ok(is_text(&sight))
+}
+
 // Whether a directive stands among these items.
 fn has_directive(alloc: Global, items: &[SourceItem]) -> Result<bool, Stop>
     ensures { IfOk result (λ has. has ≡ spec.has_directive items.now) }
@@ -35,8 +51,7 @@ fn has_directive(alloc: Global, items: &[SourceItem]) -> Result<bool, Stop>
     let Some((_, rest)) = items.split_first() else {
         return Ok(false);
     };
-    let sight = sight_of(alloc, items)?;
-    if is_directive(&sight) {
+    if begins_with_directive(alloc, items)? {
         return Ok(true);
     }
     has_directive(alloc, rest)
@@ -75,8 +90,7 @@ fn is_live_text(
     requires { position ≤ length source.now }
     ensures { IfOk result (λ live. live ≡ spec.is_live_text source.now truths.now position) }
 {
-    let sight = sight_of(alloc, &source[position..])?;
-    if !is_text(&sight) || is_on_directive_line(source, position) {
+    if !begins_with_text(alloc, &source[position..])? || is_on_directive_line(source, position) {
         return Ok(false);
     }
     is_live(alloc, source, truths, position)
