@@ -1,6 +1,6 @@
 //! What an `#if`, `#elif` or `#line` line comes to.
 
-ghost use Rattle.std.specs.Prelude.{◌≡◌, ◌≤◌, not, map, IfOk};
+ghost use Rattle.std.specs.Prelude.{◌≡◌, ◌≤◌, Ok, not, map, IfOk};
 ghost use Rattle.pp_expression.specs.Arithmetic.{is_zero};
 ghost use Rattle.std.specs.Option.{option_copied};
 ghost use Rattle.pp_expression.specs.FirstFault.{Evaluates};
@@ -9,6 +9,7 @@ ghost use Rattle.pp_model.specs.Emitting.{answers_at};
 ghost use Rattle.pp_plain.specs.inner.Halting.{Meets, Satisfies};
 ghost use Rattle.pp_model.specs.LineValues as spec;
 ghost use Rattle.pp_model.specs.inner.LineValues as parts;
+ghost use Rattle.pp_expression.specs.declared.symbol.ExpressionFault.TheVariants as kind;
 
 use crate::copies::copy_token;
 use crate::definitions::Definitions;
@@ -86,6 +87,13 @@ fn unwanted_word(alloc: Global, word: &Word) -> Result<Fault, Stop>
     }
 }
 
+// A line that ends too early.
+fn ended_early(directive: Location) -> Fault
+    ensures { result ≡ spec.ended_early directive }
+{
+    (PreprocessorError::UnexpectedEndOfInput, directive)
+}
+
 // The fault of a `defined` with its operand, or else that of a line that ends too early.
 fn fault_of_operand(alloc: Global, directive: Location, word: &Word) -> Result<Fault, Stop>
     ensures { IfOk result (λ fault. fault
@@ -93,7 +101,48 @@ fn fault_of_operand(alloc: Global, directive: Location, word: &Word) -> Result<F
 {
     match word {
         Word::Defined(_, Err(fault)) => copy_of(alloc, fault),
-        _ => Ok((PreprocessorError::UnexpectedEndOfInput, directive)),
+        _ => Ok(ended_early(directive)),
+    }
+}
+
+// The fault of the word with which so many words of the line end, which can't stand there.
+fn unexpected_fault(
+    alloc: Global,
+    directive: Location,
+    words: &Words,
+    left: usize,
+) -> Result<Fault, Stop>
+    ensures { IfOk result (λ fault. fault
+        ≡ spec.reported directive words.now kind.Unexpected left) }
+{
+    match word_from_end(words, left) {
+        Some(word) => unwanted_word(alloc, word),
+        None => Ok(ended_early(directive)),
+    }
+}
+
+// The fault that ends the words of the line.
+fn unread_fault(alloc: Global, directive: Location, words: &Words) -> Result<Fault, Stop>
+    ensures { IfOk result (λ fault. fault ≡ spec.reported directive words.now kind.Unread 0) }
+{
+    match &words.ending {
+        Some(fault) => copy_of(alloc, fault),
+        None => Ok(ended_early(directive)),
+    }
+}
+
+// The fault of the `defined` with which so many words of the line end.
+fn operand_fault(
+    alloc: Global,
+    directive: Location,
+    words: &Words,
+    left: usize,
+) -> Result<Fault, Stop>
+    ensures { IfOk result (λ fault. fault ≡ spec.reported directive words.now kind.Operand left) }
+{
+    match word_from_end(words, left) {
+        Some(word) => fault_of_operand(alloc, directive, word),
+        None => Ok(ended_early(directive)),
     }
 }
 
@@ -106,23 +155,13 @@ fn reported_fault(
 ) -> Result<Fault, Stop>
     ensures { IfOk result (λ fault. fault ≡ parts.reported_fault directive words.now found) }
 {
-    let early = (PreprocessorError::UnexpectedEndOfInput, directive);
     match found.kind {
         ExpressionFault::IntegerOverflow => Ok((PreprocessorError::IntegerOverflow, directive)),
         ExpressionFault::DivisionByZero => Ok((PreprocessorError::DivisionByZero, directive)),
-        ExpressionFault::UnexpectedEndOfInput => Ok(early),
-        ExpressionFault::Unexpected => match word_from_end(words, found.left) {
-            Some(word) => unwanted_word(alloc, word),
-            None => Ok(early),
-        },
-        ExpressionFault::Unread => match &words.ending {
-            Some(fault) => copy_of(alloc, fault),
-            None => Ok(early),
-        },
-        ExpressionFault::Operand => match word_from_end(words, found.left) {
-            Some(word) => fault_of_operand(alloc, directive, word),
-            None => Ok(early),
-        },
+        ExpressionFault::UnexpectedEndOfInput => Ok(ended_early(directive)),
+        ExpressionFault::Unexpected => unexpected_fault(alloc, directive, words, found.left),
+        ExpressionFault::Unread => unread_fault(alloc, directive, words),
+        ExpressionFault::Operand => operand_fault(alloc, directive, words, found.left),
     }
 }
 
@@ -216,33 +255,51 @@ fn as_line_number(value: Value) -> Option<u32>
     u32::try_from(value.value).ok()
 }
 
-// The words after an expression.
-fn words_after(words: Words, left: usize) -> Words
-    ensures { result ≡ spec.words_after left words }
+// Keeps the words after an expression.
+fn keep_after(words: &mut Words, left: usize)
+    ensures { words.new ≡ spec.words_after left words.old }
 {
-    let mut words = words;
     let count = words.words.len().saturating_sub(left);
     words.words.drain(..count);
-    words
+}
+
+// The number with which a `#line` begins, where the words after it, if there are any, are one
+// expression.
+fn numbers_from(
+    alloc: Global,
+    directive: Location,
+    words: &mut Words,
+    value: Value,
+) -> Result<u32, Halt>
+    requires { Evaluates (spec.line_of words.old) (Ok value) }
+    ensures { Satisfies result (spec.Numbers directive words.old) }
+{
+    let Some(number) = as_line_number(value) else {
+        return Err(Halt::Fault((PreprocessorError::LineOverflow, directive)));
+    };
+    if value.left == 0 {
+        return Ok(number);
+    }
+    keep_after(words, value.left);
+    followed(alloc, directive, words, number)
+}
+
+// What the words of a `#line` come to, of which some may be taken away.
+fn numbers_of(alloc: Global, directive: Location, words: &mut Words) -> Result<u32, Halt>
+    ensures { Satisfies result (spec.Numbers directive words.old) }
+{
+    match evaluation(alloc, words)? {
+        Ok(value) => numbers_from(alloc, directive, words, value),
+        Err(found) => Err(Halt::Fault(reported_fault(alloc, directive, words, found)?)),
+    }
 }
 
 // What the words of a `#line` come to.
 fn numbers(alloc: Global, directive: Location, words: Words) -> Result<u32, Halt>
     ensures { Satisfies result (spec.Numbers directive words) }
 {
-    let value = match evaluation(alloc, &words)? {
-        Ok(value) => value,
-        Err(found) => return Err(Halt::Fault(reported_fault(alloc, directive, &words, found)?)),
-    };
-    let number = match as_line_number(value) {
-        Some(number) => number,
-        None => return Err(Halt::Fault((PreprocessorError::LineOverflow, directive))),
-    };
-    if value.left == 0 {
-        return Ok(number);
-    }
-    let after = words_after(words, value.left);
-    followed(alloc, directive, &after, number)
+    let mut words = words;
+    numbers_of(alloc, directive, &mut words)
 }
 
 /// The line number of a `#line`, or its first fault.

@@ -1,9 +1,12 @@
 //! What a `#define` line says.
 
-ghost use Rattle.std.specs.Prelude.{◌≡◌, [], IfOk};
+ghost use Rattle.std.specs.Prelude.{◌≡◌, true, false, if◌then◌else◌, [], Ok, Err, IfOk};
+ghost use Rattle.pp_expression.specs.Answers.{◌>>=◌ as ◌and_then◌};
 ghost use Rattle.pp_model.specs.Conversions as conversions;
+ghost use Rattle.pp_model.specs.Conversions.{closes_parameters, parts_parameters};
 ghost use Rattle.pp_model.specs.DefineLines as spec;
 ghost use Rattle.pp_model.specs.inner.DefineLines as parts;
+ghost use Rattle.pp_model.specs.Lines.{first_token};
 ghost use Rattle.pp_plain.specs.inner.Halting.{Meets};
 
 use crate::conversion::{
@@ -51,6 +54,36 @@ fn parameter_here(alloc: Global, names: NameList, token: &lexer::Token) -> Resul
     Ok(names)
 }
 
+// The parameters with one more, whose name comes first among these items.
+fn parameter_at(
+    alloc: Global,
+    word: Location,
+    names: NameList,
+    items: &[SourceItem],
+) -> Result<NameList, Halt>
+    ensures { Meets result (first_token word items.now and_then λ token. parts.parameter_here names token
+        (conversions.identifier_of token.value)) }
+{
+    let token = first_token(alloc, word, items)?;
+    parameter_here(alloc, names, &token)
+}
+
+// Whether the parameters end here with their `)`; else only a comma may stand here.
+fn ends_parameters(alloc: Global, word: Location, items: &[SourceItem]) -> Result<bool, Halt>
+    ensures { Meets result (first_token word items.now and_then λ token.
+        if closes_parameters token.value then Ok true
+        else if parts_parameters token.value then Ok false else Err (conversions.refused_token token)) }
+{
+    let token = first_token(alloc, word, items)?;
+    if closes_parameters(&token.value) {
+        return Ok(true);
+    }
+    if parts_parameters(&token.value) {
+        return Ok(false);
+    }
+    Err(Halt::Fault(refused_token(alloc, &token)?))
+}
+
 // The parameters that go on after one.
 fn after_parameter<'a>(
     alloc: Global,
@@ -60,16 +93,11 @@ fn after_parameter<'a>(
 ) -> Result<ParameterList<'a>, Halt>
     ensures { Meets result (spec.after_parameter word names items.now) }
 {
-    let token = first_token(alloc, word, items)?;
     let rest = after_first_token(items);
-    if closes_parameters(&token.value) {
+    if ends_parameters(alloc, word, items)? {
         return Ok(ParameterList { names, after: rest });
     }
-    if !parts_parameters(&token.value) {
-        return Err(Halt::Fault(refused_token(alloc, &token)?));
-    }
-    let token = first_token(alloc, word, rest)?;
-    let names = parameter_here(alloc, names, &token)?;
+    let names = parameter_at(alloc, word, names, rest)?;
     after_parameter(alloc, word, names, after_first_token(rest))
 }
 
