@@ -3,7 +3,7 @@
 ghost use Rattle.std.specs.Prelude.{◌≡◌, ◌≤◌, IfOk};
 ghost use Rattle.pp_plain.specs.inner.Changes.{meaning_of};
 ghost use Rattle.pp_model.specs.Emitting.{Emits, Collects, Each, Alone, answers_at, expansion_limit};
-ghost use Rattle.pp_model.specs.Reading.{reading_of, argument_reading};
+ghost use Rattle.pp_model.specs.Reading.{reading_of, argument_reading, masked};
 ghost use Rattle.pp_plain.specs.inner.Seen.{seen};
 ghost use Rattle.pp_plain.specs.inner.SeenList.{list_state};
 
@@ -145,6 +145,22 @@ fn argument_expander<'a>(
     Ok(Expander::new(alloc, reader, copy_names(alloc, hidden)?))
 }
 
+/// What a call in an argument comes to.
+#[cycle(answers)]
+fn answer_alone(
+    expander: &Expander<ArgumentReader<'_>>,
+    call: &Call,
+    levels: u32,
+    budget: &mut Budget,
+) -> Result<Result<TokenLists, Fault>, Stop>
+    ensures answers { IfOk result (λ answer. answers_at levels call.now.opening.definition (record { paren = call.now.site.paren; arguments = call.now.site.arguments; visible = argument_reading.visible (list_state expander.now.reader); open_around = masked (seen list_state expander.now) }) answer) }
+    ensures budget { budget.new.steps ≤ budget.old.steps }
+{
+    let around = expander.masked()?;
+    let visible = expander.reader.visible();
+    answer(expander.alloc, call, visible, &around, levels, budget)
+}
+
 /// The next item of an argument.
 #[cycle(answers)]
 fn emit_alone(
@@ -162,15 +178,28 @@ fn emit_alone(
             Turn::Item(outcome) => return Ok(outcome),
             Turn::Replaced => {}
             Turn::Called(call) => {
-                let around = expander.masked()?;
-                let visible = expander.reader.visible();
-                let answer = answer(expander.alloc, &call, visible, &around, levels, budget)?;
+                let answer = answer_alone(expander, &call, levels, budget)?;
                 if let Some(fault) = expander.resolve(call, answer)? {
                     return Ok(Outcome::Fault(fault));
                 }
             }
         }
     }
+}
+
+/// What a call in an expander comes to.
+fn answer_in<R: Reader>(
+    expander: &Expander<R>,
+    call: &Call,
+    levels: u32,
+    budget: &mut Budget,
+) -> Result<Result<TokenLists, Fault>, Stop>
+    ensures answers { IfOk result (λ answer. answers_at levels call.now.opening.definition (record { paren = call.now.site.paren; arguments = call.now.site.arguments; visible = R.reading.visible (R.state expander.now.reader); open_around = masked (seen R.state expander.now) }) answer) }
+    ensures budget { budget.new.steps ≤ budget.old.steps }
+{
+    let around = expander.masked()?;
+    let visible = expander.reader.visible();
+    answer(expander.alloc, call, visible, &around, levels, budget)
 }
 
 /// The next item of an expander.
@@ -189,9 +218,7 @@ pub fn emit<R: Reader>(
             Turn::Item(outcome) => return Ok(outcome),
             Turn::Replaced => {}
             Turn::Called(call) => {
-                let around = expander.masked()?;
-                let visible = expander.reader.visible();
-                let answer = answer(expander.alloc, &call, visible, &around, levels, budget)?;
+                let answer = answer_in(expander, &call, levels, budget)?;
                 if let Some(fault) = expander.resolve(call, answer)? {
                     return Ok(Outcome::Fault(fault));
                 }

@@ -13,6 +13,12 @@ use Rattle.pp_model.proofs.CollectLemmas.{after_items-before, after_lists-before
 use Rattle.pp_plain.proofs.TurnLemmas.{turns_mean, answer_known, resolves_fault, resolves_next}
 use Rattle.pp_plain.proofs.expand.+answers.Goals as goal
 
+pub answer_alone-returns-clause-answers : goal.answer_alone-returns-clause-answers
+answer_alone-returns-clause-answers t c =
+    IfOk-weaker c.answer.result _ _ (λ answer h. answer_known argument_reading (answers_at c.args.levels) (seen list_state c.args.expander.now) c.args.call.now
+    (meaning_of c.visible-visible.result.now) c.deref.result.now answer c.visible-visible.ensures
+    (c.deref.ensures.value ∙ c.in_ok-around.ensures) h) c.answer.ensures.answers
+
 pub emit_alone-returns-in-Item-clause-emits : goal.emit_alone-returns-in-Item-clause-emits
 emit_alone-returns-in-Item-clause-emits t c =
     c.turns.invariant.goes_on c.in-Item.outcome (seen list_state c.turn.new.self)
@@ -33,9 +39,7 @@ emit_alone-returns-in-Some-clause-emits t c =
     (seen list_state c.resolve.new.self) c.in-Called.call c.in_ok-answer-in-Called.answer c.in-Some.fault
     (turns_mean argument_reading (answers_at c.args.levels) (Called c.in-Called.call) (seen list_state c.turns.expander)
     (seen list_state c.turn.new.self) (rw c.in-Called.is at c.in_ok-outcome.ensures.turns))
-    (answer_known argument_reading (answers_at c.args.levels) (seen list_state c.turn.new.self) c.in-Called.call
-    (meaning_of c.visible-visible.result.now) c.deref.result.now c.in_ok-answer-in-Called.answer c.visible-visible.ensures
-    (c.deref.ensures.value ∙ c.in_ok-around-in-Called.ensures) c.in_ok-answer-in-Called.ensures.answers)
+    c.in_ok-answer-in-Called.ensures.answers
     (rw c.in-Some.is at c.in_ok-fault-in-Called.ensures))
 
 pub emit_alone-turns-preserved : goal.emit_alone-turns-preserved
@@ -46,9 +50,7 @@ emit_alone-turns-preserved t c = record {
       (seen list_state c.resolve.new.self) c.in-Called.call c.in_ok-answer-in-Called.answer
       (turns_mean argument_reading (answers_at c.args.levels) (Called c.in-Called.call) (seen list_state c.turns.expander)
       (seen list_state c.turn.new.self) (rw c.in-Called.is at c.in_ok-outcome.ensures.turns))
-      (answer_known argument_reading (answers_at c.args.levels) (seen list_state c.turn.new.self) c.in-Called.call
-      (meaning_of c.visible-visible.result.now) c.deref.result.now c.in_ok-answer-in-Called.answer c.visible-visible.ensures
-      (c.deref.ensures.value ∙ c.in_ok-around-in-Called.ensures) c.in_ok-answer-in-Called.ensures.answers)
+      c.in_ok-answer-in-Called.ensures.answers
       (rw c.in_default.is at c.in_ok-fault-in-Called.ensures) o end h);
   spent = omega arith;
 }

@@ -12,19 +12,22 @@ use Rattle.pp_model.proofs.CollectLemmas.{after_items}
 use Rattle.pp_plain.proofs.expand.+answers.Given as goal
 
 abbrev pub decreases-answer : goal.decreases-answer
-decreases-answer l = 5 * l.levels
+decreases-answer l = 6 * l.levels
+
+abbrev pub decreases-answer_alone : goal.decreases-answer_alone
+decreases-answer_alone l = 6 * l.levels + 1
 
 abbrev pub decreases-emit_alone : goal.decreases-emit_alone
-decreases-emit_alone l = 5 * l.levels + 1
+decreases-emit_alone l = 6 * l.levels + 2
 
 abbrev pub decreases-collect : goal.decreases-collect
-decreases-collect l = 5 * l.levels + 2
+decreases-collect l = 6 * l.levels + 3
 
 abbrev pub decreases-expand_argument : goal.decreases-expand_argument
-decreases-expand_argument l = 5 * l.levels + 3
+decreases-expand_argument l = 6 * l.levels + 4
 
 abbrev pub decreases-expand_arguments : goal.decreases-expand_arguments
-decreases-expand_arguments l = 5 * l.levels + 4
+decreases-expand_arguments l = 6 * l.levels + 5
 
 abbrev pub invariant-emit_alone-turns : goal.invariant-emit_alone-turns
 invariant-emit_alone-turns l = record {

@@ -1,10 +1,9 @@
-use Rattle.std.proofs.Common.{◌∙◌, arith}
-use Rattle.pp_plain.specs.inner.Changes.{meaning_of}
+use Rattle.std.proofs.Common.{arith}
 use Rattle.pp_model.specs.Emitting.{answers_at}
 use Rattle.pp_plain.specs.inner.Seen.{seen}
 use Rattle.pp_plain.specs.declared.expander.Turn.TheVariants.{Item, Replaced, Called}
 use Rattle.pp_model.specs.declared.outcome.Outcome.TheVariants as outcome
-use Rattle.pp_plain.proofs.TurnLemmas.{turns_mean, answer_known, resolves_fault, resolves_next}
+use Rattle.pp_plain.proofs.TurnLemmas.{turns_mean, resolves_fault, resolves_next}
 use Rattle.pp_plain.proofs.expand.emit.Goals as goal
 
 pub returns-in-Item-clause-emits : goal.returns-in-Item-clause-emits
@@ -27,9 +26,7 @@ returns-in-Some-clause-emits g c =
     (seen g.R.Reader.state c.resolve.new.self) c.in-Called.call c.in_ok-answer-in-Called.answer c.in-Some.fault
     (turns_mean g.R.Reader.reading (answers_at c.args.levels) (Called c.in-Called.call) (seen g.R.Reader.state c.turns.expander)
     (seen g.R.Reader.state c.turn.new.self) (rw c.in-Called.is at c.in_ok-outcome.ensures.turns))
-    (answer_known g.R.Reader.reading (answers_at c.args.levels) (seen g.R.Reader.state c.turn.new.self) c.in-Called.call
-    (meaning_of c.visible-visible.result.now) c.deref.result.now c.in_ok-answer-in-Called.answer c.visible-visible.ensures
-    (c.deref.ensures.value ∙ c.in_ok-around-in-Called.ensures) c.in_ok-answer-in-Called.ensures.answers)
+    c.in_ok-answer-in-Called.ensures.answers
     (rw c.in-Some.is at c.in_ok-fault-in-Called.ensures))
 
 pub turns-preserved : goal.turns-preserved
@@ -40,9 +37,7 @@ turns-preserved g c = record {
       (seen g.R.Reader.state c.resolve.new.self) c.in-Called.call c.in_ok-answer-in-Called.answer
       (turns_mean g.R.Reader.reading (answers_at c.args.levels) (Called c.in-Called.call) (seen g.R.Reader.state c.turns.expander)
       (seen g.R.Reader.state c.turn.new.self) (rw c.in-Called.is at c.in_ok-outcome.ensures.turns))
-      (answer_known g.R.Reader.reading (answers_at c.args.levels) (seen g.R.Reader.state c.turn.new.self) c.in-Called.call
-      (meaning_of c.visible-visible.result.now) c.deref.result.now c.in_ok-answer-in-Called.answer c.visible-visible.ensures
-      (c.deref.ensures.value ∙ c.in_ok-around-in-Called.ensures) c.in_ok-answer-in-Called.ensures.answers)
+      c.in_ok-answer-in-Called.ensures.answers
       (rw c.in_default.is at c.in_ok-fault-in-Called.ensures) o end h);
   spent = omega arith;
 }
