@@ -1,7 +1,7 @@
 //! The arguments of calls.
 
-ghost use Rattle.std.specs.Prelude.{◌≡◌, IfOk};
-ghost use Rattle.pp_model.specs.Calls.{nesting, arguments_of, misfit, paren_at, is_left_paren, is_right_paren, is_comma, is_one_empty};
+ghost use Rattle.std.specs.Prelude.{◌≡◌, ◌≤◌, ◌<◌, ◌+◌, ◌^◌, IfOk};
+ghost use Rattle.pp_model.specs.Calls.{nesting, nesting_after, arguments_of, misfit, paren_at, is_left_paren, is_right_paren, is_comma, is_one_empty};
 ghost use Rattle.pp_plain.specs.inner.Nested.{nesting_named};
 
 use crate::list::take_first;
@@ -92,6 +92,21 @@ pub fn nesting_of(depth: u32, value: &TokenValue) -> Nesting
     }
 }
 
+/// How many parentheses are open after a token, where so many are before it.
+fn nesting_after(depth: usize, value: &TokenValue) -> usize
+    requires { depth + 1 < 2 ^ 64 }
+    ensures is { result ≡ nesting_after depth value.now }
+    ensures most { result ≤ depth + 1 }
+{
+    if is_left_paren(value) {
+        depth + 1
+    } else if is_right_paren(value) {
+        depth.saturating_sub(1)
+    } else {
+        depth
+    }
+}
+
 /// The tokens of a call cut at the commas that stand outside inner parentheses.
 pub fn arguments_of(alloc: Global, mut tokens: Vec<Token>) -> Result<TokenLists, AllocError>
     ensures { IfOk result (λ arguments. arguments ≡ arguments_of tokens.items) }
@@ -100,17 +115,14 @@ pub fn arguments_of(alloc: Global, mut tokens: Vec<Token>) -> Result<TokenLists,
     let mut piece = Vec::new(alloc);
     let mut depth: usize = 0;
     while let Some(token) = take_first(&mut tokens) {
+        let after = nesting_after(depth, &token.value);
         if is_comma(&token.value) && depth == 0 {
             pieces.push(TokenList { items: piece })?;
             piece = Vec::new(alloc);
         } else {
-            if is_left_paren(&token.value) {
-                depth += 1;
-            } else if is_right_paren(&token.value) {
-                depth = depth.saturating_sub(1);
-            }
             piece.push(token)?;
         }
+        depth = after;
     }
     pieces.push(TokenList { items: piece })?;
     Ok(TokenLists { items: pieces })

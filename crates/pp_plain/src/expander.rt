@@ -1,6 +1,7 @@
 //! Expanders: what is taken next, which names open a macro, and one turn of reading.
 
-ghost use Rattle.std.specs.Prelude.{◌≡◌, ◌≤◌, [], None, IfOk, OnOk};
+ghost use Rattle.std.specs.Prelude.{◌≡◌, ◌≤◌, ◌||◌, [], None, IfOk, OnOk};
+ghost use Rattle.pp_model.specs.Names.{is_in};
 ghost use Rattle.pp_model.specs.Reading.{opening, masked};
 ghost use Rattle.pp_model.specs.Taking.{Takes, taken_token, read_outcome, line_number};
 ghost use Rattle.pp_model.specs.Calls.{Gathers};
@@ -97,6 +98,23 @@ pub struct Expander<R> {
     pub reader: R,
     /// The names that are open in the expanders around this one.
     pub hidden: Vec<Text>,
+}
+
+/// A token that opens a macro, copied.
+fn opening_of(
+    alloc: Global,
+    token: &Token,
+    name: &Text,
+    definition: &Definition,
+) -> Result<Opening, AllocError>
+    ensures { IfOk result (λ opening. opening
+        ≡ record { token = token.now; name = name.now; definition = definition.now }) }
+{
+    Ok(Opening {
+        token: copy_token(alloc, token)?,
+        name: name.try_clone(alloc)?,
+        definition: copy_definition(alloc, definition)?,
+    })
 }
 
 /// Whether the macro has parameters in parentheses.
@@ -215,6 +233,18 @@ impl<R: Reader> Expander<R> {
         Ok(names)
     }
 
+    /// Whether the name does not open here: it is reserved, or open here or around.
+    fn stays_closed(&self, name: &Text) -> Result<bool, AllocError>
+        ensures { IfOk result (λ closed. closed
+            ≡ (R.reading.is_reserved name.now || is_in name.now (masked (seen R.state self.now)))) }
+    {
+        let masked = self.masked()?;
+        if self.reader.is_reserved(name) || is_among(name, &masked) {
+            return Ok(true);
+        }
+        Ok(false)
+    }
+
     /// The macro that a taken outcome opens, if it does.
     pub fn opening(&self, outcome: &Outcome) -> Result<Option<Opening>, AllocError>
         ensures { IfOk result (λ found. found ≡ opening R.reading (seen R.state self.now) outcome.now) }
@@ -225,18 +255,13 @@ impl<R: Reader> Expander<R> {
         let TokenValue::Ident(name) = &token.value else {
             return Ok(None);
         };
-        let masked = self.masked()?;
-        if self.reader.is_reserved(name) || is_among(name, &masked) {
+        if self.stays_closed(name)? {
             return Ok(None);
         }
         let Some(definition) = self.reader.visible().find(name) else {
             return Ok(None);
         };
-        Ok(Some(Opening {
-            token: copy_token(self.alloc, token)?,
-            name: name.try_clone(self.alloc)?,
-            definition: copy_definition(self.alloc, definition)?,
-        }))
+        Ok(Some(opening_of(self.alloc, token, name, definition)?))
     }
 
     /// Puts a macro's replacement before the list.
@@ -395,6 +420,7 @@ impl<R: Reader> Expander<R> {
             Ok(found) => Ok(turned(taken, opening, found)),
             Err(stop) => {
                 drop(taken);
+                drop(opening);
                 Err(stop)
             }
         }

@@ -197,6 +197,23 @@ fn replies(
     Ok(rest)
 }
 
+// The replies over the items of a source.
+fn replies_over(
+    alloc: Global,
+    items: &[SourceItem],
+    calls: &[Call<'_>],
+    budget: &mut Budget,
+) -> Result<Vec<Reply>, Stop>
+    requires { All HasRoom calls.now }
+    ensures { IfOk result (λ replies. spec.Runs (spec.by_rules (answers_at expansion_limit))
+        (spec.start items.now) (map call_of calls.now) replies.items) }
+{
+    let mut expander = start(alloc, items)?;
+    let replies = replies(alloc, &mut expander, calls, budget);
+    drop(expander);
+    replies
+}
+
 // The same over a source.
 fn run_within(
     alloc: Global,
@@ -210,8 +227,7 @@ fn run_within(
 {
     stays_short(calls.len())?;
     let items = items_of(alloc, source)?;
-    let mut expander = start(alloc, &items)?;
-    replies(alloc, &mut expander, calls, budget)
+    replies_over(alloc, &items, calls, budget)
 }
 
 /// What the calls of a source answer, up to and with the first error item; `None` where more than
