@@ -177,12 +177,17 @@ fn emit_alone(
         match expander.turn(budget)? {
             Turn::Item(outcome) => return Ok(outcome),
             Turn::Replaced => {}
-            Turn::Called(call) => {
-                let answer = answer_alone(expander, &call, levels, budget)?;
-                if let Some(fault) = expander.resolve(call, answer)? {
-                    return Ok(Outcome::Fault(fault));
+            Turn::Called(call) => match answer_alone(expander, &call, levels, budget) {
+                Ok(answer) => {
+                    if let Some(fault) = expander.resolve(call, answer)? {
+                        return Ok(Outcome::Fault(fault));
+                    }
                 }
-            }
+                Err(stop) => {
+                    drop(call);
+                    return Err(stop);
+                }
+            },
         }
     }
 }
@@ -217,12 +222,17 @@ pub fn emit<R: Reader>(
         match expander.turn(budget)? {
             Turn::Item(outcome) => return Ok(outcome),
             Turn::Replaced => {}
-            Turn::Called(call) => {
-                let answer = answer_in(expander, &call, levels, budget)?;
-                if let Some(fault) = expander.resolve(call, answer)? {
-                    return Ok(Outcome::Fault(fault));
+            Turn::Called(call) => match answer_in(expander, &call, levels, budget) {
+                Ok(answer) => {
+                    if let Some(fault) = expander.resolve(call, answer)? {
+                        return Ok(Outcome::Fault(fault));
+                    }
                 }
-            }
+                Err(stop) => {
+                    drop(call);
+                    return Err(stop);
+                }
+            },
         }
     }
 }

@@ -36,22 +36,22 @@ pub emit_alone-returns-in-Some-clause-emits : goal.emit_alone-returns-in-Some-cl
 emit_alone-returns-in-Some-clause-emits t c =
     c.turns.invariant.goes_on (outcome.Fault c.in-Some.fault) (seen list_state c.resolve.new.self)
     (resolves_fault argument_reading (answers_at c.args.levels) (seen list_state c.turns.expander) (seen list_state c.turn.new.self)
-    (seen list_state c.resolve.new.self) c.in-Called.call c.in_ok-answer-in-Called.answer c.in-Some.fault
+    (seen list_state c.resolve.new.self) c.in-Called.call c.in-Ok.answer c.in-Some.fault
     (turns_mean argument_reading (answers_at c.args.levels) (Called c.in-Called.call) (seen list_state c.turns.expander)
     (seen list_state c.turn.new.self) (rw c.in-Called.is at c.in_ok-outcome.ensures.turns))
-    c.in_ok-answer-in-Called.ensures.answers
-    (rw c.in-Some.is at c.in_ok-fault-in-Called.ensures))
+    c.in-Ok.ensures.answers
+    (rw c.in-Some.is at c.in_ok-fault-in-Ok.ensures))
 
 pub emit_alone-turns-preserved : goal.emit_alone-turns-preserved
 emit_alone-turns-preserved t c = record {
   goes_on = λ o end h.
       c.turns.invariant.goes_on o end
       (resolves_next argument_reading (answers_at c.args.levels) (seen list_state c.turns.expander) (seen list_state c.turn.new.self)
-      (seen list_state c.resolve.new.self) c.in-Called.call c.in_ok-answer-in-Called.answer
+      (seen list_state c.resolve.new.self) c.in-Called.call c.in-Ok.answer
       (turns_mean argument_reading (answers_at c.args.levels) (Called c.in-Called.call) (seen list_state c.turns.expander)
       (seen list_state c.turn.new.self) (rw c.in-Called.is at c.in_ok-outcome.ensures.turns))
-      c.in_ok-answer-in-Called.ensures.answers
-      (rw c.in_default.is at c.in_ok-fault-in-Called.ensures) o end h);
+      c.in-Ok.ensures.answers
+      (rw c.in_default.is at c.in_ok-fault-in-Ok.ensures) o end h);
   spent = omega arith;
 }
 

@@ -23,21 +23,21 @@ pub returns-in-Some-clause-emits : goal.returns-in-Some-clause-emits
 returns-in-Some-clause-emits g c =
     c.turns.invariant.goes_on (outcome.Fault c.in-Some.fault) (seen g.R.Reader.state c.resolve.new.self)
     (resolves_fault g.R.Reader.reading (answers_at c.args.levels) (seen g.R.Reader.state c.turns.expander) (seen g.R.Reader.state c.turn.new.self)
-    (seen g.R.Reader.state c.resolve.new.self) c.in-Called.call c.in_ok-answer-in-Called.answer c.in-Some.fault
+    (seen g.R.Reader.state c.resolve.new.self) c.in-Called.call c.in-Ok.answer c.in-Some.fault
     (turns_mean g.R.Reader.reading (answers_at c.args.levels) (Called c.in-Called.call) (seen g.R.Reader.state c.turns.expander)
     (seen g.R.Reader.state c.turn.new.self) (rw c.in-Called.is at c.in_ok-outcome.ensures.turns))
-    c.in_ok-answer-in-Called.ensures.answers
-    (rw c.in-Some.is at c.in_ok-fault-in-Called.ensures))
+    c.in-Ok.ensures.answers
+    (rw c.in-Some.is at c.in_ok-fault-in-Ok.ensures))
 
 pub turns-preserved : goal.turns-preserved
 turns-preserved g c = record {
   goes_on = λ o end h.
       c.turns.invariant.goes_on o end
       (resolves_next g.R.Reader.reading (answers_at c.args.levels) (seen g.R.Reader.state c.turns.expander) (seen g.R.Reader.state c.turn.new.self)
-      (seen g.R.Reader.state c.resolve.new.self) c.in-Called.call c.in_ok-answer-in-Called.answer
+      (seen g.R.Reader.state c.resolve.new.self) c.in-Called.call c.in-Ok.answer
       (turns_mean g.R.Reader.reading (answers_at c.args.levels) (Called c.in-Called.call) (seen g.R.Reader.state c.turns.expander)
       (seen g.R.Reader.state c.turn.new.self) (rw c.in-Called.is at c.in_ok-outcome.ensures.turns))
-      c.in_ok-answer-in-Called.ensures.answers
-      (rw c.in_default.is at c.in_ok-fault-in-Called.ensures) o end h);
+      c.in-Ok.ensures.answers
+      (rw c.in_default.is at c.in_ok-fault-in-Ok.ensures) o end h);
   spent = omega arith;
 }
