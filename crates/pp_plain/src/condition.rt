@@ -299,7 +299,9 @@ fn numbers(alloc: Global, directive: Location, words: Words) -> Result<u32, Halt
     ensures { Satisfies result (spec.Numbers directive words) }
 {
     let mut words = words;
-    numbers_of(alloc, directive, &mut words)
+    let numbers = numbers_of(alloc, directive, &mut words);
+    drop(words);
+    numbers
 }
 
 /// The line number of a `#line`, or its first fault.

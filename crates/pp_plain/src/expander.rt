@@ -301,10 +301,16 @@ impl<R: Reader> Expander<R> {
         match answer {
             Ok(arguments) => {
                 let Call { opening, site } = call;
-                self.splice(opening, site.line, &arguments)?;
+                let spliced = self.splice(opening, site.line, &arguments);
+                drop(site);
+                drop(arguments);
+                spliced?;
                 Ok(None)
             }
-            Err(fault) => Ok(Some(fault)),
+            Err(fault) => {
+                drop(call);
+                Ok(Some(fault))
+            }
         }
     }
 

@@ -1,6 +1,7 @@
 //! The rest of a directive's line.
 
-ghost use Rattle.std.specs.Prelude.{◌≡◌, ◌≤◌, [], length, IfOk, OnOk};
+ghost use Rattle.std.specs.Prelude.{◌≡◌, ◌≤◌, [], Ok, length, IfOk, OnOk};
+ghost use Rattle.pp_expression.specs.Answers.{◌>>=◌ as ◌and_then◌};
 ghost use Rattle.pp_model.specs.Lines as spec;
 ghost use Rattle.pp_model.specs.inner.Lines as parts;
 ghost use Rattle.pp_plain.specs.inner.Halting.{Meets};
@@ -126,18 +127,28 @@ pub fn after_first_token(items: &[SourceItem]) -> &[SourceItem]
     }
 }
 
-/// The name that comes first.
-pub fn first_name(alloc: Global, word: Location, items: &[SourceItem]) -> Result<Placed, Halt>
-    ensures { Meets result (spec.first_name word items.now) }
+// The name that the token is, with its place.
+fn placed_name(alloc: Global, token: &lexer::Token) -> Result<Placed, Halt>
+    ensures { Meets result (spec.name_of token.now and_then λ name.
+        Ok (record { name = name; location = token.now.location })) }
 {
-    let token = first_token(alloc, word, items)?;
     match identifier_of(alloc, &token.value)? {
         Some(name) => Ok(Placed {
             name,
             location: token.location,
         }),
-        None => Err(Halt::Fault(refused_token(alloc, &token)?)),
+        None => Err(Halt::Fault(refused_token(alloc, token)?)),
     }
+}
+
+/// The name that comes first.
+pub fn first_name(alloc: Global, word: Location, items: &[SourceItem]) -> Result<Placed, Halt>
+    ensures { Meets result (spec.first_name word items.now) }
+{
+    let token = first_token(alloc, word, items)?;
+    let name = placed_name(alloc, &token);
+    drop(token);
+    name
 }
 
 /// Whether nothing stands before the end of the line; else what stands there is refused.

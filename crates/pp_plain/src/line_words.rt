@@ -233,6 +233,46 @@ fn operand(
     }
 }
 
+/// Puts the words that the rest of a line comes to into a list, and gives the fault of reading that
+/// ends them, if one does.
+fn read_into(
+    kind: LineKind,
+    directive: Location,
+    expander: &mut Expander<LineReader<'_>>,
+    words: &mut Vec<Word>,
+    levels: u32,
+    budget: &mut Budget,
+) -> Result<Option<Fault>, Stop>
+    requires { words.old.items ≡ [] }
+    ensures words { IfOk result (λ ending. LineWords kind directive (answers_at levels)
+        (seen line_state expander.old) (record { words = words.new.items; ending = ending })) }
+    ensures budget { budget.new.steps ≤ budget.old.steps }
+{
+    'words: loop {
+        budget.spend()?;
+        let token = match emit(expander, levels, budget)? {
+            Outcome::Token(token) => token,
+            Outcome::Fault(fault) => return Ok(Some(fault)),
+            Outcome::End => return Ok(None),
+        };
+        let place = token.location;
+        match reading_of(kind, token) {
+            WordReading::Refused(fault) => return Ok(Some(fault)),
+            WordReading::Word(word) => words.push(Word::Plain(word))?,
+            WordReading::Operator(operator) => {
+                drop(operator);
+                match operand(kind, directive, expander, levels, budget)? {
+                    Ok(answer) => words.push(Word::Defined(place, Ok(answer)))?,
+                    Err(fault) => {
+                        words.push(Word::Defined(place, Err(fault)))?;
+                        return Ok(None);
+                    }
+                }
+            }
+        }
+    }
+}
+
 /// The words that the rest of a line comes to.
 fn read_words(
     kind: LineKind,
@@ -246,27 +286,11 @@ fn read_words(
     ensures budget { budget.new.steps ≤ budget.old.steps }
 {
     let mut words = Vec::new(expander.alloc);
-    'words: loop {
-        budget.spend()?;
-        let token = match emit(expander, levels, budget)? {
-            Outcome::Token(token) => token,
-            Outcome::Fault(fault) => return Ok(ended(words, Some(fault))),
-            Outcome::End => return Ok(ended(words, None)),
-        };
-        let place = token.location;
-        match reading_of(kind, token) {
-            WordReading::Refused(fault) => return Ok(ended(words, Some(fault))),
-            WordReading::Word(word) => words.push(Word::Plain(word))?,
-            WordReading::Operator(operator) => {
-                drop(operator);
-                match operand(kind, directive, expander, levels, budget)? {
-                    Ok(answer) => words.push(Word::Defined(place, Ok(answer)))?,
-                    Err(fault) => {
-                        words.push(Word::Defined(place, Err(fault)))?;
-                        return Ok(ended(words, None));
-                    }
-                }
-            }
+    match read_into(kind, directive, expander, &mut words, levels, budget) {
+        Ok(ending) => Ok(ended(words, ending)),
+        Err(stop) => {
+            drop(words);
+            Err(stop)
         }
     }
 }

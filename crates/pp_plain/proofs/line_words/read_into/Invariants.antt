@@ -4,7 +4,7 @@ use Rattle.pp_model.specs.LineWords.{LineWords, Words}
 use Rattle.pp_plain.specs.inner.Seen.{seen}
 use Rattle.pp_plain.specs.inner.SeenList.{line_state}
 use Rattle.pp_model.proofs.WordLemmas.{after_words}
-use Rattle.pp_plain.proofs.line_words.read_words.Given as goal
+use Rattle.pp_plain.proofs.line_words.read_into.Given as goal
 
 abbrev pub invariant-words : goal.invariant-words
 invariant-words l = record {

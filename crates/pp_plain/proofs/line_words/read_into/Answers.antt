@@ -3,22 +3,22 @@ use Rattle.std.specs.Prelude.{Ok, Err, Some, None}
 use Rattle.pp_model.specs.LineWords.{word_before, ended, failed, refused, plain, answered, faulty}
 use Rattle.pp_model.specs.declared.word.Word.TheVariants.{Plain, Defined}
 use Rattle.pp_model.proofs.WordLemmas.{after_words-before, after_words-end}
-use Rattle.pp_plain.proofs.line_words.read_words.Goals as goal
+use Rattle.pp_plain.proofs.line_words.read_into.Goals as goal
 
 pub returns-in-Fault-clause-words : goal.returns-in-Fault-clause-words
 returns-in-Fault-clause-words c =
-    rw (c.ended.ensures, ← after_words-end c.words.words.items (Some c.in-Fault.fault))
+    rw (← after_words-end c.words.words.items (Some c.in-Fault.fault))
     (c.words.invariant.goes_on (record { words = []; ending = Some c.in-Fault.fault })
     (failed c.in-Fault.fault _ _ _ (rw c.in-Fault.is at c.in_ok-token.ensures.emits) refl))
 
 pub returns-in-End-clause-words : goal.returns-in-End-clause-words
 returns-in-End-clause-words c =
-    rw (c.ended-in-End.ensures, ← after_words-end c.words.words.items None)
+    rw (← after_words-end c.words.words.items None)
     (c.words.invariant.goes_on (record { words = []; ending = None }) (ended _ _ _ (rw c.in-End.is at c.in_ok-token.ensures.emits) refl))
 
 pub returns-in-Refused-clause-words : goal.returns-in-Refused-clause-words
 returns-in-Refused-clause-words c =
-    rw (c.ended-in-Refused.ensures, ← after_words-end c.words.words.items (Some c.in-Refused.fault))
+    rw (← after_words-end c.words.words.items (Some c.in-Refused.fault))
     (c.words.invariant.goes_on (record { words = []; ending = Some c.in-Refused.fault })
     (refused c.in-Token.token c.in-Refused.fault _ _ _ (rw c.in-Token.is at c.in_ok-token.ensures.emits) c.in-Refused.ensures.reads refl))
 
@@ -43,7 +43,7 @@ words-preserved c = record {
 
 pub returns-in-Err-clause-words : goal.returns-in-Err-clause-words
 returns-in-Err-clause-words c =
-    rw (c.ended-in-Err.ensures, c.in_ok-push-in-Err.ensures.items)
+    rw (c.in_ok-push-in-Err.ensures.items)
     (c.words.invariant.goes_on (record { words = Defined c.in-Token.token.location (Err c.in-Err.fault) ∷ []; ending = None })
     (faulty c.in-Token.token c.in-Err.fault _ _ _ _ (rw c.in-Token.is at c.in_ok-token.ensures.emits) c.in-Operator.ensures.reads
     (rw c.in-Err.is at c.in_ok-answer-in-Operator.ensures.operand) refl))
