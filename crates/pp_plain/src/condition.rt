@@ -244,8 +244,17 @@ pub fn condition(
         levels,
         budget,
     )?;
-    let evaluation = evaluation(alloc, &words)?;
-    holds_alone(alloc, directive, &words, evaluation)
+    match evaluation(alloc, &words) {
+        Ok(evaluation) => {
+            let holds = holds_alone(alloc, directive, &words, evaluation);
+            drop(words);
+            holds
+        }
+        Err(stop) => {
+            drop(words);
+            Err(Halt::Stop(stop))
+        }
+    }
 }
 
 // The value as the number of a line.

@@ -1,6 +1,6 @@
 //! The rest of a directive's line.
 
-ghost use Rattle.std.specs.Prelude.{◌≡◌, ◌≤◌, [], Ok, length, IfOk, OnOk};
+ghost use Rattle.std.specs.Prelude.{◌≡◌, ◌≤◌, [], ◌∷◌, Ok, length, IfOk, OnOk};
 ghost use Rattle.pp_expression.specs.Answers.{◌>>=◌ as ◌and_then◌};
 ghost use Rattle.pp_model.specs.Lines as spec;
 ghost use Rattle.pp_model.specs.inner.Lines as parts;
@@ -77,6 +77,15 @@ fn no_tokens(alloc: Global) -> TokenList
     }
 }
 
+/// These tokens with one before them.
+pub fn with_first(first: Token, rest: TokenList) -> Result<TokenList, Stop>
+    ensures { IfOk result (λ tokens. tokens ≡ first ∷ rest) }
+{
+    let mut tokens = rest;
+    tokens.items.insert(0, first)?;
+    Ok(tokens)
+}
+
 /// The line's tokens, or the first error or number sign among them.
 pub fn line_tokens(alloc: Global, items: &[SourceItem]) -> Result<TokenList, Halt>
     ensures { Meets result (spec.line_tokens items.now) }
@@ -89,12 +98,13 @@ pub fn line_tokens(alloc: Global, items: &[SourceItem]) -> Result<TokenList, Hal
         Ok(token) if is_newline(&token.value) => Ok(no_tokens(alloc)),
         Ok(token) => {
             let first = conversion(alloc, token)?;
-            let mut tokens = line_tokens(alloc, rest)?;
-            tokens
-                .items
-                .insert(0, first)
-                .map_err(|_| Stop::OutOfMemory)?;
-            Ok(tokens)
+            match line_tokens(alloc, rest) {
+                Ok(tokens) => Ok(with_first(first, tokens)?),
+                Err(halt) => {
+                    drop(first);
+                    Err(halt)
+                }
+            }
         }
     }
 }

@@ -15,7 +15,7 @@ use crate::definitions::Definitions;
 use crate::expand::{emit, expansion_limit};
 use crate::expander::Expander;
 use crate::item::SourceItem;
-use crate::line::copy_of;
+use crate::line::{copy_of, with_first};
 use crate::source::Source;
 use crate::source_reader::SourceReader;
 use crate::stop::{Budget, Halt, Stop, stays_short};
@@ -67,9 +67,13 @@ fn content_tokens(alloc: Global, items: &[SourceItem]) -> Result<TokenList, Halt
         Ok(token) if is_newline(&token.value) => content_tokens(alloc, rest),
         Ok(token) => {
             let first = conversion(alloc, token)?;
-            let mut tokens = content_tokens(alloc, rest)?;
-            tokens.items.insert(0, first)?;
-            Ok(tokens)
+            match content_tokens(alloc, rest) {
+                Ok(tokens) => Ok(with_first(first, tokens)?),
+                Err(halt) => {
+                    drop(first);
+                    Err(halt)
+                }
+            }
         }
     }
 }
@@ -173,6 +177,15 @@ fn only(alloc: Global, reply: Reply) -> Result<Vec<Reply>, Stop>
     Ok(replies)
 }
 
+// These replies with one before them.
+fn with_reply(reply: Reply, others: Vec<Reply>) -> Result<Vec<Reply>, Stop>
+    ensures { IfOk result (λ replies. replies.items ≡ reply ∷ others.items) }
+{
+    let mut replies = others;
+    replies.insert(0, reply)?;
+    Ok(replies)
+}
+
 // The replies to the calls, up to and with the first error item.
 #[tactic(auto, using(crate::proofs::RunProgramLemmas::all_after))]
 fn replies(
@@ -192,9 +205,13 @@ fn replies(
     if ends_run(&reply) {
         return only(alloc, reply);
     }
-    let mut rest = replies(alloc, expander, others, budget)?;
-    rest.insert(0, reply)?;
-    Ok(rest)
+    match replies(alloc, expander, others, budget) {
+        Ok(rest) => with_reply(reply, rest),
+        Err(stop) => {
+            drop(reply);
+            Err(stop)
+        }
+    }
 }
 
 // The replies over the items of a source.
