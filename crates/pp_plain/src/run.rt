@@ -1,6 +1,6 @@
 //! Runs of a source, by the definitions.
 
-ghost use Rattle.std.specs.Prelude.{◌≡◌, ◌≤◌, ◌<◌, ◌^◌, ◌-◌, [], ◌∷◌, length, map, All, IfOk, IfSome};
+ghost use Rattle.std.specs.Prelude.{◌≡◌, ◌≤◌, ◌<◌, ◌^◌, ◌-◌, [], ◌∷◌, ◌++◌, false, length, map, All, IfOk, OnOk, IfSome};
 ghost use Rattle.pp_model.specs.Emitting.{answers_at, expansion_limit};
 ghost use Rattle.pp_plain.specs.inner.Halting.{Meets};
 ghost use Rattle.pp_model.specs.Run as spec;
@@ -33,6 +33,23 @@ fn is_refused(item: &LexerItem) -> bool
     matches!(item, Err((PreprocessorError::OutOfMemory, _)))
 }
 
+// Puts the items that are left of a text after those of a list.
+fn read_items(lexer: &mut Lexer<'_>, items: &mut Vec<SourceItem>) -> Result<(), Stop>
+    requires { lexer.old.spent ≡ false }
+    ensures { OnOk result (items.new.items ≡ items.old.items ++ lexer.old.rest) }
+{
+    'items: loop {
+        let Some(item) = lexer.next() else {
+            return stays_short(items.len());
+        };
+        if is_refused(&item) {
+            return Err(Stop::OutOfMemory);
+        }
+        let had_comments = lexer.had_comments();
+        items.push(SourceItem { item, had_comments })?;
+    }
+}
+
 /// The items of a text, with what the lexer knew of comments at each.
 pub fn items_of(alloc: Global, text: &str) -> Result<Vec<SourceItem>, Stop>
     requires { length text.now < 2 ^ 32 - 1 }
@@ -40,16 +57,12 @@ pub fn items_of(alloc: Global, text: &str) -> Result<Vec<SourceItem>, Stop>
 {
     let mut lexer = Lexer::new(alloc, text);
     let mut items = Vec::new(alloc);
-    'items: loop {
-        let Some(item) = lexer.next() else {
-            stays_short(items.len())?;
-            return Ok(items);
-        };
-        if is_refused(&item) {
-            return Err(Stop::OutOfMemory);
+    match read_items(&mut lexer, &mut items) {
+        Ok(()) => Ok(items),
+        Err(stop) => {
+            drop(items);
+            Err(stop)
         }
-        let had_comments = lexer.had_comments();
-        items.push(SourceItem { item, had_comments })?;
     }
 }
 

@@ -1,12 +1,11 @@
 use Rattle.std.proofs.Common.{◌≡◌, ◌++◌, false, length}
-use Rattle.pp_model.specs.Run.{items_of}
-use Rattle.pp_plain.proofs.run.items_of.Given as goal
+use Rattle.pp_plain.proofs.run.read_items.Given as goal
 
--- what was taken and what is left are the items of the text
+-- what was taken and what is left are the items before and what was left then
 abbrev pub invariant-items : goal.invariant-items
 invariant-items l = record {
   unspent : l.lexer.spent ≡ false;
-  all : l.items.items ++ l.lexer.rest ≡ items_of l.text;
+  all : l.items.items ++ l.lexer.rest ≡ l.initial.items.items ++ l.initial.lexer.rest;
 }
 
 abbrev pub decreases-items : goal.decreases-items
