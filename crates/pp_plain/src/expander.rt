@@ -336,11 +336,17 @@ impl<R: Reader> Expander<R> {
             };
             last = token.location;
             match nesting_of(depth, &token.value) {
-                Nesting::Closes => return Ok(Ok(Gathered {
-                    tokens,
-                    closing: last,
-                })),
-                Nesting::TooMany => return Ok(Err((PreprocessorError::IntegerOverflow, last))),
+                Nesting::Closes => {
+                    drop(token);
+                    return Ok(Ok(Gathered {
+                        tokens,
+                        closing: last,
+                    }));
+                }
+                Nesting::TooMany => {
+                    drop(token);
+                    return Ok(Err((PreprocessorError::IntegerOverflow, last)));
+                }
                 Nesting::Within(deeper) => depth = deeper,
             }
             tokens.push(token)?;

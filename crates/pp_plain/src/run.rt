@@ -43,6 +43,7 @@ fn read_items(lexer: &mut Lexer<'_>, items: &mut Vec<SourceItem>) -> Result<(), 
             return stays_short(items.len());
         };
         if is_refused(&item) {
+            drop(item);
             return Err(Stop::OutOfMemory);
         }
         let had_comments = lexer.had_comments();
