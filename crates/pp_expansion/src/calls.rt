@@ -411,7 +411,9 @@ impl Caller {
 
     // Opens the frame of an object-like macro.
     fn open_plain(&mut self, name: Text, line: u32, define: Rc<Define>) -> Step<Taken>
-        ensures opens { ((result ≡ Err Continue) × (self.new ≡ record self.old { frames = layer name line define.value [] ∷ self.old.frames })) ⊎ (result ≡ Err (Error out_of_memory)) }
+        ensures opens { ((result ≡ Err Continue) × (self.new
+            ≡ record self.old { frames = layer name line define.value [] ∷ self.old.frames }))
+            ⊎ (result ≡ Err (Error out_of_memory)) }
         ensures holds { IfOk result TakenHoldsOrdinary }
     {
         let arguments = Vec::new(self.alloc);
@@ -430,7 +432,11 @@ impl Caller {
         define: Rc<Define>,
     ) -> Step<Taken>
         requires function { define.value.function_like ≡ true }
-        ensures enters { Enters (record { value = value.Ident name; location = location }) name define.value self.old (reader lexer.old) result self.new (reader lexer.new) ⊎ (result ≡ Err (Error out_of_memory)) }
+        ensures enters { Enters (record {
+          value = value.Ident name;
+          location = location;
+        }) name define.value self.old (reader lexer.old) result self.new
+            (reader lexer.new) ⊎ (result ≡ Err (Error out_of_memory)) }
         ensures holds { IfOk result TakenHoldsOrdinary }
     {
         match self.seek(lexer)? {
@@ -509,7 +515,8 @@ impl Caller {
 
     // One step, whatever is taken.
     fn step_any(&mut self, lexer: &mut dyn MeLexer) -> Step<Taken>
-        ensures turns { TurnsOrRefuses self.old (reader lexer.old) result self.new (reader lexer.new) }
+        ensures turns { TurnsOrRefuses self.old (reader lexer.old) result self.new
+            (reader lexer.new) }
         ensures holds { IfOk result TakenHoldsOrdinary }
     {
         match self.take(lexer) {
@@ -523,7 +530,8 @@ impl Caller {
     fn step_frame(&mut self, lexer: &mut dyn MeLexer) -> Step<Taken>
         requires free { self.old.held ≡ None }
         requires open { is_some (outermost_frame_line self.old.frames) ≡ true }
-        ensures turns { TurnsOrRefuses self.old (reader lexer.old) result self.new (reader lexer.new) }
+        ensures turns { TurnsOrRefuses self.old (reader lexer.old) result self.new
+            (reader lexer.new) }
         ensures holds { IfOk result TakenHoldsOrdinary }
     {
         let Some(token) = self.processor.token() else {
@@ -543,7 +551,8 @@ impl Caller {
     /// One step: a token is taken, and is given, or opens its macro, or begins a call that is gathered.
     #[inline(always)]
     pub fn step(&mut self, lexer: &mut dyn MeLexer) -> Step<Taken>
-        ensures turns { TurnsOrRefuses self.old (reader lexer.old) result self.new (reader lexer.new) }
+        ensures turns { TurnsOrRefuses self.old (reader lexer.old) result self.new
+            (reader lexer.new) }
         ensures holds { IfOk result TakenHoldsOrdinary }
     {
         if self.held.is_none() && !self.processor.is_idle() {
@@ -561,7 +570,11 @@ impl Caller {
 
     /// Opens the frame of a call.
     pub fn open_call(&mut self, call: Call, arguments: ExpandedArguments) -> Result<(), AllocError>
-        ensures { OnOk result (self.new ≡ record self.old { frames = layer call.name call.closing.line call.definition arguments ∷ self.old.frames }) }
+        ensures { OnOk result (self.new
+            ≡ record self.old {
+              frames = layer call.name call.closing.line call.definition arguments
+                  ∷ self.old.frames;
+            }) }
     {
         let Call {
             name,

@@ -60,7 +60,11 @@ impl Define {
     /// A macro with these parameters.
     pub fn function_like(parameters: Vec<Text>, body: Vec<Token>) -> Define
         requires { All (λ token. IsTrue (is_ordinary token.value)) body.items }
-        ensures { result ≡ record { function_like = true; parameters = parameters.items; body = body.items } }
+        ensures { result ≡ record {
+          function_like = true;
+          parameters = parameters.items;
+          body = body.items;
+        } }
     {
         Define {
             function_like: true,

@@ -67,7 +67,14 @@ pub fn gives_line_name(step: &Step<Token>) -> bool
 
 /// A line number as an unsigned integer at this place.
 pub fn make_line_number(line: u32, location: Location) -> Token
-    ensures { result ≡ record { value = value.Integer (record { value = line; signed = false; width = pos 32 }); location = location } }
+    ensures { result ≡ record {
+      value = value.Integer (record {
+        value = line;
+        signed = false;
+        width = pos 32;
+      });
+      location = location;
+    } }
 {
     Token {
         value: TokenValue::Integer(Integer {

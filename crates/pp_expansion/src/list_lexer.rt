@@ -52,7 +52,12 @@ impl<'a> ListLexer<'a> {
         hidden: &'a OpenAround<'a>,
     ) -> Self
         requires { AllHoldOrdinary tokens.items }
-        ensures { result ≡ record { tokens = tokens.items; definitions = definitions.now; hidden = hidden.now; is_line = false } }
+        ensures { result ≡ record {
+          tokens = tokens.items;
+          definitions = definitions.now;
+          hidden = hidden.now;
+          is_line = false;
+        } }
     {
         ListLexer {
             tokens: tokens.into_iter(),
@@ -69,7 +74,12 @@ impl<'a> ListLexer<'a> {
         hidden: &'a OpenAround<'a>,
     ) -> Self
         requires { AllHoldOrdinary tokens.items }
-        ensures { result ≡ record { tokens = tokens.items; definitions = definitions.now; hidden = hidden.now; is_line = true } }
+        ensures { result ≡ record {
+          tokens = tokens.items;
+          definitions = definitions.now;
+          hidden = hidden.now;
+          is_line = true;
+        } }
     {
         ListLexer {
             tokens: tokens.into_iter(),

@@ -13,7 +13,8 @@ use pp_lexer::token::Token;
 
 /// One step of the expander, where a list stands after the frames.
 pub fn step_list(caller: &mut Caller, list: &mut ListLexer<'_>) -> Step<Taken>
-    ensures turns { TurnsOrRefuses caller.old (of_list list.old) result caller.new (of_list list.new) }
+    ensures turns { TurnsOrRefuses caller.old (of_list list.old) result caller.new
+        (of_list list.new) }
     ensures holds { IfOk result TakenHoldsOrdinary }
 {
     caller.step(list)

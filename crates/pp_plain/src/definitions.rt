@@ -59,7 +59,8 @@ impl Definitions {
 
     /// Lets the name stand for this from now on, or for nothing.
     pub fn change(&mut self, name: Text, definition: Option<Definition>) -> Result<(), AllocError>
-        ensures ok { OnOk result (meaning_of self.new ≡ changed (meaning_of self.old) name definition) }
+        ensures ok { OnOk result (meaning_of self.new
+            ≡ changed (meaning_of self.old) name definition) }
         ensures err { OnErr result (self.new ≡ self.old) }
     {
         self.changes.insert(0, Change { name, definition })?;

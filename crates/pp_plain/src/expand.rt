@@ -40,7 +40,13 @@ pub fn answer(
     levels: u32,
     budget: &mut Budget,
 ) -> Result<Result<TokenLists, Fault>, Stop>
-    ensures answers { IfOk result (λ answer. answers_at levels call.now.opening.definition (record { paren = call.now.site.paren; arguments = call.now.site.arguments; visible = meaning_of visible.now; open_around = hidden.now }) answer) }
+    ensures answers { IfOk result (λ answer. answers_at levels call.now.opening.definition
+        (record {
+          paren = call.now.site.paren;
+          arguments = call.now.site.arguments;
+          visible = meaning_of visible.now;
+          open_around = hidden.now;
+        }) answer) }
     ensures budget { budget.new.steps ≤ budget.old.steps }
 {
     let opening = &call.opening;
@@ -153,7 +159,13 @@ fn answer_alone(
     levels: u32,
     budget: &mut Budget,
 ) -> Result<Result<TokenLists, Fault>, Stop>
-    ensures answers { IfOk result (λ answer. answers_at levels call.now.opening.definition (record { paren = call.now.site.paren; arguments = call.now.site.arguments; visible = argument_reading.visible (list_state expander.now.reader); open_around = masked (seen list_state expander.now) }) answer) }
+    ensures answers { IfOk result (λ answer. answers_at levels call.now.opening.definition
+        (record {
+          paren = call.now.site.paren;
+          arguments = call.now.site.arguments;
+          visible = argument_reading.visible (list_state expander.now.reader);
+          open_around = masked (seen list_state expander.now);
+        }) answer) }
     ensures budget { budget.new.steps ≤ budget.old.steps }
 {
     let around = expander.masked()?;
@@ -199,7 +211,13 @@ fn answer_in<R: Reader>(
     levels: u32,
     budget: &mut Budget,
 ) -> Result<Result<TokenLists, Fault>, Stop>
-    ensures answers { IfOk result (λ answer. answers_at levels call.now.opening.definition (record { paren = call.now.site.paren; arguments = call.now.site.arguments; visible = R.reading.visible (R.state expander.now.reader); open_around = masked (seen R.state expander.now) }) answer) }
+    ensures answers { IfOk result (λ answer. answers_at levels call.now.opening.definition
+        (record {
+          paren = call.now.site.paren;
+          arguments = call.now.site.arguments;
+          visible = R.reading.visible (R.state expander.now.reader);
+          open_around = masked (seen R.state expander.now);
+        }) answer) }
     ensures budget { budget.new.steps ≤ budget.old.steps }
 {
     let around = expander.masked()?;

@@ -196,7 +196,12 @@ fn turned(taken: Outcome, opening: Opening, found: Found) -> Turn
 impl<R: Reader> Expander<R> {
     /// The start of a reader, where these names are open around.
     pub fn new(alloc: Global, reader: R, hidden: Vec<Text>) -> Self
-        ensures { seen R.state result ≡ record { held = None; list = []; reader = R.state reader; hidden = hidden.items } }
+        ensures { seen R.state result ≡ record {
+          held = None;
+          list = [];
+          reader = R.state reader;
+          hidden = hidden.items;
+        } }
     {
         Expander {
             alloc,
@@ -247,7 +252,8 @@ impl<R: Reader> Expander<R> {
 
     /// The macro that a taken outcome opens, if it does.
     pub fn opening(&self, outcome: &Outcome) -> Result<Option<Opening>, AllocError>
-        ensures { IfOk result (λ found. found ≡ opening R.reading (seen R.state self.now) outcome.now) }
+        ensures { IfOk result (λ found. found
+            ≡ opening R.reading (seen R.state self.now) outcome.now) }
     {
         let Outcome::Token(token) = outcome else {
             return Ok(None);

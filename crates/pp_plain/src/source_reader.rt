@@ -145,7 +145,8 @@ impl<'a> SourceReader<'a> {
     // Gathers a line whose condition is wanted.
     fn condition(&mut self, alloc: Global, word: Location) -> Result<Step, Halt>
         requires { self.old.position + 2 ≤ length self.old.items }
-        ensures acts { ActsAs result (spec.condition word (reader_of self.old)) (reader_of self.new) }
+        ensures acts { ActsAs result (spec.condition word (reader_of self.old))
+            (reader_of self.new) }
         ensures line { HasLineIfOk result self.new }
     {
         let tokens = line_tokens(alloc, self.after_word())?;
@@ -291,7 +292,8 @@ impl<'a> SourceReader<'a> {
     // Reads a line that parts or closes the innermost block.
     fn elif_line(&mut self, alloc: Global, word: Location) -> Result<Step, Halt>
         requires { self.old.position + 2 ≤ length self.old.items }
-        ensures acts { ActsAs result (parts.elif_line word (reader_of self.old)) (reader_of self.new) }
+        ensures acts { ActsAs result (parts.elif_line word (reader_of self.old))
+            (reader_of self.new) }
         ensures line { HasLineIfOk result self.new }
     {
         let blocks = blocks_at(alloc, self.items, self.position)?;
@@ -300,7 +302,8 @@ impl<'a> SourceReader<'a> {
 
     fn else_line(&mut self, alloc: Global, word: Location) -> Result<Step, Halt>
         requires { self.old.position + 2 ≤ length self.old.items }
-        ensures acts { ActsAs result (parts.else_line word (reader_of self.old)) (reader_of self.new) }
+        ensures acts { ActsAs result (parts.else_line word (reader_of self.old))
+            (reader_of self.new) }
         ensures line { HasLineIfOk result self.new }
     {
         let blocks = blocks_at(alloc, self.items, self.position)?;
@@ -309,7 +312,8 @@ impl<'a> SourceReader<'a> {
 
     fn endif_line(&mut self, alloc: Global, word: Location) -> Result<Step, Halt>
         requires { self.old.position + 2 ≤ length self.old.items }
-        ensures acts { ActsAs result (parts.endif_line word (reader_of self.old)) (reader_of self.new) }
+        ensures acts { ActsAs result (parts.endif_line word (reader_of self.old))
+            (reader_of self.new) }
         ensures line { HasLineIfOk result self.new }
     {
         let blocks = blocks_at(alloc, self.items, self.position)?;
@@ -335,7 +339,8 @@ impl<'a> SourceReader<'a> {
     // Gives the item of an `#extension`.
     fn extension(&mut self, alloc: Global, word: Location) -> Result<Step, Halt>
         requires { self.old.position + 2 ≤ length self.old.items }
-        ensures acts { ActsAs result (spec.extension word (reader_of self.old)) (reader_of self.new) }
+        ensures acts { ActsAs result (spec.extension word (reader_of self.old))
+            (reader_of self.new) }
         ensures line { HasLineIfOk result self.new }
     {
         let tokens = line_tokens(alloc, self.after_word())?;
@@ -363,7 +368,8 @@ impl<'a> SourceReader<'a> {
     // Gives a line's item, and goes after the line.
     fn give_line(&mut self, value: TokenValue, word: Location) -> Step
         requires { self.old.position + 2 ≤ length self.old.items }
-        ensures { spec.given (record { value = value; location = word }) (spec.after_line (reader_of self.old)) ≡ record { step = result; after = (reader_of self.new) } }
+        ensures { spec.given (record { value = value; location = word }) (spec.after_line
+            (reader_of self.old)) ≡ record { step = result; after = (reader_of self.new) } }
     {
         self.pass_line();
         Step::Given(Outcome::Token(Token {
@@ -444,7 +450,10 @@ impl<'a> SourceReader<'a> {
     // Goes on by so many items, which give nothing.
     fn pass(&mut self, count: usize) -> Step
         requires { self.old.position + count ≤ length self.old.items }
-        ensures acts { spec.passed (spec.moved count (reader_of self.old)) ≡ record { step = result; after = reader_of self.new } }
+        ensures acts { spec.passed (spec.moved count (reader_of self.old)) ≡ record {
+          step = result;
+          after = reader_of self.new;
+        } }
         ensures line { HasLine result self.new }
     {
         self.position += count;
@@ -454,7 +463,8 @@ impl<'a> SourceReader<'a> {
     // Acts on what stands at the position in live text.
     fn act_live(&mut self, alloc: Global, sight: Sight) -> Result<Step, Halt>
         requires { self.old.position + least_items sight ≤ length self.old.items }
-        ensures acts { ActsAs result (spec.live_act sight (reader_of self.old)) (reader_of self.new) }
+        ensures acts { ActsAs result (spec.live_act sight (reader_of self.old))
+            (reader_of self.new) }
         ensures line { HasLineIfOk result self.new }
     {
         match sight {
@@ -473,7 +483,8 @@ impl<'a> SourceReader<'a> {
     // Acts on what stands at the position in dead text.
     fn act_dead(&mut self, alloc: Global, sight: Sight) -> Result<Step, Halt>
         requires { self.old.position + least_items sight ≤ length self.old.items }
-        ensures acts { ActsAs result (spec.dead_act sight (reader_of self.old)) (reader_of self.new) }
+        ensures acts { ActsAs result (spec.dead_act sight (reader_of self.old))
+            (reader_of self.new) }
         ensures line { HasLineIfOk result self.new }
     {
         match sight {
@@ -501,7 +512,10 @@ impl<'a> SourceReader<'a> {
 
     /// What stands at the position comes to this. A fault leaves the reader where it is.
     pub fn act(&mut self, alloc: Global) -> Result<Step, Stop>
-        ensures acts { IfOk result (λ step. spec.act (reader_of self.old) ≡ record { step = step; after = reader_of self.new }) }
+        ensures acts { IfOk result (λ step. spec.act (reader_of self.old) ≡ record {
+          step = step;
+          after = reader_of self.new;
+        }) }
         ensures line { IfOk result (λ step. HasLine step self.new) }
     {
         match self.act_here(alloc) {

@@ -124,7 +124,8 @@ pub fn is_first_directive(
     position: usize,
 ) -> Result<bool, Stop>
     requires { position ≤ length source.now }
-    ensures { IfOk result (λ first. first ≡ spec.is_first_directive source.now truths.now position) }
+    ensures { IfOk result (λ first. first
+        ≡ spec.is_first_directive source.now truths.now position) }
 {
     if has_directive(alloc, &source[..position])? {
         return Ok(false);

@@ -199,7 +199,8 @@ fn end_line(alloc: Global, line: Option<String>) -> Result<String, AllocError>
 fn spell_directive(alloc: Global, value: &TokenValue) -> Result<String, RunFault>
     requires directive { is_ordinary value.now ≡ false }
     requires item { HoldsOrdinary value.now }
-    ensures ok { IfOk result (λ text. string_bytes text ≡ encode_utf8_all (directive_text value.now)) }
+    ensures ok { IfOk result (λ text. string_bytes text
+        ≡ encode_utf8_all (directive_text value.now)) }
     ensures err { IfErr result (λ fault. fault ≡ RunFault.OutOfMemory) }
 {
     match value {
@@ -245,7 +246,8 @@ fn spell(alloc: Global, tokens: &[Token]) -> Result<String, RunFault>
 // Writes all the bytes.
 fn write_all<W: Sink>(bytes: &[u8], writer: &mut W) -> Result<(), RunFault>
     requires { W.failed writer.old ≡ false }
-    ensures written { OnOk result (Appends (W.contents writer.old) (W.contents writer.new) bytes.now) }
+    ensures written { OnOk result (Appends (W.contents writer.old)
+        (W.contents writer.new) bytes.now) }
     ensures ok { OnOk result (W.failed writer.new ≡ false) }
     ensures err { IfErr result (λ fault. (fault ≡ RunFault.WriteFailed)
         × (W.failed writer.new ≡ true)) }

@@ -24,8 +24,10 @@ fn is_newline(token: &lexer::Token) -> bool
 /// in it is refused.
 pub fn content_tokens(alloc: Global, content: &str) -> Result<Vec<Token>, Halt>
     requires { length content.now < 2 ^ 32 - 1 }
-    ensures is { spec.Meets (λ tokens. tokens.items) result (content_tokens (items_of content.now)) }
-    ensures ordinary { IfOk result (λ tokens. All (λ t. IsTrue (is_ordinary t.value)) tokens.items) }
+    ensures is { spec.Meets (λ tokens. tokens.items) result (content_tokens
+        (items_of content.now)) }
+    ensures ordinary { IfOk result (λ tokens. All (λ t. IsTrue
+        (is_ordinary t.value)) tokens.items) }
 {
     let mut lexer = SourceLexer::new(alloc, content);
     let mut tokens = Vec::new(alloc);

@@ -490,7 +490,8 @@ impl<'a> DirectiveProcessor<'a> {
         requires { token.value ≢ NewLine }
         ensures is { result ≡ as_step (conversion token) }
         ensures holds { IfOk result (λ token. HoldsOrdinary token.value) }
-        ensures remembers { self.new ≡ record self.old { has_text = is_ok result || self.old.has_text } }
+        ensures remembers { self.new
+            ≡ record self.old { has_text = is_ok result || self.old.has_text } }
         ensures errors { StepReports result (unreported_of self.old) (unreported_of self.new) }
     {
         let token = convert_lexer_token_to_step(token)?;

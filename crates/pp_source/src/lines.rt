@@ -194,13 +194,15 @@ pub fn line_tokens_from(
     requires unspent { lexer.old.spent ≡ false }
     requires ordinary { IfSome first (λ t. IsTrue (is_ordinary t.value)) }
     requires left { IfSome first (λ t. lexer.old.rest ≢ []) }
-    ensures is { spec.Meets (λ tokens. tokens.items) result (spec.tokens_after first lexer.old.rest) }
+    ensures is { spec.Meets (λ tokens. tokens.items) result (spec.tokens_after first
+        lexer.old.rest) }
     ensures takes { spec.TakesItems
         (spec.length_after first lexer.old.rest) lexer.old result lexer.new }
     ensures errors { Reports result (unreported_at lexer.old) (unreported_at lexer.new) }
     ensures comments { IfOk result (λ tokens. lexer.new.had_comments
         ≡ spec.comments_after first lexer.old.rest lexer.old.had_comments) }
-    ensures ordinary { IfOk result (λ tokens. All (λ t. IsTrue (is_ordinary t.value)) tokens.items) }
+    ensures ordinary { IfOk result (λ tokens. All (λ t. IsTrue
+        (is_ordinary t.value)) tokens.items) }
 {
     let mut tokens = Vec::new(alloc);
     let mut next = first;
@@ -219,7 +221,8 @@ pub fn rest_of_line(alloc: Global, lexer: &mut SourceLexer<'_>) -> Result<Vec<To
     ensures errors { Reports result (unreported_at lexer.old) (unreported_at lexer.new) }
     ensures comments { IfOk result (λ tokens. lexer.old.rest ≢ [] → lexer.new.had_comments
         ≡ comments_before_end lexer.old.rest) }
-    ensures ordinary { IfOk result (λ tokens. All (λ t. IsTrue (is_ordinary t.value)) tokens.items) }
+    ensures ordinary { IfOk result (λ tokens. All (λ t. IsTrue
+        (is_ordinary t.value)) tokens.items) }
 {
     let first = next_line_token(lexer)?;
     line_tokens_from(alloc, first, lexer)

@@ -116,7 +116,15 @@ impl<'a> LexerCharIterator<'a> {
     /// A reader at the start of a source of fewer than 2^32 - 1 bytes.
     pub fn new(input: &'a str) -> Self
         requires { length input.now < 2 ^ 32 - 1 }
-        ensures { result ≡ record { rest = spots_of input.now; last = record { c = 13; line = 0; begin = 0; end = 1 } } }
+        ensures { result ≡ record {
+          rest = spots_of input.now;
+          last = record {
+            c = 13;
+            line = 0;
+            begin = 0;
+            end = 1;
+          };
+        } }
     {
         LexerCharIterator {
             inner: ReplaceComments::new(input),
@@ -194,7 +202,11 @@ impl<'a> LexerCharIterator<'a> {
         requires room { rest.at + length rest.text.now < 2 ^ 32 - 1 }
         requires lines { rest.line ≤ rest.at + 1 }
         requires utf8 { IsUtf8 rest.text.now }
-        ensures { self.new ≡ record { rest = spots_from rest.entry.line rest.entry.at rest.entry.text.now; last = last } }
+        ensures { self.new ≡ record {
+          rest = spots_from rest.entry.line rest.entry.at
+              rest.entry.text.now;
+          last = last;
+        } }
     {
         self.inner = ReplaceComments::at(rest);
         self.ahead = None;

@@ -56,7 +56,8 @@ impl TokenValue {
     /// A copy. Its one error is `OutOfMemory`, by `out_of_memory`, which only an identifier or a
     /// float gives.
     pub fn clone(&self, alloc: Global) -> Result<Self, (PreprocessorError, Location)>
-        ensures copied { MatchResult result (λ copy. copy ≡ self.now) (λ error. error ≡ out_of_memory) }
+        ensures copied { MatchResult result (λ copy. copy ≡ self.now) (λ error. error
+            ≡ out_of_memory) }
         ensures without_memory { holds_memory self.now ≡ false → IsOk result }
     {
         Ok(match self {
@@ -77,7 +78,8 @@ impl Token {
     /// A copy. Its one error is `OutOfMemory`, by `out_of_memory`, which only an identifier or a
     /// float gives.
     pub fn clone(&self, alloc: Global) -> Result<Self, (PreprocessorError, Location)>
-        ensures copied { MatchResult result (λ copy. copy ≡ self.now) (λ error. error ≡ out_of_memory) }
+        ensures copied { MatchResult result (λ copy. copy ≡ self.now) (λ error. error
+            ≡ out_of_memory) }
         ensures without_memory { holds_memory self.now.value ≡ false → IsOk result }
     {
         Ok(Token {

@@ -22,7 +22,8 @@ pub fn is_next(inner: &mut LexerCharIterator<'_>, wanted: char) -> bool
 
 // Whether one of the two is next.
 pub fn is_either_next(inner: &mut LexerCharIterator<'_>, first: char, second: char) -> bool
-    ensures test { result ≡ begins_with (λ c. (c == first) || (c == second)) (letters inner.old.rest) }
+    ensures test { result ≡ begins_with (λ c. (c == first) || (c == second))
+        (letters inner.old.rest) }
     ensures same { inner.new ≡ inner.old }
 {
     match inner.peek_char() {

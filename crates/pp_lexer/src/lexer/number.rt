@@ -23,7 +23,8 @@ mod value;
 
 // Takes the suffix letter if it is one of the two, and says whether it did.
 fn take_suffix(first: char, second: char, inner: &mut LexerCharIterator<'_>) -> bool
-    ensures test { result ≡ begins_with (λ c. (c == first) || (c == second)) (letters inner.old.rest) }
+    ensures test { result ≡ begins_with (λ c. (c == first) || (c == second))
+        (letters inner.old.rest) }
     ensures state { inner.new ≡ advanced (if result then 1 else 0) inner.old }
 {
     let found = is_either_next(inner, first, second);

@@ -95,7 +95,8 @@ fn triple(table: &[(char, char, char, Punct)], c: char, d: char, e: char) -> Opt
 fn take_punct(inner: &mut LexerCharIterator<'_>) -> Option<Punct>
     ensures value { result ≡ punct_of (take (longest is_punctuator (letters inner.old.rest))
         (letters inner.old.rest)) }
-    ensures state { inner.new ≡ advanced (longest is_punctuator (letters inner.old.rest)) inner.old }
+    ensures state { inner.new ≡ advanced (longest is_punctuator (letters inner.old.rest))
+        inner.old }
 {
     let first = inner.peek_char()?;
     let one = single(&SINGLES, first)?;

@@ -167,7 +167,8 @@ impl<'a> ReplaceComments<'a> {
 
     // What is left to read.
     pub(crate) fn left(&self) -> Left<'a>
-        ensures value { self.now ≡ uncommented (joined (left result.line result.at result.text.now)) }
+        ensures value { self.now ≡ uncommented (joined (left result.line result.at
+            result.text.now)) }
         ensures room { result.at + length result.text.now < 2 ^ 32 - 1 }
         ensures lines { result.line ≤ result.at + 1 }
     {

@@ -112,7 +112,8 @@ impl TokenValue {
     /// A copy. Its one error is `OutOfMemory`, by `out_of_memory`, which an integer or a
     /// punctuator never gives.
     pub fn clone(&self, alloc: Global) -> Result<Self, (PreprocessorError, Location)>
-        ensures copied { MatchResult result (λ copy. copy ≡ self.now) (λ error. error ≡ out_of_memory) }
+        ensures copied { MatchResult result (λ copy. copy ≡ self.now) (λ error. error
+            ≡ out_of_memory) }
         ensures without_memory { holds_memory self.now ≡ false → IsOk result }
     {
         self.try_clone(alloc).map_err(refused)
@@ -139,7 +140,8 @@ impl Token {
     /// A copy. Its one error is `OutOfMemory`, by `out_of_memory`, which the token of an integer
     /// or a punctuator never gives.
     pub fn clone(&self, alloc: Global) -> Result<Self, (PreprocessorError, Location)>
-        ensures copied { MatchResult result (λ copy. copy ≡ self.now) (λ error. error ≡ out_of_memory) }
+        ensures copied { MatchResult result (λ copy. copy ≡ self.now) (λ error. error
+            ≡ out_of_memory) }
         ensures without_memory { holds_memory self.now.value ≡ false → IsOk result }
     {
         self.try_clone(alloc).map_err(refused)
@@ -161,7 +163,8 @@ impl PreprocessorError {
     /// A copy. Its one error is `OutOfMemory`, by `out_of_memory`, which only an
     /// `UnexpectedToken` gives.
     pub fn clone(&self, alloc: Global) -> Result<Self, (PreprocessorError, Location)>
-        ensures copied { MatchResult result (λ copy. copy ≡ self.now) (λ error. error ≡ out_of_memory) }
+        ensures copied { MatchResult result (λ copy. copy ≡ self.now) (λ error. error
+            ≡ out_of_memory) }
         ensures without_memory { error_holds_memory self.now ≡ false → IsOk result }
     {
         Ok(match self {

@@ -30,7 +30,8 @@ fn reply_to_definition(
 ) -> Result<Reply, AllocError>
     requires room { length content.now < 2 ^ 32 - 1 }
     requires unspent { is_spent pp.old ≡ false }
-    ensures { IfOk result (λ reply. IsAnswered pp.old (add_define name.now content.now) reply pp.new) }
+    ensures { IfOk result (λ reply. IsAnswered pp.old (add_define name.now content.now) reply
+        pp.new) }
 {
     match pp.add_define(name, content) {
         Ok(()) => Ok(Reply::Added),

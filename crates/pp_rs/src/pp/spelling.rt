@@ -32,7 +32,8 @@ pub fn spell_tokens(
 // The spellings of the tokens, joined by spaces.
 fn join_spellings(alloc: Global, tokens: &[Token]) -> Result<String, AllocError>
     requires { All (λ t. IsTrue (is_ordinary t.value)) tokens.now }
-    ensures { IfOk result (λ text. chars (string_bytes text) ≡ spelled_text (values_of tokens.now)) }
+    ensures { IfOk result (λ text. chars (string_bytes text)
+        ≡ spelled_text (values_of tokens.now)) }
 {
     let mut text = String::new(alloc);
     let Some((first, others)) = tokens.split_first() else {
