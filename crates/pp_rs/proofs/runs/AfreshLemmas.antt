@@ -88,15 +88,15 @@ pub bytes_are : (bytes characters : List ℕ) → IsUtf8 bytes → chars bytes �
 bytes_are bytes characters u e = sym (encodes-chars bytes u) ∙ ap encode_utf8_all e
 
 -- these items come from the start of a text
-abbrev AreItemsOfText : List ℕ → List Item → Type 0
+abbrev pub AreItemsOfText : List ℕ → List Item → Type 0
 AreItemsOfText text items = AreItemsFrom (start (items_of text)) items
 
--- they do where a preprocessor of the text gives them
-pub text_gives : (pp : Preprocessing) (items : List Item) (bytes text : List ℕ) → is_spent pp ≡ false → Stands pp (start (items_of bytes))
-    → AreItemsOf pp items → bytes ≡ text → AreItemsOfText text items
-text_gives pp items bytes text unspent stands all same =
+-- they do where a preprocessor that stands for its start gives them
+pub text_gives : (pp : Preprocessing) (items : List Item) (text : List ℕ) → is_spent pp ≡ false → Stands pp (start (items_of text))
+    → AreItemsOf pp items → AreItemsOfText text items
+text_gives pp items text unspent stands all =
     let from : (state : State) → Stands pp state → AreItemsFrom state items = rw unspent at all in
-    subst (λ t. AreItemsOfText t items) same (from _ stands)
+    from _ stands
 
 -- Where the items of the tokens' text have the tokens' values, the tokens are read afresh.
 pub read_afresh : (tokens : List Token) (items : List Item) → AreItemsOfText (text_of tokens) items → HaveValues items (values_of tokens)

@@ -6,7 +6,7 @@ use Rattle.std.proofs.lemmas.List.{take_more, take-append-drop, map-append}
 use Rattle.pp_lexer.specs.PreprocessorError.{out_of_memory}
 use Rattle.pp_lexer.specs.declared.token.Token.{Token}
 use Rattle.pp_model.specs.Calls.{Fault}
-use Rattle.pp_model.specs.Run.{Call, call_of, add_define, next, items_of, start, with_added, IsRun, ends_run}
+use Rattle.pp_model.specs.Run.{Call, call_of, add_define, next, with_added, ends_run}
 use Rattle.pp_model.specs.RunChains.{adds, refuses, gives, Chain, none, one_more}
 use Rattle.pp_model.specs.declared.call.Call.{Call as Called}
 use Rattle.pp_model.specs.declared.call.Reply.{Reply}
@@ -14,7 +14,7 @@ use Rattle.pp_model.specs.declared.call.Reply.TheVariants as reply
 use Rattle.pp_model.specs.declared.outcome.Outcome.TheVariants as outcome
 use Rattle.pp_model.proofs.RunChainLemmas.{chain_runs, chain_runs_to_error}
 use Rattle.pp_rs.specs.Adding.{IsAdded, refused, faulty, added}
-use Rattle.pp_rs.specs.inner.Answering.{IsAnswered, goes_on, ends}
+use Rattle.pp_rs.specs.inner.Answering.{IsAnswered, AreReplies, goes_on, ends}
 use Rattle.pp_rs.specs.Comes.{State, Comes}
 use Rattle.pp_expansion.specs.Item.{is_out_of_memory}
 use Rattle.pp_rs.specs.Kept.{Preprocessing, Stands, is_spent}
@@ -89,41 +89,43 @@ calls_cut calls i other within =
     ∙ append_assoc (map call_of (take i calls)) (call_of (get_or calls i other) ∷ []) (map call_of (drop (i + 1) calls))
 
 -- the calls that were answered, and the preprocessor after them
-pub record Replied (source : List ℕ) (calls : List Call) (replies : List Reply) (now : Preprocessing) : Type 0 where
+pub record Replied (old : Preprocessing) (calls : List Call) (replies : List Reply) (now : Preprocessing) : Type 0 where
   pub unspent : is_spent now ≡ false
-  pub state : State
-  pub stands : Stands now state
-  pub chain : Chain Comes (start (items_of source)) calls replies state
+  pub leads : (state : State) → Stands old state → (after : State) × Chain Comes state calls replies after × Stands now after
 
 -- none before the first
-pub replied_none : (source : List ℕ) (replies : List Reply) (new : Preprocessing) → is_spent new ≡ false → Stands new (start (items_of source))
-    → replies ≡ [] → Replied source [] replies new
-replied_none source replies new unspent stands is = record {
+pub replied_none : (old : Preprocessing) (replies : List Reply) → is_spent old ≡ false → replies ≡ [] → Replied old [] replies old
+replied_none old replies unspent is = record {
   unspent = unspent;
-  state = start (items_of source);
-  stands = stands;
-  chain = none _ _ [] replies refl is refl;
+  leads = λ state stands. (state, none _ _ [] replies refl is refl, stands);
 }
 
-module _ (source : List ℕ) (before : List Call) (call : Call) (given : List Reply)
-    (answer : Reply) (now new : Preprocessing) (r : Replied source before given now) where
+module _ (old : Preprocessing) (before : List Call) (call : Call) (given : List Reply)
+    (answer : Reply) (now new : Preprocessing) (r : Replied old before given now) where
   -- one more
   pub replied_more : (calls : List Call) (replies : List Reply) → IsAnswered now call answer new → ends_run answer ≡ false
-      → calls ≡ before ++ call ∷ [] → replies ≡ given ++ answer ∷ [] → Replied source calls replies new
-  replied_more calls replies (goes_on last unspent leads) on cut is =
-      let one = leads r.state r.stands in
-      record { unspent = unspent; state = one.0; stands = one.2; chain = one_more _ r.state one.0 before calls call given replies answer r.chain one.1 cut is }
+      → calls ≡ before ++ call ∷ [] → replies ≡ given ++ answer ∷ [] → Replied old calls replies new
+  replied_more calls replies (goes_on last unspent leads) on cut is = record {
+    unspent = unspent;
+    leads = λ state stands.
+        let now = r.leads state stands in
+        let one = leads now.0 now.2 in
+        (one.0, one_more state now.0 one.0 before calls call given replies answer now.1 one.1 cut is, one.2);
+  }
   replied_more calls replies (ends fault answers calls_next leads) on cut is = let bad : true ≡ false = sym (ap ends_run answers) ∙ on in cc
 
   -- an error item, whatever calls are left
   pub replied_last : (calls later : List Call) (replies : List Reply) → IsAnswered now call answer new → ends_run answer ≡ true
-      → calls ≡ before ++ call ∷ later → replies ≡ given ++ answer ∷ [] → IsRun source calls replies
+      → calls ≡ before ++ call ∷ later → replies ≡ given ++ answer ∷ [] → AreReplies old calls replies
   replied_last calls later replies (goes_on last unspent leads) over cut is = let bad : false ≡ true = sym last ∙ over in cc
-  replied_last calls later replies (ends fault answers calls_next leads) over cut is =
-      let one = leads r.state r.stands in
-      rw (cut, is, answers, calls_next) (chain_runs_to_error Comes (start (items_of source)) r.state one.0 before later given fault r.chain one.1)
+  replied_last calls later replies (ends fault answers calls_next leads) over cut is = λ state stands.
+      let now = r.leads state stands in
+      let one = leads now.0 now.2 in
+      rw (cut, is, answers, calls_next) (chain_runs_to_error Comes state now.0 one.0 before later given fault now.1 one.1)
 
 -- all of them
-pub replied_all : (source : List ℕ) (calls same : List Call) (replies : List Reply) (now : Preprocessing) → Replied source same replies now
-    → calls ≡ same → IsRun source calls replies
-replied_all source calls same replies now r e = rw e (chain_runs Comes (start (items_of source)) r.state same replies r.chain)
+pub replied_all : (old : Preprocessing) (calls same : List Call) (replies : List Reply) (now : Preprocessing) → Replied old same replies now
+    → calls ≡ same → AreReplies old calls replies
+replied_all old calls same replies now r e = λ state stands.
+    let now = r.leads state stands in
+    rw e (chain_runs Comes state now.0 same replies now.1)

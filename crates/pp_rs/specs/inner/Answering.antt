@@ -1,7 +1,7 @@
 -- How far a list of calls has come. No contract of a public call cites this.
-use Rattle.std.specs.Prelude.{◌≡◌, false}
+use Rattle.std.specs.Prelude.{◌≡◌, false, List}
 use Rattle.pp_model.specs.Calls.{Fault}
-use Rattle.pp_model.specs.Run.{Call, next, ends_run}
+use Rattle.pp_model.specs.Run.{Call, Runs, next, ends_run}
 use Rattle.pp_model.specs.RunChains.{AnswersIn}
 use Rattle.pp_model.specs.declared.call.Reply.{Reply}
 use Rattle.pp_model.specs.declared.call.Reply.TheVariants as reply
@@ -12,5 +12,12 @@ use Rattle.pp_rs.specs.Kept.{Preprocessing, Stands, is_spent}
 -- What one call answers in each state that the preprocessor stood for. It stands for the state after it; of the state after an error
 -- item nothing is said.
 pub data IsAnswered (old : Preprocessing) (call : Call) (answer : Reply) (new : Preprocessing) : Type 0 where
-  goes_on : ends_run answer ≡ false → is_spent new ≡ false → ((state : State) → Stands old state → (after : State) × AnswersIn Comes state call answer after × Stands new after) → IsAnswered old call answer new
-  ends : (fault : Fault) → answer ≡ reply.Given (outcome.Fault fault) → call ≡ next → ((state : State) → Stands old state → (after : State) × Comes state (outcome.Fault fault) after) → IsAnswered old call answer new
+  goes_on : ends_run answer ≡ false → is_spent new ≡ false
+      → ((state : State) → Stands old state → (after : State) × AnswersIn Comes state call answer after × Stands new after)
+      → IsAnswered old call answer new
+  ends : (fault : Fault) → answer ≡ reply.Given (outcome.Fault fault) → call ≡ next
+      → ((state : State) → Stands old state → (after : State) × Comes state (outcome.Fault fault) after) → IsAnswered old call answer new
+
+-- The replies to a list of calls, up to and with the first error item, in each state that the preprocessor stood for.
+abbrev pub AreReplies : Preprocessing → List Call → List Reply → Type 0
+AreReplies old calls replies = (state : State) → Stands old state → Runs Comes state calls replies

@@ -1,10 +1,12 @@
 //! Output that is read afresh.
 
-ghost use Rattle.std.specs.Prelude.{◌≡◌, ◌↔◌, true, IfOk, IfErr, IsTrue, All, Ok, map};
+ghost use Rattle.std.specs.Prelude.{◌≡◌, ◌↔◌, ◌-◌, ◌^◌, ◌<◌, true, length, IfOk, IfErr, IsTrue, All, Ok, map};
 ghost use Rattle.pp_lexer.specs.PreprocessorError.{out_of_memory};
 ghost use Rattle.pp_lexer.specs.Spelling.{values_of};
 ghost use Rattle.pp_lexer.specs.TokenValue.{is_ordinary};
+ghost use Rattle.pp_model.specs.Run.{items_of, start};
 ghost use Rattle.pp_rs.specs.Afresh.{AreReadAfresh, IsOutput};
+ghost use Rattle.pp_rs.specs.Collecting.{AreItemsFrom};
 ghost use Rattle.pp_rs.specs.inner.ItemValues.{value_of_item};
 
 use crate::pp::all_items::preprocess_all;
@@ -37,6 +39,19 @@ fn have_values(items: &[PreprocessorItem], tokens: &[Token]) -> bool
             .all(|(item, token)| has_value(item, token))
 }
 
+// The items of a text, and with them the end.
+fn items_of_text(
+    alloc: Global,
+    text: &str,
+) -> Result<Vec<PreprocessorItem>, (PreprocessorError, Location)>
+    requires { length text.now < 2 ^ 32 - 1 }
+    ensures items { IfOk result (λ items. AreItemsFrom (start (items_of text.now)) items.items) }
+    ensures refused { IfErr result (λ fault. fault ≡ out_of_memory) }
+{
+    let mut pp = Preprocessor::new(alloc, text);
+    preprocess_all(alloc, &mut pp)
+}
+
 /// Whether the text that spells the tokens with single spaces gives tokens of the same values when it is preprocessed afresh,
 /// and then the end. pp-rs 0.2.1 has no such function.
 ///
@@ -55,7 +70,6 @@ pub fn are_read_afresh(
     if text.len() >= SOURCE_LIMIT {
         return Ok(false);
     }
-    let mut pp = Preprocessor::new(alloc, text.as_str());
-    let items = preprocess_all(alloc, &mut pp)?;
+    let items = items_of_text(alloc, text.as_str())?;
     Ok(have_values(&items, tokens))
 }

@@ -2,7 +2,7 @@
 
 ghost use Rattle.std.specs.Prelude.{◌≡◌, ◌-◌, ◌^◌, ◌<◌, false, length, map, All, IfOk};
 ghost use Rattle.pp_model.specs.Run.{add_define, next, call_of, HasRoom, IsRun, ends_run};
-ghost use Rattle.pp_rs.specs.inner.Answering.{IsAnswered};
+ghost use Rattle.pp_rs.specs.inner.Answering.{IsAnswered, AreReplies};
 ghost use Rattle.pp_expansion.specs.Item.{is_out_of_memory};
 ghost use Rattle.pp_rs.specs.Kept.{is_spent};
 
@@ -70,6 +70,28 @@ fn ends_run(reply: &Reply) -> bool
     matches!(reply, Reply::Given(Outcome::Fault(_)))
 }
 
+// The replies of a preprocessor to the calls, up to and with the first error item.
+fn replies_to(
+    alloc: Global,
+    pp: &mut Preprocessor<'_>,
+    calls: &[Call<'_>],
+) -> Result<Vec<Reply>, AllocError>
+    requires contents { All HasRoom calls.now }
+    requires unspent { is_spent pp.old ≡ false }
+    ensures { IfOk result (λ replies. AreReplies pp.old (map call_of calls.now) replies.items) }
+{
+    let mut replies = Vec::new(alloc);
+    for call in calls {
+        let reply = reply_to(pp, call)?;
+        let is_last = ends_run(&reply);
+        replies.push(reply)?;
+        if is_last {
+            return Ok(replies);
+        }
+    }
+    Ok(replies)
+}
+
 /// What a preprocessor of the source answers to the calls, one after another, up to and with the first error item. pp-rs
 /// 0.2.1 has no such function.
 ///
@@ -81,14 +103,5 @@ pub fn replies(alloc: Global, source: &str, calls: &[Call<'_>]) -> Result<Vec<Re
     ensures { IfOk result (λ replies. IsRun source.now (map call_of calls.now) replies.items) }
 {
     let mut pp = Preprocessor::new(alloc, source);
-    let mut replies = Vec::new(alloc);
-    for call in calls {
-        let reply = reply_to(&mut pp, call)?;
-        let is_last = ends_run(&reply);
-        replies.push(reply)?;
-        if is_last {
-            return Ok(replies);
-        }
-    }
-    Ok(replies)
+    replies_to(alloc, &mut pp, calls)
 }

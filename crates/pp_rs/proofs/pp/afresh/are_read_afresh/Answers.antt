@@ -1,10 +1,8 @@
-use Rattle.std.proofs.Common.{length, ap, arith}
+use Rattle.std.proofs.Common.{length, ap, arith, subst}
 use Rattle.std.specs.String.{string_bytes}
 use Rattle.std.proofs.lemmas.Str.{IsUtf8-string_bytes}
-use Rattle.pp_model.specs.Run.{items_of, start}
 use Rattle.pp_rs.specs.Afresh.{text_of}
-use Rattle.pp_rs.specs.Collecting.{AreItemsFrom}
-use Rattle.pp_rs.proofs.runs.AfreshLemmas.{read_afresh, items_of_output, bytes_are, text_gives}
+use Rattle.pp_rs.proofs.runs.AfreshLemmas.{read_afresh, items_of_output, bytes_are, AreItemsOfText}
 use Rattle.pp_rs.proofs.pp.afresh.are_read_afresh.Goals as goal
 
 pub returns-then-len-ge-SOURCE_LIMIT-clause-output :
@@ -15,11 +13,10 @@ returns-then-len-ge-SOURCE_LIMIT-clause-output c = λ output.
     let room = output.room in
     absurd (omega (arith, ap length bytes))
 
-items_given : (c : goal.After-drop-text-2) → AreItemsFrom (start (items_of (text_of c.args.tokens.now))) c.in_ok-items.items.items
+items_given : (c : goal.After-drop-text-2) → AreItemsOfText (text_of c.args.tokens.now) c.in_ok-items.items.items
 items_given c =
     let bytes = bytes_are c.as_str.result.now _ c.as_str.utf8 (rw c.as_str.ensures.value c.in_ok-text.ensures) in
-    let new = c.new-pp.ensures in
-    text_gives c.new-pp.result c.in_ok-items.items.items _ _ new.unspent new.stands c.in_ok-items.ensures.items bytes
+    subst (λ text. AreItemsOfText text c.in_ok-items.items.items) bytes c.in_ok-items.ensures.items
 
 pub returns-clause-same : goal.returns-clause-same
 returns-clause-same c = λ yes.
