@@ -113,7 +113,8 @@ pub one_more : (word : Location) (shown names more : List Name) (name : Name) (r
     → shown ≡ names → one_parameter word shown middle ≡ Ok (shown ++ name ∷ []) → more ≡ names ++ name ∷ [] → after ≡ drop 1 middle
     → whole ≡ after_parameter word more after
 one_more word shown names more name rest middle after whole ends so_far is ended at same one grown there =
-    let read : one_parameter word names middle ≡ Ok (names ++ name ∷ []) = subst (λ (x : List Name). one_parameter word x middle ≡ Ok (x ++ name ∷ [])) same one in
+    let read : one_parameter word names middle ≡ Ok (names ++ name ∷ []) =
+    subst (λ (x : List Name). one_parameter word x middle ≡ Ok (x ++ name ∷ [])) same one in
     rw (grown, there) (goes_on word names rest middle whole ends so_far is ended at ∙ ap (after_names word (drop 1 middle)) read)
 
 abbrev with_one : List Name → Name → List Name
@@ -126,7 +127,8 @@ one_fault shows (halt.Fault fault) word names middle whole so_far is = so_far �
 one_fault shows halt.OutOfMemory word names middle whole so_far is = tt
 
 -- after a comma stands no parameter
-pub no_more : {A : Type 0} (shows : A → Parameters) (r : Result A Halt) (h : Halt) (word : Location) (shown names : List Name) (rest middle : List Seen) (whole : Result Parameters Fault) (ends : Bool)
+pub no_more : {A : Type 0} (shows : A → Parameters) (r : Result A Halt) (h : Halt) (word : Location) (shown names : List Name)
+    (rest middle : List Seen) (whole : Result Parameters Fault) (ends : Bool)
     → r ≡ Err h → whole ≡ after_parameter word names rest → ends_parameters word rest ≡ Ok ends → ends ≡ false → middle ≡ drop 1 rest
     → shown ≡ names → Meets (λ name. shown ++ name ∷ []) (Err h) (one_parameter word shown middle)
     → Meets shows r whole

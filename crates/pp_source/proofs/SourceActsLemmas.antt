@@ -172,7 +172,8 @@ module _ (definitions : List Defined) (blocks : List OpenBlock)
 
 -- a fault after something that was read
 module _ (definitions : List Defined) (blocks : List OpenBlock)
-    (line_offset : ℤ) (has_text has_directive : Bool) (old mid : SourceLexed) (new : Source) (fault : Fault) (fewer : length mid.rest < length old.rest) (kept : HasKept (source_of mid definitions blocks line_offset has_text has_directive) new) where
+    (line_offset : ℤ) (has_text has_directive : Bool) (old mid : SourceLexed) (new : Source) (fault : Fault)
+    (fewer : length mid.rest < length old.rest) (kept : HasKept (source_of mid definitions blocks line_offset has_text has_directive) new) where
   further : IsAfterFault (source_of old definitions blocks line_offset has_text has_directive) new
   further = record { fewer = omega (arith, kept.left); definitions = kept.definitions; spent = kept.spent }
 

@@ -54,4 +54,8 @@ module _ (m : Machine) (r : Reader) (free : m.held ≡ None) (some : is_some (ou
 
     -- memory is refused
     pub frame_refuses : (step : Step Taken) (n : Machine) → step ≡ Err (Error out_of_memory) → TurnsOrRefuses m r step n r
-    frame_refuses step n refused = inr (record { some = record { step = Ok token; after = passed; reader = r; takes = token_taken; goes = refl }; fault = refused })
+    frame_refuses step n refused = inr (record {
+      some =
+          record { step = Ok token; after = passed; reader = r; takes = token_taken; goes = refl };
+      fault = refused;
+    })

@@ -28,7 +28,8 @@ pub record BeginsDirective (directive : Directive) (word : Location) (rest : Lis
   pub plain : is_directive_hash name.item ≡ false
   pub goes_on : ends_line name.item ≡ false
 
-begins_word : (place : Location) (blank : Bool) (comments : Bool) (location : Location) (value : LexerTokenValue) (word_blank at_start word_comments : Bool) (later : List Seen) (directive : Directive) (word : Location)
+begins_word : (place : Location) (blank : Bool) (comments : Bool) (location : Location) (value : LexerTokenValue)
+    (word_blank at_start word_comments : Bool) (later : List Seen) (directive : Directive) (word : Location)
     → named_directive (record { value = value; location = location; leading_whitespace = word_blank; start_of_line = at_start })
     (identifier_of value) ≡ sight.Directive directive word
     → BeginsDirective directive word

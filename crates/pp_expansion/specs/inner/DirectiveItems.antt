@@ -19,7 +19,8 @@ pub data DirectiveItem : Type 0 where
 
 -- its value, where a live token of the text was read before it, and a directive
 abbrev pub value_of : DirectiveItem → Bool → Bool → TokenValue
-value_of (version tokens comments) has_text has_directive = Version (record { tokens = tokens; is_first_directive = not (has_directive || has_text); has_comments_before = comments })
+value_of (version tokens comments) has_text has_directive =
+    Version (record { tokens = tokens; is_first_directive = not (has_directive || has_text); has_comments_before = comments })
 value_of (extension tokens) has_text has_directive = Extension (record { tokens = tokens; has_non_directive_before = has_text })
 value_of (pragma tokens) has_text has_directive = Pragma (record { tokens = tokens })
 

@@ -27,7 +27,8 @@ pub record IsOpened (levels : ℕ) (definitions : List Defined) (around : List N
 -- the frame opens, or the call has a fault; of a refusal of memory nothing is said
 abbrev pub Finishes : ℕ → List Defined → List Name → PendingCall → Machine → Result (Unit {0}) Halt → Machine → Type 0
 Finishes levels definitions hidden call old (Ok done) new = IsOpened levels definitions (names_of old.frames ++ hidden) call old new
-Finishes levels definitions hidden call old (Err (halt.Fault fault)) new = answers_at levels call.definition (site_at call definitions (names_of old.frames ++ hidden)) (Err fault) × (new ≡ old)
+Finishes levels definitions hidden call old (Err (halt.Fault fault)) new =
+    answers_at levels call.definition (site_at call definitions (names_of old.frames ++ hidden)) (Err fault) × (new ≡ old)
 Finishes levels definitions hidden call old (Err halt.OutOfMemory) new = ⊤
 
 -- an argument alone, no longer than it may be
@@ -36,7 +37,8 @@ IsShort levels definitions n out = length out ≤ most_alone levels definitions 
 
 -- each argument, where none of them had more tokens than this
 abbrev pub AreShort : ℕ → List Defined → List (List Token) → List (List Token) → Type 0
-AreShort levels definitions arguments outs = (n : ℕ) → All (λ argument. length argument ≤ n) arguments → All (λ out. length out ≤ most_alone levels definitions n) outs
+AreShort levels definitions arguments outs = (n : ℕ) → All (λ argument. length argument ≤ n) arguments
+    → All (λ out. length out ≤ most_alone levels definitions n) outs
 
 -- nothing is open or held, the list is an argument where these definitions and names stand, and it gave no item yet
 pub record IsAtStart (definitions : List Defined) (hidden : List Name) (m : Machine) (l : Listing) (items : List Token) : Type 0 where

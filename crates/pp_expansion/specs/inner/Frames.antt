@@ -20,7 +20,15 @@ pub record Layer : Type 0 where
 
 -- the frame of a macro as it opens
 abbrev pub layer : Name → ℕ → Definition → List (List Token) → Layer
-layer name line definition arguments = record { name = name; line = line; parameters = definition.parameters; body = definition.body; arguments = arguments; reading = None }
+layer name line definition arguments = record {
+  name = name;
+  line = line;
+  parameters = definition.parameters;
+  body =
+      definition.body;
+  arguments = arguments;
+  reading = None;
+}
 
 -- what a frame gives, or nothing where it pauses, and the frame after it
 pub record Advance : Type 0 where

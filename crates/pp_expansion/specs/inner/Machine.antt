@@ -45,7 +45,8 @@ is_pause (Ok token) = false
 -- one step of taking: what is held, or a step of the frames or the reader
 pub data StepsTaking : Machine → Reader → Step Token → Machine → Reader → Type 0 where
   held : (step : Step Token) (m n : Machine) (r s : Reader) → m.held ≡ Some step → n ≡ record m { held = None } → s ≡ r → StepsTaking m r step n s
-  moved : (move step : Step Token) (m n : Machine) (r s : Reader) → m.held ≡ None → Moves m.frames r move n.frames s → step ≡ taken_as move n.frames s → n.held ≡ None → StepsTaking m r step n s
+  moved : (move step : Step Token) (m n : Machine) (r s : Reader) → m.held ≡ None → Moves m.frames r move n.frames s
+      → step ≡ taken_as move n.frames s → n.held ≡ None → StepsTaking m r step n s
 
 -- what is taken next: the first step that is no pause
 pub data TakesNext : Machine → Reader → Step Token → Machine → Reader → Type 0 where
@@ -54,11 +55,18 @@ pub data TakesNext : Machine → Reader → Step Token → Machine → Reader �
 
 -- the tokens that are taken up to the matching `)`, or the fault that is met before it
 pub data GathersNext : ℕ → Location → Machine → Reader → Result Gathered Fault → Machine → Reader → Type 0 where
-  closed : (k : ℕ) (last : Location) (token : Token) (m n : Machine) (r s : Reader) (g : Result Gathered Fault) → TakesNext m r (Ok token) n s → nesting k token.value ≡ closes → g ≡ Ok (record { tokens = []; closing = token.location }) → GathersNext k last m r g n s
-  inside : (k l : ℕ) (last : Location) (token : Token) (m n p : Machine) (r s t : Reader) (rest g : Result Gathered Fault) → TakesNext m r (Ok token) n s → nesting k token.value ≡ within l → GathersNext l token.location n s rest p t → g ≡ before token rest → GathersNext k last m r g p t
-  overfull : (k : ℕ) (last : Location) (token : Token) (m n : Machine) (r s : Reader) (g : Result Gathered Fault) → TakesNext m r (Ok token) n s → nesting k token.value ≡ too_many → g ≡ Err (IntegerOverflow, token.location) → GathersNext k last m r g n s
-  ended : (k : ℕ) (last : Location) (m n : Machine) (r s : Reader) (g : Result Gathered Fault) → TakesNext m r (Err Finished) n s → g ≡ Err (UnexpectedEndOfInput, last) → GathersNext k last m r g n s
-  failed : (k : ℕ) (last : Location) (fault : Fault) (m n : Machine) (r s : Reader) (g : Result Gathered Fault) → TakesNext m r (Err (Error fault)) n s → is_out_of_memory fault.0 ≡ false → g ≡ Err fault → GathersNext k last m r g n s
+  closed : (k : ℕ) (last : Location) (token : Token) (m n : Machine) (r s : Reader) (g : Result Gathered Fault)
+      → TakesNext m r (Ok token) n s → nesting k token.value ≡ closes → g ≡ Ok (record { tokens = []; closing = token.location })
+      → GathersNext k last m r g n s
+  inside : (k l : ℕ) (last : Location) (token : Token) (m n p : Machine) (r s t : Reader) (rest g : Result Gathered Fault)
+      → TakesNext m r (Ok token) n s → nesting k token.value ≡ within l → GathersNext l token.location n s rest p t → g ≡ before token rest
+      → GathersNext k last m r g p t
+  overfull : (k : ℕ) (last : Location) (token : Token) (m n : Machine) (r s : Reader) (g : Result Gathered Fault)
+      → TakesNext m r (Ok token) n s → nesting k token.value ≡ too_many → g ≡ Err (IntegerOverflow, token.location) → GathersNext k last m r g n s
+  ended : (k : ℕ) (last : Location) (m n : Machine) (r s : Reader) (g : Result Gathered Fault) → TakesNext m r (Err Finished) n s
+      → g ≡ Err (UnexpectedEndOfInput, last) → GathersNext k last m r g n s
+  failed : (k : ℕ) (last : Location) (fault : Fault) (m n : Machine) (r s : Reader) (g : Result Gathered Fault)
+      → TakesNext m r (Err (Error fault)) n s → is_out_of_memory fault.0 ≡ false → g ≡ Err fault → GathersNext k last m r g n s
 
 -- what a search gives: as it must be, unless memory is refused
 abbrev pub Satisfies : {A : Type 0} → Result A Halt → (Result A Fault → Type 0) → Type 0

@@ -13,7 +13,8 @@ position_at (p ∷ ps) name = if is_same_name name p.name then Some p.position e
 
 -- a frame of this name opens at the position: it is the outermost of its name where the name had none
 abbrev pub IsOpenedAt : Name → ℕ → List Position → List Position → Type 0
-IsOpenedAt name position old new = (other : Name) → position_at new other ≡ (if is_same_name other name then Some (unwrap_or (position_at old other) position) else position_at old other)
+IsOpenedAt name position old new = (other : Name)
+    → position_at new other ≡ (if is_same_name other name then Some (unwrap_or (position_at old other) position) else position_at old other)
 
 abbrev pub unless_at : ℕ → Option ℕ → Option ℕ
 unless_at position (Some first) = if first == position then None else Some first
@@ -21,7 +22,8 @@ unless_at position None = None
 
 -- the frame of this name at the position closes: its name stays open where another frame was its outermost
 abbrev pub IsClosedAt : Name → ℕ → List Position → List Position → Type 0
-IsClosedAt name position old new = (other : Name) → position_at new other ≡ (if is_same_name other name then unless_at position (position_at old other) else position_at old other)
+IsClosedAt name position old new = (other : Name)
+    → position_at new other ≡ (if is_same_name other name then unless_at position (position_at old other) else position_at old other)
 
 abbrev pub at_or_within : ℕ → Bool → Option ℕ → Option ℕ
 at_or_within position same (Some first) = Some first

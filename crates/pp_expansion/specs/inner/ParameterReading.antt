@@ -49,4 +49,5 @@ GoesOn (Err halt.OutOfMemory) old new = ⊤
 
 -- a macro with parameters, after its `(`
 abbrev pub function_at : Location → List Seen → Result Definition Fault
-function_at word rest = parameters word rest >>= λ list. line_tokens list.after >>= λ body. Ok (record { function_like = true; parameters = list.names; body = body })
+function_at word rest = parameters word rest >>= λ list. line_tokens list.after >>= λ body.
+    Ok (record { function_like = true; parameters = list.names; body = body })

@@ -31,8 +31,10 @@ FindsBy m r (Err halt.OutOfMemory) n s = ⊤
 
 -- a token opens its macro or begins its call, or is given
 pub data Enters (token : Token) (name : Name) (definition : Definition) : Machine → Reader → Step Taken → Machine → Reader → Type 0 where
-  plain : (step : Step Taken) (m n : Machine) (r s : Reader) → definition.function_like ≡ false → step ≡ Err Continue → n ≡ record m { frames = layer name token.location.line definition [] ∷ m.frames } → s ≡ r → Enters token name definition m r step n s
-  called : (c : Sought) (step : Step Taken) (m p n : Machine) (r s : Reader) → definition.function_like ≡ true → Seeks m r c p s → Finds token name definition c step p n → Enters token name definition m r step n s
+  plain : (step : Step Taken) (m n : Machine) (r s : Reader) → definition.function_like ≡ false → step ≡ Err Continue
+      → n ≡ record m { frames = layer name token.location.line definition [] ∷ m.frames } → s ≡ r → Enters token name definition m r step n s
+  called : (c : Sought) (step : Step Taken) (m p n : Machine) (r s : Reader) → definition.function_like ≡ true → Seeks m r c p s
+      → Finds token name definition c step p n → Enters token name definition m r step n s
 
 abbrev pub FollowsToken : Option (Name × Definition) → Token → Machine → Reader → Step Taken → Machine → Reader → Type 0
 FollowsToken None token m r step n s = (step ≡ Ok (taken.Token token)) × (n ≡ m) × (s ≡ r)

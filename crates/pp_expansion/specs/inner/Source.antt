@@ -84,30 +84,39 @@ abbrev pub LineNumber : Location → List Token → List Defined → Result ℕ 
 LineNumber word tokens definitions result = IsLineNumber (answers_at expansion_limit) word tokens (meaning_of definitions) result
 
 -- a line with a condition: these blocks are then open, where it holds or not
-pub data Decides (word : Location) (tokens : List Token) (blocks : Bool → List OpenBlock) (taken : ℕ) (note : Note) (old : Source) (step : Step Token) (new : Source) : Type 0 where
-  holds : (value : Bool) → Condition word tokens old.definitions (Ok value) → Pauses taken note (blocks value) old step new → Decides word tokens blocks taken note old step new
-  faulty : (fault : Fault) → Condition word tokens old.definitions (Err fault) → step ≡ Err (Error fault) → IsAfterFault old new → Decides word tokens blocks taken note old step new
+pub data Decides (word : Location) (tokens : List Token) (blocks : Bool → List OpenBlock) (taken : ℕ) (note : Note) (old : Source)
+    (step : Step Token) (new : Source) : Type 0 where
+  holds : (value : Bool) → Condition word tokens old.definitions (Ok value) → Pauses taken note (blocks value) old step new
+      → Decides word tokens blocks taken note old step new
+  faulty : (fault : Fault) → Condition word tokens old.definitions (Err fault) → step ≡ Err (Error fault) → IsAfterFault old new
+      → Decides word tokens blocks taken note old step new
 
 -- a `#line`: the lines after it are numbered from there
 pub data Renumbers (word : Location) (tokens : List Token) (taken : ℕ) (note : Note) (old : Source) (step : Step Token) (new : Source) : Type 0 where
-  numbers : (n : ℕ) → LineNumber word tokens old.definitions (Ok n) → Pauses taken note old.blocks (record old { line_offset = pos n -ℤ pos word.line }) step new → Renumbers word tokens taken note old step new
-  unnumbered : (fault : Fault) → LineNumber word tokens old.definitions (Err fault) → step ≡ Err (Error fault) → IsAfterFault old new → Renumbers word tokens taken note old step new
+  numbers : (n : ℕ) → LineNumber word tokens old.definitions (Ok n)
+      → Pauses taken note old.blocks (record old { line_offset = pos n -ℤ pos word.line }) step new → Renumbers word tokens taken note old step new
+  unnumbered : (fault : Fault) → LineNumber word tokens old.definitions (Err fault) → step ≡ Err (Error fault) → IsAfterFault old new
+      → Renumbers word tokens taken note old step new
 
 -- what an effect means for the step, and for the source after it
 abbrev pub HasEffect : Effect → ℕ → Note → Source → Step Token → Source → Type 0
 HasEffect (gives token) taken note old step new = (step ≡ Ok token) × IsAfter taken note old.blocks old new × (new.definitions ≡ old.definitions)
 HasEffect (gives_item item word) taken note old step new =
-    (step ≡ Ok (record { value = value_of item old.has_text old.has_directive; location = word })) × IsAfter taken note old.blocks old new × (new.definitions ≡ old.definitions)
+    (step ≡ Ok (record { value = value_of item old.has_text old.has_directive; location = word })) × IsAfter taken note old.blocks old new
+    × (new.definitions ≡ old.definitions)
 HasEffect (fails fault) taken note old step new = (step ≡ Err (Error fault)) × IsAfterFault old new
 HasEffect ends taken note old step new = (step ≡ Err Finished) × (new ≡ old)
 HasEffect passes taken note old step new = Pauses taken note old.blocks old step new
 HasEffect (defines named) taken note old step new = DefinesOver named (meaning_of old.definitions named.name) taken note old step new
-HasEffect (undefines name) taken note old step new = (step ≡ Err Continue) × IsAfter taken note old.blocks old new × IsChanged name None old.definitions new.definitions
-HasEffect (opens_where wanted word name) taken note old step new = Pauses taken note (old.blocks ++ block_opened word (holds_where wanted (meaning_of old.definitions name)) ∷ []) old step new
+HasEffect (undefines name) taken note old step new = (step ≡ Err Continue) × IsAfter taken note old.blocks old new
+    × IsChanged name None old.definitions new.definitions
+HasEffect (opens_where wanted word name) taken note old step new =
+    Pauses taken note (old.blocks ++ block_opened word (holds_where wanted (meaning_of old.definitions name)) ∷ []) old step new
 HasEffect (opens_if word tokens) taken note old step new = Decides word tokens (λ value. old.blocks ++ block_opened word value ∷ []) taken note old step new
 HasEffect (opens_unread word) taken note old step new = Pauses taken note (old.blocks ++ block_unread word ∷ []) old step new
 HasEffect (parts block) taken note old step new = Pauses taken note (outer_blocks old.blocks ++ block ∷ []) old step new
-HasEffect (parts_if block word tokens) taken note old step new = Decides word tokens (λ value. outer_blocks old.blocks ++ block_decided block value ∷ []) taken note old step new
+HasEffect (parts_if block word tokens) taken note old step new =
+    Decides word tokens (λ value. outer_blocks old.blocks ++ block_decided block value ∷ []) taken note old step new
 HasEffect closes taken note old step new = Pauses taken note (outer_blocks old.blocks) old step new
 HasEffect (unfinished word) taken note old step new = (step ≡ Err (Error (UnfinishedBlock, word))) × IsAfterBlock old new
 HasEffect (renumbers word tokens) taken note old step new = Renumbers word tokens taken note old step new

@@ -31,7 +31,8 @@ frame_move fs None = record { gives = Err Continue; after = fs }
 -- one step of the frames, or of the reader where there are none
 abbrev pub Moves : List Layer → Reader → Step Token → List Layer → Reader → Type 0
 Moves [] old step after new = (after ≡ []) × Reads old step new
-Moves (f ∷ fs) old step after new = (new ≡ old) × ((step ≡ (frame_move fs (advance f)).gives) × (after ≡ (frame_move fs (advance f)).after) ⊎ (step ≡ Err (Error out_of_memory)))
+Moves (f ∷ fs) old step after new = (new ≡ old)
+    × ((step ≡ (frame_move fs (advance f)).gives) × (after ≡ (frame_move fs (advance f)).after) ⊎ (step ≡ Err (Error out_of_memory)))
 
 -- a token that is taken: `__LINE__` becomes a number at once
 abbrev pub taken_in : List Layer → Reader → Token → Outcome

@@ -20,14 +20,17 @@ abbrev pub IsHalt : Line → Halt → Type 0
 IsHalt whole (halt.Fault found) = IsFault 0 whole found
 IsHalt whole (halt.Refused error) = ⊤
 
--- Whatever whole line is evaluated: where the old evaluator stands at the first state, the new one stands at the state that comes of it, or the evaluation has no value.
+-- Whatever whole line is evaluated: where the old evaluator stands at the first state, the new one stands at the state that comes of it, or
+-- the evaluation has no value.
 abbrev pub Leads : State → Evaluator → Result State Halt → Evaluator → Type 0
 Leads from old result new = (whole : Line) → Stands whole from old → MatchResult result (λ to. Stands whole to new) (IsHalt whole)
 
--- Whatever whole line is evaluated: where an operand was read, an operand of the level and of the value that comes of it was read, or the evaluation has no value.
+-- Whatever whole line is evaluated: where an operand was read, an operand of the level and of the value that comes of it was read, or the
+-- evaluation has no value.
 abbrev pub Computes : ℕ → ℤ → Evaluator → Result ℤ Halt → Evaluator → Type 0
 Computes level number old result new =
-    (whole : Line) → HasOperand level whole old.pending old.line number → MatchResult result (λ value. HasOperand level whole new.pending new.line value) (IsHalt whole)
+    (whole : Line) → HasOperand level whole old.pending old.line number
+    → MatchResult result (λ value. HasOperand level whole new.pending new.line value) (IsHalt whole)
 
 -- how many steps may still come
 abbrev pub steps_left : State → Evaluator → ℕ

@@ -134,7 +134,8 @@ pub record IsPlainNewline (text : List ℕ) (taken : ℕ) : Type 0 where
   pub some : 0 < taken
   pub within : taken ≤ length text
   pub cut : IsCharBoundary text taken
-  pub front : (line at : ℕ) → spots_from line at text ≡ record { c = 10; line = line; begin = at; end = at + 1 } ∷ spots_from (line + 1) (at + taken) (drop taken text)
+  pub front : (line at : ℕ) → spots_from line at text ≡ record { c = 10; line = line; begin = at; end = at + 1 } ∷ spots_from (line + 1)
+      (at + taken) (drop taken text)
 
 -- the next item is given, or memory was refused, or all is as it was
 abbrev pub IsPlainLexed : Flags → Reading → Result (Option Lexeme) AllocError → Flags → Reading → Type 0

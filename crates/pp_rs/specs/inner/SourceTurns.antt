@@ -20,7 +20,9 @@ use Rattle.pp_expansion.specs.declared.step.StepExit.TheVariants.{Error, Continu
 -- after a call its frame is open, which pauses, or its fault is given
 pub data FollowsCall (levels : ℕ) (definitions : List Defined) (call : PendingCall) (old : Machine) (step : Step Token) (new : Machine) : Type 0 where
   opened : step ≡ Err Continue → IsOpened levels definitions (names_of old.frames ++ []) call old new → FollowsCall levels definitions call old step new
-  refused : (fault : Fault) → step ≡ Err (Error fault) → answers_at levels call.definition (site_at call definitions (names_of old.frames ++ [])) (Err fault) → new ≡ old → FollowsCall levels definitions call old step new
+  refused : (fault : Fault) → step ≡ Err (Error fault)
+      → answers_at levels call.definition (site_at call definitions (names_of old.frames ++ [])) (Err fault) → new ≡ old
+      → FollowsCall levels definitions call old step new
 
 -- what follows of a turn
 abbrev pub FollowsTurn : ℕ → List Defined → Step Taken → Machine → Step Token → Machine → Type 0

@@ -23,14 +23,16 @@ pub record StandsForReader (source : Source) (reader : SourceReader) : Type 0 wh
   pub definitions : reader.definitions ≡ meaning_of source.definitions
   pub line_offset : reader.line_offset ≡ source.line_offset
   pub lined : AreLined reader.items
-  pub lines : (after : List Seen) → block_lines 0 (take reader.position reader.items ++ after) ≡ block_lines 0 (take reader.position reader.items) ++ block_lines reader.position after
+  pub lines : (after : List Seen) → block_lines 0 (take reader.position reader.items ++ after)
+      ≡ block_lines 0 (take reader.position reader.items) ++ block_lines reader.position after
   pub blocks : StandForBlocks reader.items reader.truths source.blocks (blocks_at reader.items reader.position)
   pub truths : AreBefore reader.position reader.truths
   pub unfinished : reader.unfinished ≡ length (blocks_at reader.items (length reader.items))
   pub unspent : source.spent ≡ false
   pub remembers_text : source.has_text ≡ has_live_text_before reader.items reader.truths reader.position
   pub remembers_directive : source.has_directive ≡ has_directive (take reader.position reader.items)
-  pub directives : (after : List Seen) → has_directive (take reader.position reader.items ++ after) ≡ (has_directive (take reader.position reader.items) || has_directive after)
+  pub directives : (after : List Seen) → has_directive (take reader.position reader.items ++ after)
+      ≡ (has_directive (take reader.position reader.items) || has_directive after)
   pub off_line : is_live_in (last_block source.blocks) ≡ true → source.rest ≢ [] → is_on_directive_line reader.items reader.position ≡ false
 
 -- what is held comes next; after a fault that is held nothing is said of the reader, and a pause is never held

@@ -33,17 +33,21 @@ GivesTaken parser old result new = ReadsTaken parser.levels parser.definitions.n
 -- the name of an identifier, or the fault of anything else where a part of `defined` is wanted
 abbrev pub IsNameOrFault : Location → Option Token → Result Name Fault → Type 0
 IsNameOrFault directive found result =
-    MatchResult result (λ name. name_in (outcome_of found) ≡ Some name) (λ fault. (name_in (outcome_of found) ≡ None) × (fault ≡ unwanted directive (outcome_of found)))
+    MatchResult result (λ name. name_in (outcome_of found) ≡ Some name)
+    (λ fault. (name_in (outcome_of found) ≡ None) × (fault ≡ unwanted directive (outcome_of found)))
 
 -- what the operand of a `defined` comes to; the same after its `(`, and after that and the name
 abbrev pub GivesOperand : IfParser → LineExpander → Result Bool Halt → LineExpander → Type 0
-GivesOperand parser old result new = ReadsOperand parser.kind parser.directive parser.levels parser.definitions.now old.caller old.lexer result new.caller new.lexer
+GivesOperand parser old result new = ReadsOperand parser.kind parser.directive parser.levels parser.definitions.now old.caller old.lexer
+    result new.caller new.lexer
 
 abbrev pub GivesParenthesized : IfParser → LineExpander → Result Bool Halt → LineExpander → Type 0
-GivesParenthesized parser old result new = ReadsParenthesized parser.kind parser.directive parser.levels parser.definitions.now old.caller old.lexer result new.caller new.lexer
+GivesParenthesized parser old result new = ReadsParenthesized parser.kind parser.directive parser.levels parser.definitions.now old.caller
+    old.lexer result new.caller new.lexer
 
 abbrev pub GivesClosed : IfParser → Name → LineExpander → Result Bool Halt → LineExpander → Type 0
-GivesClosed parser name old result new = ReadsClosed parser.kind parser.directive parser.levels parser.definitions.now name old.caller old.lexer result new.caller new.lexer
+GivesClosed parser name old result new = ReadsClosed parser.kind parser.directive parser.levels parser.definitions.now name old.caller
+    old.lexer result new.caller new.lexer
 
 -- the words that the rest of the line comes to
 abbrev pub AreWordsOf : IfParser → LineExpander → Words → Type 0
@@ -51,4 +55,5 @@ AreWordsOf parser line words = LineWords parser.kind parser.directive (answers_a
 
 -- the words that the whole line comes to
 abbrev pub AreWordsOfLine : LineKind → Location → ℕ → List Token → List Defined → Words → Type 0
-AreWordsOfLine kind directive levels tokens definitions words = LineWords kind directive (answers_at levels) (reading_of tokens (meaning_of definitions) []) words
+AreWordsOfLine kind directive levels tokens definitions words =
+    LineWords kind directive (answers_at levels) (reading_of tokens (meaning_of definitions) []) words

@@ -25,7 +25,13 @@ use Rattle.pp_expansion.specs.declared.step.StepExit.TheVariants.{Error, Continu
 
 -- the definitions' expander of a line that is read
 abbrev pub expander_of : Machine → Listing → Expander Listed
-expander_of m l = record { held = option_map outcome_of_step m.held; list = flat m.frames; reader = record { tokens = l.tokens; visible = meaning_of l.definitions }; hidden = [] }
+expander_of m l = record {
+  held = option_map outcome_of_step m.held;
+  list = flat m.frames;
+  reader =
+      record { tokens = l.tokens; visible = meaning_of l.definitions };
+  hidden = [];
+}
 
 -- what is held is a token or the end
 abbrev pub IsHeld : Option (Step Token) → Type 0
@@ -54,7 +60,8 @@ IsWorkLess levels m l n k = work_of levels n (of_list k) < work_of levels m (of_
 
 -- What is read of a line: a value, after which the line is read on, or a fault, after which it isn't. Of a refusal of
 -- memory nothing is said.
-abbrev pub Reads : {T : Type 0} → ℕ → List Defined → Machine → Listing → (Result T Fault → Expander Listed → Type 0) → Result T Halt → Machine → Listing → Type 0
+abbrev pub Reads : {T : Type 0} → ℕ → List Defined → Machine → Listing → (Result T Fault → Expander Listed → Type 0) → Result T Halt
+    → Machine → Listing → Type 0
 Reads levels definitions m l P (Ok value) n k = P (Ok value) (expander_of n k) × ReadsOn levels definitions m l n k
 Reads levels definitions m l P (Err (halt.Fault fault)) n k = (f : Expander Listed) × P (Err fault) f
 Reads levels definitions m l P (Err halt.OutOfMemory) n k = ⊤
@@ -78,10 +85,13 @@ ReadsTaken levels definitions m l = Reads levels definitions m l (λ item f. Tak
 
 -- what the operand of a `defined` comes to; the same after its `(`, and after that and the name
 abbrev pub ReadsOperand : LineKind → Location → ℕ → List Defined → Machine → Listing → Result Bool Halt → Machine → Listing → Type 0
-ReadsOperand kind directive levels definitions m l = Reads levels definitions m l (λ answer f. Operand kind directive (answers_at levels) (expander_of m l) answer f)
+ReadsOperand kind directive levels definitions m l =
+    Reads levels definitions m l (λ answer f. Operand kind directive (answers_at levels) (expander_of m l) answer f)
 
 abbrev pub ReadsParenthesized : LineKind → Location → ℕ → List Defined → Machine → Listing → Result Bool Halt → Machine → Listing → Type 0
-ReadsParenthesized kind directive levels definitions m l = Reads levels definitions m l (λ answer f. Parenthesized kind directive (answers_at levels) (expander_of m l) answer f)
+ReadsParenthesized kind directive levels definitions m l =
+    Reads levels definitions m l (λ answer f. Parenthesized kind directive (answers_at levels) (expander_of m l) answer f)
 
 abbrev pub ReadsClosed : LineKind → Location → ℕ → List Defined → Name → Machine → Listing → Result Bool Halt → Machine → Listing → Type 0
-ReadsClosed kind directive levels definitions name m l = Reads levels definitions m l (λ answer f. Closes kind directive (answers_at levels) name (expander_of m l) answer f)
+ReadsClosed kind directive levels definitions name m l =
+    Reads levels definitions m l (λ answer f. Closes kind directive (answers_at levels) name (expander_of m l) answer f)

@@ -72,7 +72,8 @@ dead_word_move block (Err fault) after = failing fault
 
 -- the same in live or dead text
 abbrev pub word_move : Bool → Option OpenBlock → Location → List Seen → Move
-word_move live block hash rest = if live then live_word_move block (first_name hash rest) (drop 1 rest) else dead_word_move block (first_token hash rest) (drop 1 rest)
+word_move live block hash rest = if live then live_word_move block (first_name hash rest) (drop 1 rest) else dead_word_move block
+    (first_token hash rest) (drop 1 rest)
 
 -- a `#define`, once its line is read
 abbrev pub defining : Named → Move

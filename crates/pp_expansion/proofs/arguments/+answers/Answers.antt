@@ -84,7 +84,8 @@ expand_list-returns-in_err-finish_call-in-Ok-Call-clause-alone t c =
     satisfies_exit _ c.in_err-finish_call-in-Ok-Call.field-0.0 _ (e.1 ∙ ap Err e.2)
     (λ fault is. reached_call_fault _ _ _ _ _ _ _ c.items.invariant.reached _ _ c.in-Ok-Call.call fault
     (turned _ _ _ _ _ (rw c.in-Ok-Call.field-0-is at c.in-Ok-Call.ensures.turns) refl)
-    (finish_fault c.args.levels c.args.definitions.now c.args.hidden.now c.in-Ok-Call.call c.step_list.new.caller c.finish_call.new.caller c.in_err-finish_call-in-Ok-Call.field-0.0 fault is c.in_err-finish_call-in-Ok-Call.ensures))
+    (finish_fault c.args.levels c.args.definitions.now c.args.hidden.now c.in-Ok-Call.call c.step_list.new.caller c.finish_call.new.caller
+    c.in_err-finish_call-in-Ok-Call.field-0.0 fault is c.in_err-finish_call-in-Ok-Call.ensures))
 
 pub expand_arguments-returns-in_err-list-clause-each : goal.expand_arguments-returns-in_err-list-clause-each
 expand_arguments-returns-in_err-list-clause-each t c =

@@ -94,7 +94,8 @@ take_list_spec 𝓤 𝓛 𝓜 𝓡 wired =
     move ! (4 ∷ []) $ peeks ! O (Is O) (shows 𝓛 O) u (v ∷ []) (λ is. lands_as ! refl refl
     (((result_laws token_row exit_row token_laws exit_laws).lawful 𝓛).typed u _ is).0 $
     move ! (5 ∷ []) $ pick ! (λ ws. split ! $ move ! (1 ∷ []) $ split ! $ heard ! _ (λ turns. heard ! _ (λ holds. fsplit ! $ fsplit ! $
-    -- [the processor's last value; its loan; the source's; the result; β is over; κ' is over; the token of the borrow; nothing; the source's lender; the processor's]
+    -- [the processor's last value; its loan; the source's; the result; β is over; κ' is over; the token of the borrow; nothing; the source's
+    -- lender; the processor's]
     move ! (4 ∷ 9 ∷ 0 ∷ []) $ use3 𝓛 (later (‵ (RefP κp (record p { now = ws.0 })) ⊛ ‵ (flft κp qp)))
     (comes_back 𝓛 P (named 0) κp (β ∷ []) qp p.ghost_name p.ref_ptr.0 p.ref_ptr.1 δp p.now ws.0) $ await ! tt $ split ! $
     -- [processor; its token; its loan; the source's last value; the result; κ' is over; the token of the borrow; nothing; the source's lender]

@@ -33,14 +33,16 @@ returns-clause-lexed c =
     let p = c.lex_newline.new.inner in
     let same : (g ≡ f) × (q ≡ c.skip_spaces.new.inner) = rw c.in_default.is at c.in_ok-item.ensures.lexed in
     let again : (c.lex_newline.new.flags ≡ g) × (p ≡ q) = c.in_default-lex_newline.ensures.lexed in
-    lexed_before c.args.flags.now c.lex_newline.new.flags c.lex_by_characters.new.flags c.args.inner.now p c.lex_by_characters.new.inner c.lex_by_characters.result
+    lexed_before c.args.flags.now c.lex_newline.new.flags c.lex_by_characters.new.flags c.args.inner.now p c.lex_by_characters.new.inner
+    c.lex_by_characters.result
     (ap (λ x. seen_of x p) (again.0 ∙ same.0) ∙ ap (seen_of f) (again.1 ∙ same.1) ∙ c.skip_spaces.ensures.same)
     (ap (λ x. comments_at_end x p) (again.0 ∙ same.0) ∙ ap (comments_at_end f) (again.1 ∙ same.1) ∙ c.skip_spaces.ensures.at_end)
     c.lex_by_characters.ensures.lexed
 
 pub returns-in-Some-clause-placed : goal.returns-in-Some-clause-placed
 returns-in-Some-clause-placed c =
-    let placed : IsPlaced c.skip_spaces.new.flags c.skip_spaces.new.inner c.args.place.now c.lex_plain.new.flags c.lex_plain.new.inner c.lex_plain.new.place = rw c.in-Some.is at c.in_ok-item.ensures.placed in
+    let placed : IsPlaced c.skip_spaces.new.flags c.skip_spaces.new.inner c.args.place.now c.lex_plain.new.flags c.lex_plain.new.inner
+    c.lex_plain.new.place = rw c.in-Some.is at c.in_ok-item.ensures.placed in
     placed_before _ _ _ _ _ _ _ _ _ c.skip_spaces.ensures.places refl placed
 
 pub returns-in-Some-lex_newline-clause-placed : goal.returns-in-Some-lex_newline-clause-placed
@@ -49,7 +51,8 @@ returns-in-Some-lex_newline-clause-placed c =
     let q = c.lex_plain.new.inner in
     let same : (c.lex_plain.new.flags ≡ f) × (q ≡ c.skip_spaces.new.inner) = rw c.in_default.is at c.in_ok-item.ensures.lexed in
     let place : c.lex_plain.new.place ≡ c.args.place.now = rw c.in_default.is at c.in_ok-item.ensures.placed in
-    placed_before c.args.flags.now c.lex_plain.new.flags c.lex_newline.new.flags c.args.inner.now q c.lex_newline.new.inner c.args.place.now c.lex_plain.new.place c.lex_newline.new.place
+    placed_before c.args.flags.now c.lex_plain.new.flags c.lex_newline.new.flags c.args.inner.now q c.lex_newline.new.inner c.args.place.now
+    c.lex_plain.new.place c.lex_newline.new.place
     (ap (λ x. places_left x q) same.0 ∙ ap (places_left f) same.1 ∙ c.skip_spaces.ensures.places) place c.in-Some-lex_newline.ensures.placed
 
 pub returns-clause-placed : goal.returns-clause-placed
@@ -63,6 +66,7 @@ returns-clause-placed c =
     let place : c.lex_plain.new.place ≡ c.args.place.now = rw c.in_default.is at c.in_ok-item.ensures.placed in
     let still : c.lex_newline.new.place ≡ c.lex_plain.new.place = c.in_default-lex_newline.ensures.placed in
     on_ok_placed c.lex_by_characters.result _ _
-    (placed_before c.args.flags.now c.lex_newline.new.flags c.lex_by_characters.new.flags c.args.inner.now p c.lex_by_characters.new.inner c.args.place.now c.lex_newline.new.place c.lex_by_characters.new.place
+    (placed_before c.args.flags.now c.lex_newline.new.flags c.lex_by_characters.new.flags c.args.inner.now p c.lex_by_characters.new.inner
+    c.args.place.now c.lex_newline.new.place c.lex_by_characters.new.place
     (ap (λ x. places_left x p) (again.0 ∙ same.0) ∙ ap (places_left f) (again.1 ∙ same.1) ∙ c.skip_spaces.ensures.places) (still ∙ place))
     c.lex_by_characters.ensures.placed

@@ -44,8 +44,10 @@ returns-clause-lexed c =
     let value : c.in_ok-value.value ≡ value_of c.in-Some.word.form (take n text) =
     c.in_ok-value.ensures ∙ ap (value_of c.in-Some.word.form) spelled in
     let v : IsPlainWord text c.in_ok-value.value n = subst (λ x. IsPlainWord text x n) (sym value) w in
-    lexed_plain c.args.flags.now c.args.inner.now c.left-left.result.line c.left-left.result.at text c.left-left.ensures.rest_is c.in_ok-value.value n v c.go.new.self
-    (gone c.go.new.self c.left-left.result.line c.left-left.result.at n text c.as_bytes.result.now c.range_from.result.now c.go.ensures c.as_bytes.ensures.value c.range_from.ensures.value)
+    lexed_plain c.args.flags.now c.args.inner.now c.left-left.result.line c.left-left.result.at text c.left-left.ensures.rest_is
+    c.in_ok-value.value n v c.go.new.self
+    (gone c.go.new.self c.left-left.result.line c.left-left.result.at n text c.as_bytes.result.now c.range_from.result.now c.go.ensures
+    c.as_bytes.ensures.value c.range_from.ensures.value)
 
 pub returns-clause-placed : goal.returns-clause-placed
 returns-clause-placed c =
@@ -54,4 +56,5 @@ returns-clause-placed c =
     let w : IsFirstWord text c.in-Some.word = c.in-Some.ensures in
     placed_plain c.args.flags.now c.args.inner.now c.left-left.result.line c.left-left.result.at text c.left-left.ensures.rest_is
     (value_of c.in-Some.word.form (take n text)) n w c.go.new.self c.args.place.now
-    (gone c.go.new.self c.left-left.result.line c.left-left.result.at n text c.as_bytes.result.now c.range_from.result.now c.go.ensures c.as_bytes.ensures.value c.range_from.ensures.value)
+    (gone c.go.new.self c.left-left.result.line c.left-left.result.at n text c.as_bytes.result.now c.range_from.result.now c.go.ensures
+    c.as_bytes.ensures.value c.range_from.ensures.value)

@@ -26,8 +26,10 @@ returns-clause-same c =
     let some : 0 < n = omega arith in
     let passes : list_all is_space (take n text) ≡ true = ap (λ t. list_all is_space (take n t)) (sym c.as_bytes-bytes.ensures.value)
     ∙ c.spaces_length-count.ensures.passes in
-    spaces_same c.args.flags.now c.args.inner.now c.left-left.result.line c.left-left.result.at text c.left-left.ensures.rest_is u c.go.new.self n some le passes
-    (gone c.go.new.self c.left-left.result.line c.left-left.result.at n text c.as_bytes-bytes.result.now c.range_from.result.now c.go.ensures c.as_bytes-bytes.ensures.value c.range_from.ensures.value)
+    spaces_same c.args.flags.now c.args.inner.now c.left-left.result.line c.left-left.result.at text c.left-left.ensures.rest_is u
+    c.go.new.self n some le passes
+    (gone c.go.new.self c.left-left.result.line c.left-left.result.at n text c.as_bytes-bytes.result.now c.range_from.result.now
+    c.go.ensures c.as_bytes-bytes.ensures.value c.range_from.ensures.value)
 
 pub returns-clause-at_end : goal.returns-clause-at_end
 returns-clause-at_end c =
@@ -38,8 +40,10 @@ returns-clause-at_end c =
     let some : 0 < n = omega arith in
     let passes : list_all is_space (take n text) ≡ true = ap (λ t. list_all is_space (take n t)) (sym c.as_bytes-bytes.ensures.value)
     ∙ c.spaces_length-count.ensures.passes in
-    spaces_comments c.args.flags.now c.args.inner.now c.left-left.result.line c.left-left.result.at text c.left-left.ensures.rest_is u c.go.new.self n some le passes
-    (gone c.go.new.self c.left-left.result.line c.left-left.result.at n text c.as_bytes-bytes.result.now c.range_from.result.now c.go.ensures c.as_bytes-bytes.ensures.value c.range_from.ensures.value)
+    spaces_comments c.args.flags.now c.args.inner.now c.left-left.result.line c.left-left.result.at text c.left-left.ensures.rest_is u
+    c.go.new.self n some le passes
+    (gone c.go.new.self c.left-left.result.line c.left-left.result.at n text c.as_bytes-bytes.result.now c.range_from.result.now
+    c.go.ensures c.as_bytes-bytes.ensures.value c.range_from.ensures.value)
 
 pub returns-clause-places : goal.returns-clause-places
 returns-clause-places c =
@@ -50,5 +54,7 @@ returns-clause-places c =
     let some : 0 < n = omega arith in
     let passes : list_all is_space (take n text) ≡ true = ap (λ t. list_all is_space (take n t)) (sym c.as_bytes-bytes.ensures.value)
     ∙ c.spaces_length-count.ensures.passes in
-    spaces_placed c.args.flags.now c.args.inner.now c.left-left.result.line c.left-left.result.at text c.left-left.ensures.rest_is u c.go.new.self n some le passes
-    (gone c.go.new.self c.left-left.result.line c.left-left.result.at n text c.as_bytes-bytes.result.now c.range_from.result.now c.go.ensures c.as_bytes-bytes.ensures.value c.range_from.ensures.value)
+    spaces_placed c.args.flags.now c.args.inner.now c.left-left.result.line c.left-left.result.at text c.left-left.ensures.rest_is u
+    c.go.new.self n some le passes
+    (gone c.go.new.self c.left-left.result.line c.left-left.result.at n text c.as_bytes-bytes.result.now c.range_from.result.now
+    c.go.ensures c.as_bytes-bytes.ensures.value c.range_from.ensures.value)

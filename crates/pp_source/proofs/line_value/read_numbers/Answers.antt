@@ -10,10 +10,12 @@ returns-in-None c = numbers_out c.args.directive c.args.words.now _ c.in-Ok.valu
 
 pub returns-then-value-eq0 : goal.returns-then-value-eq0
 returns-then-value-eq0 c =
-    numbers_alone c.args.directive c.args.words.now _ c.in-Ok.value _ c.in-Some.number c.in_ok-value.ensures c.in-Ok.is c.as_line_number.ensures c.in-Some.is c.if-value-eq0.true
+    numbers_alone c.args.directive c.args.words.now _ c.in-Ok.value _ c.in-Some.number c.in_ok-value.ensures c.in-Ok.is
+    c.as_line_number.ensures c.in-Some.is c.if-value-eq0.true
 
 pub returns : goal.returns
 returns c =
     satisfies_more _ _ c.followed.result
-    (numbers_followed c.args.directive c.args.words.now _ c.in-Ok.value _ c.in-Some.number _ c.in_ok-value.ensures c.in-Ok.is c.as_line_number.ensures c.in-Some.is c.if-value-eq0.false c.pass_words.ensures)
+    (numbers_followed c.args.directive c.args.words.now _ c.in-Ok.value _ c.in-Some.number _ c.in_ok-value.ensures c.in-Ok.is
+    c.as_line_number.ensures c.in-Some.is c.if-value-eq0.false c.pass_words.ensures)
     c.followed.ensures

@@ -15,7 +15,8 @@ invariant-loop-next l = record {
   errors : unreported_at l.lexer ≡ unreported_at l.initial.lexer;
   read_ordinary : All (λ t. IsTrue (is_ordinary t.value)) l.tokens.items;
   next_ordinary : IfSome l.next (λ t. IsTrue (is_ordinary t.value));
-  comments : spec.comments_after l.next l.lexer.rest l.lexer.had_comments ≡ spec.comments_after l.initial.next l.initial.lexer.rest l.initial.lexer.had_comments;
+  comments : spec.comments_after l.next l.lexer.rest l.lexer.had_comments ≡ spec.comments_after l.initial.next l.initial.lexer.rest
+      l.initial.lexer.had_comments;
   left : IfSome l.next (λ t. l.lexer.rest ≢ []);
 }
 

@@ -36,7 +36,8 @@ pub returns-in_err-name-clause-is : goal.returns-in_err-name-clause-is
 returns-in_err-name-clause-is c =
     let e = err_from_is_err_and c.from_residual-in_err-name.result c.from_residual-in_err-name.ensures.1 in
     let n = c.in_ok-ends_parameters.ensures in
-    no_more _ _ c.in_err-name.field-0.0 _ _ _ _ _ _ _ (e.1 ∙ ap Err e.2) c.parameters.invariant.whole n.is c.if-not-branch.true n.takes.rest c.deref.ensures.value c.in_err-name.ensures.is
+    no_more _ _ c.in_err-name.field-0.0 _ _ _ _ _ _ _ (e.1 ∙ ap Err e.2) c.parameters.invariant.whole n.is c.if-not-branch.true n.takes.rest
+    c.deref.ensures.value c.in_err-name.ensures.is
 
 pub parameters-preserved : goal.parameters-preserved
 parameters-preserved c =
@@ -44,8 +45,15 @@ parameters-preserved c =
     let n = c.in_ok-ends_parameters.ensures in
     let o = c.in_ok-name.ensures in
     record {
-      whole = one_more _ _ _ _ _ _ _ _ _ _ before.whole n.is c.if-not-branch.true n.takes.rest c.deref.ensures.value o.is c.in_ok-push-2.ensures.items o.takes.rest;
-      fewer = omega (arith, drop_fewer c.parameters.lexer.rest c.ends_parameters.new.lexer.rest 1 n.takes.rest, drop_fewer c.ends_parameters.new.lexer.rest c.one_parameter.new.lexer.rest 1 o.takes.rest, before.fewer);
+      whole = one_more _ _ _ _ _ _ _ _ _ _ before.whole n.is c.if-not-branch.true n.takes.rest c.deref.ensures.value o.is
+          c.in_ok-push-2.ensures.items o.takes.rest;
+      fewer = omega (
+        arith,
+        drop_fewer c.parameters.lexer.rest c.ends_parameters.new.lexer.rest 1 n.takes.rest,
+        drop_fewer
+            c.ends_parameters.new.lexer.rest c.one_parameter.new.lexer.rest 1 o.takes.rest,
+        before.fewer,
+      );
       unspent = o.takes.spent;
       errors = o.errors ∙ n.errors ∙ before.errors;
     }

@@ -11,19 +11,22 @@ returns-in-Some-clause-token c =
 
 pub returns-in_default-token_at-clause-token : goal.returns-in_default-token_at-clause-token
 returns-in_default-token_at-clause-token c =
-    given_end c.args.self.now c.self.inside.define.value.body c.self.inside.position (ap (λ (f : Layer). f.reading) (sym c.self.view_is) ∙ (rw c.in_default.is refl)) (ap (λ (f : Layer). f.body) (sym c.self.view_is))
+    given_end c.args.self.now c.self.inside.define.value.body c.self.inside.position (ap (λ (f : Layer). f.reading) (sym c.self.view_is)
+    ∙ (rw c.in_default.is refl)) (ap (λ (f : Layer). f.body) (sym c.self.view_is))
     (rw (c.body.ensures.is, c.deref-2.ensures) at (sym c.in_default-token_at.ensures.token))
 
 pub returns-in-Some-parameter_of-clause-token : goal.returns-in-Some-parameter_of-clause-token
 returns-in-Some-parameter_of-clause-token c =
     given_body c.args.self.now c.self.inside.define.value.body c.self.inside.position c.in-Some-token_at.token.now (Some c.in-Some-parameter_of.field-0)
-    (ap (λ (f : Layer). f.reading) (sym c.self.view_is) ∙ (rw c.in_default.is refl)) (ap (λ (f : Layer). f.body) (sym c.self.view_is)) (rw (c.body.ensures.is, c.deref-2.ensures) at (sym c.in-Some-token_at.ensures.token))
+    (ap (λ (f : Layer). f.reading) (sym c.self.view_is) ∙ (rw c.in_default.is refl)) (ap (λ (f : Layer). f.body) (sym c.self.view_is))
+    (rw (c.body.ensures.is, c.deref-2.ensures) at (sym c.in-Some-token_at.ensures.token))
     (ap (λ (f : Layer). parameter_of f.parameters c.in-Some-token_at.token.now.value) (sym c.self.view_is)
     ∙ (rw (c.parameters.ensures, c.deref-3.ensures) at (sym c.in-Some-parameter_of.ensures)))
 
 pub returns-in-None-clause-token : goal.returns-in-None-clause-token
 returns-in-None-clause-token c =
     given_body c.args.self.now c.self.inside.define.value.body c.self.inside.position c.in-Some-token_at.token.now None
-    (ap (λ (f : Layer). f.reading) (sym c.self.view_is) ∙ (rw c.in_default.is refl)) (ap (λ (f : Layer). f.body) (sym c.self.view_is)) (rw (c.body.ensures.is, c.deref-2.ensures) at (sym c.in-Some-token_at.ensures.token))
+    (ap (λ (f : Layer). f.reading) (sym c.self.view_is) ∙ (rw c.in_default.is refl)) (ap (λ (f : Layer). f.body) (sym c.self.view_is))
+    (rw (c.body.ensures.is, c.deref-2.ensures) at (sym c.in-Some-token_at.ensures.token))
     (ap (λ (f : Layer). parameter_of f.parameters c.in-Some-token_at.token.now.value) (sym c.self.view_is)
     ∙ (rw (c.parameters.ensures, c.deref-3.ensures) at (sym c.in-None.ensures)))

@@ -9,9 +9,11 @@ loop-other-init c = around_first _ _ c.args.expander c.new-expanders.ensures.ite
 
 pub loop-other-preserved : goal.loop-other-preserved
 loop-other-preserved c =
-    around_more (names_of c.args.expander.now) _ _ _ c.loop-other.other-index c.other-item.result c.loop-other.invariant c.loop-other-test.true c.other-item.is c.in_ok-push-2.ensures.items
+    around_more (names_of c.args.expander.now) _ _ _ c.loop-other.other-index c.other-item.result c.loop-other.invariant
+    c.loop-other-test.true c.other-item.is c.in_ok-push-2.ensures.items
 
 pub returns : goal.returns
 returns c =
-    around_all (names_of c.args.expander.now) c.loop-other.expanders.items c.deref-other-items.result.now c.loop-other.other-index c.loop-other.invariant c.loop-other-test.false
+    around_all (names_of c.args.expander.now) c.loop-other.expanders.items c.deref-other-items.result.now c.loop-other.other-index
+    c.loop-other.invariant c.loop-other-test.false
     ∙ ap (λ names. names_of c.args.expander.now ++ names) (ap names_around c.deref-other-items.ensures.value ∙ c.around.view_is)

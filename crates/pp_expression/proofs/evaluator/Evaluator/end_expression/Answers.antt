@@ -21,7 +21,8 @@ returns-in_err-take_closing-in-Some-clause-leads c whole start =
     let is : innermost c.compute_from.new.self.pending ≡ Some c.in-Some.field-0 = cc (c.pop.ensures.is, c.in-Some.is) in
     let found = c.in_err-take_closing-in-Some.field-0.0 in
     lemmas.halts _ whole found c.from_residual-in_err-take_closing-in-Some.result c.from_residual-in_err-take_closing-in-Some.ensures.1
-    (lemmas.group_open whole c.compute_from.new.self.pending c.compute_from.new.self.line c.in_ok-value.value c.in-Some.field-0 found is c.in_ok-value.ensures.loose value stands (sym c.in_err-take_closing-in-Some.ensures.value))
+    (lemmas.group_open whole c.compute_from.new.self.pending c.compute_from.new.self.line c.in_ok-value.value c.in-Some.field-0 found is
+    c.in_ok-value.ensures.loose value stands (sym c.in_err-take_closing-in-Some.ensures.value))
 
 pub returns-in-None-clause-leads : goal.returns-in-None-clause-leads
 returns-in-None-clause-leads c whole start =
@@ -43,4 +44,5 @@ returns-in_ok-take_closing-in-Some-clause-leads c whole start =
     let stands : binary_at c.compute_from.new.self.line ≡ Ok None = rw c.compute_from.ensures.line c.requires in
     let is : innermost c.compute_from.new.self.pending ≡ Some c.in-Some.field-0 = cc (c.pop.ensures.is, c.in-Some.is) in
     rw (c.take_closing.ensures.rest, c.pop.ensures.rest, to_z-of_z w64 c.in_ok-value.value value_fits)
-    (lemmas.group_closed whole c.compute_from.new.self.pending c.compute_from.new.self.line c.in_ok-value.value c.in-Some.field-0 is c.in_ok-value.ensures.loose value stands (sym c.in_ok-take_closing-in-Some.ensures.value))
+    (lemmas.group_closed whole c.compute_from.new.self.pending c.compute_from.new.self.line c.in_ok-value.value c.in-Some.field-0 is
+    c.in_ok-value.ensures.loose value stands (sym c.in_ok-take_closing-in-Some.ensures.value))

@@ -15,7 +15,8 @@ returns-in_err-operator-clause-leads c whole start =
     let fits : FitsSigned w64 c.args.operand = search rules in
     let product = c.in_ok-value.ensures.computes whole (rw (to_z-of_z w64 c.args.operand fits) start) in
     lemmas.halts _ whole c.in_err-operator.field-0.0 c.from_residual-in_err-operator.result c.from_residual-in_err-operator.ensures.1
-    (lemmas.unread_after_operand whole c.compute_from.new.self.pending c.compute_from.new.self.line c.in_ok-value.value c.in_err-operator.field-0.0 c.in_ok-value.ensures.loose product (sym c.in_err-operator.ensures))
+    (lemmas.unread_after_operand whole c.compute_from.new.self.pending c.compute_from.new.self.line c.in_ok-value.value
+    c.in_err-operator.field-0.0 c.in_ok-value.ensures.loose product (sym c.in_err-operator.ensures))
 
 pub compute_from-requires-clause-over : goal.compute_from-requires-clause-over
 compute_from-requires-clause-over c = operand_stops c.args.self.now.line

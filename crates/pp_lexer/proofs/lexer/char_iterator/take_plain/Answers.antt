@@ -25,4 +25,5 @@ returns c =
     (λ t. IsAhead (record { c = get_or t 0 0; line = c.left-left.result.line; begin = c.left-left.result.at; end = c.left-left.result.at + 1 })
     (spots c.at.result.offset c.at.result.rest) (spots c.args.inner.now.offset c.args.inner.now.rest))
     (sym same)
-    (one_ahead c.left-left.result.line c.left-left.result.at text c.range_from.result.now c.args.inner.now c.at.result u some plain c.range_from.ensures.value c.left-left.ensures.value c.at.ensures)
+    (one_ahead c.left-left.result.line c.left-left.result.at text c.range_from.result.now c.args.inner.now c.at.result u some plain
+    c.range_from.ensures.value c.left-left.ensures.value c.at.ensures)

@@ -25,7 +25,8 @@ returns-then-is_float-clause-state c =
     let l = letters_after c.args.inner.now c.take_number-length.new.inner c.take_number-length.ensures.state in
     let o = at_float (letters c.args.inner.now.rest) c.new-word.result (letters c.take_number-length.new.inner.rest) w l
     (sym c.is_float.ensures ∙ c.if-is_float.true) in
-    after_suffix float_suffix_len c.new-word.result c.args.inner.now c.take_number-length.new.inner _ w c.take_number-length.ensures.state c.finish_float.ensures.state
+    after_suffix float_suffix_len c.new-word.result c.args.inner.now c.take_number-length.new.inner _ w c.take_number-length.ensures.state
+    c.finish_float.ensures.state
     ∙ ap (λ x. advanced x.taken c.args.inner.now) o
 
 pub returns-clause-value : goal.returns-clause-value
@@ -46,5 +47,6 @@ returns-clause-state c =
     let l = letters_after c.args.inner.now c.take_number-length.new.inner c.take_number-length.ensures.state in
     let o = at_integer (letters c.args.inner.now.rest) c.new-word.result (letters c.take_number-length.new.inner.rest) w l
     (sym c.is_float.ensures ∙ c.if-is_float.false) in
-    after_suffix unsigned_suffix_len c.new-word.result c.args.inner.now c.take_number-length.new.inner _ w c.take_number-length.ensures.state c.finish_integer.ensures.state
+    after_suffix unsigned_suffix_len c.new-word.result c.args.inner.now c.take_number-length.new.inner _ w
+    c.take_number-length.ensures.state c.finish_integer.ensures.state
     ∙ ap (λ x. advanced x.taken c.args.inner.now) o

@@ -23,7 +23,8 @@ returns-clause-state c =
     let le : n ≤ length text = omega (arith, ap length c.as_bytes-bytes.ensures.value) in
     let passes : list_all is_straight (take n text) ≡ true = ap (λ t. list_all is_straight (take n t)) (sym c.as_bytes-bytes.ensures.value)
     ∙ c.straight_length-count.ensures.passes in
-    straight_passed c.args.inner.now c.at.result c.left-left.result.line c.left-left.result.at n text c.range_from.result.now u le passes c.left-left.ensures.value c.range_from.ensures.value c.at.ensures
+    straight_passed c.args.inner.now c.at.result c.left-left.result.line c.left-left.result.at n text c.range_from.result.now u le passes
+    c.left-left.ensures.value c.range_from.ensures.value c.at.ensures
 
 pub returns-clause-forward : goal.returns-clause-forward
 returns-clause-forward c =

@@ -6,7 +6,8 @@ use Rattle.pp_lexer.proofs.lexer.skip_backslash_newline.take_joined.Goals as goa
 pub returns-in_err-current : goal.returns-in_err-current
 returns-in_err-current c =
     let step = steps_same _ _ _ _ _ _
-    (end_step _ c.next_item.new.self _ _ c.in_err-current.was c.next_item.ensures.value c.next_item.ensures.state) c.continuations.invariant.rest c.continuations.invariant.total in
+    (end_step _ c.next_item.new.self _ _ c.in_err-current.was c.next_item.ensures.value c.next_item.ensures.state)
+    c.continuations.invariant.rest c.continuations.invariant.total in
     record { value = c.from_residual.ensures ∙ step.value; state = step.state; room = search rules }
 
 pub returns-then-current-ne92 : goal.returns-then-current-ne92

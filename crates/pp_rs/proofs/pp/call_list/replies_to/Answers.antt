@@ -15,7 +15,7 @@ returns-then-is_last c =
     let i = c.loop-call.call-index in
     replied_last c.args.pp.now
     (map call_of (take i c.args.calls.now)) _ c.loop-call.replies.items c.in_ok-reply.reply c.loop-call.pp c.reply_to.new.pp
-        c.loop-call.invariant (map call_of c.args.calls.now) (map call_of (drop (i + 1) c.args.calls.now)) c.push.new.self.items
+    c.loop-call.invariant (map call_of c.args.calls.now) (map call_of (drop (i + 1) c.args.calls.now)) c.push.new.self.items
     (c.in_ok-reply.ensures {u = tt}) (sym c.ends_run-is_last.ensures ∙ c.if-is_last.true) (calls_cut c.args.calls.now i _ c.loop-call-test.true)
     (c.in_ok-push.ensures {u = tt}).items
 
@@ -24,7 +24,7 @@ loop-call-preserved c =
     let i = c.loop-call.call-index in
     replied_more c.args.pp.now
     (map call_of (take i c.args.calls.now)) _ c.loop-call.replies.items c.in_ok-reply.reply c.loop-call.pp c.reply_to.new.pp
-        c.loop-call.invariant (map call_of (take (i + 1) c.args.calls.now)) c.push.new.self.items
+    c.loop-call.invariant (map call_of (take (i + 1) c.args.calls.now)) c.push.new.self.items
     (c.in_ok-reply.ensures {u = tt}) (sym c.ends_run-is_last.ensures ∙ c.if-is_last.false) (calls_more c.args.calls.now i _ c.loop-call-test.true)
     (c.in_ok-push.ensures {u = tt}).items
 

@@ -15,7 +15,8 @@ loop-token-init c =
 
 pub push_value-requires-in-loop-token : goal.push_value-requires-in-loop-token
 push_value-requires-in-loop-token c =
-    all_after_first (λ t. IsTrue (is_ordinary t.value)) _ c.in-Some.others.now _ c.token-item.result c.loop-token.token-index c.requires c.in-Some.ensures.cases.0 (omega arith) c.token-item.is
+    all_after_first (λ t. IsTrue (is_ordinary t.value)) _ c.in-Some.others.now _ c.token-item.result c.loop-token.token-index c.requires
+    c.in-Some.ensures.cases.0 (omega arith) c.token-item.is
 
 pub loop-token-preserved : goal.loop-token-preserved
 loop-token-preserved c =

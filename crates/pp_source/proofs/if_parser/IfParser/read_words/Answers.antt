@@ -10,11 +10,13 @@ returns-in-Ok-None c = words_end _ _ _ _ _ _ _ _ _ c.words.invariant c.next_item
 
 pub returns-in-Err-Fault : goal.returns-in-Err-Fault
 returns-in-Err-Fault c =
-    words_fault _ _ _ _ _ _ _ _ _ c.words.invariant c.next_item.new.line.caller c.next_item.new.line.lexer c.in-Err-Fault.fault c.ended-in-Err-Fault.result (rw c.in-Err-Fault.field-0-is at c.in-Err-Fault.ensures.reads) c.ended-in-Err-Fault.ensures
+    words_fault _ _ _ _ _ _ _ _ _ c.words.invariant c.next_item.new.line.caller c.next_item.new.line.lexer c.in-Err-Fault.fault
+    c.ended-in-Err-Fault.result (rw c.in-Err-Fault.field-0-is at c.in-Err-Fault.ensures.reads) c.ended-in-Err-Fault.ensures
 
 pub returns-in-Refused : goal.returns-in-Refused
 returns-in-Refused c = words_refused _ _ _ _ _ _ _ _ _ c.words.invariant c.next_item.new.line.caller c.next_item.new.line.lexer c.in-Ok-Some.token
-    (rw c.in-Ok-Some.field-0-is at c.in-Ok-Some.ensures.reads) c.in-Refused.fault c.ended-in-Refused.result c.in-Refused.ensures.reads c.ended-in-Refused.ensures
+    (rw c.in-Ok-Some.field-0-is at c.in-Ok-Some.ensures.reads) c.in-Refused.fault c.ended-in-Refused.result c.in-Refused.ensures.reads
+    c.ended-in-Refused.ensures
 
 pub words-preserved-in-Continue-1 : goal.words-preserved-in-Continue-1
 words-preserved-in-Continue-1 c =
@@ -23,9 +25,13 @@ words-preserved-in-Continue-1 c =
 
 pub words-preserved : goal.words-preserved
 words-preserved c = words_answered _ _ _ _ _ _ _ _ _ c.words.invariant c.next_item.new.line.caller c.next_item.new.line.lexer c.in-Ok-Some.token
-    (rw c.in-Ok-Some.field-0-is at c.in-Ok-Some.ensures.reads) c.in-Ok.answer c.operand.new.line.caller c.operand.new.line.lexer _ c.in-Operator.ensures.reads c.in-Ok.ensures c.in_ok-push-in-Ok.ensures.items
+    (rw c.in-Ok-Some.field-0-is at c.in-Ok-Some.ensures.reads) c.in-Ok.answer c.operand.new.line.caller c.operand.new.line.lexer _
+    c.in-Operator.ensures.reads c.in-Ok.ensures c.in_ok-push-in-Ok.ensures.items
 
 pub returns-in-Err-Fault-operand : goal.returns-in-Err-Fault-operand
 returns-in-Err-Fault-operand c =
     words_faulty _ _ _ _ _ _ _ _ _ c.words.invariant c.next_item.new.line.caller c.next_item.new.line.lexer c.in-Ok-Some.token
-    (rw c.in-Ok-Some.field-0-is at c.in-Ok-Some.ensures.reads) c.in-Err-Fault-operand.fault c.operand.new.line.caller c.operand.new.line.lexer _ c.ended-in-Err-Fault-operand.result c.in-Operator.ensures.reads (rw c.in-Err-Fault-operand.field-0-is at c.in-Err-Fault-operand.ensures) c.in_ok-push-in-Err-Fault-operand.ensures.items c.ended-in-Err-Fault-operand.ensures
+    (rw c.in-Ok-Some.field-0-is at c.in-Ok-Some.ensures.reads) c.in-Err-Fault-operand.fault c.operand.new.line.caller
+    c.operand.new.line.lexer _ c.ended-in-Err-Fault-operand.result c.in-Operator.ensures.reads
+    (rw c.in-Err-Fault-operand.field-0-is at c.in-Err-Fault-operand.ensures) c.in_ok-push-in-Err-Fault-operand.ensures.items
+    c.ended-in-Err-Fault-operand.ensures

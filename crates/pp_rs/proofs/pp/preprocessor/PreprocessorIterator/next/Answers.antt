@@ -40,18 +40,23 @@ returns-then-self-clause-steps c = next_none c.args.self.now (ap (λ p. p.spent)
 pub returns-in-Ok-clause-steps : goal.returns-in-Ok-clause-steps
 returns-in-Ok-clause-steps c =
     let fresh : c.args.self.now.spent ≡ false = ap (λ p. p.spent) (sym c.self.view_is) ∙ c.if-self.false in
-    next_token _ _ _ _ _ _ c.loop-token.invariant.reached c.args.self.now fresh refl refl c.in-Ok.token c.loop-token.self-inside.spent c.loop-token.self-inside.place c.loop-token.invariant.unspent c.loop-token.invariant.placed c.in-Ok.ensures.turns c.in-Ok.ensures.holds
+    next_token _ _ _ _ _ _ c.loop-token.invariant.reached c.args.self.now fresh refl refl c.in-Ok.token c.loop-token.self-inside.spent
+    c.loop-token.self-inside.place c.loop-token.invariant.unspent c.loop-token.invariant.placed c.in-Ok.ensures.turns c.in-Ok.ensures.holds
 
 pub returns-in-Ok-clause-goes : goal.returns-in-Ok-clause-goes
 returns-in-Ok-clause-goes c =
     let fresh : c.args.self.now.spent ≡ false = ap (λ p. p.spent) (sym c.self.view_is) ∙ c.if-self.false in
-    let next = next_token _ _ _ _ _ _ c.loop-token.invariant.reached c.args.self.now fresh refl refl c.in-Ok.token c.loop-token.self-inside.spent c.loop-token.self-inside.place c.loop-token.invariant.unspent c.loop-token.invariant.placed c.in-Ok.ensures.turns c.in-Ok.ensures.holds in
+    let next = next_token _ _ _ _ _ _ c.loop-token.invariant.reached c.args.self.now fresh refl refl c.in-Ok.token
+    c.loop-token.self-inside.spent c.loop-token.self-inside.place c.loop-token.invariant.unspent c.loop-token.invariant.placed
+    c.in-Ok.ensures.turns c.in-Ok.ensures.holds in
     record { on = λ finite. (tt, tt, next.less_left); keeps = tt; rests = λ finite. tt }
 
 pub returns-in-Err-Finished-clause-steps : goal.returns-in-Err-Finished-clause-steps
 returns-in-Err-Finished-clause-steps c =
     let fresh : c.args.self.now.spent ≡ false = ap (λ p. p.spent) (sym c.self.view_is) ∙ c.if-self.false in
-    next_end _ _ _ _ _ _ c.loop-token.invariant.reached c.args.self.now fresh refl refl c.loop-token.self-inside.spent c.loop-token.self-inside.place c.loop-token.invariant.unspent c.loop-token.invariant.placed (rw c.in-Err-Finished.field-0-is at c.in-Err-Finished.ensures.turns)
+    next_end _ _ _ _ _ _ c.loop-token.invariant.reached c.args.self.now fresh refl refl c.loop-token.self-inside.spent
+    c.loop-token.self-inside.place c.loop-token.invariant.unspent c.loop-token.invariant.placed
+    (rw c.in-Err-Finished.field-0-is at c.in-Err-Finished.ensures.turns)
 
 pub returns-in-Err-Error-clause-steps : goal.returns-in-Err-Error-clause-steps
 returns-in-Err-Error-clause-steps c =
@@ -61,7 +66,9 @@ returns-in-Err-Error-clause-steps c =
     ∙ ap (λ (o : Option Location). unwrap_or o c.place_refusal-error.result.1) c.take_error_place.ensures.place
     ∙ ap (λ (e : Fault). unwrap_or c.turn_source.new.source.error_place e.1) c.place_refusal-error.ensures in
     rw (c.place_refusal-error.ensures, c.is_out_of_memory-self-inside.ensures)
-    (next_error _ _ _ _ _ _ c.loop-token.invariant.reached c.args.self.now fresh refl refl error c.take_error_place.new.self c.unwrap_or-self-inside.result c.take_error_place.ensures.others (is_out_of_memory error.0) refl (rw c.in-Err-Error.field-0-is at c.in-Err-Error.ensures.turns) at)
+    (next_error _ _ _ _ _ _ c.loop-token.invariant.reached c.args.self.now fresh refl refl error c.take_error_place.new.self
+    c.unwrap_or-self-inside.result c.take_error_place.ensures.others (is_out_of_memory error.0) refl
+    (rw c.in-Err-Error.field-0-is at c.in-Err-Error.ensures.turns) at)
 
 pub returns-in-Err-Error-clause-goes : goal.returns-in-Err-Error-clause-goes
 returns-in-Err-Error-clause-goes c =
@@ -70,5 +77,7 @@ returns-in-Err-Error-clause-goes c =
     let at = c.unwrap_or-self-inside.ensures
     ∙ ap (λ (o : Option Location). unwrap_or o c.place_refusal-error.result.1) c.take_error_place.ensures.place
     ∙ ap (λ (e : Fault). unwrap_or c.turn_source.new.source.error_place e.1) c.place_refusal-error.ensures in
-    let next = next_error _ _ _ _ _ _ c.loop-token.invariant.reached c.args.self.now fresh refl refl error c.take_error_place.new.self c.unwrap_or-self-inside.result c.take_error_place.ensures.others (is_out_of_memory error.0) refl (rw c.in-Err-Error.field-0-is at c.in-Err-Error.ensures.turns) at in
+    let next = next_error _ _ _ _ _ _ c.loop-token.invariant.reached c.args.self.now fresh refl refl error c.take_error_place.new.self
+    c.unwrap_or-self-inside.result c.take_error_place.ensures.others (is_out_of_memory error.0) refl
+    (rw c.in-Err-Error.field-0-is at c.in-Err-Error.ensures.turns) at in
     record { on = λ finite. (tt, tt, rw c.is_out_of_memory-self-inside.ensures next.less_left); keeps = tt; rests = λ finite. tt }
