@@ -23,7 +23,7 @@ fn main(rt: HostRuntime) -> io::Result<()> {
     }
 }
 
-// Prints a line for each directive that asks for something, up to the first error, which it gives with its place.
+// Prints what a source asks for, up to the first error, which it gives with its place.
 fn show_requirements(
     rt: &impl Print,
     alloc: Global,
@@ -32,9 +32,17 @@ fn show_requirements(
     requires { length source.now < 2 ^ 32 - 1 }
 {
     let mut pp = Preprocessor::new(alloc, source);
-    if let Err(refusal) = pp.add_define("FAST", "1") {
-        return Ok(Err(refusal));
+    match pp.add_define("FAST", "1") {
+        Ok(()) => show_items(rt, &mut pp),
+        Err(refusal) => Ok(Err(refusal)),
     }
+}
+
+// Prints a line for each item that asks for something, up to the first error.
+fn show_items(
+    rt: &impl Print,
+    pp: &mut Preprocessor<'_>,
+) -> io::Result<Result<(), (PreprocessorError, Location)>> {
     'items: while let Some(item) = pp.next() {
         match item {
             Ok(token) => show_requirement(rt, &token)?,

@@ -1,6 +1,6 @@
 use Rattle.std.specs.Prelude.{⊤}
 use Rattle.pp_rs.specs.Kept.{most_items}
-use Rattle.requirements.proofs.show_requirements.Given as goal
+use Rattle.requirements.proofs.show_items.Given as goal
 
 abbrev pub invariant-items : goal.invariant-items
 invariant-items g l = ⊤
