@@ -44,12 +44,20 @@ fn main(rt: HostRuntime) -> io::Result<()> {
     // The first is the program's name.
     let words: Vec<String> = arguments.skip(1).collect(rt.alloc())?;
     let source = io::read_to_string(rt.alloc(), rt.stdin())?;
-    let source = source.as_str();
-    if matches!(words.as_slice(), [word] if word.as_str() == "sheet") {
-        return sheet::read(&rt, rt.alloc(), source);
+    answer(&rt, rt.alloc(), source.as_str(), &words)
+}
+
+// Prints what is answered to the words, or to a sheet.
+fn answer<'a>(
+    rt: &impl Print,
+    alloc: Global,
+    source: &'a str,
+    words: &'a [String],
+) -> io::Result<()> {
+    if matches!(words, [word] if word.as_str() == "sheet") {
+        return sheet::read(rt, alloc, source);
     }
-    let mut session = Session::new(rt.alloc(), source);
-    make_calls(&rt, rt.alloc(), &mut session, source, &words)
+    make_calls(rt, alloc, &mut Session::new(alloc, source), source, words)
 }
 
 // Makes the calls of the words in turn.

@@ -3,14 +3,13 @@
 ghost use Rattle.std.specs.Prelude.{IsTrue, All};
 ghost use Rattle.pp_model.specs.Run.{HasRoom};
 
-use crate::shown::{copy_error, copy_token, print_item, refused, replies};
+use crate::shown::{copy_error, copy_token, print_item, print_reply, refused, replies};
 use pp_plain::run::run;
 use pp_rs::pp::{
     self, Call, Preprocessor, PreprocessorItem, Reply, are_read_afresh, drain, preprocess_all,
     spell_tokens,
 };
-use pp_rs::token::{PreprocessorError, Token};
-use pp_shown::reply;
+use pp_rs::token::{Location, PreprocessorError, Token};
 use std::alloc::Global;
 use std::io;
 
@@ -34,6 +33,13 @@ fn have_room(calls: &[Call<'_>]) -> bool
     ensures { IsTrue result → All HasRoom calls.now }
 {
     calls.iter().all(|call| has_room(call))
+}
+
+fn reply_to_definition(answer: Result<(), (PreprocessorError, Location)>) -> Reply {
+    match answer {
+        Ok(()) => Reply::Added,
+        Err(fault) => Reply::Refused(fault),
+    }
 }
 
 /// A preprocessor of a source, the calls that were made, and what they gave.
@@ -72,12 +78,8 @@ impl<'a> Session<'a> {
             return Ok(());
         }
         self.calls.push(Call::AddDefine(name, content))?;
-        let answer = match self.pp.add_define(name, content) {
-            Ok(()) => Reply::Added,
-            Err(fault) => Reply::Refused(fault),
-        };
-        let shown = reply(self.alloc, &answer)?;
-        println!(rt; "{}", shown.as_str())
+        let answer = reply_to_definition(self.pp.add_define(name, content));
+        print_reply(rt, self.alloc, &answer)
     }
 
     // Shows an item, and keeps it.

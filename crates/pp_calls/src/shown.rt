@@ -55,17 +55,21 @@ fn print_lexer_item(
 /// The items of a `Lexer`, each with whether a comment was passed and where it stands.
 pub(crate) fn lexer(rt: &impl Print, alloc: Global, source: &str) -> io::Result<()> {
     if source.len() < BYTES {
-        let mut items = Lexer::new(alloc, source);
-        for _ in 0..u64::MAX {
-            let Some(item) = items.next() else {
-                break;
-            };
-            print_lexer_item(rt, alloc, &item, items.had_comments())?;
-        }
-        let again = items.next().is_some();
-        println!(rt; "None again={again} comments={}", items.had_comments())?;
+        lexer_items(rt, alloc, &mut Lexer::new(alloc, source))?;
     }
     Ok(())
+}
+
+// Prints the items of a lexer.
+fn lexer_items(rt: &impl Print, alloc: Global, items: &mut Lexer<'_>) -> io::Result<()> {
+    for _ in 0..u64::MAX {
+        let Some(item) = items.next() else {
+            break;
+        };
+        print_lexer_item(rt, alloc, &item, items.had_comments())?;
+    }
+    let again = items.next().is_some();
+    println!(rt; "None again={again} comments={}", items.had_comments())
 }
 
 /// Prints an item with its place.
@@ -106,12 +110,9 @@ fn value_copy(
     Ok(value.clone(alloc)? == *value)
 }
 
-// Copies and converts an item of the lexer.
-fn convert_item(rt: &impl Print, alloc: Global, item: LexerItem) -> io::Result<()> {
-    let Ok(token) = item else {
-        return Ok(());
-    };
-    copied(rt, alloc, lexer_copy(alloc, &token))?;
+// Copies a token of the lexer, and prints what it is converted to.
+fn convert_token(rt: &impl Print, alloc: Global, token: &lexer::Token) -> io::Result<()> {
+    copied(rt, alloc, lexer_copy(alloc, token))?;
     if token.value == lexer::TokenValue::NewLine {
         return Ok(());
     }
@@ -119,7 +120,10 @@ fn convert_item(rt: &impl Print, alloc: Global, item: LexerItem) -> io::Result<(
         Ok(copy) => print_item(rt, alloc, &convert_lexer_token(copy))?,
         Err(fault) => refused(rt, alloc, fault)?,
     }
-    converted_step(rt, alloc, convert_lexer_token_to_step(token))
+    match token.clone(alloc) {
+        Ok(copy) => converted_step(rt, alloc, convert_lexer_token_to_step(copy)),
+        Err(fault) => refused(rt, alloc, fault),
+    }
 }
 
 /// Copies and converts the tokens of a `Lexer`.
@@ -128,7 +132,10 @@ pub(crate) fn convert(rt: &impl Print, alloc: Global, source: &str) -> io::Resul
         let items = Lexer::new(alloc, source);
         println!(rt; "comments={}", items.had_comments())?;
         for item in items {
-            convert_item(rt, alloc, item)?;
+            match &item {
+                Ok(token) => convert_token(rt, alloc, token)?,
+                Err(_) => {}
+            }
         }
     }
     Ok(())
@@ -140,8 +147,19 @@ pub(crate) fn refused(
     alloc: Global,
     fault: (PreprocessorError, Location),
 ) -> io::Result<()> {
-    let shown = reply(alloc, &Reply::Refused(fault))?;
+    print_reply(rt, alloc, &Reply::Refused(fault))
+}
+
+/// Prints a reply.
+pub(crate) fn print_reply(rt: &impl Print, alloc: Global, given: &Reply) -> io::Result<()> {
+    let shown = reply(alloc, given)?;
     println!(rt; "{}", shown.as_str())
+}
+
+// Prints a reply after who gave it.
+fn print_reply_by(rt: &impl Print, alloc: Global, by: &str, given: &Reply) -> io::Result<()> {
+    let shown = reply(alloc, given)?;
+    println!(rt; "{by}: {}", shown.as_str())
 }
 
 /// Replies to a list of calls, a line each.
@@ -154,8 +172,7 @@ pub(crate) fn replies(
     match given {
         Ok(Some(replies)) => {
             for given in &replies {
-                let shown = reply(alloc, given)?;
-                println!(rt; "{by}: {}", shown.as_str())?;
+                print_reply_by(rt, alloc, by, given)?;
             }
             Ok(())
         }

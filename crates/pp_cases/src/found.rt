@@ -1,6 +1,6 @@
 //! What a case comes to: by the plain program, by the preprocessor's list of replies, and by its items one by one.
 
-ghost use Rattle.std.specs.Prelude.{IsTrue, All};
+ghost use Rattle.std.specs.Prelude.{◌-◌, ◌^◌, ◌<◌, length, IsTrue, All};
 ghost use Rattle.pp_model.specs.Run.{HasRoom};
 
 use crate::case::{Act, Case};
@@ -158,6 +158,27 @@ fn items_left(
     items.push(String::from_str(alloc, "None")?, false)
 }
 
+// The items of a source in which these acts are done.
+fn put_items(alloc: Global, source: &str, acts: &[Act], items: &mut Items) -> Result<(), AllocError>
+    requires { length source.now < 2 ^ 32 - 1 }
+{
+    let mut pp = Preprocessor::new(alloc, source);
+    act_in_order(alloc, &mut pp, acts, items)
+}
+
+// What its acts give, and then the items that are left.
+fn act_in_order(
+    alloc: Global,
+    pp: &mut Preprocessor<'_>,
+    acts: &[Act],
+    items: &mut Items,
+) -> Result<(), AllocError> {
+    for act in acts {
+        act_on(alloc, pp, act, items)?;
+    }
+    items_left(alloc, pp, items)
+}
+
 /// What a case comes to by the preprocessor, item by item, past errors too.
 pub(crate) fn by_items(alloc: Global, case: &Case) -> Result<Items, AllocError> {
     let mut items = Items {
@@ -166,11 +187,12 @@ pub(crate) fn by_items(alloc: Global, case: &Case) -> Result<Items, AllocError> 
         failed: false,
     };
     if case.source.len() < BYTES {
-        let mut pp = Preprocessor::new(alloc, case.source.as_str());
-        for act in &case.acts {
-            act_on(alloc, &mut pp, act, &mut items)?;
-        }
-        items_left(alloc, &mut pp, &mut items)?;
+        put_items(
+            alloc,
+            case.source.as_str(),
+            case.acts.as_slice(),
+            &mut items,
+        )?;
     }
     Ok(items)
 }
