@@ -20,7 +20,9 @@ pub enum Stop {
 const MOST: usize = 3_000;
 
 /// Stops where a list has more elements than the native stack has room for.
-pub fn stays_short(length: usize) -> Result<(), Stop> {
+pub fn stays_short(length: usize) -> Result<(), Stop>
+    ensures { OnOk result (length ≤ 3000) }
+{
     if length > MOST {
         return Err(Stop::OutOfBudget);
     }

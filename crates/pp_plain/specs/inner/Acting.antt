@@ -38,7 +38,8 @@ HasLineIfOk (Err h) state = ⊤
 abbrev pub Defining : Named → Option Definition → SourceReader → Option Outcome → SourceReader → Type 0
 Defining named None r o t = (o ≡ None) × (t ≡ defining named r)
 Defining named (Some old) r o t =
-    (IsSameDefinition old named.definition × (o ≡ None) × (t ≡ r)) ⊎ ((IsSameDefinition old named.definition → ⊥) × (o ≡ Some (outcome.Fault (DefineRedefined, named.location))) × (t ≡ r))
+    (IsSameDefinition old named.definition × (o ≡ None) × (t ≡ r)) ⊎
+    ((IsSameDefinition old named.definition → ⊥) × (o ≡ Some (outcome.Fault (DefineRedefined, named.location))) × (t ≡ r))
 
 abbrev pub DecidesBy : Result Bool Fault → SourceReader → Option Outcome → SourceReader → Type 0
 DecidesBy (Ok holds) r o t = (o ≡ None) × (t ≡ decided r holds)

@@ -24,13 +24,17 @@ seen state e = record { held = e.held; list = e.list.items; reader = state e.rea
 -- a `(` is taken, or what stands in its place is held
 pub data TakesParen {S : Type 0} (I : Reading S) : Expander S → Option Location → Expander S → Type 0 where
   none : (o : Outcome) (p : Option Location) (e f g : Expander S) → Takes I e o f → paren_at o ≡ None → p ≡ None → g ≡ holding o f → TakesParen I e p g
-  some : (o : Outcome) (paren : Location) (p : Option Location) (e f : Expander S) → Takes I e o f → paren_at o ≡ Some paren → p ≡ Some paren → TakesParen I e p f
+  some : (o : Outcome) (paren : Location) (p : Option Location) (e f : Expander S) → Takes I e o f → paren_at o ≡ Some paren
+      → p ≡ Some paren → TakesParen I e p f
 
 -- what stands after the name of a macro with parameters, before its arguments are expanded
 pub data Finds {S : Type 0} (I : Reading S) : Expander S → Found → Expander S → Type 0 where
   nothing : (c : Found) (e f : Expander S) → TakesParen I e None f → c ≡ NoCall → Finds I e c f
-  broken : (paren : Location) (fault : Fault) (c : Found) (e f g : Expander S) → TakesParen I e (Some paren) f → Gathers I 0 paren f (Err fault) g → c ≡ Broken fault → Finds I e c g
-  whole : (gathered : Gathered) (site : Site) (c : Found) (e f g : Expander S) → TakesParen I e (Some site.paren) f → Gathers I 0 site.paren f (Ok gathered) g → site.line ≡ gathered.closing.line → site.arguments ≡ arguments_of gathered.tokens → c ≡ Whole site → Finds I e c g
+  broken : (paren : Location) (fault : Fault) (c : Found) (e f g : Expander S) → TakesParen I e (Some paren) f
+      → Gathers I 0 paren f (Err fault) g → c ≡ Broken fault → Finds I e c g
+  whole : (gathered : Gathered) (site : Site) (c : Found) (e f g : Expander S) → TakesParen I e (Some site.paren) f
+      → Gathers I 0 site.paren f (Ok gathered) g → site.line ≡ gathered.closing.line → site.arguments ≡ arguments_of gathered.tokens
+      → c ≡ Whole site → Finds I e c g
 
 -- the turn at the name of a macro with parameters, where this stands after it
 abbrev pub turned : Outcome → Opening → Found → Turn

@@ -33,8 +33,11 @@ is_refused (Err fault) = is_out_of_memory fault.0
 
 -- what one call answers, and the state after it
 pub data Replying (A : Answers) : Expander SourceReader → Call → Reply → Expander SourceReader → Type 0 where
-  added : (name content : List ℕ) (tokens : List Token) (e f : Expander SourceReader) (r : Reply) → content_tokens (items_of content) ≡ Ok tokens → r ≡ reply.Added → f ≡ with_added (chars name) tokens e → Replying A e (add_define name content) r f
-  refused : (name content : List ℕ) (fault : Fault) (e f : Expander SourceReader) (r : Reply) → content_tokens (items_of content) ≡ Err fault → r ≡ reply.Refused fault → f ≡ e → Replying A e (add_define name content) r f
+  added : (name content : List ℕ) (tokens : List Token) (e f : Expander SourceReader) (r : Reply)
+      → content_tokens (items_of content) ≡ Ok tokens → r ≡ reply.Added → f ≡ with_added (chars name) tokens e
+      → Replying A e (add_define name content) r f
+  refused : (name content : List ℕ) (fault : Fault) (e f : Expander SourceReader) (r : Reply)
+      → content_tokens (items_of content) ≡ Err fault → r ≡ reply.Refused fault → f ≡ e → Replying A e (add_define name content) r f
   given : (o : Outcome) (e f : Expander SourceReader) (r : Reply) → Emits (source_reading A) A e o f → r ≡ reply.Given o → Replying A e next r f
 
 -- what is refused of a content, or nothing is said

@@ -13,5 +13,6 @@ returns-then-value-eq0 c =
 pub returns : goal.returns
 returns c =
     satisfies_more _ _ c.followed.result
-    (numbers_followed c.args.directive c.args.words.now _ c.args.value _ c.in-Some.number _ c.requires refl c.as_line_number.ensures c.in-Some.is c.if-value-eq0.false c.keep_after.ensures)
+    (numbers_followed c.args.directive c.args.words.now _ c.args.value _ c.in-Some.number _ c.requires refl c.as_line_number.ensures
+    c.in-Some.is c.if-value-eq0.false c.keep_after.ensures)
     c.followed.ensures

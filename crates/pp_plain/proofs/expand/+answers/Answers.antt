@@ -83,7 +83,9 @@ expand_argument-returns-clause-alone t c =
 pub expand_arguments-returns-in-Err-clause-each : goal.expand_arguments-returns-in-Err-clause-each
 expand_arguments-returns-in-Err-clause-each t c =
     c.loop-argument.invariant.goes_on (Err c.in-Err.fault) (each_at-failed (Alone c.args.levels)
-    (meaning_of c.args.visible.now) c.args.hidden.now c.args.arguments.now c.loop-argument.argument-index c.argument-item.result c.deref.result.now c.in-Err.fault c.loop-argument-test.true c.argument-item.is (c.deref.ensures.value ∙ c.argument.view_is) (rw c.in-Err.is at c.in_ok-list.ensures.alone))
+    (meaning_of c.args.visible.now) c.args.hidden.now c.args.arguments.now c.loop-argument.argument-index c.argument-item.result
+    c.deref.result.now c.in-Err.fault c.loop-argument-test.true c.argument-item.is (c.deref.ensures.value ∙ c.argument.view_is)
+    (rw c.in-Err.is at c.in_ok-list.ensures.alone))
 
 pub expand_arguments-loop-argument-preserved : goal.expand_arguments-loop-argument-preserved
 expand_arguments-loop-argument-preserved t c = record {
@@ -91,7 +93,9 @@ expand_arguments-loop-argument-preserved t c = record {
       rw (c.in_ok-push-in-Ok.ensures.items, ← after_lists-before c.loop-argument.expanded.items c.in-Ok.list out)
       (c.loop-argument.invariant.goes_on (list_before c.in-Ok.list out)
       (each_at-more (Alone c.args.levels)
-      (meaning_of c.args.visible.now) c.args.hidden.now c.args.arguments.now c.loop-argument.argument-index c.argument-item.result c.deref.result.now c.in-Ok.list out c.loop-argument-test.true c.argument-item.is (c.deref.ensures.value ∙ c.argument.view_is) (rw c.in-Ok.is at c.in_ok-list.ensures.alone) h));
+      (meaning_of c.args.visible.now) c.args.hidden.now c.args.arguments.now c.loop-argument.argument-index c.argument-item.result
+      c.deref.result.now c.in-Ok.list out c.loop-argument-test.true c.argument-item.is (c.deref.ensures.value ∙ c.argument.view_is)
+      (rw c.in-Ok.is at c.in_ok-list.ensures.alone) h));
   spent = omega arith;
 }
 

@@ -22,5 +22,7 @@ pub returns-in-Ok : goal.returns-in-Ok
 returns-in-Ok t c =
     ok_more _ _ c.with_reply.result
     (λ replies is. runs_on (answers_at expansion_limit) (seen source_state c.args.expander.now)
-    (seen source_state c.reply_to.new.expander) c.args.calls.now c.in-Some.call.now c.in-Some.others.now c.in_ok-reply.reply c.in-Ok.rest.items replies.items (c.in-Some.ensures {u = tt}).cases.0 (c.in_ok-reply.ensures {u = tt}) (sym c.ends_run.ensures ∙ c.if-ends_run.false) (c.in-Ok.ensures {u = tt}) is)
+    (seen source_state c.reply_to.new.expander) c.args.calls.now c.in-Some.call.now c.in-Some.others.now c.in_ok-reply.reply
+    c.in-Ok.rest.items replies.items (c.in-Some.ensures {u = tt}).cases.0 (c.in_ok-reply.ensures {u = tt})
+    (sym c.ends_run.ensures ∙ c.if-ends_run.false) (c.in-Ok.ensures {u = tt}) is)
     c.with_reply.ensures
