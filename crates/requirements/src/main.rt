@@ -32,17 +32,17 @@ fn show_requirements(
     requires { length source.now < 2 ^ 32 - 1 }
 {
     let mut pp = Preprocessor::new(alloc, source);
-    match pp.add_define("FAST", "1") {
-        Ok(()) => show_items(rt, &mut pp),
-        Err(refusal) => Ok(Err(refusal)),
-    }
+    show_items(rt, &mut pp)
 }
 
-// Prints a line for each item that asks for something, up to the first error.
+// Prints a line for each item that asks for something, where `FAST` is 1, up to the first error.
 fn show_items(
     rt: &impl Print,
     pp: &mut Preprocessor<'_>,
 ) -> io::Result<Result<(), (PreprocessorError, Location)>> {
+    if let Err(refusal) = pp.add_define("FAST", "1") {
+        return Ok(Err(refusal));
+    }
     'items: while let Some(item) = pp.next() {
         match item {
             Ok(token) => show_requirement(rt, &token)?,
