@@ -3,7 +3,9 @@
 ghost use Rattle.std.specs.Prelude.{IsTrue, All};
 ghost use Rattle.pp_model.specs.Run.{HasRoom};
 
-use crate::shown::{copy_error, copy_token, print_item, print_reply, refused, replies};
+use crate::shown::{
+    copy_error, copy_token, print_error, print_item, print_reply, refused, replies,
+};
 use pp_plain::run::run;
 use pp_rs::pp::{
     self, Call, Preprocessor, PreprocessorItem, Reply, are_read_afresh, drain, preprocess_all,
@@ -143,12 +145,7 @@ impl<'a> Session<'a> {
             let Some(given) = self.pp.next() else {
                 break;
             };
-            match given {
-                Ok(token) => drop(token),
-                Err((fault, _location)) => {
-                    print_item(rt, self.alloc, &Err((fault, self.pp.place())))?;
-                }
-            }
+            print_error(rt, self.alloc, given, self.pp.place())?;
         }
         Ok(())
     }

@@ -1,45 +1,17 @@
 //! Items of the lexer, copies and replies, printed.
 
+ghost use Rattle.std.specs.Prelude.{◌≢◌};
+ghost use Rattle.pp_lexer.specs.declared.lexer.item.TokenValue.TheVariants.{NewLine};
+
 use crate::session::BYTES;
 use pp_rs::lexer::{self, Lexer, LexerItem};
 use pp_rs::pp::{
     PreprocessorItem, Reply, Step, StepExit, convert_lexer_token, convert_lexer_token_to_step,
 };
 use pp_rs::token::{Location, PreprocessorError, Token, TokenValue};
-use pp_shown::{error, item, lexer_value, place, reply};
+use pp_shown::{item, lexer_item, reply};
 use std::alloc::{AllocError, Global};
 use std::io;
-
-// A token of the lexer with its place and flags.
-fn lexer_token(alloc: Global, token: &lexer::Token) -> Result<String, AllocError> {
-    let value = lexer_value(alloc, &token.value)?;
-    let at = place(alloc, token.location)?;
-    let leading = token.leading_whitespace;
-    let start = token.start_of_line;
-    format!(in alloc;
-        "{} {} leading={leading} start={start}",
-        value.as_str(),
-        at.as_str()
-    )
-}
-
-// An error of the lexer with its place.
-fn lexer_error(
-    alloc: Global,
-    fault: &PreprocessorError,
-    location: Location,
-) -> Result<String, AllocError> {
-    let name = error(alloc, fault)?;
-    let at = place(alloc, location)?;
-    format!(in alloc; "Error {} {}", name.as_str(), at.as_str())
-}
-
-fn lexer_item(alloc: Global, item: &LexerItem) -> Result<String, AllocError> {
-    match item {
-        Ok(token) => lexer_token(alloc, token),
-        Err((fault, location)) => lexer_error(alloc, fault, *location),
-    }
-}
 
 // Prints an item of the lexer, with whether a comment was passed.
 fn print_lexer_item(
@@ -52,6 +24,28 @@ fn print_lexer_item(
     println!(rt; "{} comments={comments}", shown.as_str())
 }
 
+// Prints the next item of a lexer. Answers whether there was one.
+fn print_next(rt: &impl Print, alloc: Global, items: &mut Lexer<'_>) -> io::Result<bool> {
+    match items.next() {
+        Some(item) => {
+            print_lexer_item(rt, alloc, &item, items.had_comments())?;
+            Ok(true)
+        }
+        None => Ok(false),
+    }
+}
+
+// Prints the items of a lexer.
+fn lexer_items(rt: &impl Print, alloc: Global, items: &mut Lexer<'_>) -> io::Result<()> {
+    for _ in 0..u64::MAX {
+        if !print_next(rt, alloc, items)? {
+            break;
+        }
+    }
+    let again = items.next().is_some();
+    println!(rt; "None again={again} comments={}", items.had_comments())
+}
+
 /// The items of a `Lexer`, each with whether a comment was passed and where it stands.
 pub(crate) fn lexer(rt: &impl Print, alloc: Global, source: &str) -> io::Result<()> {
     if source.len() < BYTES {
@@ -60,16 +54,20 @@ pub(crate) fn lexer(rt: &impl Print, alloc: Global, source: &str) -> io::Result<
     Ok(())
 }
 
-// Prints the items of a lexer.
-fn lexer_items(rt: &impl Print, alloc: Global, items: &mut Lexer<'_>) -> io::Result<()> {
-    for _ in 0..u64::MAX {
-        let Some(item) = items.next() else {
-            break;
-        };
-        print_lexer_item(rt, alloc, &item, items.had_comments())?;
+/// Prints an error with this place, and nothing of a token.
+pub(crate) fn print_error(
+    rt: &impl Print,
+    alloc: Global,
+    given: PreprocessorItem,
+    place: Location,
+) -> io::Result<()> {
+    match given {
+        Ok(token) => {
+            drop(token);
+            Ok(())
+        }
+        Err((error, _)) => print_item(rt, alloc, &Err((error, place))),
     }
-    let again = items.next().is_some();
-    println!(rt; "None again={again} comments={}", items.had_comments())
 }
 
 /// Prints an item with its place.
@@ -82,13 +80,21 @@ pub(crate) fn print_item(
     println!(rt; "{}", shown.as_str())
 }
 
+// The item that a step gives, or the name of a step that gives none.
+fn item_of_step(answer: Step<Token>) -> Result<PreprocessorItem, &'static str> {
+    match answer {
+        Ok(token) => Ok(Ok(token)),
+        Err(StepExit::Error(fault)) => Ok(Err(fault)),
+        Err(StepExit::Continue) => Err("Continue"),
+        Err(StepExit::Finished) => Err("Finished"),
+    }
+}
+
 // Prints what a token is converted to as a step.
 fn converted_step(rt: &impl Print, alloc: Global, answer: Step<Token>) -> io::Result<()> {
-    match answer {
-        Ok(token) => print_item(rt, alloc, &Ok(token)),
-        Err(StepExit::Error(fault)) => print_item(rt, alloc, &Err(fault)),
-        Err(StepExit::Continue) => println!(rt; "Continue"),
-        Err(StepExit::Finished) => println!(rt; "Finished"),
+    match item_of_step(answer) {
+        Ok(item) => print_item(rt, alloc, &item),
+        Err(name) => println!(rt; "{name}"),
     }
 }
 
@@ -110,33 +116,63 @@ fn value_copy(
     Ok(value.clone(alloc)? == *value)
 }
 
-// Copies a token of the lexer, and prints what it is converted to.
-fn convert_token(rt: &impl Print, alloc: Global, token: &lexer::Token) -> io::Result<()> {
-    copied(rt, alloc, lexer_copy(alloc, token))?;
-    if token.value == lexer::TokenValue::NewLine {
-        return Ok(());
-    }
+// Prints what a copy of a token is converted to.
+fn print_converted(rt: &impl Print, alloc: Global, token: &lexer::Token) -> io::Result<()>
+    requires { token.now.value ≢ NewLine }
+{
     match token.clone(alloc) {
-        Ok(copy) => print_item(rt, alloc, &convert_lexer_token(copy))?,
-        Err(fault) => refused(rt, alloc, fault)?,
+        Ok(copy) => print_item(rt, alloc, &convert_lexer_token(copy)),
+        Err(fault) => refused(rt, alloc, fault),
     }
+}
+
+// Prints what a copy of a token is converted to as a step.
+fn print_converted_step(rt: &impl Print, alloc: Global, token: &lexer::Token) -> io::Result<()>
+    requires { token.now.value ≢ NewLine }
+{
     match token.clone(alloc) {
         Ok(copy) => converted_step(rt, alloc, convert_lexer_token_to_step(copy)),
         Err(fault) => refused(rt, alloc, fault),
     }
 }
 
+// Copies a token of the lexer, and prints what it is converted to.
+fn convert_token(rt: &impl Print, alloc: Global, token: &lexer::Token) -> io::Result<()> {
+    copied(rt, alloc, lexer_copy(alloc, token))?;
+    if token.value == lexer::TokenValue::NewLine {
+        return Ok(());
+    }
+    print_converted(rt, alloc, token)?;
+    print_converted_step(rt, alloc, token)
+}
+
+// Copies and converts the next token of a lexer. Answers whether it gave an item.
+fn convert_next(rt: &impl Print, alloc: Global, items: &mut Lexer<'_>) -> io::Result<bool> {
+    match items.next() {
+        Some(Ok(token)) => {
+            convert_token(rt, alloc, &token)?;
+            Ok(true)
+        }
+        Some(Err(_)) => Ok(true),
+        None => Ok(false),
+    }
+}
+
+// Copies and converts the tokens of a lexer.
+fn convert_items(rt: &impl Print, alloc: Global, items: &mut Lexer<'_>) -> io::Result<()> {
+    println!(rt; "comments={}", items.had_comments())?;
+    for _ in 0..u64::MAX {
+        if !convert_next(rt, alloc, items)? {
+            break;
+        }
+    }
+    Ok(())
+}
+
 /// Copies and converts the tokens of a `Lexer`.
 pub(crate) fn convert(rt: &impl Print, alloc: Global, source: &str) -> io::Result<()> {
     if source.len() < BYTES {
-        let items = Lexer::new(alloc, source);
-        println!(rt; "comments={}", items.had_comments())?;
-        for item in items {
-            match &item {
-                Ok(token) => convert_token(rt, alloc, token)?,
-                Err(_) => {}
-            }
-        }
+        convert_items(rt, alloc, &mut Lexer::new(alloc, source))?;
     }
     Ok(())
 }

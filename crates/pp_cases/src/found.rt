@@ -5,7 +5,8 @@ ghost use Rattle.pp_model.specs.Run.{HasRoom};
 
 use crate::case::{Act, Case};
 use pp_plain::run::run;
-use pp_rs::pp::{self, Call, Outcome, Preprocessor, Reply, preprocess_all};
+use pp_rs::pp::{self, Call, Outcome, Preprocessor, PreprocessorItem, Reply, preprocess_all};
+use pp_rs::token::{Location, PreprocessorError};
 use pp_shown::{item, joined, reply};
 use std::alloc::{AllocError, Global};
 
@@ -115,6 +116,27 @@ impl Items {
     }
 }
 
+fn put_text(alloc: Global, text: &str, items: &mut Items) -> Result<(), AllocError> {
+    items.push(String::from_str(alloc, text)?, false)
+}
+
+fn put_item(alloc: Global, given: &PreprocessorItem, items: &mut Items) -> Result<(), AllocError> {
+    items.push(item(alloc, given)?, given.is_err())
+}
+
+// What an added definition answers.
+fn put_addition(
+    alloc: Global,
+    answer: Result<(), (PreprocessorError, Location)>,
+    items: &mut Items,
+) -> Result<(), AllocError> {
+    let answer = match answer {
+        Ok(()) => Reply::Added,
+        Err(fault) => Reply::Refused(fault),
+    };
+    items.push(reply(alloc, &answer)?, false)
+}
+
 // What an act answers.
 fn act_on(
     alloc: Global,
@@ -124,17 +146,32 @@ fn act_on(
 ) -> Result<(), AllocError> {
     match act {
         Act::Add { name, content } if content.len() < BYTES => {
-            let answer = match pp.add_define(name.as_str(), content.as_str()) {
-                Ok(()) => Reply::Added,
-                Err(fault) => Reply::Refused(fault),
-            };
-            items.push(reply(alloc, &answer)?, false)
+            put_addition(alloc, pp.add_define(name.as_str(), content.as_str()), items)
         }
-        Act::Add { .. } => items.push(String::from_str(alloc, "no answer")?, false),
+        Act::Add { .. } => put_text(alloc, "no answer", items),
         Act::Next => match pp.next() {
-            Some(given) => items.push(item(alloc, &given)?, given.is_err()),
-            None => items.push(String::from_str(alloc, "None")?, false),
+            Some(given) => put_item(alloc, &given, items),
+            None => put_text(alloc, "None", items),
         },
+    }
+}
+
+// All of these items.
+fn put_each(
+    alloc: Global,
+    given: &[PreprocessorItem],
+    items: &mut Items,
+) -> Result<(), AllocError> {
+    for one in given {
+        put_item(alloc, one, items)?;
+    }
+    Ok(())
+}
+
+fn put_left(alloc: Global, pp: &mut Preprocessor<'_>, items: &mut Items) -> Result<(), AllocError> {
+    match preprocess_all(alloc, pp) {
+        Ok(left) => put_each(alloc, &left, items),
+        Err(_) => Err(AllocError),
     }
 }
 
@@ -144,18 +181,11 @@ fn items_left(
     pp: &mut Preprocessor<'_>,
     items: &mut Items,
 ) -> Result<(), AllocError> {
-    match preprocess_all(alloc, pp) {
-        Ok(left) => {
-            for given in &left {
-                items.push(item(alloc, given)?, given.is_err())?;
-            }
-        }
-        Err(_) => return Err(AllocError),
-    }
+    put_left(alloc, pp, items)?;
     if pp.next().is_some() || pp.next().is_some() {
-        return items.push(String::from_str(alloc, "an item after the end")?, false);
+        return put_text(alloc, "an item after the end", items);
     }
-    items.push(String::from_str(alloc, "None")?, false)
+    put_text(alloc, "None", items)
 }
 
 // The items of a source in which these acts are done.
