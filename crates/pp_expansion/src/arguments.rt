@@ -4,10 +4,10 @@ ghost use Rattle.std.specs.Prelude.{◌≡◌, ◌&&◌, ◌==◌, ◌≤◌, �
 ghost use Rattle.std.specs.List.{list_all};
 ghost use Rattle.pp_lexer.specs.PreprocessorError.{out_of_memory};
 ghost use Rattle.pp_model.specs.Calls.{arguments_of, misfit, is_one_empty, is_comma, nesting_after};
-ghost use Rattle.pp_model.specs.Emitting.{Alone, Each};
+ghost use Rattle.pp_model.specs.Emitting.{Alone, Each, answers_at};
 ghost use Rattle.pp_expansion.specs.inner.CallTurns.{TurnsTo};
 ghost use Rattle.pp_expansion.specs.inner.Defined.{meaning_of};
-ghost use Rattle.pp_expansion.specs.inner.Finishing.{Finishes, IsAtStart, IsShort, AreShort, read_to_end};
+ghost use Rattle.pp_expansion.specs.inner.Finishing.{Finishes, IsAtStart, IsShort, AreShort, AreOfCall, read_to_end, site_at};
 ghost use Rattle.pp_expansion.specs.inner.Frames.{layer, names_of};
 ghost use Rattle.pp_expansion.specs.Held.{AllHoldOrdinary};
 ghost use Rattle.pp_expansion.specs.inner.Left.{most_alone};
@@ -28,6 +28,7 @@ use crate::open_around::OpenAround;
 use crate::step::StepExit;
 use pp_lexer::token::{Location, PreprocessorError, Punct, Token, TokenValue};
 use std::alloc::{AllocError, Global};
+use std::mem;
 use std::rc::Rc;
 
 // Whether it is a comma.
@@ -58,23 +59,41 @@ fn nesting_after(depth: usize, value: &TokenValue) -> usize
     }
 }
 
-// The tokens of a call cut at the commas that stand outside inner parentheses.
+// Cuts the tokens at the commas that stand outside inner parentheses. The last piece stands apart.
+fn cut_at_commas(
+    alloc: Global,
+    tokens: Vec<Token>,
+    pieces: &mut Vec<TokenList>,
+    piece: &mut Vec<Token>,
+) -> Result<(), AllocError>
+    requires holds { AllHoldOrdinary tokens.items }
+    requires none { pieces.old.items ≡ [] }
+    requires empty { piece.old.items ≡ [] }
+    ensures cut { OnOk result (arguments_of tokens.items
+        ≡ pieces.new.items ++ piece.new.items ∷ []) }
+    ensures holds { OnOk result (AllHoldOrdinary piece.new.items) }
+{
+    let mut depth: usize = 0;
+    for token in tokens {
+        if ends_argument(depth, &token.value) {
+            drop(token);
+            pieces.push(TokenList::new(mem::replace(piece, Vec::new(alloc))))?;
+            continue;
+        }
+        depth = nesting_after(depth, &token.value);
+        piece.push(token)?;
+    }
+    Ok(())
+}
+
+// The arguments of a call whose tokens are these.
 fn arguments_of(alloc: Global, tokens: Vec<Token>) -> Result<ExpandedArguments, AllocError>
     requires { AllHoldOrdinary tokens.items }
     ensures { IfOk result (λ arguments. arguments ≡ arguments_of tokens.items) }
 {
     let mut pieces = Vec::new(alloc);
     let mut piece = Vec::new(alloc);
-    let mut depth: usize = 0;
-    for token in tokens {
-        if ends_argument(depth, &token.value) {
-            pieces.push(TokenList::new(piece))?;
-            piece = Vec::new(alloc);
-            continue;
-        }
-        depth = nesting_after(depth, &token.value);
-        piece.push(token)?;
-    }
+    cut_at_commas(alloc, tokens, &mut pieces, &mut piece)?;
     pieces.push(TokenList::new(piece))?;
     Ok(ExpandedArguments::new(pieces))
 }
@@ -118,6 +137,26 @@ pub fn finish_call(
 ) -> Result<(), Halt>
     ensures { Finishes levels definitions.now hidden.now call caller.old result caller.new }
 {
+    let expanded = expand_call(alloc, &*caller, &mut call, definitions, hidden, levels)?;
+    caller.open_call(call, expanded)?;
+    Ok(())
+}
+
+// The arguments of a call, each expanded alone, where their number fits and a level is left.
+#[cycle(answers)]
+fn expand_call(
+    alloc: Global,
+    caller: &Caller,
+    call: &mut Call,
+    definitions: &Definitions,
+    hidden: &OpenAround<'_>,
+    levels: u32,
+) -> Result<ExpandedArguments, Halt>
+    ensures answers { Satisfies result (λ out. answers_at levels call.old.definition
+        (site_at call.old definitions.now (names_of caller.now.frames ++ hidden.now)) out) }
+    ensures least { IfOk result (λ outs. AreOfCall levels definitions.now call.old outs) }
+    ensures left { call.new ≡ record call.old { tokens = [] } }
+{
     let arguments = arguments_of(alloc, call.take_tokens(alloc))?;
     match misfit(call.define(), &arguments) {
         Some(error) => return Err(Halt::Fault((error, call.paren()))),
@@ -126,9 +165,7 @@ pub fn finish_call(
     if levels == 0 {
         return Err(Halt::Fault((PreprocessorError::RecursionLimitReached, call.paren())));
     }
-    let expanded = expand_within(alloc, &*caller, arguments, definitions, hidden, levels - 1)?;
-    caller.open_call(call, expanded)?;
-    Ok(())
+    expand_within(alloc, caller, arguments, definitions, hidden, levels - 1)
 }
 
 // The arguments, each expanded alone, where the macros of the caller and those around it are open.
@@ -208,18 +245,40 @@ fn expand_argument(
         return Ok(tokens);
     }
     let mut items = Vec::with_capacity(alloc, 16)?;
+    expand_tokens(alloc, tokens, &mut items, definitions, hidden, levels)?;
+    Ok(TokenList::new(items))
+}
+
+// Gathers what a list of tokens comes to alone.
+#[cycle(answers)]
+fn expand_tokens(
+    alloc: Global,
+    tokens: TokenList,
+    items: &mut Vec<Token>,
+    definitions: &Definitions,
+    hidden: &OpenAround<'_>,
+    levels: u32,
+) -> Result<(), Halt>
+    requires { items.old.items ≡ [] }
+    ensures alone { Satisfies result (λ end. Alone levels tokens
+        (meaning_of definitions.now) hidden.now (read_to_end items.new.items end)) }
+    ensures least { OnOk result (IsShort levels definitions.now (length tokens) items.new.items) }
+    ensures holds { OnOk result (AllHoldOrdinary items.new.items) }
+{
     let mut lexer = ListLexer::argument(tokens.into_tokens(), definitions, &*hidden);
     let mut caller = Caller::new(alloc);
-    expand_list(
+    let ended = expand_list(
         alloc,
         &mut caller,
         &mut lexer,
-        &mut items,
+        items,
         definitions,
         hidden,
         levels,
-    )?;
-    Ok(TokenList::new(items))
+    );
+    drop(caller);
+    drop(lexer);
+    ended
 }
 
 // Expands the tokens of a list to its end.

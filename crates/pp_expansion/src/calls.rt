@@ -9,7 +9,7 @@ ghost use Rattle.pp_expansion.specs.inner.Frames.{layer, names_of, outermost_fra
 ghost use Rattle.pp_expansion.specs.Held.{HoldsOrdinary, AllHoldOrdinary};
 ghost use Rattle.pp_expansion.specs.inner.Idle.{is_idle};
 ghost use Rattle.pp_expansion.specs.inner.CallTurns.{TurnsOrRefuses, is_refusal, paren_of, TakenHoldsOrdinary};
-ghost use Rattle.pp_expansion.specs.inner.Machine.{StepsTaking, TakesNext, GathersNext, Satisfies, taken_as, is_pause};
+ghost use Rattle.pp_expansion.specs.inner.Machine.{StepsTaking, TakesNext, GathersNext, Satisfies, gathered_to, taken_as, is_pause};
 ghost use Rattle.pp_expansion.specs.inner.Turns.{taken_in, opens, opens_value};
 ghost use Rattle.pp_lexer.specs.declared.token.TokenValue.TheVariants as value;
 ghost use Rattle.pp_expansion.specs.declared.step.StepExit.TheVariants.{Error, Continue};
@@ -17,7 +17,7 @@ ghost use Rattle.pp_expansion.specs.declared.step.StepExit.TheVariants.{Error, C
 use crate::define::Define;
 use crate::expander::{MacroProcessor, gives_line_name, is_line_name};
 use crate::frames::{TokenList, copy_of};
-use crate::halt::Halt;
+use crate::halt::{Halt, halt_of};
 use crate::open_around::OpenAround;
 use crate::reader::MeLexer;
 use crate::step::{Step, StepExit, is_out_of_memory};
@@ -286,7 +286,16 @@ impl Caller {
         requires { HoldsOrdinary token.value }
         ensures { self.new ≡ record self.old { held = Some (Ok token) } }
     {
-        self.held = Some(Ok(token));
+        self.put_back(Ok(token));
+    }
+
+    // Holds a step.
+    #[inline(always)]
+    fn put_back(&mut self, step: Step<Token>)
+        requires { IfOk step (λ token. HoldsOrdinary token.value) }
+        ensures { self.new ≡ record self.old { held = Some step } }
+    {
+        drop(self.held.replace(step));
     }
 
     // One step of taking.
@@ -342,6 +351,7 @@ impl Caller {
             if !is_pause(&step) {
                 return step;
             }
+            drop(step);
         }
     }
 
@@ -351,18 +361,28 @@ impl Caller {
             (λ g. GathersNext 0 paren self.old (reader lexer.old) g self.new (reader lexer.new)) }
     {
         let mut tokens = Vec::with_capacity(self.alloc, 16)?;
+        let closing = self.gather_tokens(lexer, paren, &mut tokens)?;
+        Ok(Gathered { tokens, closing })
+    }
+
+    // Gathers the tokens of a call, and gives the place of its `)`.
+    fn gather_tokens(
+        &mut self,
+        lexer: &mut dyn MeLexer,
+        paren: Location,
+        tokens: &mut Vec<Token>,
+    ) -> Result<Location, Halt>
+        requires { tokens.old.items ≡ [] }
+        ensures gathers { Satisfies result (λ end. GathersNext 0 paren self.old (reader lexer.old)
+            (gathered_to tokens.new.items end) self.new (reader lexer.new)) }
+        ensures holds { OnOk result (AllHoldOrdinary tokens.new.items) }
+    {
         let mut last = paren;
         let mut depth: u32 = 0;
         'tokens: loop {
             let token = match self.take_next(lexer) {
                 Ok(token) => token,
-                Err(StepExit::Error(fault)) => {
-                    if is_out_of_memory(&fault.0) {
-                        drop(fault);
-                        return Err(Halt::OutOfMemory);
-                    }
-                    return Err(Halt::Fault(fault));
-                }
+                Err(StepExit::Error(fault)) => return Err(halt_of(fault)),
                 Err(StepExit::Finished) => {
                     return Err(Halt::Fault((PreprocessorError::UnexpectedEndOfInput, last)));
                 }
@@ -373,12 +393,11 @@ impl Caller {
             last = token.location;
             match nesting_of(depth, &token.value) {
                 Nesting::Closes => {
-                    return Ok(Gathered {
-                        tokens,
-                        closing: last,
-                    });
+                    drop(token);
+                    return Ok(last);
                 }
                 Nesting::TooMany => {
+                    drop(token);
                     return Err(Halt::Fault((PreprocessorError::IntegerOverflow, last)));
                 }
                 Nesting::Within(deeper) => depth = deeper,
@@ -398,7 +417,7 @@ impl Caller {
         }
         match paren_of(&next) {
             None => {
-                self.held = Some(next);
+                self.put_back(next);
                 Ok(Found::NoCall)
             }
             Some(paren) => {

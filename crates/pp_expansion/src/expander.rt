@@ -193,6 +193,7 @@ impl MacroProcessor {
             return Ok(token);
         }
         let location = token.location;
+        drop(token);
         let line = self.outermost_line().unwrap_or(location.line);
         let shown = lexer.apply_line_offset(line, location)?;
         Ok(make_line_number(shown, location))

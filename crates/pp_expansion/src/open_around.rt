@@ -55,9 +55,7 @@ impl<'a> OpenAround<'a> {
     {
         let mut expanders = Vec::new(alloc);
         expanders.push(expander)?;
-        for other in &around.expanders {
-            expanders.push(*other)?;
-        }
+        expanders.extend_from_slice(&around.expanders)?;
         Ok(OpenAround { expanders })
     }
 

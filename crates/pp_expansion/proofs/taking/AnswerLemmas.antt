@@ -1,6 +1,6 @@
 -- Calls that are finished, as the code finishes them.
 use Rattle.std.proofs.Common.{◌≡◌, ◌≢◌, ℕ, zero, suc, ◌+◌, ◌-◌, ◌≤◌, arith, All, List, [], ◌∷◌, ◌++◌, length, refl, sym, subst, Option, None, le_trans, true, false, Bool}
-use Rattle.std.specs.Prelude.{if◌then◌else◌, Result, Ok, Err, ◌&&◌, ◌==◌}
+use Rattle.std.specs.Prelude.{if◌then◌else◌, Result, Ok, Err, IfOk, ◌&&◌, ◌==◌}
 use Rattle.std.proofs.lemmas.List.Elements.{All-cons, All-nil, All-append}
 use Rattle.pp_lexer.specs.declared.token.Token.{Token}
 use Rattle.pp_lexer.specs.declared.token.PreprocessorError.{PreprocessorError}
@@ -11,8 +11,8 @@ use Rattle.pp_expansion.specs.Halting.{halt_of}
 use Rattle.pp_expansion.specs.Item.{is_out_of_memory}
 use Rattle.pp_expansion.specs.inner.Calling.{PendingCall}
 use Rattle.pp_expansion.specs.inner.Defined.{Defined, meaning_of, body_tokens}
-use Rattle.pp_expansion.specs.inner.Finishing.{site_at, Finishes, IsOpened, AreShort}
-use Rattle.pp_expansion.specs.inner.Frames.{layer, names_of}
+use Rattle.pp_expansion.specs.inner.Finishing.{site_at, Finishes, AreShort, AreOfCall}
+use Rattle.pp_expansion.specs.inner.Frames.{names_of}
 use Rattle.pp_expansion.specs.inner.Left.{most_alone}
 use Rattle.pp_expansion.specs.inner.Machine.{Machine, Satisfies}
 use Rattle.pp_expansion.specs.declared.halt.Halt.{Halt}
@@ -62,24 +62,45 @@ pieces_short n (token ∷ tokens) = cut (is_comma token.value && (n == 0)) (piec
     )
     cut false ps h = (let k = h.0 in omega arith, λ k d inside. let low = h.1 k d inside in omega arith)
 
--- a frame opens
-pub opens_frame : (levels : ℕ) (definitions : List Defined) (around : List Name)
-    (call : PendingCall) (old new : Machine) (arguments : List (List Token)) → levels ≢ 0 → misfit call.definition.parameters (arguments_of call.tokens) ≡ None
-    → Each (Alone (levels - 1)) (meaning_of definitions) around (arguments_of call.tokens) (Ok arguments)
-    → AreShort (levels - 1) definitions (arguments_of call.tokens) arguments
-    → new ≡ record old { frames = layer call.name call.closing.line call.definition arguments ∷ old.frames } → IsOpened levels definitions around call old new
-opens_frame zero definitions around call old new arguments some fits each short is = absurd (some refl)
-opens_frame (suc levels) definitions around call old new arguments some fits each short is =
+-- what the arguments come to is what the call comes to, where their number fits
+pub answers_each : (levels : ℕ) (definitions : List Defined) (around : List Name) (call : PendingCall) → levels ≢ 0
+    → misfit call.definition.parameters (arguments_of call.tokens) ≡ None → (out : Result (List (List Token)) Fault)
+    → Each (Alone (levels - 1)) (meaning_of definitions) around (arguments_of call.tokens) out
+    → answers_at levels call.definition (site_at call definitions around) out
+answers_each zero definitions around call some fits out each = absurd (some refl)
+answers_each (suc levels) definitions around call some fits out each =
     let one : suc levels - 1 ≡ levels = omega arith in
-    let here = pieces_short 0 call.tokens in
-    record {
-      arguments = arguments;
-      answers = subst (λ (o : Option PreprocessorError). EachOrRefused (Alone levels) o (site_at call definitions around) (Ok arguments)) (sym fits)
-          (subst (λ (l : ℕ). Each (Alone l) (meaning_of definitions) around (arguments_of call.tokens) (Ok arguments)) one each);
-      least = short (length call.tokens) (All-cons (λ (a : List Token). length a ≤ length call.tokens) (pieces 0 call.tokens).first
-          (pieces 0 call.tokens).others here.0 here.1);
-      opens = is;
-    }
+    subst (λ (o : Option PreprocessorError). EachOrRefused (Alone levels) o (site_at call definitions around) out) (sym fits)
+    (subst (λ (l : ℕ). Each (Alone l) (meaning_of definitions) around (arguments_of call.tokens) out) one each)
+
+-- no argument of a call is longer than what all of its tokens may come to
+pub of_call : (levels : ℕ) (definitions : List Defined) (call : PendingCall) (arguments : List (List Token))
+    → AreShort (levels - 1) definitions (arguments_of call.tokens) arguments → AreOfCall levels definitions call arguments
+of_call levels definitions call arguments short = let here = pieces_short 0 call.tokens in
+    short (length call.tokens) (All-cons (λ (a : List Token). length a ≤ length call.tokens) (pieces 0 call.tokens).first
+    (pieces 0 call.tokens).others here.0 here.1)
+
+-- what a search gives satisfies what follows from it
+pub satisfies_more : {A : Type 0} (r : Result A Halt) (P Q : Result A Fault → Type 0) → ((out : Result A Fault) → P out → Q out)
+    → Satisfies r P → Satisfies r Q
+satisfies_more (Ok value) P Q follows has = follows (Ok value) has
+satisfies_more (Err (halt.Fault fault)) P Q follows has = follows (Err fault) has
+satisfies_more (Err halt.OutOfMemory) P Q follows has = tt
+
+-- and so does what is given
+pub gives_more : {A : Type 0} (r : Result A Halt) (P Q : A → Type 0) → ((value : A) → P value → Q value) → IfOk r P → IfOk r Q
+gives_more (Ok value) P Q follows has = follows value has
+gives_more (Err h) P Q follows has = tt
+
+-- a call that has no arguments ends with what they ended with
+pub finishes_without : (levels : ℕ) (definitions : List Defined) (hidden : List Name) (call : PendingCall) (old new : Machine)
+    (r : Result (Unit {0}) Halt) (h : Halt) → r ≡ Err h
+    → Satisfies {A = List (List Token)} (Err h) (answers_at levels call.definition (site_at call definitions (names_of old.frames ++ hidden)))
+    → new ≡ old → Finishes levels definitions hidden call old r new
+finishes_without levels definitions hidden call old new r (halt.Fault fault) is has same =
+    subst (λ (x : Result (Unit {0}) Halt). Finishes levels definitions hidden call old x new) (sym is) (has, same)
+finishes_without levels definitions hidden call old new r halt.OutOfMemory is has same =
+    subst (λ (x : Result (Unit {0}) Halt). Finishes levels definitions hidden call old x new) (sym is) tt
 
 -- one more list, no longer than it may be
 pub short_more : (most : ℕ) (lists more : List (List Token)) (list : List Token) → All (λ (a : List Token). length a ≤ most) lists

@@ -17,11 +17,15 @@ use Rattle.pp_expansion.specs.declared.halt.Halt.TheVariants as halt
 abbrev pub site_at : PendingCall → List Defined → List Name → Site
 site_at call definitions around = record { paren = call.paren; arguments = arguments_of call.tokens; visible = meaning_of definitions; open_around = around }
 
+-- no argument of the call is longer than it may be
+abbrev pub AreOfCall : ℕ → List Defined → PendingCall → List (List Token) → Type 0
+AreOfCall levels definitions call arguments = All (λ argument. length argument ≤ most_alone (levels - 1) definitions (length call.tokens)) arguments
+
 -- its frame is open, with arguments that it comes to, which are no longer than they may be
 pub record IsOpened (levels : ℕ) (definitions : List Defined) (around : List Name) (call : PendingCall) (old new : Machine) : Type 0 where
   pub arguments : List (List Token)
   pub answers : answers_at levels call.definition (site_at call definitions around) (Ok arguments)
-  pub least : All (λ argument. length argument ≤ most_alone (levels - 1) definitions (length call.tokens)) arguments
+  pub least : AreOfCall levels definitions call arguments
   pub opens : new ≡ record old { frames = layer call.name call.closing.line call.definition arguments ∷ old.frames }
 
 -- the frame opens, or the call has a fault; of a refusal of memory nothing is said

@@ -73,3 +73,8 @@ abbrev pub Satisfies : {A : Type 0} → Result A Halt → (Result A Fault → Ty
 Satisfies (Ok value) P = P (Ok value)
 Satisfies (Err (halt.Fault fault)) P = P (Err fault)
 Satisfies (Err halt.OutOfMemory) P = ⊤
+
+-- the tokens of a call whose `)` stands there
+abbrev pub gathered_to : List Token → Result Location Fault → Result Gathered Fault
+gathered_to tokens (Ok closing) = Ok (record { tokens = tokens; closing = closing })
+gathered_to tokens (Err fault) = Err fault

@@ -1,4 +1,4 @@
-use Rattle.std.proofs.Common.{◌≡◌, ◌≤◌, refl, arith, ◌∙◌, sym, ap, List, [], ◌∷◌, ◌++◌, length}
+use Rattle.std.proofs.Common.{◌≡◌, ◌≢◌, ◌≤◌, refl, arith, ◌∙◌, sym, ap, List, [], ◌∷◌, ◌++◌, length}
 use Rattle.std.specs.Prelude.{Ok, Err, None}
 use Rattle.std.specs.Vec.Iter.{into_iter_items}
 use Rattle.pp_model.specs.Calls.{arguments_of, misfit}
@@ -12,7 +12,7 @@ use Rattle.std.proofs.lemmas.List.{nil_from_length}
 use Rattle.std.proofs.lemmas.List.Elements.{All-push, All-nil, All-head, All-tail}
 use Rattle.pp_lexer.specs.declared.token.Token.{Token}
 use Rattle.pp_expansion.specs.Held.{HoldsOrdinary}
-use Rattle.pp_expansion.proofs.taking.AnswerLemmas.{satisfies_exit, satisfies_fault, fault_of, finish_fault, opens_frame, short_more, short_list}
+use Rattle.pp_expansion.proofs.taking.AnswerLemmas.{satisfies_exit, satisfies_fault, fault_of, finish_fault, answers_each, of_call, satisfies_more, gives_more, finishes_without, short_more, short_list}
 use Rattle.pp_expansion.proofs.taking.ListLeadsLemmas.{reached_start, reached_token, token_less, reached_pause, pause_less, reached_end, reached_fault, reached_call_fault, call_less, reached_call}
 use Rattle.pp_expansion.proofs.taking.ListedLeadsLemmas.{turned}
 use Rattle.pp_expansion.proofs.taking.PlainLemmas.{plain_alone, plain_short}
@@ -118,14 +118,34 @@ expand_arguments-returns-clause-each t c = rw (c.new.ensures, ← after_items-en
 pub expand_arguments-returns-clause-least : goal.expand_arguments-returns-clause-least
 expand_arguments-returns-clause-least t c = λ n all. rw c.new.ensures (c.loop-argument.invariant.short n all)
 
-pub finish_call-returns : goal.finish_call-returns
-finish_call-returns t c =
-    let left : c.take_tokens.new.self ≡ record c.args.call { tokens = [] } = c.take_tokens.ensures.left in
-    let cut : c.in_ok-arguments.arguments ≡ arguments_of c.args.call.tokens = c.in_ok-arguments.ensures ∙ ap arguments_of c.take_tokens.ensures.taken in
-    let fits : misfit c.args.call.definition.parameters (arguments_of c.args.call.tokens) ≡ None =
+pub expand_call-returns : goal.expand_call-returns
+expand_call-returns t c =
+    let left : c.take_tokens.new.self ≡ record c.args.call.now { tokens = [] } = c.take_tokens.ensures.left in
+    let cut : c.in_ok-arguments.arguments ≡ arguments_of c.args.call.now.tokens =
+    c.in_ok-arguments.ensures ∙ ap arguments_of c.take_tokens.ensures.taken in
+    let fits : misfit c.args.call.now.definition.parameters (arguments_of c.args.call.now.tokens) ≡ None =
     let known : misfit c.define.result.now.parameters c.in_ok-arguments.arguments ≡ None = sym c.misfit.ensures ∙ c.in-None.is in
     rw (c.define.ensures, left, cut) at known in
-    opens_frame c.args.levels c.args.definitions.now
-    (names_of c.args.caller.now.frames ++ c.args.hidden.now) c.args.call c.args.caller.now c.open_call.new.self c.in_ok-expanded.expanded
-    (λ e. omega (arith, e, c.if-levels-eq0.false)) fits (rw cut at c.in_ok-expanded.ensures.each) (rw cut at c.in_ok-expanded.ensures.least)
-    (rw left at c.in_ok-open_call.ensures)
+    let some : c.args.levels ≢ 0 = λ e. omega (arith, e, c.if-levels-eq0.false) in
+    let around = names_of c.args.caller.now.frames ++ c.args.hidden.now in
+    record {
+      answers = satisfies_more c.expand_within.result _ _ (answers_each c.args.levels c.args.definitions.now around c.args.call.now some fits)
+          (rw cut at c.expand_within.ensures.each);
+      least = gives_more c.expand_within.result _ _ (of_call c.args.levels c.args.definitions.now c.args.call.now)
+          (rw cut at c.expand_within.ensures.least);
+      left = left;
+    }
+
+pub finish_call-returns-in_err-expanded : goal.finish_call-returns-in_err-expanded
+finish_call-returns-in_err-expanded t c =
+    let e = err_from_is_err_and c.from_residual.result c.from_residual.ensures.1 in
+    finishes_without c.args.levels c.args.definitions.now c.args.hidden.now c.args.call c.args.caller.now c.args.caller.now _
+    c.in_err-expanded.field-0.0 (e.1 ∙ ap Err e.2) c.in_err-expanded.ensures.answers refl
+
+pub finish_call-returns : goal.finish_call-returns
+finish_call-returns t c = record {
+  arguments = c.in_ok-expanded.expanded;
+  answers = c.in_ok-expanded.ensures.answers;
+  least = c.in_ok-expanded.ensures.least;
+  opens = rw c.in_ok-expanded.ensures.left at c.in_ok-open_call.ensures;
+}

@@ -13,19 +13,25 @@ use Rattle.pp_expansion.proofs.taking.ListLeadsLemmas.{Reached}
 use Rattle.pp_expansion.proofs.arguments.+answers.Given as goal
 
 abbrev pub decreases-finish_call : goal.decreases-finish_call
-decreases-finish_call l = 5 * l.levels
+decreases-finish_call l = 7 * l.levels + 1
+
+abbrev pub decreases-expand_call : goal.decreases-expand_call
+decreases-expand_call l = 7 * l.levels
 
 abbrev pub decreases-expand_list : goal.decreases-expand_list
-decreases-expand_list l = 5 * l.levels + 1
+decreases-expand_list l = 7 * l.levels + 2
+
+abbrev pub decreases-expand_tokens : goal.decreases-expand_tokens
+decreases-expand_tokens l = 7 * l.levels + 3
 
 abbrev pub decreases-expand_argument : goal.decreases-expand_argument
-decreases-expand_argument l = 5 * l.levels + 2
+decreases-expand_argument l = 7 * l.levels + 4
 
 abbrev pub decreases-expand_arguments : goal.decreases-expand_arguments
-decreases-expand_arguments l = 5 * l.levels + 3
+decreases-expand_arguments l = 7 * l.levels + 5
 
 abbrev pub decreases-expand_within : goal.decreases-expand_within
-decreases-expand_within l = 5 * l.levels + 4
+decreases-expand_within l = 7 * l.levels + 6
 
 abbrev pub invariant-expand_list-items : goal.invariant-expand_list-items
 invariant-expand_list-items l = record {

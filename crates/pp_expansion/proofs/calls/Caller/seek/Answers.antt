@@ -1,6 +1,5 @@
-use Rattle.std.proofs.Common.{◌∙◌, sym, ap, Some, Err}
+use Rattle.std.proofs.Common.{◌∙◌, sym, ap, Err}
 use Rattle.std.proofs.lemmas.Result.{err_from_is_err_and}
-use Rattle.pp_expansion.specs.inner.Machine.{Machine}
 use Rattle.pp_expansion.proofs.taking.SeekLemmas.{finds_nothing, finds_whole, finds_fault}
 use Rattle.pp_expansion.proofs.calls.Caller.seek.Goals as goal
 
@@ -16,7 +15,7 @@ pub returns-in-None : goal.returns-in-None
 returns-in-None g c = record {
   finds = finds_nothing _ c.take_next-next.new.self _ _ _ c.take_next-next.result c.take_next-next.ensures.takes
       (sym c.is_refusal.ensures ∙ c.if-is_refusal.false) (sym c.paren_of.ensures
-      ∙ c.in-None.is) (ap (λ (m : Machine). record m { held = Some c.take_next-next.result }) c.self.view_is);
+      ∙ c.in-None.is) c.put_back.ensures;
 }
 
 pub returns-in_ok-gathered-in-Some : goal.returns-in_ok-gathered-in-Some

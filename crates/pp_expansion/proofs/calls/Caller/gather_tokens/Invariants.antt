@@ -2,7 +2,7 @@ use Rattle.pp_expansion.specs.Held.{AllHoldOrdinary}
 use Rattle.pp_expansion.specs.inner.Left.{regions}
 use Rattle.pp_expansion.specs.inner.Reach.{total}
 use Rattle.pp_expansion.proofs.taking.MachineLemmas.{Gathering}
-use Rattle.pp_expansion.proofs.calls.Caller.gather.Given as goal
+use Rattle.pp_expansion.proofs.calls.Caller.gather_tokens.Given as goal
 
 -- each token that is gathered stands before those that follow
 abbrev pub invariant-tokens : goal.invariant-tokens

@@ -4,7 +4,7 @@ use Rattle.std.specs.Vec.Iter.{into_iter_items}
 use Rattle.pp_lexer.specs.declared.token.Token.{Token}
 use Rattle.pp_expansion.specs.Held.{HoldsOrdinary, AllHoldOrdinary}
 use Rattle.pp_expansion.proofs.taking.PieceLemmas.{ends_piece, grows_piece, piece_within, piece_ended}
-use Rattle.pp_expansion.proofs.arguments.arguments_of.Goals as goal
+use Rattle.pp_expansion.proofs.arguments.cut_at_commas.Goals as goal
 
 pub loop-token-preserved-then-ends_argument : goal.loop-token-preserved-then-ends_argument
 loop-token-preserved-then-ends_argument c =
@@ -12,9 +12,10 @@ loop-token-preserved-then-ends_argument c =
     record {
       cut = ends_piece _ _ _ c.in-Some.token c.loop-token.depth _ _ _ _ c.loop-token.invariant.cut is
           (sym c.ends_argument.ensures ∙ c.if-ends_argument.true) (c.in_ok-push.ensures.items
-          ∙ ap (λ (piece : List Token). c.loop-token.pieces.items ++ piece ∷ []) c.new.ensures) c.new-piece-then-ends_argument.ensures.items;
+          ∙ ap (λ (piece : List Token). c.loop-token.pieces.items ++ piece ∷ []) (rw c.replace.ensures.value at c.new-then-ends_argument.ensures))
+          (rw c.replace.ensures.after c.new.ensures.items);
       few = piece_ended _ _ c.in-Some.token c.loop-token.depth _ c.loop-token.invariant.few is;
-      holds = rw c.new-piece-then-ends_argument.ensures.items (All-nil (λ (t : Token). HoldsOrdinary t.value));
+      holds = rw (c.replace.ensures.after, c.new.ensures.items) (All-nil (λ (t : Token). HoldsOrdinary t.value));
       left = All-tail (λ (t : Token). HoldsOrdinary t.value) c.in-Some.token _ (rw is at c.loop-token.invariant.left);
     }
 

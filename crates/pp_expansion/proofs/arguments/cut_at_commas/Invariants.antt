@@ -2,7 +2,7 @@ use Rattle.std.proofs.Common.{◌≡◌, ◌+◌, ◌++◌, ◌∷◌, ◌≤◌
 use Rattle.std.specs.Vec.Iter.{into_iter_items}
 use Rattle.pp_model.specs.Calls.{arguments_of, pieces}
 use Rattle.pp_expansion.specs.Held.{AllHoldOrdinary}
-use Rattle.pp_expansion.proofs.arguments.arguments_of.Given as goal
+use Rattle.pp_expansion.proofs.arguments.cut_at_commas.Given as goal
 
 -- the arguments that are done, the one that is read, and what follows
 abbrev pub invariant-loop-token : goal.invariant-loop-token
