@@ -141,11 +141,13 @@ impl<'a> DirectiveProcessor<'a> {
         ensures errors { Reports result (unreported_of self.old) (unreported_of self.new) }
     {
         if let Some(before) = self.definitions.find(line.name.as_str()) {
-            if before.is_same(&line.define) {
+            let is_same = before.is_same(&line.define);
+            let location = line.location;
+            drop(line);
+            if is_same {
                 return Ok(());
             }
-            let fault = (PreprocessorError::DefineRedefined, line.location);
-            return Err(Halt::Fault(fault));
+            return Err(Halt::Fault((PreprocessorError::DefineRedefined, location)));
         }
         let define = Rc::new(self.alloc, line.define)?;
         self.definitions.set(line.name, define)?;
@@ -446,7 +448,10 @@ impl<'a> DirectiveProcessor<'a> {
         ensures errors { Reports result (unreported_of self.old) (unreported_of self.new) }
     {
         let word = first_name(hash, &mut self.lexer)?;
-        let given = self.give_live(directive_of(&word.name), word.location)?;
+        let directive = directive_of(&word.name);
+        let location = word.location;
+        drop(word);
+        let given = self.give_live(directive, location)?;
         self.has_directive = true;
         Ok(given)
     }
@@ -462,7 +467,9 @@ impl<'a> DirectiveProcessor<'a> {
         let word = token.location;
         match token.value {
             lexer::TokenValue::Ident(name) => {
-                self.act_dead(directive_of(&name), word)?;
+                let directive = directive_of(&name);
+                drop(name);
+                self.act_dead(directive, word)?;
                 self.has_directive = true;
                 Ok(())
             }
@@ -532,15 +539,23 @@ impl<'a> DirectiveProcessor<'a> {
             return Err(self.end());
         };
         match token.value {
-            lexer::TokenValue::NewLine => Err(StepExit::Continue),
+            lexer::TokenValue::NewLine => {
+                drop(token);
+                Err(StepExit::Continue)
+            }
             lexer::TokenValue::Hash if token.start_of_line => {
-                match self.read_directive(token.location)? {
+                let hash = token.location;
+                drop(token);
+                match self.read_directive(hash)? {
                     Some(item) => Ok(item),
                     None => Err(StepExit::Continue),
                 }
             }
             _ if self.is_live() => self.give_token(token),
-            _ => Err(StepExit::Continue),
+            _ => {
+                drop(token);
+                Err(StepExit::Continue)
+            }
         }
     }
 }

@@ -336,7 +336,9 @@ impl<'a> IfParser<'a> {
             caller: Caller::new(self.alloc),
             lexer,
         };
-        self.read_words(&mut line)
+        let words = self.read_words(&mut line);
+        drop(line);
+        words
     }
 }
 

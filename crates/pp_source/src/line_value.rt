@@ -224,7 +224,9 @@ pub fn condition(
     let levels = expansion_limit();
     let words = line_words(alloc, kind, directive, tokens, definitions, levels)?;
     let evaluation = evaluation(alloc, &words)?;
-    holds_alone(alloc, directive, &words, evaluation)
+    let holds = holds_alone(alloc, directive, &words, evaluation);
+    drop(words);
+    holds
 }
 
 // The value as the number of a line.

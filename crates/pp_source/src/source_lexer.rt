@@ -99,6 +99,7 @@ impl<'a> SourceLexer<'a> {
             Some(Err(error)) => {
                 self.spent = is_out_of_memory(&error.0);
                 if self.spent {
+                    drop(error);
                     return Err(Halt::OutOfMemory);
                 }
                 self.error_place = Some(self.lexer.place());

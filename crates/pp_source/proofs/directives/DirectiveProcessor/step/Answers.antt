@@ -22,8 +22,8 @@ returns-in-Some-2-clause-reads c =
     (step_directive p.definitions p.blocks p.line_offset p.has_text p.has_directive p.lexer c.next_token.new.self c.in_ok-token.field-0
     c.in-Some.token c.in-Some.is e.spent e.is e.takes (Ok (Some c.in-Some-2.item)) c.read_directive.new.self c.in-Hash.is c.if-token.true gives)
 
-pub returns-in-Hash-clause-reads : goal.returns-in-Hash-clause-reads
-returns-in-Hash-clause-reads c =
+pub returns-in-None-clause-reads : goal.returns-in-None-clause-reads
+returns-in-None-clause-reads c =
     let p = c.self.inside in
     let e = c.in_ok-token.ensures in
     let gives = rw c.in-None.is at c.in_ok-item-in-Hash.ensures.gives in
