@@ -49,7 +49,9 @@ fn items_of_text(
     ensures refused { IfErr result (λ fault. fault ≡ out_of_memory) }
 {
     let mut pp = Preprocessor::new(alloc, text);
-    preprocess_all(alloc, &mut pp)
+    let items = preprocess_all(alloc, &mut pp);
+    drop(pp);
+    items
 }
 
 /// Whether the text that spells the tokens with single spaces gives tokens of the same values when it is preprocessed afresh,
@@ -71,5 +73,7 @@ pub fn are_read_afresh(
         return Ok(false);
     }
     let items = items_of_text(alloc, text.as_str())?;
-    Ok(have_values(&items, tokens))
+    let are_same = have_values(&items, tokens);
+    drop(items);
+    Ok(are_same)
 }

@@ -32,6 +32,8 @@ fn gather(alloc: Global, pp: &mut Preprocessor<'_>) -> Result<Vec<PreprocessorIt
             return Ok(items);
         };
         if is_refusal(&item) {
+            drop(item);
+            drop(items);
             return Err(AllocError);
         }
         items.push(item)?;

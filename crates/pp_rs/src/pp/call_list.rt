@@ -103,5 +103,7 @@ pub fn replies(alloc: Global, source: &str, calls: &[Call<'_>]) -> Result<Vec<Re
     ensures { IfOk result (λ replies. IsRun source.now (map call_of calls.now) replies.items) }
 {
     let mut pp = Preprocessor::new(alloc, source);
-    replies_to(alloc, &mut pp, calls)
+    let replies = replies_to(alloc, &mut pp, calls);
+    drop(pp);
+    replies
 }

@@ -91,6 +91,7 @@ fn take_in(source: &DirectiveProcessor<'_>, token: Token) -> Step<Token>
         return Ok(token);
     }
     let location = token.location;
+    drop(token);
     let shown = source.apply_line_offset(location.line, location)?;
     Ok(make_line_number(shown, location))
 }

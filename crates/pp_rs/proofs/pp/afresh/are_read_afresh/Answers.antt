@@ -20,10 +20,10 @@ items_given c =
 
 pub returns-clause-same : goal.returns-clause-same
 returns-clause-same c = λ yes.
-    let same = rw c.deref.ensures.value at (c.have_values.ensures.0 yes) in
+    let same = rw c.deref.ensures.value at (c.have_values-are_same.ensures.0 yes) in
     read_afresh c.args.tokens.now c.in_ok-items.items.items (items_given c) same
 
 pub returns-clause-output : goal.returns-clause-output
 returns-clause-output c = λ output.
     let same = items_of_output c.args.tokens.now c.in_ok-items.items.items output c.requires.ordinary (items_given c) in
-    c.have_values.ensures.1 (rw c.deref.ensures.value same)
+    c.have_values-are_same.ensures.1 (rw c.deref.ensures.value same)
