@@ -62,6 +62,11 @@ pub fn run<R: Source, W: Sink>(
     let source = input::read_source(alloc, reader)?;
     let text = source.as_str();
     let mut items = Preprocessor::new(alloc, text);
-    definitions::add_definitions(&mut items, defs)?;
-    output::print_items(alloc, items, writer)
+    match definitions::add_definitions(&mut items, defs) {
+        Ok(()) => output::print_items(alloc, items, writer),
+        Err(fault) => {
+            drop(items);
+            Err(fault)
+        }
+    }
 }

@@ -39,7 +39,9 @@ pub fn print_items<W: Sink>(
     ensures err { IfErr result (λ fault. IsDeviceFault RunFault.WriteFailed fault
         (W.failed writer.new)) }
 {
-    print_rest(alloc, &mut items, writer)
+    let end = print_rest(alloc, &mut items, writer);
+    drop(items);
+    end
 }
 
 // Prints the items that are left. It stands apart, so that the preprocessor is dropped in one place.
@@ -90,11 +92,20 @@ fn print_stop<W: Sink>(
         (W.failed writer.new)) }
 {
     if matches!(refusal.0, PreprocessorError::OutOfMemory) {
+        drop(refusal);
+        drop(line);
         return Err(RunFault::OutOfMemory);
     }
-    print_line(alloc, line, writer)?;
-    let (error, location) = refusal;
-    Ok(RunEnd::Stopped { error, location })
+    match print_line(alloc, line, writer) {
+        Ok(()) => {
+            let (error, location) = refusal;
+            Ok(RunEnd::Stopped { error, location })
+        }
+        Err(fault) => {
+            drop(refusal);
+            Err(fault)
+        }
+    }
 }
 
 // Takes an ordinary token into the line, and prints a directive item, and before it the line.
@@ -116,33 +127,36 @@ fn print_token<W: Sink>(
         (W.failed writer.new)) }
 {
     if token.is_ordinary() {
-        push_word(alloc, line, &token.value)?;
-        return Ok(());
+        match push_word(alloc, line, &token.value) {
+            Ok(()) => Ok(()),
+            Err(_) => Err(RunFault::OutOfMemory),
+        }
+    } else {
+        print_directive(alloc, &token.value, line, writer)
     }
-    print_directive(alloc, token, line, writer)
 }
 
 // Prints a directive item, and before it the line. It stands apart, since most tokens are ordinary.
 #[inline(never)]
 fn print_directive<W: Sink>(
     alloc: Global,
-    token: Token,
+    value: &TokenValue,
     line: &mut Option<String>,
     writer: &mut W,
 ) -> Result<(), RunFault>
-    requires directive { is_ordinary token.value ≡ false }
-    requires item { HoldsOrdinary token.value }
+    requires directive { is_ordinary value.now ≡ false }
+    requires item { HoldsOrdinary value.now }
     requires ready { W.failed writer.old ≡ false }
     ensures line { OnOk result (option_map string_bytes line.new
-        ≡ line_after (option_map string_bytes line.old) token.value) }
+        ≡ line_after (option_map string_bytes line.old) value.now) }
     ensures written { OnOk result (Appends (W.contents writer.old) (W.contents writer.new)
-        (written_lines (ended_lines (option_map string_bytes line.old) token.value))) }
+        (written_lines (ended_lines (option_map string_bytes line.old) value.now))) }
     ensures refused { IsErrOf result RunFault.OutOfMemory → writer.new ≡ writer.old }
     ensures ok { OnOk result (W.failed writer.new ≡ false) }
     ensures err { IfErr result (λ fault. IsDeviceFault RunFault.WriteFailed fault
         (W.failed writer.new)) }
 {
-    let directive = spell_directive(alloc, &token.value)?;
+    let directive = spell_directive(alloc, value)?;
     let mut lines = end_line(alloc, line.take())?;
     lines.push_str(directive.as_str())?;
     lines.push('\n')?;
