@@ -74,7 +74,9 @@ pub(crate) fn by_the_plain_program(
 ) -> Result<String, AllocError> {
     if source.len() < BYTES && have_room(calls) {
         if let Some(replies) = run(alloc, source, calls, STEPS)? {
-            return shown(alloc, &replies);
+            let text = shown(alloc, &replies);
+            drop(replies);
+            return text;
         }
     }
     String::from_str(alloc, "no answer")
@@ -88,7 +90,9 @@ pub(crate) fn by_replies(
 ) -> Result<String, AllocError> {
     if source.len() < BYTES && have_room(calls) {
         let replies = pp::replies(alloc, source, calls)?;
-        return shown(alloc, &replies);
+        let text = shown(alloc, &replies);
+        drop(replies);
+        return text;
     }
     String::from_str(alloc, "no answer")
 }
@@ -134,7 +138,9 @@ fn put_addition(
         Ok(()) => Reply::Added,
         Err(fault) => Reply::Refused(fault),
     };
-    items.push(reply(alloc, &answer)?, false)
+    let text = reply(alloc, &answer);
+    drop(answer);
+    items.push(text?, false)
 }
 
 // What an act answers.
@@ -150,7 +156,11 @@ fn act_on(
         }
         Act::Add { .. } => put_text(alloc, "no answer", items),
         Act::Next => match pp.next() {
-            Some(given) => put_item(alloc, &given, items),
+            Some(given) => {
+                let put = put_item(alloc, &given, items);
+                drop(given);
+                put
+            }
             None => put_text(alloc, "None", items),
         },
     }
@@ -170,7 +180,11 @@ fn put_each(
 
 fn put_left(alloc: Global, pp: &mut Preprocessor<'_>, items: &mut Items) -> Result<(), AllocError> {
     match preprocess_all(alloc, pp) {
-        Ok(left) => put_each(alloc, &left, items),
+        Ok(left) => {
+            let put = put_each(alloc, &left, items);
+            drop(left);
+            put
+        }
         Err(_) => Err(AllocError),
     }
 }
@@ -193,7 +207,9 @@ fn put_items(alloc: Global, source: &str, acts: &[Act], items: &mut Items) -> Re
     requires { length source.now < 2 ^ 32 - 1 }
 {
     let mut pp = Preprocessor::new(alloc, source);
-    act_in_order(alloc, &mut pp, acts, items)
+    let done = act_in_order(alloc, &mut pp, acts, items);
+    drop(pp);
+    done
 }
 
 // What its acts give, and then the items that are left.
