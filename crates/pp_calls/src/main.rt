@@ -57,7 +57,10 @@ fn answer<'a>(
     if matches!(words, [word] if word.as_str() == "sheet") {
         return sheet::read(rt, alloc, source);
     }
-    make_calls(rt, alloc, &mut Session::new(alloc, source), source, words)
+    let mut session = Session::new(alloc, source);
+    let done = make_calls(rt, alloc, &mut session, source, words);
+    drop(session);
+    done
 }
 
 // Makes the calls of the words in turn.

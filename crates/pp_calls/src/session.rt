@@ -81,7 +81,9 @@ impl<'a> Session<'a> {
         }
         self.calls.push(Call::AddDefine(name, content))?;
         let answer = reply_to_definition(self.pp.add_define(name, content));
-        print_reply(rt, self.alloc, &answer)
+        let shown = print_reply(rt, self.alloc, &answer);
+        drop(answer);
+        shown
     }
 
     // Shows an item, and keeps it.

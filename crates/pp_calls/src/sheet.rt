@@ -16,7 +16,10 @@ pub(crate) fn read(rt: &impl Print, alloc: Global, sheet: &str) -> io::Result<()
 fn make_calls(rt: &impl Print, alloc: Global, case: &str) -> io::Result<()> {
     let source = source_of(alloc, case)?;
     let source = source.as_str();
-    answer(rt, alloc, &mut Session::new(alloc, source), source, case)
+    let mut session = Session::new(alloc, source);
+    let done = answer(rt, alloc, &mut session, source, case);
+    drop(session);
+    done
 }
 
 // Prints the lines of a case with what its words answer.

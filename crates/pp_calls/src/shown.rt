@@ -28,7 +28,9 @@ fn print_lexer_item(
 fn print_next(rt: &impl Print, alloc: Global, items: &mut Lexer<'_>) -> io::Result<bool> {
     match items.next() {
         Some(item) => {
-            print_lexer_item(rt, alloc, &item, items.had_comments())?;
+            let shown = print_lexer_item(rt, alloc, &item, items.had_comments());
+            drop(item);
+            shown?;
             Ok(true)
         }
         None => Ok(false),
@@ -49,7 +51,10 @@ fn lexer_items(rt: &impl Print, alloc: Global, items: &mut Lexer<'_>) -> io::Res
 /// The items of a `Lexer`, each with whether a comment was passed and where it stands.
 pub(crate) fn lexer(rt: &impl Print, alloc: Global, source: &str) -> io::Result<()> {
     if source.len() < BYTES {
-        lexer_items(rt, alloc, &mut Lexer::new(alloc, source))?;
+        let mut items = Lexer::new(alloc, source);
+        let shown = lexer_items(rt, alloc, &mut items);
+        drop(items);
+        return shown;
     }
     Ok(())
 }
@@ -93,7 +98,11 @@ fn item_of_step(answer: Step<Token>) -> Result<PreprocessorItem, &'static str> {
 // Prints what a token is converted to as a step.
 fn converted_step(rt: &impl Print, alloc: Global, answer: Step<Token>) -> io::Result<()> {
     match item_of_step(answer) {
-        Ok(item) => print_item(rt, alloc, &item),
+        Ok(item) => {
+            let shown = print_item(rt, alloc, &item);
+            drop(item);
+            shown
+        }
         Err(name) => println!(rt; "{name}"),
     }
 }
@@ -121,7 +130,12 @@ fn print_converted(rt: &impl Print, alloc: Global, token: &lexer::Token) -> io::
     requires { token.now.value ≢ NewLine }
 {
     match token.clone(alloc) {
-        Ok(copy) => print_item(rt, alloc, &convert_lexer_token(copy)),
+        Ok(copy) => {
+            let item = convert_lexer_token(copy);
+            let shown = print_item(rt, alloc, &item);
+            drop(item);
+            shown
+        }
         Err(fault) => refused(rt, alloc, fault),
     }
 }
@@ -150,7 +164,9 @@ fn convert_token(rt: &impl Print, alloc: Global, token: &lexer::Token) -> io::Re
 fn convert_next(rt: &impl Print, alloc: Global, items: &mut Lexer<'_>) -> io::Result<bool> {
     match items.next() {
         Some(Ok(token)) => {
-            convert_token(rt, alloc, &token)?;
+            let shown = convert_token(rt, alloc, &token);
+            drop(token);
+            shown?;
             Ok(true)
         }
         Some(Err(_)) => Ok(true),
@@ -172,7 +188,10 @@ fn convert_items(rt: &impl Print, alloc: Global, items: &mut Lexer<'_>) -> io::R
 /// Copies and converts the tokens of a `Lexer`.
 pub(crate) fn convert(rt: &impl Print, alloc: Global, source: &str) -> io::Result<()> {
     if source.len() < BYTES {
-        convert_items(rt, alloc, &mut Lexer::new(alloc, source))?;
+        let mut items = Lexer::new(alloc, source);
+        let shown = convert_items(rt, alloc, &mut items);
+        drop(items);
+        return shown;
     }
     Ok(())
 }
@@ -183,7 +202,10 @@ pub(crate) fn refused(
     alloc: Global,
     fault: (PreprocessorError, Location),
 ) -> io::Result<()> {
-    print_reply(rt, alloc, &Reply::Refused(fault))
+    let answer = Reply::Refused(fault);
+    let shown = print_reply(rt, alloc, &answer);
+    drop(answer);
+    shown
 }
 
 /// Prints a reply.
