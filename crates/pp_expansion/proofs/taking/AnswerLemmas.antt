@@ -1,6 +1,6 @@
 -- Calls that are finished, as the code finishes them.
 use Rattle.std.proofs.Common.{◌≡◌, ◌≢◌, ℕ, zero, suc, ◌+◌, ◌-◌, ◌≤◌, arith, All, List, [], ◌∷◌, ◌++◌, length, refl, sym, subst, Option, None, le_trans, true, false, Bool}
-use Rattle.std.specs.Prelude.{if◌then◌else◌, Result, Ok, Err, IfOk, ◌&&◌, ◌==◌}
+use Rattle.std.specs.Prelude.{if◌then◌else◌, Result, Ok, Err, ◌&&◌, ◌==◌}
 use Rattle.std.proofs.lemmas.List.Elements.{All-cons, All-nil, All-append}
 use Rattle.pp_lexer.specs.declared.token.Token.{Token}
 use Rattle.pp_lexer.specs.declared.token.PreprocessorError.{PreprocessorError}
@@ -86,11 +86,6 @@ pub satisfies_more : {A : Type 0} (r : Result A Halt) (P Q : Result A Fault → 
 satisfies_more (Ok value) P Q follows has = follows (Ok value) has
 satisfies_more (Err (halt.Fault fault)) P Q follows has = follows (Err fault) has
 satisfies_more (Err halt.OutOfMemory) P Q follows has = tt
-
--- and so does what is given
-pub gives_more : {A : Type 0} (r : Result A Halt) (P Q : A → Type 0) → ((value : A) → P value → Q value) → IfOk r P → IfOk r Q
-gives_more (Ok value) P Q follows has = follows value has
-gives_more (Err h) P Q follows has = tt
 
 -- a call that has no arguments ends with what they ended with
 pub finishes_without : (levels : ℕ) (definitions : List Defined) (hidden : List Name) (call : PendingCall) (old new : Machine)

@@ -3,7 +3,7 @@ use Rattle.std.specs.Prelude.{Ok, Err, None}
 use Rattle.std.specs.Vec.Iter.{into_iter_items}
 use Rattle.pp_model.specs.Calls.{arguments_of, misfit}
 use Rattle.pp_expansion.specs.inner.Frames.{names_of}
-use Rattle.std.proofs.lemmas.Result.{err_from_is_err_and}
+use Rattle.std.proofs.lemmas.Result.{err_from_is_err_and, IfOk-weaker}
 use Rattle.pp_model.specs.Emitting.{first_failed, more, none}
 use Rattle.pp_model.specs.inner.Emitting.{list_before}
 use Rattle.pp_model.proofs.CollectLemmas.{after_lists-before, after_items-end}
@@ -12,7 +12,7 @@ use Rattle.std.proofs.lemmas.List.{nil_from_length}
 use Rattle.std.proofs.lemmas.List.Elements.{All-push, All-nil, All-head, All-tail}
 use Rattle.pp_lexer.specs.declared.token.Token.{Token}
 use Rattle.pp_expansion.specs.Held.{HoldsOrdinary}
-use Rattle.pp_expansion.proofs.taking.AnswerLemmas.{satisfies_exit, satisfies_fault, fault_of, finish_fault, answers_each, of_call, satisfies_more, gives_more, finishes_without, short_more, short_list}
+use Rattle.pp_expansion.proofs.taking.AnswerLemmas.{satisfies_exit, satisfies_fault, fault_of, finish_fault, answers_each, of_call, satisfies_more, finishes_without, short_more, short_list}
 use Rattle.pp_expansion.proofs.taking.ListLeadsLemmas.{reached_start, reached_token, token_less, reached_pause, pause_less, reached_end, reached_fault, reached_call_fault, call_less, reached_call}
 use Rattle.pp_expansion.proofs.taking.ListedLeadsLemmas.{turned}
 use Rattle.pp_expansion.proofs.taking.PlainLemmas.{plain_alone, plain_short}
@@ -131,7 +131,7 @@ expand_call-returns t c =
     record {
       answers = satisfies_more c.expand_within.result _ _ (answers_each c.args.levels c.args.definitions.now around c.args.call.now some fits)
           (rw cut at c.expand_within.ensures.each);
-      least = gives_more c.expand_within.result _ _ (of_call c.args.levels c.args.definitions.now c.args.call.now)
+      least = IfOk-weaker c.expand_within.result _ _ (of_call c.args.levels c.args.definitions.now c.args.call.now)
           (rw cut at c.expand_within.ensures.least);
       left = left;
     }
