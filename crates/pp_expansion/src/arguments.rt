@@ -1,19 +1,15 @@
 //! Arguments of calls, each expanded alone.
 
-ghost use Rattle.std.specs.Prelude.{◌≡◌, ◌&&◌, ◌==◌, ◌≤◌, ◌⊎◌, ◌∷◌, ◌++◌, ◌-◌, ◌<◌, ◌^◌, [], IfOk, OnOk, OnErr, All, length, Ok, Err};
+ghost use Rattle.std.specs.Prelude.{◌≡◌, ◌&&◌, ◌==◌, ◌∷◌, ◌++◌, ◌-◌, ◌<◌, ◌^◌, [], IfOk, OnOk, length, Ok, Err};
 ghost use Rattle.std.specs.List.{list_all};
-ghost use Rattle.pp_lexer.specs.PreprocessorError.{out_of_memory};
 ghost use Rattle.pp_model.specs.Calls.{arguments_of, misfit, is_one_empty, is_comma, nesting_after};
 ghost use Rattle.pp_model.specs.Emitting.{Alone, Each, answers_at};
-ghost use Rattle.pp_expansion.specs.inner.CallTurns.{TurnsTo};
 ghost use Rattle.pp_expansion.specs.inner.Defined.{meaning_of};
 ghost use Rattle.pp_expansion.specs.inner.Finishing.{Finishes, IsAtStart, IsShort, AreShort, AreOfCall, read_to_end, site_at};
-ghost use Rattle.pp_expansion.specs.inner.Frames.{layer, names_of};
+ghost use Rattle.pp_expansion.specs.inner.Frames.{names_of};
 ghost use Rattle.pp_expansion.specs.Held.{AllHoldOrdinary};
-ghost use Rattle.pp_expansion.specs.inner.Left.{most_alone};
 ghost use Rattle.pp_expansion.specs.inner.Machine.{Satisfies};
 ghost use Rattle.pp_expansion.specs.inner.Plain.{is_plain};
-ghost use Rattle.pp_expansion.specs.inner.Reader.{of_list};
 ghost use Rattle.pp_expansion.specs.declared.step.StepExit.TheVariants.{Error};
 
 use crate::calls::{Call, Caller, ExpandedArguments, Taken, is_left_paren, is_right_paren};
@@ -26,10 +22,9 @@ use crate::list_lexer::ListLexer;
 use crate::list_step::step_list;
 use crate::open_around::OpenAround;
 use crate::step::StepExit;
-use pp_lexer::token::{Location, PreprocessorError, Punct, Token, TokenValue};
+use pp_lexer::token::{PreprocessorError, Punct, Token, TokenValue};
 use std::alloc::{AllocError, Global};
 use std::mem;
-use std::rc::Rc;
 
 // Whether it is a comma.
 fn is_comma(value: &TokenValue) -> bool

@@ -1,6 +1,6 @@
 //! Calls of function-like macros: taking, and the search for their arguments.
 
-ghost use Rattle.std.specs.Prelude.{◌≡◌, ◌⊎◌, ◌∷◌, ◌++◌, [], OnOk, ℕ, Bool, true, false, All, IfOk, IfSome, MatchResult, Ok, Err, Some, None, IsSome, is_some, option_map};
+ghost use Rattle.std.specs.Prelude.{◌≡◌, ◌⊎◌, ◌∷◌, ◌++◌, [], OnOk, true, false, IfOk, IfSome, Ok, Err, Some, None, IsSome, is_some, option_map};
 ghost use Rattle.pp_lexer.specs.PreprocessorError.{out_of_memory};
 ghost use Rattle.pp_model.specs.Calls.{is_left_paren, is_right_paren, nesting};
 ghost use Rattle.pp_expansion.specs.inner.CallNesting.{nesting_named};
@@ -10,7 +10,7 @@ ghost use Rattle.pp_expansion.specs.Held.{HoldsOrdinary, AllHoldOrdinary};
 ghost use Rattle.pp_expansion.specs.inner.Idle.{is_idle};
 ghost use Rattle.pp_expansion.specs.inner.CallTurns.{TurnsOrRefuses, is_refusal, paren_of, TakenHoldsOrdinary};
 ghost use Rattle.pp_expansion.specs.inner.Machine.{StepsTaking, TakesNext, GathersNext, Satisfies, gathered_to, taken_as, is_pause};
-ghost use Rattle.pp_expansion.specs.inner.Turns.{taken_in, opens, opens_value};
+ghost use Rattle.pp_expansion.specs.inner.Turns.{opens, opens_value};
 ghost use Rattle.pp_lexer.specs.declared.token.TokenValue.TheVariants as value;
 ghost use Rattle.pp_expansion.specs.declared.step.StepExit.TheVariants.{Error, Continue};
 

@@ -1,8 +1,7 @@
 //! The expander: open macros over a reader.
 
-ghost use Rattle.std.specs.Prelude.{◌≡◌, ◌⊎◌, ◌∷◌, [], drop, IfOk, IfSome, OnOk, MatchResult, Ok, Err, option_map, is_some, not, pos, false};
+ghost use Rattle.std.specs.Prelude.{◌≡◌, ◌∷◌, [], drop, IfOk, IfSome, OnOk, MatchResult, Ok, Err, option_map, is_some, not, pos, false};
 ghost use Rattle.std.specs.Str.{chars};
-ghost use Rattle.pp_lexer.specs.PreprocessorError.{out_of_memory};
 ghost use Rattle.pp_lexer.specs.declared.token.PreprocessorError.TheVariants.{LineOverflow};
 ghost use Rattle.pp_lexer.specs.declared.token.TokenValue.TheVariants as value;
 ghost use Rattle.pp_model.specs.Names.{is_in, is_identifier, line_name};
@@ -18,7 +17,7 @@ use crate::frames::{Frame, TokenList, give};
 use crate::open_names::OpenNames;
 use crate::reader::MeLexer;
 use crate::step::{Step, StepExit};
-use pp_lexer::token::{Integer, Location, Text, Token, TokenValue, out_of_memory};
+use pp_lexer::token::{Integer, Location, Text, Token, TokenValue};
 use pp_model::names::is_spelled;
 use std::alloc::{AllocError, Global};
 use std::marker::Model;

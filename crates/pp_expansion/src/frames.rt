@@ -1,6 +1,6 @@
 //! Frames: macros that are open, each with how far its body and its arguments are read.
 
-ghost use Rattle.std.specs.Prelude.{◌≡◌, ◌⊎◌, ◌<◌, ◌^◌, IfOk, IfSome, IsTrue, All, MatchOption, Some, None, Ok, Err, option_map, slice_get, position, is_none};
+ghost use Rattle.std.specs.Prelude.{◌≡◌, ◌⊎◌, ◌<◌, ◌^◌, IfOk, IfSome, Some, None, Ok, Err, option_map, slice_get, position, is_none};
 ghost use Rattle.pp_lexer.specs.PreprocessorError.{out_of_memory};
 ghost use Rattle.pp_model.specs.Names.{is_same_name};
 ghost use Rattle.pp_model.specs.SpliceList.{parameter_of};

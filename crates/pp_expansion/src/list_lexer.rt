@@ -1,6 +1,6 @@
 //! A list of tokens as a reader: an argument of a call, or the line of a directive.
 
-ghost use Rattle.std.specs.Prelude.{◌≡◌, ◌&&◌, [], false, true};
+ghost use Rattle.std.specs.Prelude.{◌≡◌, ◌&&◌, false, true};
 ghost use Rattle.std.specs.Str.{chars};
 ghost use Rattle.pp_model.specs.Names.{is_same_name, defined_name};
 ghost use Rattle.pp_expansion.specs.Held.{AllHoldOrdinary};

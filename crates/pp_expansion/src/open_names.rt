@@ -17,7 +17,7 @@ pub struct OpenNames {
 }
 
 impl Model for OpenNames {
-    ghost use Rattle.std.specs.Prelude.{List, ℕ, map, string_bytes};
+    ghost use Rattle.std.specs.Prelude.{List, map, string_bytes};
     ghost use Rattle.std.specs.Str.{chars};
     ghost use Rattle.pp_expansion.specs.inner.OpenNames.{Position};
 

@@ -1,8 +1,7 @@
 //! What is pending while an operand is wanted: open parentheses, and operators that wait for it.
 
-ghost use Rattle.std.specs.Prelude.{◌≡◌, ◌≤◌, [], ◌∷◌, OnOk, IfNone, IfSome};
+ghost use Rattle.std.specs.Prelude.{◌≡◌, [], ◌∷◌, OnOk, IfNone, IfSome};
 ghost use Rattle.pp_expression.specs.inner.Pending as spec;
-ghost use Rattle.pp_expression.specs.declared.pending.Pending.TheVariants as pending;
 
 use crate::arithmetic;
 use crate::operator::{Binary, Unary, level_of};

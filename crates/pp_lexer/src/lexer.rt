@@ -3,7 +3,7 @@
 //! [`CharsAndLine`], [`SkipBackslashNewline`] and [`ReplaceComments`] give the characters after phases 4 and 5, 6 and 7,
 //! each with its line. [`Lexer`] gives the tokens. The rules are those of docs/RULES.md, Characters and Tokens.
 
-ghost use Rattle.std.specs.Prelude.{◌≡◌, ◌-◌, ◌^◌, ◌<◌, ◌+◌, ◌⊎◌, length, false, if◌then◌else◌, ⊤, OnOk, IfOk, MatchOption};
+ghost use Rattle.std.specs.Prelude.{◌≡◌, ◌-◌, ◌^◌, ◌<◌, ◌+◌, length, false, if◌then◌else◌, ⊤, OnOk, IfOk, MatchOption};
 ghost use Rattle.std.specs.Iterator.{at_most};
 ghost use Rattle.pp_lexer.specs.Reading.{first_char};
 ghost use Rattle.pp_lexer.specs.Spots.{spots_of};

@@ -1,6 +1,6 @@
 //! The blocks that are open at a position of a source, and which of their branches is live.
 
-ghost use Rattle.std.specs.Prelude.{◌≡◌, ◌+◌, ◌^◌, ◌<◌, ◌≤◌, length, drop, take, slice_get, IfOk};
+ghost use Rattle.std.specs.Prelude.{◌≡◌, ◌+◌, ◌^◌, ◌<◌, length, take, IfOk};
 ghost use Rattle.std.specs.List.{list_all, list_any};
 ghost use Rattle.pp_model.specs.Blocks as spec;
 ghost use Rattle.pp_model.specs.inner.Blocks as parts;

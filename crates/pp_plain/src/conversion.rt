@@ -6,7 +6,7 @@ ghost use Rattle.pp_plain.specs.inner.Halting.{Meets};
 
 use crate::stop::{Halt, Stop};
 use pp_lexer::lexer;
-use pp_lexer::token::{Location, PreprocessorError, Punct, Text, Token, TokenValue};
+use pp_lexer::token::{PreprocessorError, Punct, Text, Token, TokenValue};
 use pp_model::outcome::Fault;
 use std::alloc::Global;
 

@@ -1,6 +1,6 @@
 //! What a `#define` line says.
 
-ghost use Rattle.std.specs.Prelude.{◌≡◌, true, false, if◌then◌else◌, [], Ok, Err, IfOk};
+ghost use Rattle.std.specs.Prelude.{◌≡◌, true, false, if◌then◌else◌, Ok, Err};
 ghost use Rattle.pp_expression.specs.Answers.{◌>>=◌ as ◌and_then◌};
 ghost use Rattle.pp_model.specs.Conversions as conversions;
 ghost use Rattle.pp_model.specs.Conversions.{closes_parameters, parts_parameters};
@@ -18,7 +18,7 @@ use crate::lists::NameList;
 use crate::names::is_among;
 use crate::stop::Halt;
 use pp_lexer::lexer::{self, LexerItem};
-use pp_lexer::token::{Location, PreprocessorError, Text};
+use pp_lexer::token::{Location, PreprocessorError};
 use pp_model::definition::{Definition, Named};
 use std::alloc::Global;
 use std::marker::Model;

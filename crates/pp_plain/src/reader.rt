@@ -1,6 +1,6 @@
 //! Readers: what an expander asks of what stands after its list.
 
-ghost use Rattle.std.specs.Prelude.{◌≡◌, ◌≤◌, ℕ, IfOk};
+ghost use Rattle.std.specs.Prelude.{◌≡◌, ◌≤◌, IfOk};
 ghost use Rattle.pp_plain.specs.inner.Changes.{meaning_of};
 ghost use Rattle.pp_model.specs.inner.Reading.{first_listed, after_listed};
 

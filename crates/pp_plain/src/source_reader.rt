@@ -1,6 +1,6 @@
 //! A reader of a source: what a token or a line comes to.
 
-ghost use Rattle.std.specs.Prelude.{◌≡◌, ◌≤◌, ◌+◌, Some, None, length, drop, take, IfOk, OnOk};
+ghost use Rattle.std.specs.Prelude.{◌≡◌, ◌≤◌, ◌+◌, Some, None, length, IfOk, OnOk};
 ghost use Rattle.std.specs.Option.{option_copied};
 ghost use Rattle.pp_plain.specs.inner.Acting.{ActsAs, HasLine, HasLineIfOk};
 ghost use Rattle.pp_model.specs.Acts as spec;

@@ -1,7 +1,6 @@
 //! What stands before a position of a source.
 
-ghost use Rattle.std.specs.Prelude.{◌≡◌, ◌≤◌, length, drop, take, slice_get, IfOk};
-ghost use Rattle.std.specs.Option.{option_copied};
+ghost use Rattle.std.specs.Prelude.{◌≡◌, ◌≤◌, length, IfOk};
 ghost use Rattle.pp_model.specs.Sights as sights;
 ghost use Rattle.pp_model.specs.SourceReader as spec;
 

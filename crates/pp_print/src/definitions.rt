@@ -1,6 +1,6 @@
 //! Adding the definitions of the command line.
 
-ghost use Rattle.std.specs.Prelude.{All, Any, [], ◌∷◌, OnOk, IfErr};
+ghost use Rattle.std.specs.Prelude.{Any, [], ◌∷◌, OnOk, IfErr};
 ghost use Rattle.pp_print.specs.inner.Defining.{AreAdded, IsAddingFault};
 ghost use Rattle.pp_print.specs.Runs.{IsRefused};
 

@@ -1,7 +1,7 @@
 //! The characters after the phases, with their places and one of them looked at ahead.
 
 ghost use Rattle.std.specs.Prelude.{⊤, ◌≡◌, ◌+◌, ◌-◌, ◌^◌, ◌<◌, ◌≤◌, length, option_map, MatchOption};
-ghost use Rattle.std.specs.Str.{chars, IsUtf8};
+ghost use Rattle.std.specs.Str.{IsUtf8};
 ghost use Rattle.pp_lexer.specs.Reading.{IsAhead, first_char, first_of, spots_after_first, after_first, spots};
 ghost use Rattle.pp_lexer.specs.Spots.{spots_of};
 ghost use Rattle.pp_lexer.specs.inner.Fronts.{spots_from, is_plain, IsLeft};
