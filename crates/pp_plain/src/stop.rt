@@ -30,9 +30,10 @@ pub fn stays_short(length: usize) -> Result<(), Stop>
 }
 
 impl From<AllocError> for Stop {
-    ghost use Rattle.std.specs.Prelude.{⊤};
+    ghost use Rattle.std.specs.Prelude.{◌≡◌};
+    ghost use Rattle.pp_plain.specs.declared.stop.Stop.TheVariants.{OutOfMemory};
 
-    ghost from_gives = { λ error stop. ⊤ };
+    ghost from_gives = { λ error stop. stop ≡ OutOfMemory };
 
     fn from(_error: AllocError) -> Self {
         Stop::OutOfMemory
@@ -40,9 +41,10 @@ impl From<AllocError> for Stop {
 }
 
 impl<T: Drop> From<AllocFailed<T>> for Stop {
-    ghost use Rattle.std.specs.Prelude.{⊤};
+    ghost use Rattle.std.specs.Prelude.{◌≡◌};
+    ghost use Rattle.pp_plain.specs.declared.stop.Stop.TheVariants.{OutOfMemory};
 
-    ghost from_gives = { λ error stop. ⊤ };
+    ghost from_gives = { λ error stop. stop ≡ OutOfMemory };
 
     fn from(_error: AllocFailed<T>) -> Self {
         Stop::OutOfMemory
@@ -70,9 +72,11 @@ impl From<Stop> for Halt {
 }
 
 impl From<AllocError> for Halt {
-    ghost use Rattle.pp_plain.specs.inner.Halting.{IsStop};
+    ghost use Rattle.std.specs.Prelude.{◌≡◌};
+    ghost use Rattle.pp_plain.specs.declared.stop.Halt.TheVariants.{Stop as halt_stop};
+    ghost use Rattle.pp_plain.specs.declared.stop.Stop.TheVariants.{OutOfMemory};
 
-    ghost from_gives = { λ error halt. IsStop halt };
+    ghost from_gives = { λ error halt. halt ≡ halt_stop OutOfMemory };
 
     fn from(_error: AllocError) -> Self {
         Halt::Stop(Stop::OutOfMemory)
@@ -80,9 +84,11 @@ impl From<AllocError> for Halt {
 }
 
 impl<T: Drop> From<AllocFailed<T>> for Halt {
-    ghost use Rattle.pp_plain.specs.inner.Halting.{IsStop};
+    ghost use Rattle.std.specs.Prelude.{◌≡◌};
+    ghost use Rattle.pp_plain.specs.declared.stop.Halt.TheVariants.{Stop as halt_stop};
+    ghost use Rattle.pp_plain.specs.declared.stop.Stop.TheVariants.{OutOfMemory};
 
-    ghost from_gives = { λ error halt. IsStop halt };
+    ghost from_gives = { λ error halt. halt ≡ halt_stop OutOfMemory };
 
     fn from(_error: AllocFailed<T>) -> Self {
         Halt::Stop(Stop::OutOfMemory)

@@ -4,11 +4,6 @@ use Rattle.pp_model.specs.Calls.{Fault}
 use Rattle.pp_plain.specs.declared.stop.Halt.{Halt}
 use Rattle.pp_plain.specs.declared.stop.Halt.TheVariants as halt
 
--- the program gives no answer
-abbrev pub IsStop : Halt → Type 0
-IsStop (halt.Stop stop) = ⊤
-IsStop (halt.Fault fault) = ⊥
-
 -- a value or a fault is that of the definitions
 abbrev pub Meets : {A : Type 0} → Result A Halt → Result A Fault → Type 0
 Meets (Ok value) wanted = wanted ≡ Ok value
