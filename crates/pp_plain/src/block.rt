@@ -42,7 +42,14 @@ pub fn part_of(directive: Directive) -> Option<Part>
         Directive::Elif => Some(Part::Elif),
         Directive::Else => Some(Part::Else),
         Directive::Endif => Some(Part::Closes),
-        _ => None,
+        Directive::Define
+        | Directive::Undef
+        | Directive::Line
+        | Directive::Error
+        | Directive::Version
+        | Directive::Extension
+        | Directive::Pragma
+        | Directive::Unknown => None,
     }
 }
 

@@ -428,7 +428,16 @@ impl<'a> SourceReader<'a> {
                 self.position += 2;
                 Ok(Step::Passed)
             }
-            _ => self.skip_line(alloc),
+            Directive::Define
+            | Directive::Undef
+            | Directive::If
+            | Directive::Ifdef
+            | Directive::Ifndef
+            | Directive::Line
+            | Directive::Error
+            | Directive::Version
+            | Directive::Extension
+            | Directive::Pragma => self.skip_line(alloc),
         }
     }
 

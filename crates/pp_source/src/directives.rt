@@ -398,7 +398,8 @@ impl<'a> DirectiveProcessor<'a> {
             Directive::Endif => self.endif_line(word),
             Directive::Line => self.number_lines(word),
             Directive::Error => Err(Halt::Fault((PreprocessorError::ErrorDirective, word))),
-            _ => Err(Halt::Fault((PreprocessorError::UnknownDirective, word))),
+            Directive::Unknown => Err(Halt::Fault((PreprocessorError::UnknownDirective, word))),
+            Directive::Version | Directive::Extension | Directive::Pragma => unreachable!(),
         }
     }
 
@@ -415,7 +416,17 @@ impl<'a> DirectiveProcessor<'a> {
             Directive::Version => Ok(Some(self.version(word)?)),
             Directive::Extension => Ok(Some(self.extension(word)?)),
             Directive::Pragma => Ok(Some(self.pragma(word)?)),
-            _ => {
+            Directive::Define
+            | Directive::Undef
+            | Directive::If
+            | Directive::Ifdef
+            | Directive::Ifndef
+            | Directive::Elif
+            | Directive::Else
+            | Directive::Endif
+            | Directive::Line
+            | Directive::Error
+            | Directive::Unknown => {
                 self.act_live(directive, word)?;
                 Ok(None)
             }
@@ -435,7 +446,13 @@ impl<'a> DirectiveProcessor<'a> {
             Directive::Else => self.else_line(word),
             Directive::Endif => self.endif_line(word),
             Directive::Unknown => Ok(()),
-            _ => self.skip(),
+            Directive::Define
+            | Directive::Undef
+            | Directive::Line
+            | Directive::Error
+            | Directive::Version
+            | Directive::Extension
+            | Directive::Pragma => self.skip(),
         }
     }
 
