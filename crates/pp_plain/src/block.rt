@@ -252,7 +252,8 @@ pub fn is_live(
 // Whether the condition of one of these marks holds.
 fn has_true_mark(truths: &[Truth], marks: &[BlockLine]) -> bool
     ensures { result
-        ≡ list_any (λ mark. parts.is_known_true (spec.truth_at truths.now mark.position)) marks.now }
+        ≡ list_any (λ mark. parts.is_known_true (spec.truth_at truths.now mark.position))
+        marks.now }
 {
     match marks.split_first() {
         None => false,

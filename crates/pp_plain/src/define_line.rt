@@ -61,8 +61,8 @@ fn parameter_at(
     names: NameList,
     items: &[SourceItem],
 ) -> Result<NameList, Halt>
-    ensures { Meets result (first_token word items.now and_then λ token. parts.parameter_here names token
-        (conversions.identifier_of token.value)) }
+    ensures { Meets result (first_token word items.now and_then λ token.
+        parts.parameter_here names token (conversions.identifier_of token.value)) }
 {
     let token = first_token(alloc, word, items)?;
     parameter_here(alloc, names, &token)
@@ -72,7 +72,8 @@ fn parameter_at(
 fn ends_parameters(alloc: Global, word: Location, items: &[SourceItem]) -> Result<bool, Halt>
     ensures { Meets result (first_token word items.now and_then λ token.
         if closes_parameters token.value then Ok true
-        else if parts_parameters token.value then Ok false else Err (conversions.refused_token token)) }
+        else if parts_parameters token.value then Ok false
+        else Err (conversions.refused_token token)) }
 {
     let token = first_token(alloc, word, items)?;
     if closes_parameters(&token.value) {

@@ -221,7 +221,8 @@ impl<'a> DirectiveProcessor<'a> {
         requires unspent { self.old.spent ≡ false }
         requires innermost { last_block self.old.blocks ≡ Some block }
         ensures acts { Acts
-            (moves.skip_move (moves.parts (block_skipped block)) self.old.rest) self.old result self.new }
+            (moves.skip_move (moves.parts (block_skipped block)) self.old.rest)
+            self.old result self.new }
         ensures errors { Reports result (unreported_of self.old) (unreported_of self.new) }
     {
         skip_line(&mut self.lexer)?;
@@ -247,7 +248,8 @@ impl<'a> DirectiveProcessor<'a> {
     fn elif_line(&mut self, word: Location) -> Result<(), Halt>
         requires { self.old.spent ≡ false }
         ensures acts { Acts
-            (moves.elif_move (last_block self.old.blocks) word self.old.rest) self.old result self.new }
+            (moves.elif_move (last_block self.old.blocks) word self.old.rest)
+            self.old result self.new }
         ensures errors { Reports result (unreported_of self.old) (unreported_of self.new) }
     {
         let Some(block) = self.blocks.last() else {
@@ -266,7 +268,8 @@ impl<'a> DirectiveProcessor<'a> {
     fn else_line(&mut self, word: Location) -> Result<(), Halt>
         requires { self.old.spent ≡ false }
         ensures acts { Acts
-            (moves.else_move (last_block self.old.blocks) word self.old.rest) self.old result self.new }
+            (moves.else_move (last_block self.old.blocks) word self.old.rest)
+            self.old result self.new }
         ensures errors { Reports result (unreported_of self.old) (unreported_of self.new) }
     {
         ended_line(word, &mut self.lexer)?;
@@ -284,7 +287,8 @@ impl<'a> DirectiveProcessor<'a> {
     fn endif_line(&mut self, word: Location) -> Result<(), Halt>
         requires { self.old.spent ≡ false }
         ensures acts { Acts
-            (moves.endif_move (last_block self.old.blocks) word self.old.rest) self.old result self.new }
+            (moves.endif_move (last_block self.old.blocks) word self.old.rest)
+            self.old result self.new }
         ensures errors { Reports result (unreported_of self.old) (unreported_of self.new) }
     {
         let Some(block) = self.blocks.pop() else {
@@ -327,7 +331,8 @@ impl<'a> DirectiveProcessor<'a> {
         requires unspent { self.old.spent ≡ false }
         requires left { self.old.rest ≢ [] }
         ensures acts { ActsAs (λ token. Ok token)
-            (moves.live_move (last_block self.old.blocks) d.Version word self.old.rest) self.old result self.new }
+            (moves.live_move (last_block self.old.blocks) d.Version word self.old.rest)
+            self.old result self.new }
         ensures holds { IfOk result (λ token. HoldsOrdinary token.value) }
         ensures errors { Reports result (unreported_of self.old) (unreported_of self.new) }
     {
@@ -348,7 +353,8 @@ impl<'a> DirectiveProcessor<'a> {
         requires unspent { self.old.spent ≡ false }
         requires left { self.old.rest ≢ [] }
         ensures acts { ActsAs (λ token. Ok token)
-            (moves.live_move (last_block self.old.blocks) d.Extension word self.old.rest) self.old result self.new }
+            (moves.live_move (last_block self.old.blocks) d.Extension word self.old.rest)
+            self.old result self.new }
         ensures holds { IfOk result (λ token. HoldsOrdinary token.value) }
         ensures errors { Reports result (unreported_of self.old) (unreported_of self.new) }
     {
@@ -368,7 +374,8 @@ impl<'a> DirectiveProcessor<'a> {
         requires unspent { self.old.spent ≡ false }
         requires left { self.old.rest ≢ [] }
         ensures acts { ActsAs (λ token. Ok token)
-            (moves.live_move (last_block self.old.blocks) d.Pragma word self.old.rest) self.old result self.new }
+            (moves.live_move (last_block self.old.blocks) d.Pragma word self.old.rest)
+            self.old result self.new }
         ensures holds { IfOk result (λ token. HoldsOrdinary token.value) }
         ensures errors { Reports result (unreported_of self.old) (unreported_of self.new) }
     {

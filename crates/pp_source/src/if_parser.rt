@@ -329,7 +329,8 @@ impl<'a> IfParser<'a> {
         requires same { self.now.definitions.now ≡ definitions.now }
         requires alone { around.now ≡ [] }
         ensures { IfOk result
-            (AreWordsOfLine self.now.kind self.now.directive self.now.levels tokens.items definitions.now) }
+            (AreWordsOfLine self.now.kind self.now.directive self.now.levels tokens.items
+            definitions.now) }
     {
         let lexer = ListLexer::line(tokens, definitions, &*around);
         let mut line = LineExpander {
