@@ -8,7 +8,7 @@ use Rattle.pp_lexer.specs.declared.token.PreprocessorError.TheVariants.{LineOver
 use Rattle.pp_model.specs.Calls.{Fault}
 use Rattle.pp_model.specs.LineWords.{Words}
 use Rattle.pp_model.specs.LineValues.{line_of, as_line_number, words_after, Numbers, faulty, out_of_range, alone, with_source}
-use Rattle.pp_model.specs.inner.LineValues.{IsFollowed, reported_fault}
+use Rattle.pp_model.specs.inner.LineValues.{IsAlone, reported_fault}
 
 pub numbers_faulty : (directive : Location) (words : Words) (e : Result Value Found) (found : Found) (fault : Fault) → Evaluates (line_of words) e
     → e ≡ Err found → fault ≡ reported_fault directive words found → Numbers directive words (Err fault)
@@ -24,6 +24,6 @@ numbers_alone directive words e v m n evaluated is number some none = alone v n 
 
 pub numbers_followed : (directive : Location) (words : Words) (e : Result Value Found) (v : Value) (m : Option ℕ) (n : ℕ) (after : Words)
     → Evaluates (line_of words) e → e ≡ Ok v → m ≡ as_line_number v.value → m ≡ Some n → v.left ≢ 0 → after ≡ words_after v.left words
-    → (result : Result ℕ Fault) → IsFollowed directive after n result → Numbers directive words result
+    → (result : Result ℕ Fault) → IsAlone directive after (λ value. n) result → Numbers directive words result
 numbers_followed directive words e v m n after evaluated is number some left rest result by = let second =
-    rw rest at by in with_source v n result (rw is at evaluated) (sym number ∙ some) left second.second second.evaluated second.is
+    rw rest at by in with_source v n result (rw is at evaluated) (sym number ∙ some) left second.evaluation second.evaluated second.is

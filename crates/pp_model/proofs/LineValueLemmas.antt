@@ -1,5 +1,5 @@
 -- An evaluation has one result, and so have a condition and a line number.
-use Rattle.std.proofs.Common.{◌≡◌, ◌∙◌, ℕ, [], sym, Option, Some, None, Result, Ok, Err, ◌≢◌}
+use Rattle.std.proofs.Common.{◌≡◌, ◌∙◌, ℕ, ℤ, [], sym, Option, Some, None, Result, Ok, Err, ◌≢◌}
 use Rattle.pp_expression.specs.declared.symbol.Value.{Value}
 use Rattle.pp_expression.specs.Lines.{Line}
 use Rattle.pp_expression.specs.FirstFault.{Evaluates}
@@ -9,7 +9,7 @@ use Rattle.pp_lexer.specs.declared.token.Location.{Location}
 use Rattle.pp_model.specs.LineWords.{Words}
 use Rattle.pp_model.specs.Calls.{Fault, Answers}
 use Rattle.pp_model.specs.LineValues.{line_of, as_line_number, words_after, Numbers, faulty, out_of_range, alone, with_source}
-use Rattle.pp_model.specs.inner.LineValues.{IsFollowed}
+use Rattle.pp_model.specs.inner.LineValues.{IsAlone}
 use Rattle.pp_model.specs.ExpansionLaws.{OneAnswer}
 use Rattle.pp_model.specs.RunLaws.{OneEvaluation, OneCondition, OneNumber, OneLineNumber}
 use Rattle.pp_model.specs.declared.word.LineKind.TheVariants.{Condition, LineNumber}
@@ -38,9 +38,10 @@ one_number_of line a b v w i j h k =
 not_followed : (v w : Value) → v ≡ w → v.left ≡ 0 → w.left ≢ 0 → ⊥
 not_followed v w same h k = k (rw same at h)
 
-one_followed : (directive : Location) (words : Words) (n : ℕ) (x y : Result ℕ Fault) → IsFollowed directive words n x → IsFollowed directive words n y → x ≡ y
-one_followed directive words n x y a b =
-    let same = one_evaluation (line_of words) a.second b.second a.evaluated b.evaluated in
+one_alone : {A : Type 0} (directive : Location) (words : Words) (report : ℤ → A) (x y : Result A Fault) → IsAlone directive words report x
+    → IsAlone directive words report y → x ≡ y
+one_alone directive words report x y a b =
+    let same = one_evaluation (line_of words) a.evaluation b.evaluation a.evaluated b.evaluated in
     a.is ∙ rw same (sym b.is)
 
 pub one_number : OneNumber
@@ -73,10 +74,10 @@ one_number directive words x y (with_source v n x1 i h o s1 e1 p1) (with_source 
     let same = one_number_of (line_of words) (Some n) (Some m) v w i j h k in
     let value : v ≡ w = same.0 in
     let number : n ≡ m = (let z = same.1 in cc) in
-    let here : IsFollowed directive (words_after v.left words) n x = record { second = s1; evaluated = e1; is = p1 } in
-    let other : IsFollowed directive (words_after w.left words) m y = record { second = s2; evaluated = e2; is = q1 } in
-    let there : IsFollowed directive (words_after v.left words) n y = rw (value, number) other in
-    one_followed directive (words_after v.left words) n x y here there
+    let here : IsAlone directive (words_after v.left words) (λ z. n) x = record { evaluation = s1; evaluated = e1; is = p1 } in
+    let other : IsAlone directive (words_after w.left words) (λ z. m) y = record { evaluation = s2; evaluated = e2; is = q1 } in
+    let there : IsAlone directive (words_after v.left words) (λ z. n) y = rw (value, number) other in
+    one_alone directive (words_after v.left words) (λ z. n) x y here there
 
 pub one_line_number : (A : Answers) → OneAnswer A → OneLineNumber A
 one_line_number A single directive tokens definitions x y a b =

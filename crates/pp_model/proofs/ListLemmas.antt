@@ -1,5 +1,6 @@
 -- The splice list read and built one entry after another.
-use Rattle.std.proofs.Common.{◌≡◌, ℕ, suc, ◌<◌, ◌+◌, ◌∷◌, List, Option, None, Some, length, drop, get_or, sym, ap, add-one}
+use Rattle.std.proofs.Common.{◌≡◌, ◌∙◌, ℕ, suc, ◌<◌, ◌+◌, [], ◌∷◌, ◌++◌, List, Option, None, Some, length, drop, take, map, get_or, sym, ap, add-one}
+use Rattle.std.proofs.lemmas.List.{map_more}
 use Rattle.std.proofs.Math.Seq.{drop-cons}
 
 -- the item at a place, and what stands after it
@@ -10,3 +11,9 @@ drop-item xs i x h e = rw (add-one, drop-cons xs i x) (ap (λ y. y ∷ drop (suc
 abbrev pub rest_or : Option ℕ → Option ℕ → Option ℕ
 rest_or (Some line) before = Some line
 rest_or None before = before
+
+-- one more of a list is mapped
+pub mapped_more : {X Y : Type 0} (f : X → Y) (xs : List X) (i : ℕ) (x : X) (y : Y) (ys more : List Y) → i < length xs → x ≡ get_or xs i x → y ≡ f x
+    → ys ≡ map f (take i xs) → more ≡ ys ++ y ∷ [] → more ≡ map f (take (i + 1) xs)
+mapped_more f xs i x y ys more inside at is so_far grown =
+    grown ∙ ap (λ zs. zs ++ y ∷ []) so_far ∙ ap (λ z. map f (take i xs) ++ z ∷ []) (is ∙ ap f at) ∙ sym (map_more f xs i x inside)

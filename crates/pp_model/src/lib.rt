@@ -1,12 +1,15 @@
 //! What preprocessing is: the definitions, in `specs/`, the types that they name, and laws about them. The crate
-//! `pp_plain` has a plain, slow program that computes them.
+//! `pp_plain` has a plain, slow program that computes them. What the words of an `#if`, `#elif` or `#line` line come to
+//! is computed here, for that program and for the preprocessor.
 #![tactic(auto)]
 
 pub mod block;
 pub mod call;
+pub mod copies;
 pub mod definition;
 pub mod directive;
 pub mod laws;
+pub mod line_value;
 pub mod names;
 pub mod outcome;
 pub mod sight;

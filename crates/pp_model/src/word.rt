@@ -1,7 +1,14 @@
 //! The words of an `#if`, `#elif` or `#line` line.
 
+ghost use Rattle.std.specs.Prelude.{◌≡◌, is_some};
+ghost use Rattle.pp_model.specs.LineWords.{reading, unknown_name, unexpected, name_in_value};
+ghost use Rattle.pp_model.specs.Names.{is_identifier, defined_name};
+ghost use Rattle.pp_model.specs.inner.WordsRead.{reading_named, unwanted_read, IsOf};
+
+use crate::names::is_defined_name;
 use crate::outcome::Fault;
-use pp_lexer::token::{Location, Token};
+use pp_lexer::token::{Integer, Location, PreprocessorError, Token, TokenValue};
+use std::marker::Model;
 
 /// A word of a line whose value is wanted (GLSL ES 3.20 section 3.4).
 #[derive(Drop)]
@@ -10,6 +17,32 @@ pub enum Word {
     Plain(Token),
     /// A `defined` at this place with its operand: whether the name is defined, or what is wrong with the operand.
     Defined(Location, Result<bool, Fault>),
+}
+
+/// The words of a line, and the fault of reading that ends them, if one does.
+#[derive(Drop)]
+pub struct Words {
+    /// The words.
+    pub words: Vec<Word>,
+    /// The fault.
+    pub ending: Option<Fault>,
+}
+
+impl Model for Words {
+    ghost use Rattle.pp_model.specs.LineWords as spec;
+
+    ghost Value = { spec.Words };
+
+    ghost view = { λ w. record { words = w.words.items; ending = w.ending } };
+}
+
+impl Words {
+    /// These words, and the fault of reading that ends them, if one does.
+    pub fn new(words: Vec<Word>, ending: Option<Fault>) -> Words
+        ensures { result ≡ record { words = words.items; ending = ending } }
+    {
+        Words { words, ending }
+    }
 }
 
 /// Which lines have a value.
@@ -30,4 +63,75 @@ pub enum WordReading {
     Word(Token),
     /// An unknown name where it is refused.
     Refused(Fault),
+}
+
+/// The fault of a token that isn't wanted.
+pub fn unexpected(token: Token) -> Fault
+    ensures { result ≡ unexpected token }
+{
+    let Token { value, location } = token;
+    (PreprocessorError::UnexpectedToken(value), location)
+}
+
+// Whether the token is the identifier `defined`.
+fn is_operator(value: &TokenValue) -> bool
+    ensures { result ≡ is_identifier defined_name value.now }
+{
+    match value {
+        TokenValue::Ident(name) => is_defined_name(name),
+        _ => false,
+    }
+}
+
+// Whether the token is an identifier.
+fn is_name(value: &TokenValue) -> bool
+    ensures { result ≡ is_some (name_in_value value.now) }
+{
+    matches!(value, TokenValue::Ident(_))
+}
+
+// What an unknown identifier of a line is.
+fn unknown_name(kind: LineKind, token: Token) -> WordReading
+    ensures { unknown_name kind token ≡ reading_named result }
+{
+    match kind {
+        LineKind::Condition => {
+            let location = token.location;
+            drop(token);
+            WordReading::Word(Token {
+                value: TokenValue::Integer(Integer {
+                    value: 0,
+                    signed: true,
+                    width: 64,
+                }),
+                location,
+            })
+        }
+        LineKind::LineNumber => WordReading::Refused(unexpected(token)),
+    }
+}
+
+/// What a token of an expanded line is.
+pub fn reading_of(kind: LineKind, token: Token) -> WordReading
+    ensures reads { reading kind token ≡ reading_named result }
+    ensures whole { IsOf token result }
+{
+    if is_operator(&token.value) {
+        WordReading::Operator(token)
+    } else if is_name(&token.value) {
+        unknown_name(kind, token)
+    } else {
+        WordReading::Word(token)
+    }
+}
+
+/// The fault of what was read as a word where a part of `defined` is wanted.
+pub fn unwanted_reading(read: WordReading) -> Fault
+    ensures { result ≡ unwanted_read read }
+{
+    match read {
+        WordReading::Operator(token) => unexpected(token),
+        WordReading::Word(word) => unexpected(word),
+        WordReading::Refused(fault) => fault,
+    }
 }

@@ -1,20 +1,11 @@
-//! Copies of tokens, names and definitions.
+//! Copies of lists of tokens, of names and of definitions.
 
 ghost use Rattle.std.specs.Prelude.{◌≡◌, IfOk};
 
 use pp_lexer::token::{Text, Token};
+use pp_model::copies::copy_token;
 use pp_model::definition::Definition;
 use std::alloc::{AllocError, Global};
-
-/// A copy of a token.
-pub fn copy_token(alloc: Global, token: &Token) -> Result<Token, AllocError>
-    ensures { IfOk result (λ copy. copy ≡ token.now) }
-{
-    match token.clone(alloc) {
-        Ok(copy) => Ok(copy),
-        Err(_) => Err(AllocError),
-    }
-}
 
 /// Copies of the tokens, in order.
 pub fn copy_tokens(alloc: Global, tokens: &[Token]) -> Result<Vec<Token>, AllocError>

@@ -9,7 +9,7 @@ ghost use Rattle.pp_model.specs.Emitting.{opened};
 ghost use Rattle.pp_plain.specs.inner.Seen.{seen, turned, Resolves, TakesParen, Finds, TurnsAt, Turns};
 
 use crate::calls::{Gathered, Nesting, arguments_of, nesting_of, paren_at};
-use crate::copies::{copy_definition, copy_names, copy_token};
+use crate::copies::{copy_definition, copy_names};
 use crate::list;
 use crate::list::{open_names, outermost_line, take_token};
 use crate::lists::TokenLists;
@@ -17,6 +17,7 @@ use crate::names::is_among;
 use crate::reader::Reader;
 use crate::stop::{Budget, Stop};
 use pp_lexer::token::{Integer, Location, PreprocessorError, Text, Token, TokenValue};
+use pp_model::copies::copy_token;
 use pp_model::definition::Definition;
 use pp_model::names::is_line_name;
 use pp_model::outcome::{Fault, Outcome};

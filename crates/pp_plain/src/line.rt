@@ -11,6 +11,7 @@ use crate::item::SourceItem;
 use crate::stop::{Halt, Stop};
 use pp_lexer::lexer::{self, LexerItem};
 use pp_lexer::token::{Location, PreprocessorError, Text, Token};
+use pp_model::copies::copy_fault;
 use pp_model::definition::{Placed, TokenList};
 use pp_model::outcome::Fault;
 use std::alloc::Global;
@@ -36,14 +37,6 @@ pub fn line_length(items: &[SourceItem]) -> usize
     }
 }
 
-/// A copy of the fault.
-pub fn copy_of(alloc: Global, fault: &Fault) -> Result<Fault, Stop>
-    ensures { IfOk result (λ copy. copy ≡ fault.now) }
-{
-    let error = fault.0.clone(alloc).map_err(|_| Stop::OutOfMemory)?;
-    Ok((error, fault.1))
-}
-
 /// The first error of the lexer on the line.
 pub fn line_fault(alloc: Global, items: &[SourceItem]) -> Result<Option<Fault>, Stop>
     ensures { IfOk result (λ fault. fault ≡ spec.line_fault items.now) }
@@ -52,7 +45,7 @@ pub fn line_fault(alloc: Global, items: &[SourceItem]) -> Result<Option<Fault>, 
         return Ok(None);
     };
     match &first.item {
-        Err(fault) => Ok(Some(copy_of(alloc, fault)?)),
+        Err(fault) => Ok(Some(copy_fault(alloc, fault)?)),
         Ok(token) if is_newline(&token.value) => Ok(None),
         Ok(_) => line_fault(alloc, rest),
     }
@@ -94,7 +87,7 @@ pub fn line_tokens(alloc: Global, items: &[SourceItem]) -> Result<TokenList, Hal
         return Ok(no_tokens(alloc));
     };
     match &first.item {
-        Err(fault) => Err(Halt::Fault(copy_of(alloc, fault)?)),
+        Err(fault) => Err(Halt::Fault(copy_fault(alloc, fault)?)),
         Ok(token) if is_newline(&token.value) => Ok(no_tokens(alloc)),
         Ok(token) => {
             let first = conversion(alloc, token)?;
@@ -123,7 +116,7 @@ pub fn first_token(
     };
     match &first.item {
         Ok(token) => Ok(token.clone(alloc).map_err(|_| Stop::OutOfMemory)?),
-        Err(fault) => Err(Halt::Fault(copy_of(alloc, fault)?)),
+        Err(fault) => Err(Halt::Fault(copy_fault(alloc, fault)?)),
     }
 }
 

@@ -1,13 +1,12 @@
 //! The words of an `#if`, `#elif` or `#line` line.
 
-ghost use Rattle.std.specs.Prelude.{◌≡◌, ◌≤◌, [], IfOk, MatchResult, Some, None, is_some};
+ghost use Rattle.std.specs.Prelude.{◌≡◌, ◌≤◌, [], IfOk, MatchResult, Some, None};
 ghost use Rattle.pp_plain.specs.inner.Changes.{meaning_of};
 ghost use Rattle.pp_model.specs.Emitting.{answers_at};
-ghost use Rattle.pp_model.specs.LineWords.{LineWords, Operand, reading, unknown_name, unexpected, name_in, name_in_value, is_defined, unwanted, unwanted_word};
+ghost use Rattle.pp_model.specs.LineWords.{LineWords, Operand, name_in, is_defined, unwanted, unwanted_word};
 ghost use Rattle.pp_model.specs.inner.LineWords.{is_open_paren, is_close_paren};
-ghost use Rattle.pp_model.specs.Names.{is_identifier, defined_name};
 ghost use Rattle.pp_model.specs.Reading.{reading_of};
-ghost use Rattle.pp_model.specs.inner.WordsRead.{reading_named, unwanted_read, IsOf, Closes, Parenthesized};
+ghost use Rattle.pp_model.specs.inner.WordsRead.{Closes, Parenthesized};
 ghost use Rattle.pp_plain.specs.inner.Seen.{seen};
 ghost use Rattle.pp_plain.specs.inner.SeenList.{line_state};
 
@@ -17,100 +16,10 @@ use crate::expand::emit;
 use crate::expander::Expander;
 use crate::reader::LineReader;
 use crate::stop::{Budget, Stop};
-use pp_lexer::token::{Integer, Location, PreprocessorError, Text, Token, TokenValue};
-use pp_model::names::is_defined_name;
+use pp_lexer::token::{Location, PreprocessorError, Text, Token, TokenValue};
 use pp_model::outcome::{Fault, Outcome};
-use pp_model::word::{LineKind, Word, WordReading};
+use pp_model::word::{LineKind, Word, WordReading, Words, reading_of, unwanted_reading};
 use std::alloc::Global;
-use std::marker::Model;
-
-/// The words of a line, and the fault of reading that ends them, if one does.
-#[derive(Drop)]
-pub struct Words {
-    /// The words.
-    pub words: Vec<Word>,
-    /// The fault.
-    pub ending: Option<Fault>,
-}
-
-impl Model for Words {
-    ghost use Rattle.pp_model.specs.LineWords as spec;
-
-    ghost Value = { spec.Words };
-
-    ghost view = { λ w. record { words = w.words.items; ending = w.ending } };
-}
-
-/// The fault of a token that is not wanted.
-fn unexpected(token: Token) -> Fault
-    ensures { result ≡ unexpected token }
-{
-    let Token { value, location } = token;
-    (PreprocessorError::UnexpectedToken(value), location)
-}
-
-/// Whether the token is the identifier `defined`.
-fn is_operator(value: &TokenValue) -> bool
-    ensures { result ≡ is_identifier defined_name value.now }
-{
-    match value {
-        TokenValue::Ident(name) => is_defined_name(name),
-        _ => false,
-    }
-}
-
-/// Whether the token is an identifier.
-fn is_name(value: &TokenValue) -> bool
-    ensures { result ≡ is_some (name_in_value value.now) }
-{
-    matches!(value, TokenValue::Ident(_))
-}
-
-/// What an unknown identifier of a line is.
-fn unknown_name(kind: LineKind, token: Token) -> WordReading
-    ensures { unknown_name kind token ≡ reading_named result }
-{
-    match kind {
-        LineKind::Condition => {
-            let location = token.location;
-            drop(token);
-            WordReading::Word(Token {
-                value: TokenValue::Integer(Integer {
-                    value: 0,
-                    signed: true,
-                    width: 64,
-                }),
-                location,
-            })
-        }
-        LineKind::LineNumber => WordReading::Refused(unexpected(token)),
-    }
-}
-
-/// What a token of an expanded line is.
-fn reading_of(kind: LineKind, token: Token) -> WordReading
-    ensures reads { reading kind token ≡ reading_named result }
-    ensures whole { IsOf token result }
-{
-    if is_operator(&token.value) {
-        WordReading::Operator(token)
-    } else if is_name(&token.value) {
-        unknown_name(kind, token)
-    } else {
-        WordReading::Word(token)
-    }
-}
-
-/// The fault of what was read as a word where a part of `defined` is wanted.
-fn unwanted_reading(read: WordReading) -> Fault
-    ensures { result ≡ unwanted_read read }
-{
-    match read {
-        WordReading::Operator(token) => unexpected(token),
-        WordReading::Word(word) => unexpected(word),
-        WordReading::Refused(fault) => fault,
-    }
-}
 
 /// The fault of an item where a part of `defined` is wanted.
 fn unwanted_word(kind: LineKind, directive: Location, outcome: Outcome) -> Fault
@@ -287,19 +196,12 @@ fn read_words(
 {
     let mut words = Vec::new(expander.alloc);
     match read_into(kind, directive, expander, &mut words, levels, budget) {
-        Ok(ending) => Ok(ended(words, ending)),
+        Ok(ending) => Ok(Words::new(words, ending)),
         Err(stop) => {
             drop(words);
             Err(stop)
         }
     }
-}
-
-/// The words of a line with its fault.
-fn ended(words: Vec<Word>, ending: Option<Fault>) -> Words
-    ensures { result ≡ record { words = words.items; ending = ending } }
-{
-    Words { words, ending }
 }
 
 /// The words that a line comes to, and the fault of reading that ends them, if one does.

@@ -6,9 +6,9 @@ ghost use Rattle.pp_model.specs.SpliceList.{after_marks, open_names, outermost_l
 ghost use Rattle.pp_model.specs.inner.SpliceList.{followed_by};
 ghost use Rattle.pp_model.specs.declared.splice.Entry.{Entry as Item};
 
-use crate::copies::copy_token;
 use crate::lists::TokenLists;
 use pp_lexer::token::{Text, Token, TokenValue};
+use pp_model::copies::copy_token;
 use pp_model::definition::{Definition, TokenList};
 use pp_model::splice::{EndMark, Entry};
 use std::alloc::{AllocError, Global};

@@ -15,13 +15,14 @@ use crate::definitions::Definitions;
 use crate::expand::{emit, expansion_limit};
 use crate::expander::Expander;
 use crate::item::SourceItem;
-use crate::line::{copy_of, with_first};
+use crate::line::with_first;
 use crate::source::Source;
 use crate::source_reader::SourceReader;
 use crate::stop::{Budget, Halt, Stop, stays_short};
 use pp_lexer::lexer::{Lexer, LexerItem};
 use pp_lexer::token::{PreprocessorError, Text};
 use pp_model::call::{Call, Reply};
+use pp_model::copies::copy_fault;
 use pp_model::definition::TokenList;
 use pp_model::outcome::Outcome;
 use std::alloc::{AllocError, Global};
@@ -77,7 +78,7 @@ fn content_tokens(alloc: Global, items: &[SourceItem]) -> Result<TokenList, Halt
         });
     };
     match &first.item {
-        Err(fault) => Err(Halt::Fault(copy_of(alloc, fault)?)),
+        Err(fault) => Err(Halt::Fault(copy_fault(alloc, fault)?)),
         Ok(token) if is_newline(&token.value) => content_tokens(alloc, rest),
         Ok(token) => {
             let first = conversion(alloc, token)?;

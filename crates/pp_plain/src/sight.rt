@@ -6,9 +6,10 @@ ghost use Rattle.pp_model.specs.Sights as spec;
 
 use crate::conversion::{conversion, identifier_of, is_hash, is_newline, refused_token};
 use crate::item::SourceItem;
-use crate::line::{copy_of, first_token};
+use crate::line::first_token;
 use crate::stop::{Halt, Stop};
 use pp_lexer::lexer;
+use pp_model::copies::copy_fault;
 use pp_model::directive::directive_of;
 use pp_model::sight::Sight;
 use std::alloc::Global;
@@ -60,6 +61,6 @@ pub fn sight_of(alloc: Global, items: &[SourceItem]) -> Result<Sight, Stop>
     };
     match &first.item {
         Ok(token) => token_sight(alloc, token, rest),
-        Err(fault) => Ok(Sight::Fault(copy_of(alloc, fault)?)),
+        Err(fault) => Ok(Sight::Fault(copy_fault(alloc, fault)?)),
     }
 }

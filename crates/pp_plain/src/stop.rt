@@ -15,7 +15,7 @@ pub enum Stop {
     OutOfBudget,
 }
 
-// How many items a source or a content may have, how many words a condition, and how many calls may be made.
+// How many items a source or a content may have, and how many calls may be made.
 // For each of them some function calls itself once more, which takes native stack.
 const MOST: usize = 3_000;
 

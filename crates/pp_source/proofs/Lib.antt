@@ -14,5 +14,4 @@ pub mod LineTurnLemmas
 pub mod LineReadLemmas
 pub mod LineOperandLemmas
 pub mod LineWordsLemmas
-pub mod LineValueLemmas
 pub mod ParametersLemmas

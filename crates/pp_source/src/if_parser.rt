@@ -1,10 +1,8 @@
 //! The words of an `#if`, `#elif` or `#line` line.
 
 ghost use Rattle.std.specs.Prelude.{◌≡◌, [], IfOk, is_some};
-ghost use Rattle.pp_model.specs.LineWords.{reading, unknown_name, unexpected, name_in_value, unwanted_word};
+ghost use Rattle.pp_model.specs.LineWords.{unwanted_word};
 ghost use Rattle.pp_model.specs.inner.LineWords.{is_open_paren, is_close_paren};
-ghost use Rattle.pp_model.specs.Names.{is_identifier, defined_name};
-ghost use Rattle.pp_model.specs.inner.WordsRead.{reading_named, unwanted_read, IsOf};
 ghost use Rattle.pp_expansion.specs.inner.Defined.{meaning_of};
 ghost use Rattle.pp_expansion.specs.Held.{AllHoldOrdinary};
 ghost use Rattle.pp_source.specs.inner.IfParsing.{Stands, GivesItem, TakesOff, GivesTaken, IsNameOrFault, GivesOperand, GivesParenthesized, GivesClosed, AreWordsOf, AreWordsOfLine};
@@ -18,29 +16,10 @@ use pp_expansion::list_lexer::ListLexer;
 use pp_expansion::list_step::{step_list, take_list};
 use pp_expansion::open_around::OpenAround;
 use pp_expansion::step::StepExit;
-use pp_lexer::token::{Integer, Location, PreprocessorError, Text, Token, TokenValue};
-use pp_model::names::is_defined_name;
+use pp_lexer::token::{Location, PreprocessorError, Text, Token, TokenValue};
 use pp_model::outcome::Fault;
-use pp_model::word::{LineKind, Word, WordReading};
+use pp_model::word::{LineKind, Word, WordReading, Words, reading_of, unwanted_reading};
 use std::alloc::{AllocError, Global};
-use std::marker::Model;
-
-/// The words of a line, and the fault of reading that ends them, if one does.
-#[derive(Drop)]
-pub struct Words {
-    /// The words.
-    pub words: Vec<Word>,
-    /// The fault.
-    pub ending: Option<Fault>,
-}
-
-impl Model for Words {
-    ghost use Rattle.pp_model.specs.LineWords as spec;
-
-    ghost Value = { spec.Words };
-
-    ghost view = { λ w. record { words = w.words.items; ending = w.ending } };
-}
 
 // A line that is read: the macros that are open, and the tokens that are left.
 #[derive(Drop)]
@@ -58,77 +37,6 @@ struct IfParser<'a> {
     directive: Location,
     definitions: &'a Definitions,
     levels: u32,
-}
-
-// The fault of a token that is not wanted.
-fn unexpected(token: Token) -> Fault
-    ensures { result ≡ unexpected token }
-{
-    let Token { value, location } = token;
-    (PreprocessorError::UnexpectedToken(value), location)
-}
-
-// Whether the token is the identifier `defined`.
-fn is_operator(value: &TokenValue) -> bool
-    ensures { result ≡ is_identifier defined_name value.now }
-{
-    match value {
-        TokenValue::Ident(name) => is_defined_name(name),
-        _ => false,
-    }
-}
-
-// Whether the token is an identifier.
-fn is_name(value: &TokenValue) -> bool
-    ensures { result ≡ is_some (name_in_value value.now) }
-{
-    matches!(value, TokenValue::Ident(_))
-}
-
-// What an unknown identifier of a line is.
-fn unknown_name(kind: LineKind, token: Token) -> WordReading
-    ensures { unknown_name kind token ≡ reading_named result }
-{
-    match kind {
-        LineKind::Condition => {
-            let location = token.location;
-            drop(token);
-            WordReading::Word(Token {
-                value: TokenValue::Integer(Integer {
-                    value: 0,
-                    signed: true,
-                    width: 64,
-                }),
-                location,
-            })
-        }
-        LineKind::LineNumber => WordReading::Refused(unexpected(token)),
-    }
-}
-
-// What a token of an expanded line is.
-fn reading_of(kind: LineKind, token: Token) -> WordReading
-    ensures reads { reading kind token ≡ reading_named result }
-    ensures whole { IsOf token result }
-{
-    if is_operator(&token.value) {
-        WordReading::Operator(token)
-    } else if is_name(&token.value) {
-        unknown_name(kind, token)
-    } else {
-        WordReading::Word(token)
-    }
-}
-
-// The fault of what was read as a word where a part of `defined` is wanted.
-fn unwanted_reading(read: WordReading) -> Fault
-    ensures { result ≡ unwanted_read read }
-{
-    match read {
-        WordReading::Operator(token) => unexpected(token),
-        WordReading::Word(word) => unexpected(word),
-        WordReading::Refused(fault) => fault,
-    }
 }
 
 // Whether it is a `(`.
@@ -149,13 +57,6 @@ fn is_close_paren(found: &Option<Token>) -> bool
         Some(token) => is_right_paren(&token.value),
         None => false,
     }
-}
-
-// The words of a line with its fault.
-fn ended(words: Vec<Word>, ending: Option<Fault>) -> Words
-    ensures { result ≡ record { words = words.items; ending = ending } }
-{
-    Words { words, ending }
 }
 
 impl<'a> IfParser<'a> {
@@ -295,13 +196,13 @@ impl<'a> IfParser<'a> {
         'words: loop {
             let token = match self.next_item(line) {
                 Ok(Some(token)) => token,
-                Ok(None) => return Ok(ended(words, None)),
-                Err(Halt::Fault(fault)) => return Ok(ended(words, Some(fault))),
+                Ok(None) => return Ok(Words::new(words, None)),
+                Err(Halt::Fault(fault)) => return Ok(Words::new(words, Some(fault))),
                 Err(Halt::OutOfMemory) => return Err(AllocError),
             };
             let place = token.location;
             match reading_of(self.kind, token) {
-                WordReading::Refused(fault) => return Ok(ended(words, Some(fault))),
+                WordReading::Refused(fault) => return Ok(Words::new(words, Some(fault))),
                 WordReading::Word(word) => words.push(Word::Plain(word))?,
                 WordReading::Operator(operator) => {
                     drop(operator);
@@ -309,7 +210,7 @@ impl<'a> IfParser<'a> {
                         Ok(answer) => words.push(Word::Defined(place, Ok(answer)))?,
                         Err(Halt::Fault(fault)) => {
                             words.push(Word::Defined(place, Err(fault)))?;
-                            return Ok(ended(words, None));
+                            return Ok(Words::new(words, None));
                         }
                         Err(Halt::OutOfMemory) => return Err(AllocError),
                     }

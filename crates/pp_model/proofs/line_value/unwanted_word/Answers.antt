@@ -3,7 +3,7 @@ use Rattle.std.specs.Str.{chars}
 use Rattle.pp_lexer.specs.declared.token.PreprocessorError.TheVariants.{UnexpectedToken}
 use Rattle.pp_lexer.specs.declared.token.TokenValue.TheVariants.{Ident}
 use Rattle.pp_model.proofs.TextLemmas.{chars-defined}
-use Rattle.pp_plain.proofs.condition.unwanted_word.Goals as goal
+use Rattle.pp_model.proofs.line_value.unwanted_word.Goals as goal
 
 pub returns-in_ok-from_str-in-Defined : goal.returns-in_ok-from_str-in-Defined
 returns-in_ok-from_str-in-Defined c =

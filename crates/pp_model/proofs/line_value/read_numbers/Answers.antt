@@ -1,6 +1,6 @@
 use Rattle.pp_model.proofs.LineNumberLemmas.{numbers_faulty, numbers_out, numbers_alone, numbers_followed}
-use Rattle.pp_source.proofs.LineValueLemmas.{satisfies_more}
-use Rattle.pp_source.proofs.line_value.read_numbers.Goals as goal
+use Rattle.std.proofs.lemmas.Result.{IfOk-weaker}
+use Rattle.pp_model.proofs.line_value.read_numbers.Goals as goal
 
 pub returns-in-Err : goal.returns-in-Err
 returns-in-Err c = numbers_faulty c.args.directive c.args.words.now _ c.in-Err.found _ c.in_ok-value.ensures c.in-Err.is c.in_ok-reported_fault-in-Err.ensures
@@ -15,7 +15,7 @@ returns-then-value-eq0 c =
 
 pub returns : goal.returns
 returns c =
-    satisfies_more _ _ c.followed.result
+    IfOk-weaker c.number_before.result _ _
     (numbers_followed c.args.directive c.args.words.now _ c.in-Ok.value _ c.in-Some.number _ c.in_ok-value.ensures c.in-Ok.is
     c.as_line_number.ensures c.in-Some.is c.if-value-eq0.false c.pass_words.ensures)
-    c.followed.ensures
+    c.number_before.ensures

@@ -1,6 +1,6 @@
 use Rattle.pp_model.specs.LineValues.{symbol_of}
-use Rattle.pp_source.proofs.LineValueLemmas.{mapped_more}
-use Rattle.pp_source.proofs.line_value.symbols_of.Goals as goal
+use Rattle.pp_model.proofs.ListLemmas.{mapped_more}
+use Rattle.pp_model.proofs.line_value.symbols_of.Goals as goal
 
 pub loop-word-preserved : goal.loop-word-preserved
 loop-word-preserved c =

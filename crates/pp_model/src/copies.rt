@@ -1,0 +1,27 @@
+//! Copies of tokens and faults.
+
+ghost use Rattle.std.specs.Prelude.{◌≡◌, IfOk};
+
+use crate::outcome::Fault;
+use pp_lexer::token::Token;
+use std::alloc::{AllocError, Global};
+
+/// A copy of a token. The error says that memory was refused.
+pub fn copy_token(alloc: Global, token: &Token) -> Result<Token, AllocError>
+    ensures { IfOk result (λ copy. copy ≡ token.now) }
+{
+    match token.clone(alloc) {
+        Ok(copy) => Ok(copy),
+        Err(_) => Err(AllocError),
+    }
+}
+
+/// A copy of a fault. The error says that memory was refused.
+pub fn copy_fault(alloc: Global, fault: &Fault) -> Result<Fault, AllocError>
+    ensures { IfOk result (λ copy. copy ≡ fault.now) }
+{
+    match fault.0.clone(alloc) {
+        Ok(error) => Ok((error, fault.1)),
+        Err(_) => Err(AllocError),
+    }
+}
