@@ -2,7 +2,6 @@
 
 use pp_print::{RunEnd, RunFault, message, split_word, status};
 use pp_rs::token::{Location, PreprocessorError};
-use std::alloc::{AllocError, Global};
 use std::test::Fail;
 
 const WORDS: [(&str, Option<(&str, &str)>); 6] = [
