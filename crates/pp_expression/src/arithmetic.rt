@@ -2,6 +2,7 @@
 
 ghost use Rattle.std.specs.Prelude.{◌≡◌};
 ghost use Rattle.pp_expression.specs.Arithmetic as spec;
+ghost use Rattle.pp_expression.specs.declared.operator.Binary.TheVariants as spec_operator;
 
 use crate::operator::{Binary, Unary};
 use crate::symbol::ExpressionFault;
@@ -37,8 +38,33 @@ fn shift_count(count: i64) -> Result<u32, ExpressionFault>
     Ok(count as u32)
 }
 
-/// The value of an operator between its operands: `IntegerOverflow` where it leaves 64 bits or a
-/// shift's count is not one of 0 to 63, and `DivisionByZero` where there is no quotient.
+/// The quotient: `DivisionByZero` where the divisor is 0, and `IntegerOverflow` of the least number by
+/// -1, which leaves 64 bits.
+fn quotient(left: i64, right: i64) -> Result<i64, ExpressionFault>
+    ensures { result ≡ spec.binary_value spec_operator.Divide left right }
+{
+    if right == 0 {
+        return Err(ExpressionFault::DivisionByZero);
+    }
+    left.checked_div(right)
+        .ok_or(ExpressionFault::IntegerOverflow)
+}
+
+/// The remainder: `RemainderByZero` where the divisor is 0, and `IntegerOverflow` where the quotient
+/// leaves 64 bits.
+fn remainder(left: i64, right: i64) -> Result<i64, ExpressionFault>
+    ensures { result ≡ spec.binary_value spec_operator.Remainder left right }
+{
+    if right == 0 {
+        return Err(ExpressionFault::RemainderByZero);
+    }
+    left.checked_rem(right)
+        .ok_or(ExpressionFault::IntegerOverflow)
+}
+
+/// The value of an operator between its operands: `IntegerOverflow` where it, or the quotient of a
+/// remainder, leaves 64 bits or a shift's count is not one of 0 to 63, and `DivisionByZero` or
+/// `RemainderByZero` where the divisor is 0.
 pub fn binary(operator: Binary, left: i64, right: i64) -> Result<i64, ExpressionFault>
     ensures { result ≡ spec.binary_value operator left right }
 {
@@ -46,12 +72,8 @@ pub fn binary(operator: Binary, left: i64, right: i64) -> Result<i64, Expression
         Binary::Multiply => left
             .checked_mul(right)
             .ok_or(ExpressionFault::IntegerOverflow),
-        Binary::Divide => left
-            .checked_div(right)
-            .ok_or(ExpressionFault::DivisionByZero),
-        Binary::Remainder => left
-            .checked_rem(right)
-            .ok_or(ExpressionFault::DivisionByZero),
+        Binary::Divide => quotient(left, right),
+        Binary::Remainder => remainder(left, right),
         Binary::Add => left
             .checked_add(right)
             .ok_or(ExpressionFault::IntegerOverflow),

@@ -279,7 +279,7 @@ impl<'a> Evaluator<'a> {
 /// `symbols`.
 ///
 /// An `Err` within is the first fault: `Unexpected`, `UnexpectedEndOfInput` or `Operand` where an
-/// operand or a `)` is wanted, `IntegerOverflow` or `DivisionByZero` of an operator, or `ending`. An
+/// operand or a `)` is wanted, `IntegerOverflow`, `DivisionByZero` or `RemainderByZero` of an operator, or `ending`. An
 /// operator in front of its operand, `*`, `/` and `%` are computed once the last symbol of their right
 /// operand is read, the others once the symbol after it is known.
 ///

@@ -19,11 +19,13 @@ pub enum Symbol {
 /// What is wrong with an expression.
 #[derive(Clone, Copy, PartialEq, Eq, Debug)]
 pub enum ExpressionFault {
-    /// A sum, a difference, a product or a negation leaves 64 bits, or a shift's count is not one of
-    /// 0 to 63.
+    /// A sum, a difference, a product, a quotient or a negation leaves 64 bits, as does the quotient of
+    /// a remainder, or a shift's count is not one of 0 to 63.
     IntegerOverflow,
-    /// A division or a remainder by 0, or of the least number by -1.
+    /// A division by 0.
     DivisionByZero,
+    /// A remainder by 0.
+    RemainderByZero,
     /// The line ends where an operand or a `)` is wanted.
     UnexpectedEndOfInput,
     /// A symbol stands where an operand or a `)` is wanted, and is none.

@@ -92,6 +92,7 @@ module _ (P : Acted → Type 0) (r : SourceReader) (all : HoldsOfDead P r) where
   dead_text_holds end (sight.Fault fault) = all.fault fault
   dead_text_holds end (sight.Token token) = all.nothing 1
   dead_text_holds end (sight.Hash location) = all.nothing 1
+  dead_text_holds end sight.Lone = all.nothing 2
   dead_text_holds end (sight.NoWord fault) = all.nothing 2
   dead_text_holds end (sight.Directive directive word) = dead_directive_holds directive word
 
@@ -130,6 +131,7 @@ module _ (P : Acted → Type 0) (r : SourceReader) (all : HoldsOfLive P r) where
   live_text_holds end (sight.Fault fault) = all.dead.fault fault
   live_text_holds end (sight.Token token) = all.token token 1
   live_text_holds end (sight.Hash location) = all.dead.fault _
+  live_text_holds end sight.Lone = all.dead.nothing 2
   live_text_holds end (sight.NoWord fault) = all.dead.fault fault
   live_text_holds end (sight.Directive directive word) = live_directive_holds directive word
 

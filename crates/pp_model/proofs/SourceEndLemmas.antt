@@ -66,6 +66,7 @@ ends_there true sight.NewLine r h = cc
 ends_there true (sight.Fault fault) r h = cc
 ends_there true (sight.Token token) r h = cc
 ends_there true (sight.Hash location) r h = cc
+ends_there true sight.Lone r h = cc
 ends_there true (sight.NoWord fault) r h = cc
 ends_there true (sight.Directive directive word) r h = absurd (no_end (live_directive directive word r)
     (live_directive_holds GoesOn r (live_goes_on r) directive word) h)
@@ -74,6 +75,7 @@ ends_there false sight.NewLine r h = cc
 ends_there false (sight.Fault fault) r h = cc
 ends_there false (sight.Token token) r h = cc
 ends_there false (sight.Hash location) r h = cc
+ends_there false sight.Lone r h = cc
 ends_there false (sight.NoWord fault) r h = cc
 ends_there false (sight.Directive directive word) r h = absurd (no_end (dead_directive directive word r)
     (dead_directive_holds GoesOn r (dead_goes_on r) directive word) h)

@@ -47,6 +47,7 @@ module _ (Q : Token → Type 0) (L : ℕ → Type 0) (closed : AreClosed Q L) wh
   HoldsOfSight sight.NewLine = ⊤
   HoldsOfSight (sight.Fault fault) = ⊤
   HoldsOfSight (sight.Hash location) = ⊤
+  HoldsOfSight sight.Lone = ⊤
   HoldsOfSight (sight.NoWord fault) = ⊤
 
   word_value : (location : Location) (value : LexerTokenValue) (blank at_start : Bool)
@@ -194,6 +195,7 @@ module _ (Q : Token → Type 0) (L : ℕ → Type 0) (closed : AreClosed Q L) wh
     live_holds (sight.Fault fault) h = dead.fault fault
     live_holds (sight.Token token) h = given_holds token (moved 1 r) h refl
     live_holds (sight.Hash location) h = dead.fault _
+    live_holds sight.Lone h = dead.nothing 2
     live_holds (sight.NoWord fault) h = dead.fault fault
     live_holds (sight.Directive directive word) h = live_directive_holds directive word h
 

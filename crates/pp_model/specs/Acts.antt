@@ -157,6 +157,7 @@ live_act sight.NewLine reader = passed (moved 1 reader)
 live_act (sight.Fault fault) reader = failed fault reader
 live_act (sight.Token token) reader = given token (moved 1 reader)
 live_act (sight.Hash location) reader = failed (UnexpectedHash, location) reader
+live_act sight.Lone reader = passed (moved 2 reader)
 live_act (sight.NoWord fault) reader = failed fault reader
 live_act (sight.Directive directive word) reader = live_directive directive word reader
 
@@ -164,6 +165,7 @@ live_act (sight.Directive directive word) reader = live_directive directive word
 abbrev pub dead_act : Sight → SourceReader → Acted
 dead_act sight.End reader = ended reader
 dead_act (sight.Fault fault) reader = failed fault reader
+dead_act sight.Lone reader = passed (moved 2 reader)
 dead_act (sight.NoWord fault) reader = passed (moved 2 reader)
 dead_act (sight.Directive directive word) reader = dead_directive directive word reader
 dead_act _ reader = passed (moved 1 reader)

@@ -12,7 +12,7 @@ use Rattle.pp_expression.specs.Lines.{Line}
 use Rattle.pp_expression.specs.FirstFault.{Evaluates}
 use Rattle.std.specs.Option.{option_map_or}
 use Rattle.pp_lexer.specs.declared.token.Location.{Location}
-use Rattle.pp_lexer.specs.declared.token.PreprocessorError.TheVariants.{IntegerOverflow, DivisionByZero, UnexpectedEndOfInput, UnexpectedToken, LineOverflow}
+use Rattle.pp_lexer.specs.declared.token.PreprocessorError.TheVariants.{IntegerOverflow, DivisionByZero, RemainderByZero, UnexpectedEndOfInput, UnexpectedToken, LineOverflow}
 use Rattle.pp_lexer.specs.declared.token.Token.{Token}
 use Rattle.pp_lexer.specs.declared.token.TokenValue.{TokenValue}
 use Rattle.pp_lexer.specs.declared.token.TokenValue.TheVariants.{Ident, Integer, Punct}
@@ -61,6 +61,7 @@ ended_early directive = (UnexpectedEndOfInput, directive)
 abbrev pub reported : Location → Words → ExpressionFault → ℕ → Fault
 reported directive words kind.IntegerOverflow left = (IntegerOverflow, directive)
 reported directive words kind.DivisionByZero left = (DivisionByZero, directive)
+reported directive words kind.RemainderByZero left = (RemainderByZero, directive)
 reported directive words kind.UnexpectedEndOfInput left = ended_early directive
 reported directive words kind.Unexpected left = unwrap_or (option_map unwanted_word (word_from_end left words)) (ended_early directive)
 reported directive words kind.Unread left = unwrap_or words.ending (ended_early directive)

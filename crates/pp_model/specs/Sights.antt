@@ -29,10 +29,10 @@ abbrev pub sight_from : {A : Type 0} → (A → Sight) → Result A Fault → Si
 sight_from see (Ok value) = see value
 sight_from see (Err fault) = sight.Fault fault
 
--- what stands after the number sign of a directive
+-- what stands after the number sign of a directive: its word, or the end of the line, or neither
 abbrev pub named_directive : LexerToken → Option Name → Sight
 named_directive token (Some name) = sight.Directive (directive_of name) token.location
-named_directive token None = sight.NoWord (refused_token token)
+named_directive token None = if is_newline token.value then sight.Lone else sight.NoWord (refused_token token)
 
 -- a number sign begins a directive where only blanks stand before it on its line
 abbrev pub token_sight : LexerToken → List Seen → Sight
@@ -47,8 +47,10 @@ abbrev pub sight_of : List Seen → Sight
 sight_of [] = sight.End
 sight_of (s ∷ rest) = sight_from (λ token. token_sight token rest) s.item
 
+-- a directive, also a number sign without a word
 abbrev pub is_directive : Sight → Bool
 is_directive (sight.Directive word location) = true
+is_directive sight.Lone = true
 is_directive _ = false
 
 abbrev pub is_text : Sight → Bool
@@ -62,6 +64,7 @@ is_directive_hash (Err fault) = false
 -- how many items are needed to see it
 abbrev pub least_items : Sight → ℕ
 least_items sight.End = 0
+least_items sight.Lone = 2
 least_items (sight.NoWord fault) = 2
 least_items (sight.Directive word location) = 2
 least_items _ = 1

@@ -106,6 +106,7 @@ fn reported_fault(
     match found.kind {
         ExpressionFault::IntegerOverflow => Ok((PreprocessorError::IntegerOverflow, directive)),
         ExpressionFault::DivisionByZero => Ok((PreprocessorError::DivisionByZero, directive)),
+        ExpressionFault::RemainderByZero => Ok((PreprocessorError::RemainderByZero, directive)),
         ExpressionFault::UnexpectedEndOfInput => Ok(ended_early(directive)),
         ExpressionFault::Unexpected => match word_from_end(words, found.left) {
             Some(word) => unwanted_word(alloc, word),

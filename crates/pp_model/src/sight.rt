@@ -17,7 +17,10 @@ pub enum Sight {
     Token(Token),
     /// A `#` that is not the first on its line.
     Hash(Location),
-    /// The `#` of a directive, with no word after it: this is what live text says of it.
+    /// The `#` of a directive, alone on its line.
+    Lone,
+    /// The `#` of a directive, with something after it that is no word: this is what live text says
+    /// of it.
     NoWord(Fault),
     /// The `#` of a directive, with its word and where that stands.
     Directive(Directive, Location),

@@ -22,6 +22,7 @@ fn named_directive(alloc: Global, token: &lexer::Token) -> Result<Sight, Stop>
 {
     match identifier_of(alloc, &token.value)? {
         Some(name) => Ok(Sight::Directive(directive_of(&name), token.location)),
+        None if is_newline(&token.value) => Ok(Sight::Lone),
         None => Ok(Sight::NoWord(refused_token(alloc, token)?)),
     }
 }

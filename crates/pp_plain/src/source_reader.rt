@@ -479,6 +479,7 @@ impl<'a> SourceReader<'a> {
         match sight {
             Sight::End => self.tell_end(alloc),
             Sight::NewLine => Ok(self.pass(1)),
+            Sight::Lone => Ok(self.pass(2)),
             Sight::Fault(fault) | Sight::NoWord(fault) => Err(Halt::Fault(fault)),
             Sight::Token(token) => {
                 self.position += 1;
@@ -500,7 +501,7 @@ impl<'a> SourceReader<'a> {
             Sight::End => self.tell_end(alloc),
             Sight::Fault(fault) => Err(Halt::Fault(fault)),
             Sight::NewLine | Sight::Token(_) | Sight::Hash(_) => Ok(self.pass(1)),
-            Sight::NoWord(_) => Ok(self.pass(2)),
+            Sight::Lone | Sight::NoWord(_) => Ok(self.pass(2)),
             Sight::Directive(directive, word) => self.act_dead_directive(alloc, directive, word),
         }
     }

@@ -18,7 +18,7 @@ use std::alloc::Global;
 fn is_directive(sight: &Sight) -> bool
     ensures { result ≡ sights.is_directive sight.now }
 {
-    matches!(sight, Sight::Directive(_, _))
+    matches!(sight, Sight::Directive(_, _) | Sight::Lone)
 }
 
 fn is_text(sight: &Sight) -> bool

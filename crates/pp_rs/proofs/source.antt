@@ -15,6 +15,7 @@ pub mod BlockSimulates
 pub mod ConditionSimulates
 pub mod DefineSimulates
 pub mod ItemSimulates
+pub mod BareSimulates
 pub mod LiveSimulates
 pub mod DeadSimulates
 pub mod SourceSimulates

@@ -10,12 +10,13 @@ use Rattle.pp_lexer.specs.declared.lexer.item.TokenValue.TheVariants.{Hash}
 use Rattle.pp_lexer.specs.declared.token.Location.{Location}
 use Rattle.pp_lexer.specs.declared.token.Token.{Token}
 use Rattle.pp_model.specs.Calls.{Fault}
-use Rattle.pp_model.specs.Conversions.{identifier_of, refused_token}
+use Rattle.pp_model.specs.Conversions.{is_newline, identifier_of, refused_token}
 use Rattle.pp_model.specs.Lines.{first_token, name_of}
 use Rattle.pp_model.specs.inner.Lines.{name_or_refused}
 use Rattle.pp_expression.specs.Answers.{◌>>=◌}
 use Rattle.pp_model.specs.Names.{Name}
 use Rattle.pp_model.specs.declared.definition.Placed.{Placed}
+use Rattle.pp_model.specs.declared.sight.Sight.TheVariants as sight
 use Rattle.pp_model.specs.Sights.{directive_of, named_directive, token_sight, sight_of}
 use Rattle.pp_model.specs.inner.Sights.{directive_sight}
 use Rattle.pp_expansion.specs.inner.Defined.{Defined}
@@ -25,9 +26,9 @@ use Rattle.pp_expansion.specs.inner.LineReading.{HasTaken, as_next, next_token}
 use Rattle.pp_expansion.specs.inner.OpenBlocks.{last_block, is_live_in}
 use Rattle.pp_expansion.specs.declared.blocks.OpenBlock.{OpenBlock}
 use Rattle.pp_expansion.specs.inner.Source.{Source, Makes, IsRefusedStep, StepsSource}
-use Rattle.pp_source.specs.inner.SourceActs.{Gives, live_word_move, dead_word_move, dead_name_move, word_move}
+use Rattle.pp_source.specs.inner.SourceActs.{Gives, lone, live_name_move, live_word_move, dead_word_move, dead_name_move, word_move}
 use Rattle.pp_expansion.specs.inner.SourceLexed.{SourceLexed, EndStays}
-use Rattle.pp_expansion.specs.inner.SourceMoves.{Effect, fails, passes, Note, unnoted, directive_line, Move, directive_move, taking_more, move_at, move_of}
+use Rattle.pp_expansion.specs.inner.SourceMoves.{failing, Effect, fails, passes, Note, unnoted, directive_line, Move, directive_move, taking_more, move_at, move_of}
 use Rattle.pp_expansion.specs.declared.halt.Halt.{Halt}
 use Rattle.pp_expansion.specs.declared.halt.Halt.TheVariants as halt
 use Rattle.pp_expansion.proofs.work.LinePartsLemmas.{name_or_refused_is}
@@ -58,9 +59,7 @@ hash_sight token rest v s = rw (v, s) refl
 
 -- what a directive comes to after its number sign, by the token after it
 abbrev word_move_by : Bool → Option OpenBlock → Result LexerToken Fault → List Seen → Move
-word_move_by live block first after =
-    if live then live_word_move block (first >>= λ token. name_of token >>= λ name. Ok (record { name = name; location = token.location })) after
-    else dead_word_move block first after
+word_move_by live block first after = if live then live_word_move block first after else dead_word_move block first after
 
 module _ (definitions : List Defined) (blocks : List OpenBlock)
     (line_offset : ℤ) (has_text has_directive : Bool) (old mid : SourceLexed) (new : Source) (taken : mid.rest ≡ drop 1 old.rest)
@@ -90,34 +89,36 @@ module _ (definitions : List Defined) (blocks : List OpenBlock)
       (subst (λ (rest : List Seen). Gives (taking_more 1 (directive_move live block (directive_of name) word rest))
       (source_of mid definitions blocks line_offset has_text has_directive) result new) after h)
 
-  live_makes : (block : Option OpenBlock) (token : LexerToken) (name : Option Name) (result : Result (Option Token) Halt)
-      → Gives (live_word_move block (name_or_refused token name) (drop 1 mid.rest))
+  -- a number sign without a word in live text, and in dead text
+  live_bare_makes : (newline : Bool) (fault : Fault) (block : Option OpenBlock) (result : Result (Option Token) Halt)
+      → Gives (if newline then lone else failing fault) (source_of mid definitions blocks line_offset has_text has_directive) result new
+      → StepsBy result (move_at true block (if newline then sight.Lone else sight.NoWord fault) old.rest)
+  live_bare_makes true fault block result h = acts_make passes 1 2 directive_line refl result h
+  live_bare_makes false fault block result h = acts_make (fails fault) 0 1 unnoted refl result h
+
+  dead_bare_makes : (newline : Bool) (fault : Fault) (block : Option OpenBlock) (result : Result (Option Token) Halt)
+      → Gives (if newline then lone else record { effect = passes; taken = 1; note = unnoted })
       (source_of mid definitions blocks line_offset has_text has_directive) result new
+      → StepsBy result (move_at false block (if newline then sight.Lone else sight.NoWord fault) old.rest)
+  dead_bare_makes true fault block result h = acts_make passes 1 2 directive_line refl result h
+  dead_bare_makes false fault block result h = acts_make passes 1 2 unnoted refl result h
+
+  live_makes : (block : Option OpenBlock) (token : LexerToken) (name : Option Name) (result : Result (Option Token) Halt)
+      → Gives (live_name_move block token name (drop 1 mid.rest)) (source_of mid definitions blocks line_offset has_text has_directive) result new
       → StepsBy result (move_at true block (named_directive token name) old.rest)
-  live_makes block token None result h = acts_make (fails (refused_token token)) 0 1 unnoted refl result h
+  live_makes block token None result h = live_bare_makes (is_newline token.value) (refused_token token) block result h
   live_makes block token (Some name) result h = directive_makes true block name token.location result h
 
-  -- what a move gives after the number sign
-  abbrev GivesBy : Result (Option Token) Halt → Move → Type 0
-  GivesBy result move = Gives move (source_of mid definitions blocks line_offset has_text has_directive) result new
-
-  -- the same by the name that the token holds, or its refusal
-  named_gives : (block : Option OpenBlock) (token : LexerToken) (result : Result (Option Token) Halt)
-      → GivesBy result (word_move_by true block (Ok token) (drop 1 mid.rest))
-      → GivesBy result (live_word_move block (name_or_refused token (identifier_of token.value)) (drop 1 mid.rest))
-  named_gives block token result h =
-      subst (λ (word : Result Placed Fault). GivesBy result (live_word_move block word (drop 1 mid.rest))) (name_or_refused_is token) h
-
   dead_makes : (block : Option OpenBlock) (token : LexerToken) (name : Option Name) (result : Result (Option Token) Halt)
-      → Gives (dead_name_move block token.location name (drop 1 mid.rest)) (source_of mid definitions blocks line_offset has_text has_directive) result new
+      → Gives (dead_name_move block token name (drop 1 mid.rest)) (source_of mid definitions blocks line_offset has_text has_directive) result new
       → StepsBy result (move_at false block (named_directive token name) old.rest)
-  dead_makes block token None result h = acts_make passes 1 2 unnoted refl result h
+  dead_makes block token None result h = dead_bare_makes (is_newline token.value) (refused_token token) block result h
   dead_makes block token (Some name) result h = directive_makes false block name token.location result h
 
   word_makes : (live : Bool) (block : Option OpenBlock) (first : Result LexerToken Fault) (result : Result (Option Token) Halt)
       → Gives (word_move_by live block first (drop 1 mid.rest)) (source_of mid definitions blocks line_offset has_text has_directive) result new
       → StepsBy result (move_at live block (directive_sight first) old.rest)
-  word_makes true block (Ok token) result h = live_makes block token (identifier_of token.value) result (named_gives block token result h)
+  word_makes true block (Ok token) result h = live_makes block token (identifier_of token.value) result h
   word_makes true block (Err fault) result h = acts_make (fails fault) 0 1 unnoted refl result h
   word_makes false block (Ok token) result h = dead_makes block token (identifier_of token.value) result h
   word_makes false block (Err fault) result h = acts_make (fails fault) 0 1 unnoted refl result h

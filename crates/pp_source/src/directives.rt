@@ -4,7 +4,7 @@ ghost use Rattle.std.specs.Prelude.{◌≡◌, ◌≢◌, ◌||◌, ◌-◌, ◌
 ghost use Rattle.std.specs.Str.{chars};
 ghost use Rattle.pp_lexer.specs.declared.lexer.item.TokenValue.TheVariants.{NewLine};
 ghost use Rattle.pp_model.specs.Conversions.{conversion};
-ghost use Rattle.pp_model.specs.Lines.{only_name, line_tokens, line_length, first_name, first_token};
+ghost use Rattle.pp_model.specs.Lines.{only_name, line_tokens, line_length, first_token};
 ghost use Rattle.pp_model.specs.LineValues.{as_line_number};
 ghost use Rattle.pp_model.specs.Run.{items_of, content_tokens};
 ghost use Rattle.pp_model.specs.declared.directive.Directive.TheVariants as d;
@@ -25,8 +25,8 @@ use crate::content::content_tokens;
 use crate::convert::convert_lexer_token_to_step;
 use crate::line_value::{condition, line_number};
 use crate::lines::{
-    DefineLine, define_line, ended_line, endif_end, first_name, first_token, line_tokens,
-    only_name, rest_of_line, skip_line,
+    DefineLine, define_line, ended_line, endif_end, first_token, line_tokens, only_name,
+    refused_token, rest_of_line, skip_line,
 };
 use crate::source_lexer::SourceLexer;
 use pp_expansion::blocks::{Blocks, OpenBlock};
@@ -463,21 +463,30 @@ impl<'a> DirectiveProcessor<'a> {
         }
     }
 
-    // What a directive gives in live text, after its number sign.
+    // What a directive gives in live text, after its number sign. Alone on its line that gives nothing.
     fn read_live(&mut self, hash: Location) -> Result<Option<Token>, Halt>
         requires { self.old.spent ≡ false }
         ensures gives { Gives (live_word_move (last_block self.old.blocks)
-            (first_name hash self.old.rest) (drop 1 self.old.rest)) self.old result self.new }
+            (first_token hash self.old.rest) (drop 1 self.old.rest)) self.old result self.new }
         ensures holds { IfOk result (λ given. IfSome given (λ token. HoldsOrdinary token.value)) }
         ensures errors { Reports result (unreported_of self.old) (unreported_of self.new) }
     {
-        let word = first_name(hash, &mut self.lexer)?;
-        let directive = directive_of(&word.name);
-        let location = word.location;
-        drop(word);
-        let given = self.give_live(directive, location)?;
-        self.has_directive = true;
-        Ok(given)
+        let token = first_token(hash, &mut self.lexer)?;
+        let word = token.location;
+        match token.value {
+            lexer::TokenValue::Ident(name) => {
+                let directive = directive_of(&name);
+                drop(name);
+                let given = self.give_live(directive, word)?;
+                self.has_directive = true;
+                Ok(given)
+            }
+            lexer::TokenValue::NewLine => {
+                self.has_directive = true;
+                Ok(None)
+            }
+            _ => Err(Halt::Fault(refused_token(token))),
+        }
     }
 
     // Does what a directive says in dead text, after its number sign. Where no word stands there, nothing is said.
@@ -494,6 +503,10 @@ impl<'a> DirectiveProcessor<'a> {
                 let directive = directive_of(&name);
                 drop(name);
                 self.act_dead(directive, word)?;
+                self.has_directive = true;
+                Ok(())
+            }
+            lexer::TokenValue::NewLine => {
                 self.has_directive = true;
                 Ok(())
             }

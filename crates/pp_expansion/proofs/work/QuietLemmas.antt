@@ -1,6 +1,6 @@
 -- Items among which no line of a block stands, whatever stands after them.
-use Rattle.std.proofs.Common.{◌≡◌, ℕ, suc, ◌+◌, Bool, true, false, ◌&&◌, List, [], ◌∷◌, ◌++◌, length, ◌≤◌, take, refl, ap, Option, Some, None, arith}
-use Rattle.std.specs.Prelude.{Result, Ok, Err}
+use Rattle.std.proofs.Common.{◌≡◌, ◌∙◌, sym, ℕ, suc, ◌+◌, Bool, true, false, ◌&&◌, List, [], ◌∷◌, ◌++◌, length, ◌≤◌, take, refl, ap, Option, Some, None, arith}
+use Rattle.std.specs.Prelude.{Result, Ok, Err, if◌then◌else◌}
 use Rattle.std.specs.List.{cons_option}
 use Rattle.pp_lexer.specs.Lexed.{Seen}
 use Rattle.pp_lexer.specs.Items.{Lexeme}
@@ -9,7 +9,7 @@ use Rattle.pp_lexer.specs.declared.lexer.item.TokenValue.{TokenValue as LexerTok
 use Rattle.pp_lexer.specs.declared.lexer.item.TokenValue.TheVariants.{Hash, NewLine, Ident as LexerIdent, Integer as LexerInteger, Float as LexerFloat, Punct as LexerPunct}
 use Rattle.pp_lexer.specs.declared.token.Location.{Location}
 use Rattle.pp_model.specs.Calls.{Fault}
-use Rattle.pp_model.specs.Conversions.{is_hash, identifier_of}
+use Rattle.pp_model.specs.Conversions.{is_newline, is_hash, identifier_of, refused_token}
 use Rattle.pp_model.specs.Lines.{first_token, ends_line}
 use Rattle.pp_model.specs.Names.{Name}
 use Rattle.pp_model.specs.Sights.{sight_of, token_sight, named_directive, is_directive_hash}
@@ -58,9 +58,13 @@ is_one_item (sight.Token token) = true
 is_one_item (sight.Hash location) = true
 is_one_item _ = false
 
+bare_is_more : (newline : Bool) (fault : Fault) → is_one_item (if newline then sight.Lone else sight.NoWord fault) ≡ true → ⊥
+bare_is_more true fault h = cc
+bare_is_more false fault h = cc
+
 word_is_more : (token : LexerToken) (name : Option Name) → is_one_item (named_directive token name) ≡ true → ⊥
 word_is_more token (Some name) h = cc
-word_is_more token None h = cc
+word_is_more token None h = bare_is_more (is_newline token.value) (refused_token token) h
 
 directive_is_more : (first : Result LexerToken Fault) → is_one_item (directive_sight first) ≡ true → ⊥
 directive_is_more (Ok token) h = word_is_more token (identifier_of token.value) h
@@ -103,42 +107,86 @@ pub one_in_front : (rest : List Seen) → is_one_item (sight_of rest) ≡ true �
 one_in_front [] h = cc
 one_in_front (s ∷ rest) h = record { first = s; later = rest; front = refl; quiet = one_lexeme s.item rest h }
 
+-- the number sign of a directive has no word after it
+abbrev pub is_bare : Sight → Bool
+is_bare sight.Lone = true
+is_bare (sight.NoWord fault) = true
+is_bare _ = false
+
 -- a number sign of a directive with a token after it that is no word
-pub record BeginsNoWord (fault : Fault) (rest : List Seen) : Type 0 where
+pub record BeginsBare (shown : Sight) (rest : List Seen) : Type 0 where
   pub hash : Seen
   pub name : Seen
   pub after : List Seen
   pub front : rest ≡ hash ∷ name ∷ after
-  pub seen : (later : List Seen) → sight_of (hash ∷ name ∷ later) ≡ sight.NoWord fault
+  pub seen : (later : List Seen) → sight_of (hash ∷ name ∷ later) ≡ shown
   pub goes_on : ends_line hash.item ≡ false
 
-no_word_after : (place : Location) (blank comments : Bool) (rest : List Seen) (fault : Fault) → directive_sight (first_token place rest) ≡ sight.NoWord fault
-    → BeginsNoWord fault
-    (record { item = Ok (record { value = Hash; location = place; leading_whitespace = blank; start_of_line = true }); had_comments = comments } ∷ rest)
-no_word_after place blank comments [] fault e = cc
-no_word_after place blank comments (name ∷ after) fault e = record { hash = _; name = name; after = after; front = refl; seen = λ later. e; goes_on = refl }
+no_bare : {A : Type 0} (found shown : Sight) → is_bare found ≡ false → found ≡ shown → is_bare shown ≡ true → A
+no_bare found shown not_bare e bare = let bad : true ≡ false = sym bare ∙ ap is_bare (sym e) ∙ not_bare in cc
 
-no_word_token : (location : Location) (value : LexerTokenValue) (blank at_start comments : Bool) (rest : List Seen) (fault : Fault)
-    → token_sight (record { value = value; location = location; leading_whitespace = blank; start_of_line = at_start }) rest ≡ sight.NoWord fault
-    → BeginsNoWord fault
+bare_after : (place : Location) (blank comments : Bool) (rest : List Seen) (shown : Sight) → is_bare shown ≡ true
+    → directive_sight (first_token place rest) ≡ shown
+    → BeginsBare shown
+    (record { item = Ok (record { value = Hash; location = place; leading_whitespace = blank; start_of_line = true }); had_comments = comments } ∷ rest)
+bare_after place blank comments [] shown bare e = no_bare _ shown refl e bare
+bare_after place blank comments (name ∷ after) shown bare e = record { hash = _; name = name; after = after; front = refl; seen = λ later. e; goes_on = refl }
+
+bare_token : (location : Location) (value : LexerTokenValue) (blank at_start comments : Bool) (rest : List Seen) (shown : Sight) → is_bare shown ≡ true
+    → token_sight (record { value = value; location = location; leading_whitespace = blank; start_of_line = at_start }) rest ≡ shown
+    → BeginsBare shown
     (record {
       item = Ok (record { value = value; location = location; leading_whitespace = blank; start_of_line = at_start });
       had_comments = comments;
     } ∷ rest)
-no_word_token location Hash blank true comments rest fault e = no_word_after location blank comments rest fault e
-no_word_token location Hash blank false comments rest fault e = cc
-no_word_token location NewLine blank at_start comments rest fault e = cc
-no_word_token location (LexerIdent name) blank at_start comments rest fault e = cc
-no_word_token location (LexerInteger i) blank at_start comments rest fault e = cc
-no_word_token location (LexerFloat f) blank at_start comments rest fault e = cc
-no_word_token location (LexerPunct p) blank at_start comments rest fault e = cc
+bare_token location Hash blank true comments rest shown bare e = bare_after location blank comments rest shown bare e
+bare_token location Hash blank false comments rest shown bare e = no_bare _ shown refl e bare
+bare_token location NewLine blank at_start comments rest shown bare e = no_bare _ shown refl e bare
+bare_token location (LexerIdent name) blank at_start comments rest shown bare e = no_bare _ shown refl e bare
+bare_token location (LexerInteger i) blank at_start comments rest shown bare e = no_bare _ shown refl e bare
+bare_token location (LexerFloat f) blank at_start comments rest shown bare e = no_bare _ shown refl e bare
+bare_token location (LexerPunct p) blank at_start comments rest shown bare e = no_bare _ shown refl e bare
 
-no_word_lexeme : (item : Lexeme) (comments : Bool) (rest : List Seen) (fault : Fault) → item_sight item rest ≡ sight.NoWord fault
-    → BeginsNoWord fault (record { item = item; had_comments = comments } ∷ rest)
-no_word_lexeme (Ok token) comments rest fault e = no_word_token token.location token.value token.leading_whitespace token.start_of_line comments rest fault e
-no_word_lexeme (Err error) comments rest fault e = cc
+bare_lexeme : (item : Lexeme) (comments : Bool) (rest : List Seen) (shown : Sight) → is_bare shown ≡ true → item_sight item rest ≡ shown
+    → BeginsBare shown (record { item = item; had_comments = comments } ∷ rest)
+bare_lexeme (Ok token) comments rest shown bare e =
+    bare_token token.location token.value token.leading_whitespace token.start_of_line comments rest shown bare e
+bare_lexeme (Err error) comments rest shown bare e = no_bare _ shown refl e bare
 
--- where no word is seen after a number sign, both items stand in front
-pub begins_no_word : (rest : List Seen) (fault : Fault) → sight_of rest ≡ sight.NoWord fault → BeginsNoWord fault rest
-begins_no_word [] fault e = cc
-begins_no_word (s ∷ rest) fault e = no_word_lexeme s.item s.had_comments rest fault e
+-- where a number sign is alone on its line, or no word is seen after it, both items stand in front
+pub begins_bare : (rest : List Seen) (shown : Sight) → is_bare shown ≡ true → sight_of rest ≡ shown → BeginsBare shown rest
+begins_bare [] shown bare e = no_bare _ shown refl e bare
+begins_bare (s ∷ rest) shown bare e = bare_lexeme s.item s.had_comments rest shown bare e
+
+lone_value : (location : Location) (value : LexerTokenValue) (blank at_start : Bool)
+    → named_directive (record { value = value; location = location; leading_whitespace = blank; start_of_line = at_start }) (identifier_of value) ≡ sight.Lone
+    → is_newline value ≡ true
+lone_value location Hash blank at_start e = cc
+lone_value location NewLine blank at_start e = refl
+lone_value location (LexerIdent name) blank at_start e = cc
+lone_value location (LexerInteger i) blank at_start e = cc
+lone_value location (LexerFloat f) blank at_start e = cc
+lone_value location (LexerPunct p) blank at_start e = cc
+
+lone_item : (item : Lexeme) → directive_sight item ≡ sight.Lone → ends_line item ≡ true
+lone_item (Ok token) e = lone_value token.location token.value token.leading_whitespace token.start_of_line e
+lone_item (Err fault) e = cc
+
+lone_token : (location : Location) (value : LexerTokenValue) (blank at_start : Bool) (name : Seen) (later : List Seen)
+    → token_sight (record { value = value; location = location; leading_whitespace = blank; start_of_line = at_start }) (name ∷ later) ≡ sight.Lone
+    → ends_line name.item ≡ true
+lone_token location Hash blank true name later e = lone_item name.item e
+lone_token location Hash blank false name later e = cc
+lone_token location NewLine blank at_start name later e = cc
+lone_token location (LexerIdent text) blank at_start name later e = cc
+lone_token location (LexerInteger i) blank at_start name later e = cc
+lone_token location (LexerFloat f) blank at_start name later e = cc
+lone_token location (LexerPunct p) blank at_start name later e = cc
+
+lone_lexeme : (item : Lexeme) (name : Seen) (later : List Seen) → item_sight item (name ∷ later) ≡ sight.Lone → ends_line name.item ≡ true
+lone_lexeme (Ok token) name later e = lone_token token.location token.value token.leading_whitespace token.start_of_line name later e
+lone_lexeme (Err fault) name later e = cc
+
+-- after a number sign that is alone on its line the line ends
+pub lone_ends : (hash name : Seen) (later : List Seen) → sight_of (hash ∷ name ∷ later) ≡ sight.Lone → ends_line name.item ≡ true
+lone_ends hash name later e = lone_lexeme hash.item name later e

@@ -54,6 +54,7 @@ module _ (blocks : List OpenBlock) (rest : List Seen) where
   live_shortens sight.End is some e = end_shortens (last_block blocks) refl e
   live_shortens sight.NewLine is some e = omega arith
   live_shortens (sight.Token token) is some e = omega arith
+  live_shortens sight.Lone is some e = omega arith
   live_shortens (sight.Directive directive word) is some e = directive_shortens true directive word is e
   live_shortens _ is some e = absurd (cc)
 

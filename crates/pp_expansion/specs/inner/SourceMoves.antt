@@ -148,6 +148,7 @@ live_move_at block sight.NewLine rest = record { effect = passes; taken = 1; not
 live_move_at block (sight.Fault fault) rest = failing fault
 live_move_at block (sight.Token token) rest = record { effect = gives token; taken = 1; note = live_text }
 live_move_at block (sight.Hash location) rest = failing (UnexpectedHash, location)
+live_move_at block sight.Lone rest = record { effect = passes; taken = 2; note = directive_line }
 live_move_at block (sight.NoWord fault) rest = failing fault
 live_move_at block (sight.Directive directive word) rest = taking_more 2 (directive_move true block directive word (drop 2 rest))
 
@@ -157,6 +158,7 @@ dead_move_at block sight.NewLine rest = record { effect = passes; taken = 1; not
 dead_move_at block (sight.Fault fault) rest = failing fault
 dead_move_at block (sight.Token token) rest = record { effect = passes; taken = 1; note = unnoted }
 dead_move_at block (sight.Hash location) rest = record { effect = passes; taken = 1; note = unnoted }
+dead_move_at block sight.Lone rest = record { effect = passes; taken = 2; note = directive_line }
 dead_move_at block (sight.NoWord fault) rest = record { effect = passes; taken = 2; note = unnoted }
 dead_move_at block (sight.Directive directive word) rest = taking_more 2 (directive_move false block directive word (drop 2 rest))
 

@@ -41,6 +41,7 @@ line_stands position sight.NewLine line e = cc
 line_stands position (sight.Fault fault) line e = cc
 line_stands position (sight.Token token) line e = cc
 line_stands position (sight.Hash location) line e = cc
+line_stands position sight.Lone line e = cc
 line_stands position (sight.NoWord fault) line e = cc
 
 stand_later : (from end : ℕ) (lines : List BlockLine) → Each (StandsWithin (from + 1) end) lines → Each (StandsWithin from end) lines

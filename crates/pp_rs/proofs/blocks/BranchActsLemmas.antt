@@ -22,7 +22,7 @@ use Rattle.pp_model.specs.declared.sight.Sight.{Sight}
 use Rattle.pp_model.specs.declared.sight.Sight.TheVariants as sight
 use Rattle.pp_model.specs.declared.step.Step.{Step}
 use Rattle.pp_model.specs.declared.step.Step.TheVariants as step
-use Rattle.pp_rs.proofs.blocks.KnownAfterLemmas.{HasRead, one_keeps, no_word_keeps, unknown_keeps, line_keeps, opening_keeps, unread_keeps, closing_keeps, parting_keeps, skipping_keeps, choosing_keeps}
+use Rattle.pp_rs.proofs.blocks.KnownAfterLemmas.{HasRead, one_keeps, bare_keeps, unknown_keeps, line_keeps, opening_keeps, unread_keeps, closing_keeps, parting_keeps, skipping_keeps, choosing_keeps}
 
 -- it is known after an act, and where a value is wanted, after the line
 abbrev KnownAfter : Step → SourceReader → SourceReader → Type 0
@@ -135,6 +135,7 @@ module _ (r : SourceReader) (b : HasRead r) where
   sight_keeps true (sight.Fault fault) live e = b
   sight_keeps true (sight.Token token) live e = one_keeps r b (sight.Token token) e refl
   sight_keeps true (sight.Hash location) live e = b
+  sight_keeps true sight.Lone live e = bare_keeps r b sight.Lone refl (λ position. refl) e
   sight_keeps true (sight.NoWord fault) live e = b
   sight_keeps true (sight.Directive directive word) live e = live_keeps word directive live e
   sight_keeps false sight.End dead e = end_keeps _
@@ -142,7 +143,8 @@ module _ (r : SourceReader) (b : HasRead r) where
   sight_keeps false (sight.Fault fault) dead e = b
   sight_keeps false (sight.Token token) dead e = one_keeps r b (sight.Token token) e refl
   sight_keeps false (sight.Hash location) dead e = one_keeps r b (sight.Hash location) e refl
-  sight_keeps false (sight.NoWord fault) dead e = no_word_keeps r b fault e
+  sight_keeps false sight.Lone dead e = bare_keeps r b sight.Lone refl (λ position. refl) e
+  sight_keeps false (sight.NoWord fault) dead e = bare_keeps r b (sight.NoWord fault) refl (λ position. refl) e
   sight_keeps false (sight.Directive directive word) dead e = dead_keeps word directive dead e
 
   -- whatever stands there

@@ -63,6 +63,7 @@ word_quiet position s next later line sight.NewLine e found = cc
 word_quiet position s next later line (sight.Fault fault) e found = cc
 word_quiet position s next later line (sight.Token token) e found = cc
 word_quiet position s next later line (sight.Hash location) e found = cc
+word_quiet position s next later line sight.Lone e found = cc
 word_quiet position s next later line (sight.NoWord fault) e found = cc
 
 -- a line among those of some items stands among them

@@ -1,5 +1,5 @@
 -- What is known of the blocks that a reader has met stays known after an item, and after the line of a directive.
-use Rattle.std.proofs.Common.{◌≡◌, ◌∙◌, ◌+◌, ◌-◌, Bool, true, false, ◌||◌, not, List, [], ◌∷◌, ◌++◌, length, take, drop, refl, ap, subst, Option, Some, None, arith}
+use Rattle.std.proofs.Common.{◌≡◌, ◌∙◌, ℕ, ◌+◌, ◌-◌, Bool, true, false, ◌||◌, not, List, [], ◌∷◌, ◌++◌, length, take, drop, refl, ap, subst, Option, Some, None, arith}
 use Rattle.std.specs.List.{cons_option}
 use Rattle.std.proofs.lemmas.List.{drop-drop}
 use Rattle.pp_lexer.specs.Lexed.{Seen}
@@ -22,7 +22,7 @@ use Rattle.pp_expansion.proofs.work.DirectiveLineLemmas.{begins_directive, quiet
 use Rattle.pp_rs.proofs.blocks.LastLemmas.{last_split}
 use Rattle.pp_source.proofs.LinedLemmas.{lined_after}
 use Rattle.pp_rs.proofs.blocks.LinesBeforeLemmas.{AddsLines, directive_adds}
-use Rattle.pp_expansion.proofs.work.QuietLemmas.{is_one_item, quiet_item, quiet_one, begins_no_word}
+use Rattle.pp_expansion.proofs.work.QuietLemmas.{is_one_item, quiet_item, quiet_one, begins_bare, is_bare}
 use Rattle.pp_rs.proofs.source.SkippedLemmas.{quiet_after_word}
 
 -- it is known at this reader
@@ -43,13 +43,15 @@ module _ (r : SourceReader) (b : HasRead r) where
   lined_here : AreLined (drop r.position r.items)
   lined_here = lined_after r.position r.items b.lined
 
-  -- a number sign without a word, which dead text has
-  pub no_word_keeps : (fault : Fault) → sight_of (drop r.position r.items) ≡ sight.NoWord fault → HasRead (moved 2 r)
-  no_word_keeps fault e =
-      let found = begins_no_word (drop r.position r.items) fault e in
+  -- a number sign without a word
+  pub bare_keeps : (shown : Sight) → is_bare shown ≡ true → ((position : ℕ) → line_at position shown ≡ None) → sight_of (drop r.position r.items) ≡ shown
+      → HasRead (moved 2 r)
+  bare_keeps shown bare none e =
+      let found = begins_bare (drop r.position r.items) shown bare e in
       let there : AreLined (found.hash ∷ found.name ∷ found.after) = subst AreLined found.front lined_here in
       two_keeps found.hash found.name found.after found.front (λ later.
       ap (λ shown. cons_option (line_at r.position shown) (block_lines (r.position + 1) (found.name ∷ later))) (found.seen later)
+      ∙ ap (λ line. cons_option line (block_lines (r.position + 1) (found.name ∷ later))) (none r.position)
       ∙ quiet_item (r.position + 1) found.name later (there.0 found.goes_on) ∙ ap (λ n. block_lines n later) (omega arith))
 
   -- the line of a directive

@@ -32,6 +32,7 @@ begins_no_text sight.NewLine h = refl
 begins_no_text (sight.Fault fault) h = refl
 begins_no_text (sight.Token token) h = cc
 begins_no_text (sight.Hash location) h = refl
+begins_no_text sight.Lone h = refl
 begins_no_text (sight.NoWord fault) h = refl
 begins_no_text (sight.Directive directive word) h = refl
 
@@ -86,8 +87,8 @@ module _ (old new : Source) (items : List Seen) (truths : Truths) (position : �
               ap (is_on_directive_line items) next ∙ off_line_further items position s rest here quiet (off still);
         }
 
-  -- the number sign of a directive in dead text, and what stands after it
-  module _ (dead : is_live_in (last_block old.blocks) ≡ false) (shown : Sight) (e : sight_of old.rest ≡ shown)
+  -- the number sign of a directive, and what stands after it: in live text the line ends there
+  module _ (off : is_live_in (last_block old.blocks) ≡ true → is_on_directive_line items (suc (suc position)) ≡ false) (shown : Sight) (e : sight_of old.rest ≡ shown)
       (begins : begins_with_hash shown ≡ true) (a s : Seen) (rest : List Seen) (two : old.rest ≡ a ∷ s ∷ rest)
       (note : Note) (text : notes_text note ≡ false) (found : Bool) (noted : notes_directive note ≡ found) (adds : AddsDirective 2 old.rest found)
       (b : IsAfter 2 note old.blocks old new) where
@@ -106,7 +107,8 @@ module _ (old new : Source) (items : List Seen) (truths : Truths) (position : �
           apart = apart_remembered 2 note old.blocks b found noted adds_here;
           off_line = λ there left.
               let alive : is_live_in (last_block old.blocks) ≡ true = ap (λ (kept : List OpenBlock). is_live_in (last_block kept)) (sym b.blocks) ∙ there in
-              absurd (let bad : true ≡ false = sym alive ∙ dead in cc);
+              let place : position + 2 ≡ suc (suc position) = omega arith in
+              ap (is_on_directive_line items) place ∙ off alive;
         }
 
   -- a directive's line, with a condition that was read on it or without

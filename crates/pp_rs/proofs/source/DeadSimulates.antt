@@ -1,5 +1,5 @@
 -- Each step of a source in dead text is one of its reader.
-use Rattle.std.proofs.Common.{◌≡◌, ◌∙◌, ℕ, ◌+◌, true, false, List, ◌∷◌, drop, refl, ap, subst, Some, None, arith}
+use Rattle.std.proofs.Common.{◌≡◌, ◌∙◌, ℕ, ◌+◌, true, false, List, ◌∷◌, drop, refl, ap, sym, Some, None}
 use Rattle.std.specs.List.{cons_option}
 use Rattle.pp_lexer.specs.Lexed.{Seen}
 use Rattle.pp_lexer.specs.declared.token.Location.{Location}
@@ -22,7 +22,8 @@ use Rattle.pp_expansion.specs.inner.Source.{Source, Pauses, Makes}
 use Rattle.pp_rs.specs.inner.Stands.{StandsForReader}
 use Rattle.pp_rs.proofs.source.DirectiveBeforeLemmas.{word_adds, no_word_adds}
 use Rattle.pp_expansion.proofs.work.DirectiveLineLemmas.{begins_directive, quiet_word}
-use Rattle.pp_expansion.proofs.work.QuietLemmas.{is_one_item, quiet_item, BeginsNoWord, begins_no_word}
+use Rattle.pp_expansion.proofs.work.QuietLemmas.{is_one_item}
+use Rattle.pp_rs.proofs.source.BareSimulates.{bare_passes, lone_passes}
 use Rattle.pp_rs.proofs.source.Simulates.{Simulates}
 use Rattle.pp_rs.proofs.source.StandsAfterLemmas.{lined_here}
 use Rattle.pp_rs.proofs.source.StepHereLemmas.{fails_here, pauses_here, skip_simulates}
@@ -32,14 +33,6 @@ use Rattle.pp_rs.proofs.source.StandsBlockLemmas.{opened_unread}
 use Rattle.pp_rs.proofs.source.EndSimulates.{end_simulates}
 use Rattle.pp_rs.proofs.source.BlockSimulates.{else_simulates, endif_simulates}
 use Rattle.pp_rs.proofs.source.ConditionSimulates.{elif_simulates}
-
--- a number sign and a token after it that is no word add no line of a block
-no_word_quiet : (position : ℕ) {rest : List Seen} {fault : Fault} (b : BeginsNoWord fault rest) → AreLined rest → (later : List Seen)
-    → block_lines position (b.hash ∷ b.name ∷ later) ≡ block_lines (position + 2) later
-no_word_quiet position b lined later =
-    let there : AreLined (b.hash ∷ b.name ∷ b.after) = subst AreLined b.front lined in
-    ap (λ shown. cons_option (line_at position shown) (block_lines (position + 1) (b.name ∷ later))) (b.seen later)
-    ∙ quiet_item (position + 1) b.name later (there.0 b.goes_on) ∙ ap (λ n. block_lines n later) (omega arith)
 
 module _ {old : Source} {r : SourceReader} (s : StandsForReader old r) (dead : is_live_in (last_block old.blocks) ≡ false) (move : Step Token)
     (new : Source) where
@@ -61,19 +54,14 @@ module _ {old : Source} {r : SourceReader} (s : StandsForReader old r) (dead : i
       let b = begins_directive old.rest d.Unknown word e in
       pauses_here s dead move new e refl (
         h.0,
-        stands_two s dead e b.hash b.name b.after refl refl (word_adds old.rest d.Unknown word e) b.front
+        stands_two s (λ alive. let bad : true ≡ false = sym alive ∙ dead in cc) e b.hash b.name b.after refl refl (word_adds old.rest d.Unknown word e) b.front
             (λ later. quiet_word r.position old.rest later d.Unknown word b refl) h.1 h.2,
       )
 
   -- no word
   no_word_passes : (fault : Fault) → sight_of old.rest ≡ sight.NoWord fault → Pauses 2 moves.unnoted old.blocks old move new → Simulates move r new
-  no_word_passes fault e h =
-      let b = begins_no_word old.rest fault e in
-      pauses_here s dead move new e refl (
-        h.0,
-        stands_two s dead e b.hash b.name b.after refl refl (no_word_adds old.rest fault e (lined_here old r s)) b.front
-            (no_word_quiet r.position b (lined_here old r s)) h.1 h.2,
-      )
+  no_word_passes fault e h = bare_passes s dead move new e refl (λ position. refl) refl (λ alive. let bad : true ≡ false = sym alive ∙ dead in cc)
+      (no_word_adds old.rest fault e (lined_here old r s)) refl h
 
   dead_directive_simulates : (directive : Directive) (word : Location) → sight_of old.rest ≡ sight.Directive directive word
       → Makes (moves.dead_move_at (last_block old.blocks) (sight.Directive directive word) old.rest) old move new → Simulates move r new
@@ -105,5 +93,6 @@ module _ {old : Source} {r : SourceReader} (s : StandsForReader old r) (dead : i
   dead_simulates (sight.Fault fault) e h = fails_here s dead move new e refl h.0
   dead_simulates (sight.Token token) e h = one_passes e refl refl h
   dead_simulates (sight.Hash location) e h = one_passes e refl refl h
+  dead_simulates sight.Lone e h = lone_passes s dead move new e h
   dead_simulates (sight.NoWord fault) e h = no_word_passes fault e h
   dead_simulates (sight.Directive directive word) e h = dead_directive_simulates directive word e h

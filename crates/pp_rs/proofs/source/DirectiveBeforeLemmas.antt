@@ -18,11 +18,12 @@ use Rattle.pp_model.specs.declared.sight.Sight.{Sight}
 use Rattle.pp_model.specs.declared.sight.Sight.TheVariants as sight
 use Rattle.pp_source.specs.inner.Lined.{AreLined}
 use Rattle.pp_expansion.proofs.work.DirectiveLineLemmas.{begins_directive}
-use Rattle.pp_expansion.proofs.work.QuietLemmas.{begins_no_word}
+use Rattle.pp_expansion.proofs.work.QuietLemmas.{begins_bare}
 
 -- the number sign of a directive stands there, and an item after it that isn't an error
 abbrev pub begins_with_hash : Sight → Bool
 begins_with_hash (sight.Directive directive word) = true
+begins_with_hash sight.Lone = true
 begins_with_hash (sight.NoWord fault) = true
 begins_with_hash _ = false
 
@@ -59,6 +60,7 @@ begins_is_directive sight.NewLine e = refl
 begins_is_directive (sight.Fault fault) e = refl
 begins_is_directive (sight.Token token) e = refl
 begins_is_directive (sight.Hash location) e = refl
+begins_is_directive sight.Lone e = cc
 begins_is_directive (sight.NoWord fault) e = cc
 begins_is_directive (sight.Directive directive word) e = cc
 
@@ -96,10 +98,16 @@ word_adds rest directive word e after =
     let b = begins_directive rest directive word e in
     ap (λ items. has_directive (take 2 items ++ after)) b.front ∙ ap (λ shown. is_directive shown || has_directive (b.name ∷ after)) (b.seen after)
 
+-- a number sign alone on its line
+pub lone_adds : (rest : List Seen) → sight_of rest ≡ sight.Lone → AddsDirective 2 rest true
+lone_adds rest e after =
+    let b = begins_bare rest sight.Lone refl e in
+    ap (λ items. has_directive (take 2 items ++ after)) b.front ∙ ap (λ shown. is_directive shown || has_directive (b.name ∷ after)) (b.seen after)
+
 -- a number sign with a token after it that is no word
 pub no_word_adds : (rest : List Seen) (fault : Fault) → sight_of rest ≡ sight.NoWord fault → AreLined rest → AddsDirective 2 rest false
 no_word_adds rest fault e lined after =
-    let b = begins_no_word rest fault e in
+    let b = begins_bare rest (sight.NoWord fault) refl e in
     let there : AreLined (b.hash ∷ b.name ∷ b.after) = subst AreLined b.front lined in
     ap (λ items. has_directive (take 2 items ++ after)) b.front ∙ ap (λ shown. is_directive shown || has_directive (b.name ∷ after)) (b.seen after)
     ∙ item_adds_none b.name after (there.0 b.goes_on)

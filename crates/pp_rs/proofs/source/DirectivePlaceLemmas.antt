@@ -68,7 +68,7 @@ module _ (source : List Seen) where
   ended false false on h e = cc
 
   -- after the end of a line none goes on
-  off_line_after_end : (position : ℕ) (s : Seen) (rest : List Seen) → drop position source ≡ s ∷ rest → ends_line s.item ≡ true
+  pub off_line_after_end : (position : ℕ) (s : Seen) (rest : List Seen) → drop position source ≡ s ∷ rest → ends_line s.item ≡ true
       → is_on_directive_line source (suc position) ≡ false
   off_line_after_end position s rest e last =
       on_line_after position s rest e ∙ ended (is_directive_hash s.item) (ends_line s.item) (is_on_directive_line source position)

@@ -103,12 +103,14 @@ sight_goes_on true block sight.NewLine rest h = refl
 sight_goes_on true block (sight.Fault fault) rest h = refl
 sight_goes_on true block (sight.Token token) rest h = refl
 sight_goes_on true block (sight.Hash location) rest h = refl
+sight_goes_on true block sight.Lone rest h = refl
 sight_goes_on true block (sight.NoWord fault) rest h = refl
 sight_goes_on true block (sight.Directive directive word) rest h = directive_goes_on true block directive word (drop 2 rest)
 sight_goes_on false block sight.NewLine rest h = refl
 sight_goes_on false block (sight.Fault fault) rest h = refl
 sight_goes_on false block (sight.Token token) rest h = refl
 sight_goes_on false block (sight.Hash location) rest h = refl
+sight_goes_on false block sight.Lone rest h = refl
 sight_goes_on false block (sight.NoWord fault) rest h = refl
 sight_goes_on false block (sight.Directive directive word) rest h = directive_goes_on false block directive word (drop 2 rest)
 

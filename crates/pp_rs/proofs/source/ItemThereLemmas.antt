@@ -1,6 +1,6 @@
 -- The end is seen where no item is left, and nowhere else.
 use Rattle.std.proofs.Common.{◌≡◌, Bool, true, false, List, [], ◌∷◌, refl, Option, Some, None}
-use Rattle.std.specs.Prelude.{Result, Ok, Err}
+use Rattle.std.specs.Prelude.{Result, Ok, Err, if◌then◌else◌}
 use Rattle.pp_lexer.specs.Lexed.{Seen}
 use Rattle.pp_lexer.specs.Items.{Lexeme}
 use Rattle.pp_lexer.specs.declared.lexer.item.Token.{Token as LexerToken}
@@ -8,16 +8,20 @@ use Rattle.pp_lexer.specs.declared.lexer.item.TokenValue.{TokenValue as LexerTok
 use Rattle.pp_lexer.specs.declared.lexer.item.TokenValue.TheVariants.{Hash, NewLine, Ident as LexerIdent, Integer as LexerInteger, Float as LexerFloat, Punct as LexerPunct}
 use Rattle.pp_lexer.specs.declared.token.Location.{Location}
 use Rattle.pp_model.specs.Names.{Name}
-use Rattle.pp_model.specs.Conversions.{identifier_of}
+use Rattle.pp_model.specs.Conversions.{is_newline, identifier_of, refused_token}
 use Rattle.pp_model.specs.Calls.{Fault}
 use Rattle.pp_model.specs.Lines.{first_token}
 use Rattle.pp_model.specs.Sights.{sight_of, token_sight, named_directive}
 use Rattle.pp_model.specs.inner.Sights.{item_sight, directive_sight}
 use Rattle.pp_model.specs.declared.sight.Sight.TheVariants as sight
 
+bare_there : (newline : Bool) (fault : Fault) → (if newline then sight.Lone else sight.NoWord fault) ≡ sight.End → ⊥
+bare_there true fault e = cc
+bare_there false fault e = cc
+
 word_there : (token : LexerToken) (name : Option Name) → named_directive token name ≡ sight.End → ⊥
 word_there token (Some name) e = cc
-word_there token None e = cc
+word_there token None e = bare_there (is_newline token.value) (refused_token token) e
 
 directive_there : (first : Result LexerToken Fault) → directive_sight first ≡ sight.End → ⊥
 directive_there (Ok token) e = word_there token (identifier_of token.value) e

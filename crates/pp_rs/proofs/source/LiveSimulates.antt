@@ -15,6 +15,7 @@ use Rattle.pp_expansion.specs.inner.SourceMoves as moves
 use Rattle.pp_expansion.specs.inner.Source.{Source, Makes}
 use Rattle.pp_rs.specs.inner.Stands.{StandsForReader}
 use Rattle.pp_rs.proofs.source.Simulates.{Simulates}
+use Rattle.pp_rs.proofs.source.BareSimulates.{lone_passes}
 use Rattle.pp_rs.proofs.source.StepHereLemmas.{gives_here, fails_here, pauses_here}
 use Rattle.pp_rs.proofs.source.StandsQuietLemmas.{stands_one}
 use Rattle.pp_rs.proofs.source.EndSimulates.{end_simulates}
@@ -51,5 +52,6 @@ module _ {old : Source} {r : SourceReader} (s : StandsForReader old r) (alive : 
   live_simulates (sight.Token token) e h =
       rw h.0 (record { after = moved 1 r; steps = gives_here s alive e refl; stands = stands_one s alive e refl refl refl h.1 h.2 })
   live_simulates (sight.Hash location) e h = fails_here s alive move new e refl h.0
+  live_simulates sight.Lone e h = lone_passes s alive move new e h
   live_simulates (sight.NoWord fault) e h = fails_here s alive move new e refl h.0
   live_simulates (sight.Directive directive word) e h = live_directive_simulates directive word e h

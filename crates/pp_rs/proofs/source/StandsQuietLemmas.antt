@@ -1,10 +1,10 @@
 -- After items that add no line of a block the source stands for its reader.
-use Rattle.std.proofs.Common.{◌≡◌, ◌∙◌, ℕ, ◌+◌, ◌≤◌, Bool, true, false, ◌&&◌, List, [], ◌∷◌, ◌++◌, length, take, refl, ap, sym, subst, arith}
+use Rattle.std.proofs.Common.{◌≡◌, ◌∙◌, ℕ, suc, ◌+◌, ◌≤◌, Bool, true, false, ◌&&◌, List, [], ◌∷◌, ◌++◌, length, take, refl, ap, sym, subst, arith}
 use Rattle.pp_lexer.specs.Lexed.{Seen}
 use Rattle.pp_model.specs.Definitions.{Definitions}
 use Rattle.pp_model.specs.Sights.{sight_of, is_text}
 use Rattle.pp_model.specs.Blocks.{block_lines, Block, blocks_at}
-use Rattle.pp_model.specs.SourceReader.{SourceReader}
+use Rattle.pp_model.specs.SourceReader.{SourceReader, is_on_directive_line}
 use Rattle.pp_model.specs.Acts.{moved}
 use Rattle.pp_model.specs.declared.sight.Sight.{Sight}
 use Rattle.pp_expansion.specs.inner.Defined.{meaning_of}
@@ -56,14 +56,14 @@ module _ {old : Source} {r : SourceReader} (s : StandsForReader old r) {new : So
       (one_remembered old new r.items r.truths r.position s.rest (remembered_here old r s) live alive
       (live_now old r s ∙ alive) f.first f.later f.front f.quiet note noted none b)
 
-  -- after the number sign of a directive in dead text and what stands after it, where they add no line of a block
-  pub stands_two : (dead : is_live_in (last_block old.blocks) ≡ false) {shown : Sight} (e : sight_of old.rest ≡ shown)
+  -- after the number sign of a directive and what stands after it, where they add no line of a block
+  pub stands_two : (off : is_live_in (last_block old.blocks) ≡ true → is_on_directive_line r.items (suc (suc r.position)) ≡ false) {shown : Sight} (e : sight_of old.rest ≡ shown)
       {note : moves.Note} (a b : Seen) (rest : List Seen)
       → begins_with_hash shown ≡ true → notes_text note ≡ false → AddsDirective 2 old.rest (notes_directive note) → old.rest ≡ a ∷ b ∷ rest
       → ((later : List Seen) → block_lines r.position (a ∷ b ∷ later) ≡ block_lines (r.position + 2) later) → IsAfter 2 note old.blocks old new
       → new.definitions ≡ old.definitions
       → StandsForReader new (moved 2 r)
-  stands_two dead {shown} e {note} a b rest begins text adds front quiet after same =
+  stands_two off {shown} e {note} a b rest begins text adds front quiet after same =
       stands_same 2 (omega (arith, ap length front)) after same (λ later. ap (λ items. block_lines r.position (take 2 items ++ later)) front ∙ quiet later)
-      (two_remembered old new r.items r.truths r.position s.rest (remembered_here old r s) dead shown e begins a b rest front note text
+      (two_remembered old new r.items r.truths r.position s.rest (remembered_here old r s) off shown e begins a b rest front note text
       (notes_directive note) refl adds after)

@@ -6,18 +6,17 @@ use Rattle.pp_lexer.specs.declared.token.Location.{Location}
 use Rattle.pp_lexer.specs.declared.token.PreprocessorError.TheVariants.{DefineRedefined}
 use Rattle.pp_lexer.specs.declared.token.Token.{Token}
 use Rattle.pp_model.specs.Calls.{Fault}
-use Rattle.pp_model.specs.Conversions.{identifier_of}
+use Rattle.pp_model.specs.Conversions.{is_newline, identifier_of, refused_token}
 use Rattle.pp_model.specs.Definitions.{Definition, IsSameDefinition}
-use Rattle.pp_model.specs.Lines.{first_name, first_token}
+use Rattle.pp_model.specs.Lines.{first_token}
 use Rattle.pp_model.specs.Names.{Name}
 use Rattle.pp_model.specs.Sights.{directive_of}
 use Rattle.pp_model.specs.declared.definition.Named.{Named}
-use Rattle.pp_model.specs.declared.definition.Placed.{Placed}
 use Rattle.pp_expansion.specs.inner.Defined.{Defined, meaning_of}
 use Rattle.pp_expansion.specs.Item.{Step}
 use Rattle.pp_expansion.specs.declared.blocks.OpenBlock.{OpenBlock}
 use Rattle.pp_expansion.specs.inner.Source.{Source, Condition, LineNumber, Makes}
-use Rattle.pp_expansion.specs.inner.SourceMoves.{Effect, fails, passes, defines, opens_if, parts_if, renumbers, unnoted, Move, failing, directive_move, taking_more}
+use Rattle.pp_expansion.specs.inner.SourceMoves.{Effect, fails, passes, defines, opens_if, parts_if, renumbers, unnoted, directive_line, Move, failing, directive_move, taking_more}
 use Rattle.pp_expansion.specs.inner.Turns.{as_pause}
 use Rattle.pp_expansion.specs.declared.halt.Halt.{Halt}
 use Rattle.pp_expansion.specs.declared.halt.Halt.TheVariants as halt
@@ -56,23 +55,31 @@ Acts move old result new = ActsAs (λ done. Err Continue) move old result new
 abbrev pub Gives : Move → Source → Result (Option Token) Halt → Source → Type 0
 Gives move old result new = ActsAs as_pause move old result new
 
--- what a directive comes to after its number sign, where this is its word and these items stand after that
-abbrev pub live_word_move : Option OpenBlock → Result Placed Fault → List Seen → Move
-live_word_move block (Ok word) after = taking_more 1 (directive_move true block (directive_of word.name) word.location after)
+-- a number sign alone on its line
+abbrev pub lone : Move
+lone = record { effect = passes; taken = 1; note = directive_line }
+
+-- what a directive comes to after its number sign, where this is the token after that, and these items stand after the token
+abbrev pub live_name_move : Option OpenBlock → LexerToken → Option Name → List Seen → Move
+live_name_move block token (Some name) after = taking_more 1 (directive_move true block (directive_of name) token.location after)
+live_name_move block token None after = if is_newline token.value then lone else failing (refused_token token)
+
+abbrev pub live_word_move : Option OpenBlock → Result LexerToken Fault → List Seen → Move
+live_word_move block (Ok token) after = live_name_move block token (identifier_of token.value) after
 live_word_move block (Err fault) after = failing fault
 
--- the same in dead text, where this is the token after the number sign
-abbrev pub dead_name_move : Option OpenBlock → Location → Option Name → List Seen → Move
-dead_name_move block location (Some name) after = taking_more 1 (directive_move false block (directive_of name) location after)
-dead_name_move block location None after = record { effect = passes; taken = 1; note = unnoted }
+-- the same in dead text
+abbrev pub dead_name_move : Option OpenBlock → LexerToken → Option Name → List Seen → Move
+dead_name_move block token (Some name) after = taking_more 1 (directive_move false block (directive_of name) token.location after)
+dead_name_move block token None after = if is_newline token.value then lone else record { effect = passes; taken = 1; note = unnoted }
 
 abbrev pub dead_word_move : Option OpenBlock → Result LexerToken Fault → List Seen → Move
-dead_word_move block (Ok token) after = dead_name_move block token.location (identifier_of token.value) after
+dead_word_move block (Ok token) after = dead_name_move block token (identifier_of token.value) after
 dead_word_move block (Err fault) after = failing fault
 
 -- the same in live or dead text
 abbrev pub word_move : Bool → Option OpenBlock → Location → List Seen → Move
-word_move live block hash rest = if live then live_word_move block (first_name hash rest) (drop 1 rest) else dead_word_move block
+word_move live block hash rest = if live then live_word_move block (first_token hash rest) (drop 1 rest) else dead_word_move block
     (first_token hash rest) (drop 1 rest)
 
 -- a `#define`, once its line is read

@@ -4,12 +4,11 @@ use Rattle.pp_expansion.specs.inner.OpenBlocks.{last_block}
 use Rattle.pp_source.proofs.NotedLemmas.{word_read}
 use Rattle.pp_source.proofs.directives.DirectiveProcessor.read_live.Goals as goal
 
-pub returns-clause-gives : goal.returns-clause-gives
-returns-clause-gives c =
+pub returns-in_ok-given-in-Ident-clause-gives : goal.returns-in_ok-given-in-Ident-clause-gives
+returns-in_ok-given-in-Ident-clause-gives c =
     let p = c.self.inside in
-    let e = c.in_ok-word.ensures in
-    let word = c.in_ok-word.word in
-    let gives = rw (c.directive_of-directive.ensures, ← c.self-2.view_is) at c.in_ok-given.ensures.gives in
-    rw (← c.self.view_is, e.is, ← e.takes.rest)
-    (word_read p.definitions p.blocks p.line_offset p.has_text p.has_directive p.lexer c.first_name.new.lexer e.takes.rest true (last_block p.blocks)
-    (directive_of word.name) word.location c.in_ok-given.given _ gives)
+    let e = c.in_ok-token.ensures in
+    let gives = rw (c.directive_of-directive.ensures, c.in-Ident.name-is, ← c.self-in-Ident.view_is) at c.in_ok-given-in-Ident.ensures.gives in
+    rw (← c.self.view_is, e.is, c.in-Ident.is, ← e.takes.rest)
+    (word_read p.definitions p.blocks p.line_offset p.has_text p.has_directive p.lexer c.first_token.new.lexer e.takes.rest true
+    (last_block p.blocks) (directive_of c.in-Ident.name) c.in_ok-token.token.location c.in_ok-given-in-Ident.given _ gives)

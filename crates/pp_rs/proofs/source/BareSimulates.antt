@@ -1,0 +1,73 @@
+-- A number sign without a word after it: that it is passed is a step of the reader.
+use Rattle.std.proofs.Common.{◌≡◌, ◌∙◌, ℕ, suc, ◌+◌, Bool, true, false, if◌then◌else◌, List, ◌∷◌, refl, ap, sym, subst, Option, Some, None, arith}
+use Rattle.std.specs.List.{cons_option}
+use Rattle.pp_lexer.specs.Lexed.{Seen}
+use Rattle.pp_model.specs.Sights.{sight_of}
+use Rattle.pp_model.specs.Blocks.{line_at, block_lines}
+use Rattle.pp_model.specs.SourceReader.{SourceReader, is_on_directive_line}
+use Rattle.pp_model.specs.Acts.{passed, moved, live_act, dead_act}
+use Rattle.pp_model.specs.declared.sight.Sight.{Sight}
+use Rattle.pp_model.specs.declared.sight.Sight.TheVariants as sight
+use Rattle.pp_expansion.specs.Item.{Step}
+use Rattle.pp_lexer.specs.declared.token.Token.{Token}
+use Rattle.pp_source.specs.inner.Lined.{AreLined}
+use Rattle.pp_expansion.specs.inner.OpenBlocks.{last_block, is_live_in}
+use Rattle.pp_expansion.specs.inner.SourceMoves as moves
+use Rattle.pp_expansion.specs.inner.SourceMoves.{notes_text, notes_directive}
+use Rattle.pp_expansion.specs.inner.Source.{Source, Pauses}
+use Rattle.pp_rs.specs.inner.Stands.{StandsForReader}
+use Rattle.pp_rs.proofs.source.DirectiveBeforeLemmas.{begins_with_hash, AddsDirective, lone_adds}
+use Rattle.pp_rs.proofs.source.DirectivePlaceLemmas.{one_after, off_line_after_end}
+use Rattle.pp_expansion.proofs.work.QuietLemmas.{is_bare, BeginsBare, begins_bare, lone_ends, quiet_item}
+use Rattle.pp_rs.proofs.source.Simulates.{Simulates}
+use Rattle.pp_rs.proofs.source.StandsAfterLemmas.{lined_here}
+use Rattle.pp_rs.proofs.source.StepHereLemmas.{acts_on, pauses_here}
+use Rattle.pp_rs.proofs.source.StandsQuietLemmas.{stands_two}
+
+-- a number sign and a token after it that is no word add no line of a block
+bare_quiet : (position : ℕ) {rest : List Seen} {shown : Sight} (b : BeginsBare shown rest) → ((k : ℕ) → line_at k shown ≡ None) → AreLined rest
+    → (later : List Seen)
+    → block_lines position (b.hash ∷ b.name ∷ later) ≡ block_lines (position + 2) later
+bare_quiet position b none lined later =
+    let there : AreLined (b.hash ∷ b.name ∷ b.after) = subst AreLined b.front lined in
+    ap (λ found. cons_option (line_at position found) (block_lines (position + 1) (b.name ∷ later))) (b.seen later)
+    ∙ ap (λ line. cons_option line (block_lines (position + 1) (b.name ∷ later))) (none position)
+    ∙ quiet_item (position + 1) b.name later (there.0 b.goes_on) ∙ ap (λ n. block_lines n later) (omega arith)
+
+bare_begins : (shown : Sight) → is_bare shown ≡ true → begins_with_hash shown ≡ true
+bare_begins sight.End h = cc
+bare_begins sight.NewLine h = cc
+bare_begins (sight.Fault fault) h = cc
+bare_begins (sight.Token token) h = cc
+bare_begins (sight.Hash location) h = cc
+bare_begins sight.Lone h = refl
+bare_begins (sight.NoWord fault) h = refl
+bare_begins (sight.Directive directive word) h = cc
+
+module _ {old : Source} {r : SourceReader} (s : StandsForReader old r) {live : Bool} (alive : is_live_in (last_block old.blocks) ≡ live)
+    (move : Step Token) (new : Source) where
+  pub bare_passes : {shown : Sight} (e : sight_of old.rest ≡ shown) → is_bare shown ≡ true → ((position : ℕ) → line_at position shown ≡ None)
+      → {note : moves.Note} → notes_text note ≡ false
+      → (is_live_in (last_block old.blocks) ≡ true → is_on_directive_line r.items (suc (suc r.position)) ≡ false)
+      → AddsDirective 2 old.rest (notes_directive note) → acts_on live shown r ≡ passed (moved 2 r)
+      → Pauses 2 note old.blocks old move new → Simulates move r new
+  bare_passes {shown} e bare none text off adds acts h =
+      let b = begins_bare old.rest shown bare e in
+      pauses_here s alive move new e acts (
+        h.0,
+        stands_two s off e b.hash b.name b.after (bare_begins shown bare) text adds b.front
+            (bare_quiet r.position b none (lined_here old r s)) h.1 h.2,
+      )
+
+  lone_acts : (shown_live : Bool) → acts_on shown_live sight.Lone r ≡ passed (moved 2 r)
+  lone_acts true = refl
+  lone_acts false = refl
+
+  pub lone_passes : sight_of old.rest ≡ sight.Lone → Pauses 2 moves.directive_line old.blocks old move new → Simulates move r new
+  lone_passes e h =
+      let b = begins_bare old.rest sight.Lone refl e in
+      let front = sym s.rest ∙ b.front in
+      bare_passes e refl (λ position. refl) refl
+      (λ is. off_line_after_end r.items (suc r.position) b.name b.after (one_after r.items r.position b.hash (b.name ∷ b.after) front)
+      (lone_ends b.hash b.name b.after (b.seen b.after)))
+      (lone_adds old.rest e) (lone_acts live) h
