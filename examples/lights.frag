@@ -122,7 +122,7 @@ float shadow(highp sampler2DShadow map, vec4 at) {
 #define CHECK(condition)
 #else
 uint failed = 0u;
-#define CHECK(condition) if (!(condition)) { failed = __LINE__; }
+#define CHECK(condition) if (!(condition)) { failed = uint(__LINE__); }
 #endif
 
 // From here on lines count as in the file that this part was pasted from, whose number is 2.
@@ -157,15 +157,14 @@ void main() {
         dot(n, eye - world) > 0.0   // the line is that of the last parenthesis
     )
     vec3 base = texture(bricks, uv).rgb;
-    vec3 c = saturate(
 #if QUALITY == 0
-        base * n.z              // no light at all
+#define LIT(n) (n).z            // no light at all
 #else
-        base * lit(n)
+#define LIT(n) lit(n)
 #endif
-    );
+    vec3 c = saturate(base * LIT(n));
 #ifdef FOG
-    c = mix(vec3(FOG), c, fade(distance(eye, world), 50));
+    c = mix(vec3(FOG), c, fade(distance(eye, world), 50.0));
 #endif
     colour = vec4(c, 1.0);
 #ifndef NO_CHECKS

@@ -150,7 +150,8 @@ impl Blocks {
     /// Puts a block in the place of the innermost one.
     pub fn replace_last(&mut self, block: OpenBlock)
         requires { 0 < length self.old }
-        ensures { self.new ≡ spec.outer_blocks self.old ++ block ∷ [] }
+        ensures is { self.new ≡ spec.outer_blocks self.old ++ block ∷ [] }
+        ensures count { length self.new ≡ length self.old }
     {
         if let Some(last) = self.open.last_mut() {
             *last = block;

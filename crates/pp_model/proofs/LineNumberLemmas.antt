@@ -7,8 +7,8 @@ use Rattle.pp_lexer.specs.declared.token.Location.{Location}
 use Rattle.pp_lexer.specs.declared.token.PreprocessorError.TheVariants.{LineOverflow}
 use Rattle.pp_model.specs.Calls.{Fault}
 use Rattle.pp_model.specs.LineWords.{Words}
-use Rattle.pp_model.specs.LineValues.{line_of, as_line_number, words_after, Numbers, faulty, out_of_range, alone, with_source}
-use Rattle.pp_model.specs.inner.LineValues.{IsAlone, reported_fault}
+use Rattle.pp_model.specs.LineValues.{IsAlone, line_of, as_line_number, words_after, Numbers, faulty, out_of_range, alone, with_source}
+use Rattle.pp_model.specs.inner.LineValues.{reported_fault}
 
 pub numbers_faulty : (directive : Location) (words : Words) (e : Result Value Found) (found : Found) (fault : Fault) → Evaluates (line_of words) e
     → e ≡ Err found → fault ≡ reported_fault directive words found → Numbers directive words (Err fault)

@@ -8,8 +8,7 @@ use Rattle.pp_model.specs.Reading.{reading_of}
 use Rattle.pp_lexer.specs.declared.token.Location.{Location}
 use Rattle.pp_model.specs.LineWords.{Words}
 use Rattle.pp_model.specs.Calls.{Fault, Answers}
-use Rattle.pp_model.specs.LineValues.{line_of, as_line_number, words_after, Numbers, faulty, out_of_range, alone, with_source}
-use Rattle.pp_model.specs.inner.LineValues.{IsAlone}
+use Rattle.pp_model.specs.LineValues.{IsAlone, line_of, as_line_number, words_after, Numbers, faulty, out_of_range, alone, with_source}
 use Rattle.pp_model.specs.ExpansionLaws.{OneAnswer}
 use Rattle.pp_model.specs.RunLaws.{OneEvaluation, OneCondition, OneNumber, OneLineNumber}
 use Rattle.pp_model.specs.declared.word.LineKind.TheVariants.{Condition, LineNumber}

@@ -6,6 +6,7 @@ pub mod Taking
 pub mod Calls
 pub mod Emitting
 pub mod LineWords
+pub mod WordReadings
 pub mod Conversions
 pub mod Lines
 pub mod DefineLines

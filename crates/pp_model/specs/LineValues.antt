@@ -21,6 +21,7 @@ use Rattle.pp_model.specs.Definitions.{Definitions}
 use Rattle.pp_model.specs.Reading.{reading_of}
 use Rattle.pp_model.specs.Calls.{Fault, Answers}
 use Rattle.pp_model.specs.LineWords.{Words, LineWords, unexpected}
+use Rattle.pp_model.specs.declared.line_value.LineFault.{LineFault}
 use Rattle.pp_model.specs.declared.word.LineKind.TheVariants.{Condition, LineNumber}
 use Rattle.pp_model.specs.declared.word.Word.{Word}
 use Rattle.pp_model.specs.declared.word.Word.TheVariants.{Plain, Defined}
@@ -72,6 +73,12 @@ abbrev pub alone_on_line : {A : Type 0} → Location → Words → (ℤ → A) �
 alone_on_line directive words result (Ok v) = option_map_or (λ word. Err (unwanted_word word)) (word_from_end v.left words) (Ok (result v.value))
 alone_on_line directive words result (Err found) = Err (reported directive words found.kind found.left)
 
+-- The same by the evaluation of the expression.
+pub record IsAlone {A : Type 0} (directive : Location) (words : Words) (report : ℤ → A) (result : Result A Fault) : Type 0 where
+  pub evaluation : Result Value Found
+  pub evaluated : Evaluates (line_of words) evaluation
+  pub is : result ≡ alone_on_line directive words report evaluation
+
 -- The condition of an `#if` or `#elif`: it holds where its value isn't 0.
 pub record IsCondition (A : Answers) (directive : Location) (tokens : List Token) (definitions : Definitions) (result : Result Bool Fault) : Type 0 where
   pub words : Words
@@ -95,6 +102,11 @@ pub data Numbers (directive : Location) (words : Words) : Result ℕ Fault → T
   out_of_range : (v : Value) (result : Result ℕ Fault) → Evaluates (line_of words) (Ok v) → as_line_number v.value ≡ None → result ≡ Err (LineOverflow, directive) → Numbers directive words result
   alone : (v : Value) (n : ℕ) (result : Result ℕ Fault) → Evaluates (line_of words) (Ok v) → as_line_number v.value ≡ Some n → v.left ≡ 0 → result ≡ Ok n → Numbers directive words result
   with_source : (v : Value) (n : ℕ) (result : Result ℕ Fault) → Evaluates (line_of words) (Ok v) → as_line_number v.value ≡ Some n → v.left ≢ 0 → (second : Result Value Found) → Evaluates (line_of (words_after v.left words)) second → result ≡ alone_on_line directive (words_after v.left words) (λ value. n) second → Numbers directive words result
+
+-- the first fault of a `#line`, without the number that may be before it
+abbrev pub without_number : Result ℕ LineFault → Result ℕ Fault
+without_number (Ok number) = Ok number
+without_number (Err refused) = Err refused.fault
 
 -- the line number that a `#line` gives
 pub record IsLineNumber (A : Answers) (directive : Location) (tokens : List Token) (definitions : Definitions) (result : Result ℕ Fault) : Type 0 where

@@ -4,8 +4,8 @@ ghost use Rattle.std.specs.Prelude.{◌≡◌, map, not, IfOk};
 ghost use Rattle.std.specs.Option.{option_copied};
 ghost use Rattle.pp_expression.specs.Arithmetic.{is_zero};
 ghost use Rattle.pp_expression.specs.FirstFault.{Evaluates};
-ghost use Rattle.pp_model.specs.LineValues.{Numbers, as_line_number, ended_early, line_of, symbol_of, unwanted_word, word_from_end, words_after};
-ghost use Rattle.pp_model.specs.inner.LineValues.{IsAlone, fault_of_operand, reported_fault};
+ghost use Rattle.pp_model.specs.LineValues.{IsAlone, Numbers, as_line_number, ended_early, line_of, symbol_of, unwanted_word, without_number, word_from_end, words_after};
+ghost use Rattle.pp_model.specs.inner.LineValues.{fault_of_operand, reported_fault};
 
 use crate::copies::{copy_fault, copy_token};
 use crate::outcome::Fault;
@@ -55,6 +55,25 @@ fn word_from_end(words: &Words, left: usize) -> Option<&Word>
     ensures { option_copied result ≡ word_from_end left words.now }
 {
     words.words.get(words.words.len().saturating_sub(left))
+}
+
+/// Why a `#line` numbers no line by its rules.
+#[derive(Drop)]
+pub struct LineFault {
+    /// Its first fault.
+    pub fault: Fault,
+    /// The line number that its first expression gives, if the fault is behind that.
+    pub number: Option<u32>,
+}
+
+// The fault of a `#line` whose first expression gives no line number.
+fn unnumbered(fault: Fault) -> LineFault
+    ensures { result.fault ≡ fault }
+{
+    LineFault {
+        fault,
+        number: None,
+    }
 }
 
 // The fault of a word that can't stand where it does.
@@ -173,18 +192,22 @@ fn pass_words(words: &mut Words, left: usize)
     words.words.drain(..count);
 }
 
-// The number, where these words after it are one expression.
+// The number, if these words after it are one expression.
 fn number_before(
     alloc: Global,
     directive: Location,
     words: &Words,
     number: u32,
-) -> Result<Result<u32, Fault>, AllocError>
-    ensures { IfOk result (IsAlone directive words.now (λ value. number)) }
+) -> Result<Result<u32, LineFault>, AllocError>
+    ensures { IfOk result (λ answer. IsAlone directive words.now (λ value. number)
+        (without_number answer)) }
 {
     match value_alone(alloc, directive, words)? {
         Ok(_) => Ok(Ok(number)),
-        Err(fault) => Ok(Err(fault)),
+        Err(fault) => Ok(Err(LineFault {
+            fault,
+            number: Some(number),
+        })),
     }
 }
 
@@ -193,16 +216,19 @@ fn read_numbers(
     alloc: Global,
     directive: Location,
     words: &mut Words,
-) -> Result<Result<u32, Fault>, AllocError>
-    ensures { IfOk result (Numbers directive words.old) }
+) -> Result<Result<u32, LineFault>, AllocError>
+    ensures { IfOk result (λ answer. Numbers directive words.old (without_number answer)) }
 {
     let value = match evaluation(alloc, &*words)? {
         Ok(value) => value,
-        Err(found) => return Ok(Err(reported_fault(alloc, directive, &*words, found)?)),
+        Err(found) => {
+            let fault = reported_fault(alloc, directive, &*words, found)?;
+            return Ok(Err(unnumbered(fault)));
+        }
     };
     let number = match as_line_number(value) {
         Some(number) => number,
-        None => return Ok(Err((PreprocessorError::LineOverflow, directive))),
+        None => return Ok(Err(unnumbered((PreprocessorError::LineOverflow, directive)))),
     };
     if value.left == 0 {
         return Ok(Ok(number));
@@ -211,15 +237,15 @@ fn read_numbers(
     number_before(alloc, directive, &*words, number)
 }
 
-/// The line number that a `#line` of these words gives, or its first fault.
+/// The line number that a `#line` of these words gives, or its first fault with the number that is before it.
 ///
 /// `directive` is the place of the directive's word. The outer error says that memory was refused.
 pub fn number_of(
     alloc: Global,
     directive: Location,
     words: Words,
-) -> Result<Result<u32, Fault>, AllocError>
-    ensures { IfOk result (Numbers directive words) }
+) -> Result<Result<u32, LineFault>, AllocError>
+    ensures { IfOk result (λ answer. Numbers directive words (without_number answer)) }
 {
     let mut words = words;
     let number = read_numbers(alloc, directive, &mut words);

@@ -3,7 +3,7 @@
 ghost use Rattle.std.specs.Prelude.{◌≡◌, is_some};
 ghost use Rattle.pp_model.specs.LineWords.{reading, unknown_name, unexpected, name_in_value};
 ghost use Rattle.pp_model.specs.Names.{is_identifier, defined_name};
-ghost use Rattle.pp_model.specs.inner.WordsRead.{reading_named, unwanted_read, IsOf};
+ghost use Rattle.pp_model.specs.WordReadings.{reading_named, unwanted_read, IsOf};
 
 use crate::names::is_defined_name;
 use crate::outcome::Fault;

@@ -64,5 +64,8 @@ pub fn line_number(
         levels,
         budget,
     )?;
-    Ok(number_of(alloc, directive, words)??)
+    match number_of(alloc, directive, words)? {
+        Ok(number) => Ok(number),
+        Err(refused) => Err(Halt::from(refused.fault)),
+    }
 }

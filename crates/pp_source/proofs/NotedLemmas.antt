@@ -27,6 +27,7 @@ noted_after taken old after still_open b = record {
   spent = b.spent;
   has_text = b.has_text;
   has_directive = refl;
+  dead_for_good = b.dead_for_good;
 }
 
 module _ (taken : ℕ) (old after : Source) (given : Option Token) where
@@ -74,15 +75,15 @@ module _ (taken : ℕ) (old after : Source) (given : Option Token) where
   effect_noted (renumbers word tokens) h = renumbers_noted word tokens h
 
 -- what a directive does after its number sign, where the word was read
-pub word_read : (definitions : List Defined) (blocks : List OpenBlock) (line_offset : ℤ) (has_text has_directive : Bool) (old mid : SourceLexed)
+pub word_read : (definitions : List Defined) (blocks : List OpenBlock) (line_offset : ℤ) (has_text has_directive dead : Bool) (old mid : SourceLexed)
     → mid.rest ≡ drop 1 old.rest → (live : Bool) (block : Option OpenBlock) (directive : Directive) (word : Location)
     (given : Option Token) (after : Source) → Makes (directive_move live block directive word mid.rest)
-    (source_of mid definitions blocks line_offset has_text has_directive) (as_pause given) after
-    → Makes (taking_more 1 (directive_move live block directive word mid.rest)) (source_of old definitions blocks line_offset has_text has_directive)
+    (source_of mid definitions blocks line_offset has_text has_directive dead) (as_pause given) after
+    → Makes (taking_more 1 (directive_move live block directive word mid.rest)) (source_of old definitions blocks line_offset has_text has_directive dead)
     (as_pause given) (remembering after)
-word_read definitions blocks line_offset has_text has_directive old mid taken live block directive word given after h =
+word_read definitions blocks line_offset has_text has_directive dead old mid taken live block directive word given after h =
     let move = directive_move live block directive word mid.rest in
-    let plain = subst (λ (note : Note). HasEffect move.effect move.taken note (source_of mid definitions blocks line_offset has_text has_directive)
+    let plain = subst (λ (note : Note). HasEffect move.effect move.taken note (source_of mid definitions blocks line_offset has_text has_directive dead)
     (as_pause given) after) (directive_unnoted word mid.rest block live directive) h in
-    effect_noted (1 + move.taken) (source_of old definitions blocks line_offset has_text has_directive) after given move.effect
-    (effect_after definitions blocks line_offset has_text has_directive old mid 1 move.taken (1 + move.taken) refl taken unnoted given after move.effect plain)
+    effect_noted (1 + move.taken) (source_of old definitions blocks line_offset has_text has_directive dead) after given move.effect
+    (effect_after definitions blocks line_offset has_text has_directive dead old mid 1 move.taken (1 + move.taken) refl taken unnoted given after move.effect plain)

@@ -4,5 +4,6 @@ pub mod ReadNames
 pub mod SourceActs
 pub mod SettingContent
 pub mod LineItems
+pub mod LineHalts
 pub mod IfParsing
 pub mod Starting

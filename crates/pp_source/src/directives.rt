@@ -13,7 +13,7 @@ ghost use Rattle.pp_expansion.specs.inner.DirectiveItems.{is_item};
 ghost use Rattle.pp_expansion.specs.Held.{HoldsOrdinary};
 ghost use Rattle.pp_expansion.specs.Item.{as_step};
 ghost use Rattle.pp_source.specs.inner.ReadNames.{named};
-ghost use Rattle.pp_expansion.specs.inner.OpenBlocks.{last_block, is_live_in, block_skipped};
+ghost use Rattle.pp_expansion.specs.inner.OpenBlocks.{last_block, is_live_among, block_skipped};
 ghost use Rattle.pp_source.specs.inner.SettingContent.{SetsContent};
 ghost use Rattle.pp_expansion.specs.inner.Source.{StepsSource, unreported_of};
 ghost use Rattle.pp_source.specs.inner.SourceActs.{Acts, ActsAs, Gives, live_word_move, dead_word_move, word_move, defining};
@@ -25,8 +25,8 @@ use crate::content::content_tokens;
 use crate::convert::convert_lexer_token_to_step;
 use crate::line_value::{condition, line_number};
 use crate::lines::{
-    DefineLine, define_line, ended_line, endif_end, first_token, line_tokens, only_name,
-    refused_token, rest_of_line, skip_line,
+    DefineLine, define_line, ended_line, endif_end, first_name, first_token, line_tokens,
+    only_name, refused_token, rest_of_line, skip_line,
 };
 use crate::source_lexer::SourceLexer;
 use pp_expansion::blocks::{Blocks, OpenBlock};
@@ -53,6 +53,8 @@ pub struct DirectiveProcessor<'a> {
     line_offset: i64,
     has_text: bool,
     has_directive: bool,
+    // Whether an `#elif` outside of all blocks made all that follows dead.
+    dead_for_good: bool,
 }
 
 impl<'a> Model for DirectiveProcessor<'a> {
@@ -60,7 +62,17 @@ impl<'a> Model for DirectiveProcessor<'a> {
 
     ghost Value = { Source };
 
-    ghost view = { λ p. record { rest = p.lexer.rest; places = p.lexer.places; error_place = p.lexer.error_place; definitions = p.definitions; blocks = p.blocks; line_offset = p.line_offset; spent = p.lexer.spent; has_text = p.has_text; has_directive = p.has_directive } };
+    ghost view = { λ p. record { rest = p.lexer.rest; places = p.lexer.places; error_place = p.lexer.error_place; definitions = p.definitions; blocks = p.blocks; line_offset = p.line_offset; spent = p.lexer.spent; has_text = p.has_text; has_directive = p.has_directive; dead_for_good = p.dead_for_good } };
+}
+
+// Whether the directive is an item in live text.
+fn is_item(directive: Directive) -> bool
+    ensures { result ≡ is_item directive }
+{
+    matches!(
+        directive,
+        Directive::Version | Directive::Extension | Directive::Pragma
+    )
 }
 
 impl<'a> DirectiveProcessor<'a> {
@@ -79,6 +91,7 @@ impl<'a> DirectiveProcessor<'a> {
             line_offset: 0,
             has_text: false,
             has_directive: false,
+            dead_for_good: false,
         }
     }
 
@@ -129,9 +142,9 @@ impl<'a> DirectiveProcessor<'a> {
 
     // Whether the text is live.
     fn is_live(&self) -> bool
-        ensures { result ≡ is_live_in (last_block self.now.blocks) }
+        ensures { result ≡ is_live_among self.now.dead_for_good self.now.blocks }
     {
-        self.blocks.are_live()
+        !self.dead_for_good && self.blocks.are_live()
     }
 
     // Lets a name stand for what its line says. A name that stands for that already keeps its old definition.
@@ -165,16 +178,17 @@ impl<'a> DirectiveProcessor<'a> {
         self.add(line)
     }
 
-    // Does what an `#undef` line says, after its word.
+    // Does what an `#undef` line says, after its word. A name that more stands behind is undefined too.
     fn undef(&mut self, word: Location) -> Result<(), Halt>
         requires { self.old.spent ≡ false }
         ensures acts { Acts (moves.line_move (only_name word self.old.rest) moves.undefines
             (line_length self.old.rest)) self.old result self.new }
         ensures errors { Reports result (unreported_of self.old) (unreported_of self.new) }
     {
-        let name = only_name(word, &mut self.lexer)?;
-        self.definitions.remove(name.as_str());
-        Ok(())
+        let first = first_name(word, &mut self.lexer)?;
+        self.definitions.remove(first.name.as_str());
+        drop(first);
+        ended_line(word, &mut self.lexer)
     }
 
     // Opens a block where the name on the line is defined, or where it isn't.
@@ -216,7 +230,7 @@ impl<'a> DirectiveProcessor<'a> {
         skip_line(&mut self.lexer)
     }
 
-    // Skips the branch after an `#elif` of the innermost block.
+    // Skips the branch after an `#elif` of the innermost block, also if its line has a fault.
     fn skip_branch(&mut self, block: OpenBlock) -> Result<(), Halt>
         requires unspent { self.old.spent ≡ false }
         requires innermost { last_block self.old.blocks ≡ Some block }
@@ -225,12 +239,11 @@ impl<'a> DirectiveProcessor<'a> {
             self.old result self.new }
         ensures errors { Reports result (unreported_of self.old) (unreported_of self.new) }
     {
-        skip_line(&mut self.lexer)?;
         self.blocks.replace_last(block.skipped());
-        Ok(())
+        skip_line(&mut self.lexer)
     }
 
-    // Parts the innermost block by the condition on the line.
+    // Parts the innermost block by the condition on the line. After a fault the branch is dead.
     fn part_if(&mut self, block: OpenBlock, word: Location) -> Result<(), Halt>
         requires unspent { self.old.spent ≡ false }
         requires innermost { last_block self.old.blocks ≡ Some block }
@@ -238,13 +251,14 @@ impl<'a> DirectiveProcessor<'a> {
             (moves.parts_if block word) (line_length self.old.rest)) self.old result self.new }
         ensures errors { Reports result (unreported_of self.old) (unreported_of self.new) }
     {
+        self.blocks.replace_last(block.skipped());
         let tokens = rest_of_line(self.alloc, &mut self.lexer)?;
         let holds = condition(self.alloc, word, tokens, &self.definitions)?;
         self.blocks.replace_last(block.decided(holds));
         Ok(())
     }
 
-    // Does what an `#elif` line says, after its word.
+    // Does what an `#elif` line says, after its word. After a fault what follows is dead.
     fn elif_line(&mut self, word: Location) -> Result<(), Halt>
         requires { self.old.spent ≡ false }
         ensures acts { Acts
@@ -253,9 +267,11 @@ impl<'a> DirectiveProcessor<'a> {
         ensures errors { Reports result (unreported_of self.old) (unreported_of self.new) }
     {
         let Some(block) = self.blocks.last() else {
+            self.dead_for_good = true;
             return Err(Halt::Fault((PreprocessorError::ElifOutsideOfBlock, word)));
         };
         if block.with_else {
+            self.blocks.replace_last(block.skipped());
             return Err(Halt::Fault((PreprocessorError::ElifAfterElse, word)));
         }
         if block.skips_branches() {
@@ -304,7 +320,8 @@ impl<'a> DirectiveProcessor<'a> {
         self.line_offset = i64::from(number) - i64::from(line);
     }
 
-    // Does what a `#line` line says, after its word: the next lines are numbered from there.
+    // Does what a `#line` line says, after its word: the next lines are numbered from there, also if only
+    // what is behind its first number has a fault.
     fn number_lines(&mut self, word: Location) -> Result<(), Halt>
         requires { self.old.spent ≡ false }
         ensures acts { Acts (moves.line_move (line_tokens self.old.rest) (moves.renumbers word)
@@ -312,9 +329,19 @@ impl<'a> DirectiveProcessor<'a> {
         ensures errors { Reports result (unreported_of self.old) (unreported_of self.new) }
     {
         let tokens = rest_of_line(self.alloc, &mut self.lexer)?;
-        let number = line_number(self.alloc, word, tokens, &self.definitions)?;
-        self.count_from(word.line, number);
-        Ok(())
+        match line_number(self.alloc, word, tokens, &self.definitions) {
+            Ok(number) => {
+                self.count_from(word.line, number);
+                Ok(())
+            }
+            Err(unnumbered) => match unnumbered.number {
+                Some(number) => {
+                    self.count_from(word.line, number);
+                    Err(unnumbered.halt)
+                }
+                None => Err(unnumbered.halt),
+            },
+        }
     }
 
     // Skips the line.
@@ -463,7 +490,8 @@ impl<'a> DirectiveProcessor<'a> {
         }
     }
 
-    // What a directive gives in live text, after its number sign. Alone on its line that gives nothing.
+    // What a directive gives in live text, after its number sign. Alone on its line that gives nothing. A line that would
+    // be an item counts as a directive with a fault too.
     fn read_live(&mut self, hash: Location) -> Result<Option<Token>, Halt>
         requires { self.old.spent ≡ false }
         ensures gives { Gives (live_word_move (last_block self.old.blocks)
@@ -477,9 +505,16 @@ impl<'a> DirectiveProcessor<'a> {
             lexer::TokenValue::Ident(name) => {
                 let directive = directive_of(&name);
                 drop(name);
-                let given = self.give_live(directive, word)?;
-                self.has_directive = true;
-                Ok(given)
+                match self.give_live(directive, word) {
+                    Ok(given) => {
+                        self.has_directive = true;
+                        Ok(given)
+                    }
+                    Err(halt) => {
+                        self.has_directive |= is_item(directive);
+                        Err(halt)
+                    }
+                }
             }
             lexer::TokenValue::NewLine => {
                 self.has_directive = true;
@@ -517,7 +552,8 @@ impl<'a> DirectiveProcessor<'a> {
     // What a directive gives, after its number sign.
     fn read_directive(&mut self, hash: Location) -> Result<Option<Token>, Halt>
         requires { self.old.spent ≡ false }
-        ensures gives { Gives (word_move (is_live_in (last_block self.old.blocks))
+        ensures gives { Gives (word_move
+            (is_live_among self.old.dead_for_good self.old.blocks)
             (last_block self.old.blocks) hash self.old.rest) self.old result self.new }
         ensures holds { IfOk result (λ given. IfSome given (λ token. HoldsOrdinary token.value)) }
         ensures errors { Reports result (unreported_of self.old) (unreported_of self.new) }

@@ -5,15 +5,16 @@ ghost use Rattle.pp_model.specs.LineValues.{IsCondition, IsLineNumber};
 ghost use Rattle.pp_expansion.specs.inner.Defined.{meaning_of};
 ghost use Rattle.pp_expansion.specs.Held.{AllHoldOrdinary};
 ghost use Rattle.pp_expansion.specs.inner.Machine.{Satisfies};
+ghost use Rattle.pp_source.specs.inner.LineHalts.{without_number};
 
 use crate::if_parser::line_words;
 use crate::limit::expansion_limit;
 use pp_expansion::definitions::Definitions;
 use pp_expansion::halt::Halt;
 use pp_lexer::token::{Location, Token};
-use pp_model::line_value::{condition_of, number_of};
+use pp_model::line_value::{LineFault, condition_of, number_of};
 use pp_model::word::LineKind;
-use std::alloc::Global;
+use std::alloc::{AllocError, Global};
 
 /// Whether the condition of an `#if` or `#elif` line holds, or its first fault.
 ///
@@ -35,18 +36,65 @@ pub fn condition(
     Ok(condition_of(alloc, directive, words)??)
 }
 
-/// The line number of a `#line`, or its first fault.
+/// Why a `#line` numbers no line by its rules.
+#[derive(Drop)]
+pub struct LineHalt {
+    /// Its first fault, or that memory was refused.
+    pub halt: Halt,
+    /// The line number that its first expression gives, if the fault is behind that.
+    pub number: Option<u32>,
+}
+
+impl From<AllocError> for LineHalt {
+    ghost use Rattle.std.specs.Prelude.{◌≡◌};
+    ghost use Rattle.pp_expansion.specs.declared.halt.Halt.TheVariants.{OutOfMemory};
+
+    ghost from_gives = { λ error refused. refused.halt ≡ OutOfMemory };
+
+    fn from(_error: AllocError) -> Self {
+        LineHalt {
+            halt: Halt::OutOfMemory,
+            number: None,
+        }
+    }
+}
+
+impl From<Halt> for LineHalt {
+    ghost use Rattle.std.specs.Prelude.{◌≡◌};
+
+    ghost from_gives = { λ halt refused. refused.halt ≡ halt };
+
+    fn from(halt: Halt) -> Self {
+        LineHalt { halt, number: None }
+    }
+}
+
+impl From<LineFault> for LineHalt {
+    ghost use Rattle.std.specs.Prelude.{◌≡◌};
+    ghost use Rattle.pp_expansion.specs.declared.halt.Halt.TheVariants.{Fault};
+
+    ghost from_gives = { λ refused halted. halted.halt ≡ Fault refused.fault };
+
+    fn from(refused: LineFault) -> Self {
+        LineHalt {
+            halt: Halt::Fault(refused.fault),
+            number: refused.number,
+        }
+    }
+}
+
+/// The line number of a `#line`, or its first fault with the number that is before it.
 ///
 /// `directive` is the place of the directive's word, and `tokens` are those after it. The error is
-/// the fault, or `OutOfMemory` where memory was refused.
+/// the fault, or `OutOfMemory` if memory was refused.
 pub fn line_number(
     alloc: Global,
     directive: Location,
     tokens: Vec<Token>,
     definitions: &Definitions,
-) -> Result<u32, Halt>
+) -> Result<u32, LineHalt>
     requires { AllHoldOrdinary tokens.items }
-    ensures { Satisfies result (IsLineNumber (answers_at expansion_limit) directive tokens.items
+    ensures { Satisfies (without_number result) (IsLineNumber (answers_at expansion_limit) directive tokens.items
         (meaning_of definitions.now)) }
 {
     let kind = LineKind::LineNumber;

@@ -7,7 +7,7 @@ use Rattle.pp_model.specs.Sights.{sight_of}
 use Rattle.pp_model.specs.declared.directive.Directive.{Directive}
 use Rattle.pp_model.specs.declared.sight.Sight.{Sight}
 use Rattle.pp_model.specs.declared.sight.Sight.TheVariants as sight
-use Rattle.pp_expansion.specs.inner.OpenBlocks.{last_block, is_live_in}
+use Rattle.pp_expansion.specs.inner.OpenBlocks.{last_block, is_live_among}
 use Rattle.pp_expansion.specs.declared.blocks.OpenBlock.{OpenBlock}
 use Rattle.pp_expansion.specs.inner.SourceMoves.{Effect, fails, ends, unnoted, Move, directive_move, taking_more, end_effect, live_move_at, dead_move_at, move_at, move_of}
 use Rattle.pp_expansion.proofs.work.DirectiveLineLemmas.{begins_directive}
@@ -74,6 +74,6 @@ empty_shortens blocks true = end_shortens blocks [] (last_block blocks) refl
 empty_shortens blocks false = end_shortens blocks [] (last_block blocks) refl
 
 -- each move takes more than it adds
-pub move_of_shortens : (blocks : List OpenBlock) (rest : List Seen) → Shortens (move_of blocks rest) (length rest) (length blocks)
-move_of_shortens blocks [] = empty_shortens blocks (is_live_in (last_block blocks))
-move_of_shortens blocks (s ∷ rest) = shown_shortens blocks (s ∷ rest) (is_live_in (last_block blocks)) (omega arith)
+pub move_of_shortens : (dead : Bool) (blocks : List OpenBlock) (rest : List Seen) → Shortens (move_of dead blocks rest) (length rest) (length blocks)
+move_of_shortens dead blocks [] = empty_shortens blocks (is_live_among dead blocks)
+move_of_shortens dead blocks (s ∷ rest) = shown_shortens blocks (s ∷ rest) (is_live_among dead blocks) (omega arith)

@@ -50,7 +50,7 @@ module _ (old new : Source) where
       record { shorter = shorter; names = omega arith; steps = omega arith }
 
   fault_shrinks : IsAfterFault old new → Shrinks old new
-  fault_shrinks after = stays_shrinks after.definitions (omega (arith, after.fewer))
+  fault_shrinks after = record { shorter = omega (arith, after.fewer); names = omega (arith, after.fewer, after.names); steps = omega (arith, after.fewer, after.tokens) }
 
   block_shrinks : IsAfterBlock old new → length old.rest + (length old.blocks - 1) < length old.rest + length old.blocks → Shrinks old new
   block_shrinks after low =
@@ -113,9 +113,9 @@ module _ (old new : Source) where
   source_shrinks step h on = go old.spent h
     where
       move : Move
-      move = move_of old.blocks old.rest
+      move = move_of old.dead_for_good old.blocks old.rest
 
       go : (b : Bool) → MatchBool b ((step ≡ Err Finished) × (new ≡ old)) (IsRefusedStep old step ⊎ Makes move old step new) → Shrinks old new
       go true h = absurd (goes_on_not_end step on h.0)
       go false (inl h) = absurd (goes_on_not_want step on h.fault)
-      go false (inr h) = effect_shrinks move.effect move.taken move.note step (move_of_shortens old.blocks old.rest) h (goes_on_not_end step on)
+      go false (inr h) = effect_shrinks move.effect move.taken move.note step (move_of_shortens old.dead_for_good old.blocks old.rest) h (goes_on_not_end step on)

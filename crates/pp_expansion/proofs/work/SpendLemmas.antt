@@ -82,10 +82,12 @@ pub source_end_stays : (old new : Source) → StepsSource old (Err Finished) new
 source_end_stays old new h = go old.spent h
   where
     go : (b : Bool) → MatchBool b ((◌≡◌ {A = Step Token} (Err Finished) (Err Finished)) × (new ≡ old))
-        (IsRefusedStep old (Err Finished) ⊎ Makes (move_of old.blocks old.rest) old (Err Finished) new) → new ≡ old
+        (IsRefusedStep old (Err Finished) ⊎ Makes (move_of old.dead_for_good old.blocks old.rest) old (Err Finished) new) → new ≡ old
     go true h = h.1
     go false (inl h) = let bad = h.fault in cc
-    go false (inr h) = effect_stays (move_of old.blocks old.rest).effect (move_of old.blocks old.rest).taken (move_of old.blocks old.rest).note old new h
+    go false (inr h) =
+        let move = move_of old.dead_for_good old.blocks old.rest in
+        effect_stays move.effect move.taken move.note old new h
 
 -- what a step of a reader leaves: less, but at the end
 abbrev pub ReadSpends : Step Token → Reader → Reader → Type 0

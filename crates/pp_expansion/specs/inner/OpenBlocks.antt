@@ -22,6 +22,10 @@ abbrev pub is_live_in : Option OpenBlock → Bool
 is_live_in None = true
 is_live_in (Some block) = block.live_around && block.chosen
 
+-- the same, if these blocks are open, and all text is dead for good or not
+abbrev pub is_live_among : Bool → List OpenBlock → Bool
+is_live_among dead_for_good blocks = not dead_for_good && is_live_in (last_block blocks)
+
 -- a block that a line opens: in live text its condition holds or not, in dead text it is not read
 abbrev pub block_opened : Location → Bool → OpenBlock
 block_opened word holds = record { word = word; live_around = true; taken = holds; with_else = false; chosen = holds }

@@ -1,5 +1,5 @@
 -- What the reader of a source keeps, and one step of it.
-use Rattle.std.specs.Prelude.{◌≡◌, ◌≢◌, ℕ, ◌+◌, ◌<◌, ◌⊎◌, Bool, false, if◌then◌else◌, not, ◌||◌, is_some, List, [], ◌∷◌, ◌++◌, length, drop, Option, Some, None, Result, Ok, Err, MatchBool, ℤ, pos, ◌-ℤ◌}
+use Rattle.std.specs.Prelude.{◌≡◌, ◌≢◌, ℕ, ◌+◌, ◌<◌, ◌≤◌, ◌⊎◌, Bool, false, if◌then◌else◌, not, ◌||◌, is_some, List, [], ◌∷◌, ◌++◌, length, drop, Option, Some, None, Result, Ok, Err, MatchBool, ℤ, pos, ◌-ℤ◌}
 use Rattle.pp_lexer.specs.Lexed.{Seen}
 use Rattle.pp_lexer.specs.PreprocessorError.{out_of_memory}
 use Rattle.pp_lexer.specs.declared.token.PreprocessorError.TheVariants.{DefineRedefined, UnfinishedBlock}
@@ -12,7 +12,7 @@ use Rattle.pp_model.specs.LineValues.{IsCondition, IsLineNumber}
 use Rattle.pp_model.specs.declared.definition.Named.{Named}
 use Rattle.pp_expansion.specs.inner.DirectiveItems.{value_of}
 use Rattle.pp_expansion.specs.Item.{Step}
-use Rattle.pp_expansion.specs.inner.Defined.{Defined, meaning_of, IsChanged}
+use Rattle.pp_expansion.specs.inner.Defined.{Defined, meaning_of, body_tokens, IsChanged}
 use Rattle.pp_expansion.specs.inner.OpenBlocks.{outer_blocks, block_opened, block_unread, block_decided}
 use Rattle.pp_expansion.specs.declared.blocks.OpenBlock.{OpenBlock}
 use Rattle.pp_expansion.specs.inner.SourceMoves.{Effect, gives, gives_item, fails, ends, passes, defines, undefines, opens_where, opens_if, opens_unread, parts, parts_if, closes, unfinished, renumbers, Note, notes_text, notes_directive, Move, move_of}
@@ -20,8 +20,8 @@ use Rattle.pp_expansion.specs.inner.Unreported.{Unreported, unreported}
 use Rattle.pp_expansion.specs.declared.step.StepExit.TheVariants.{Error, Continue, Finished}
 
 -- the items that are left and where they stand, where the error of the lexer stands that was read and not reported, what is defined, the blocks
--- that are open, the outermost first, what `#line` adds to a line, whether memory was refused, and whether a live token of the text was read so
--- far, and a directive
+-- that are open, the outermost first, what `#line` adds to a line, whether memory was refused, whether a live token of the text was read so
+-- far, and a directive, and whether an `#elif` outside of all blocks made all that follows dead
 pub record Source : Type 0 where
   pub rest : List Seen
   pub places : List Location
@@ -32,6 +32,7 @@ pub record Source : Type 0 where
   pub spent : Bool
   pub has_text : Bool
   pub has_directive : Bool
+  pub dead_for_good : Bool
 
 -- its errors of the lexer that were not reported yet
 abbrev pub unreported_of : Source → Unreported
@@ -45,11 +46,14 @@ pub record IsAfter (taken : ℕ) (note : Note) (still_open : List OpenBlock) (ol
   pub spent : new.spent ≡ false
   pub has_text : new.has_text ≡ (notes_text note || old.has_text)
   pub has_directive : new.has_directive ≡ (notes_directive note || old.has_directive)
+  pub dead_for_good : new.dead_for_good ≡ old.dead_for_good
 
--- after a fault: nothing is said of how far the reader went, nor of which blocks are open, but that fewer items and blocks are left
+-- after a fault: nothing is said of how far the reader went, nor of which blocks are open and which names are defined, but that fewer items
+-- and blocks are left, and no more is defined
 pub record IsAfterFault (old new : Source) : Type 0 where
   pub fewer : length new.rest + length new.blocks < length old.rest + length old.blocks
-  pub definitions : new.definitions ≡ old.definitions
+  pub names : length new.definitions ≤ length old.definitions
+  pub tokens : body_tokens new.definitions ≤ body_tokens old.definitions
   pub spent : new.spent ≡ false
 
 -- the innermost block was reported at the end
@@ -131,4 +135,4 @@ pub record IsRefusedStep (old : Source) (step : Step Token) : Type 0 where
 
 -- One step of a source. Of the source after a refusal of memory nothing is said, but that each further step is the end.
 abbrev pub StepsSource : Source → Step Token → Source → Type 0
-StepsSource old step new = MatchBool old.spent ((step ≡ Err Finished) × (new ≡ old)) (IsRefusedStep old step ⊎ Makes (move_of old.blocks old.rest) old step new)
+StepsSource old step new = MatchBool old.spent ((step ≡ Err Finished) × (new ≡ old)) (IsRefusedStep old step ⊎ Makes (move_of old.dead_for_good old.blocks old.rest) old step new)

@@ -16,7 +16,7 @@ use Rattle.pp_model.specs.declared.directive.Directive.TheVariants as d
 use Rattle.pp_model.specs.declared.sight.Sight.{Sight}
 use Rattle.pp_model.specs.declared.sight.Sight.TheVariants as sight
 use Rattle.pp_expansion.specs.inner.DirectiveItems.{DirectiveItem, version, extension, pragma, line_entries}
-use Rattle.pp_expansion.specs.inner.OpenBlocks.{last_block, is_live_in, block_parted, block_skipped, skips_branches}
+use Rattle.pp_expansion.specs.inner.OpenBlocks.{last_block, is_live_among, block_parted, block_skipped, skips_branches}
 use Rattle.pp_expansion.specs.declared.blocks.OpenBlock.{OpenBlock}
 
 -- What comes of it: a token of the text, a directive that is an item, or a fault is given, nothing, or the end; a name stands for
@@ -165,6 +165,6 @@ dead_move_at block (sight.Directive directive word) rest = taking_more 2 (direct
 abbrev pub move_at : Bool → Option OpenBlock → Sight → List Seen → Move
 move_at live block shown rest = if live then live_move_at block shown rest else dead_move_at block shown rest
 
--- what stands at the front of these items comes to this, where these blocks are open
-abbrev pub move_of : List OpenBlock → List Seen → Move
-move_of blocks rest = move_at (is_live_in (last_block blocks)) (last_block blocks) (sight_of rest) rest
+-- what is first of these items means this move, if these blocks are open and all text is dead for good or not
+abbrev pub move_of : Bool → List OpenBlock → List Seen → Move
+move_of dead_for_good blocks rest = move_at (is_live_among dead_for_good blocks) (last_block blocks) (sight_of rest) rest

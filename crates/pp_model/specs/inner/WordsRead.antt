@@ -1,36 +1,15 @@
--- What a token of an expanded line is, as a program says it, and the parts of a `defined`.
+-- The parts of a `defined`.
 use Rattle.std.specs.Prelude.{◌≡◌, Bool, true, false, Some, None, Result, Ok, Err}
 use Rattle.pp_lexer.specs.declared.token.Location.{Location}
-use Rattle.pp_lexer.specs.declared.token.Token.{Token}
 use Rattle.pp_model.specs.Names.{Name}
 use Rattle.pp_model.specs.Reading.{Expander, Listed, line_reading}
 use Rattle.pp_model.specs.Taking.{Takes}
 use Rattle.pp_model.specs.Calls.{Fault, Answers}
 use Rattle.pp_model.specs.Emitting.{Emits}
-use Rattle.pp_model.specs.LineWords.{unexpected, unwanted, unwanted_word, name_in, is_defined}
+use Rattle.pp_model.specs.LineWords.{unwanted, unwanted_word, name_in, is_defined}
 use Rattle.pp_model.specs.inner.LineWords.{is_close_paren}
-use Rattle.pp_model.specs.LineWords as line
 use Rattle.pp_model.specs.declared.outcome.Outcome.{Outcome}
 use Rattle.pp_model.specs.declared.word.LineKind.{LineKind}
-use Rattle.pp_model.specs.declared.word.WordReading.{WordReading}
-use Rattle.pp_model.specs.declared.word.WordReading.TheVariants.{Operator, Word, Refused}
-
-abbrev pub reading_named : WordReading → line.Reading
-reading_named (Operator token) = line.operator
-reading_named (Word token) = line.word token
-reading_named (Refused fault) = line.fault fault
-
--- an operator is the token itself
-abbrev pub IsOf : Token → WordReading → Type 0
-IsOf token (Operator operator) = operator ≡ token
-IsOf token (Word word) = Unit {0}
-IsOf token (Refused fault) = Unit {0}
-
--- the fault of what was read as a word where a part of `defined` is wanted
-abbrev pub unwanted_read : WordReading → Fault
-unwanted_read (Operator token) = unexpected token
-unwanted_read (Word word) = unexpected word
-unwanted_read (Refused fault) = fault
 
 -- what a `defined` comes to after its `(` and the name
 pub data Closes (kind : LineKind) (directive : Location) (A : Answers) (n : Name) : Expander Listed → Result Bool Fault → Expander Listed → Type 0 where

@@ -40,6 +40,7 @@ module _ (name : Name) (tokens : List Token) (old new : Source) (h : IsSetIn nam
     truths = s.truths;
     unfinished = s.unfinished;
     unspent = s.unspent;
+    not_dead = s.not_dead;
     remembers_text = s.remembers_text;
     remembers_directive = s.remembers_directive;
     directives = s.directives;

@@ -33,7 +33,7 @@ SomethingLeft machine source = HoldsMore machine.held ⊎ (machine.frames ≢ []
 
 -- a source with nothing left is at its end
 empty_source : (places : List Location) (error_place : Option Location) (definitions : List Defined)
-    (line_offset : ℤ) (has_text has_directive : Bool) (new : Source) (step : Step Token)
+    (line_offset : ℤ) (has_text has_directive dead : Bool) (new : Source) (step : Step Token)
     → StepsSource (record {
       rest = [];
       places = places;
@@ -44,12 +44,14 @@ empty_source : (places : List Location) (error_place : Option Location) (definit
       spent = false;
       has_text = has_text;
       has_directive = has_directive;
+      dead_for_good = dead;
     }) step new → step ≡ Err Finished
-empty_source places error_place definitions line_offset has_text has_directive new step (inl h) = absurd (h.some_left refl)
-empty_source places error_place definitions line_offset has_text has_directive new step (inr h) = h.0
+empty_source places error_place definitions line_offset has_text has_directive dead new step (inl h) = absurd (h.some_left refl)
+empty_source places error_place definitions line_offset has_text has_directive true new step (inr h) = h.0
+empty_source places error_place definitions line_offset has_text has_directive false new step (inr h) = h.0
 
 read_before : (rest : List Seen) (places : List Location) (error_place : Option Location) (definitions : List Defined) (blocks : List OpenBlock)
-    (line_offset : ℤ) (has_text has_directive : Bool) (s : Reader) (step : Step Token)
+    (line_offset : ℤ) (has_text has_directive dead : Bool) (s : Reader) (step : Step Token)
     → Reads (of_source (record {
       rest = rest;
       places = places;
@@ -60,18 +62,19 @@ read_before : (rest : List Seen) (places : List Location) (error_place : Option 
       spent = false;
       has_text = has_text;
       has_directive = has_directive;
+      dead_for_good = dead;
     })) step s → (step ≡ Err Finished → ⊥)
     → (rest ≢ []) ⊎ (blocks ≢ [])
-read_before (x ∷ rest) places error_place definitions blocks line_offset has_text has_directive s step h goes = inl (λ e. cc)
-read_before [] places error_place definitions (block ∷ blocks) line_offset has_text has_directive s step h goes = inr (λ e. cc)
-read_before [] places error_place definitions [] line_offset has_text has_directive (of_source new) step h goes =
-    absurd (goes (empty_source places error_place definitions line_offset has_text has_directive new step h.0))
-read_before [] places error_place definitions [] line_offset has_text has_directive (of_list new) step h goes = absurd h
+read_before (x ∷ rest) places error_place definitions blocks line_offset has_text has_directive dead s step h goes = inl (λ e. cc)
+read_before [] places error_place definitions (block ∷ blocks) line_offset has_text has_directive dead s step h goes = inr (λ e. cc)
+read_before [] places error_place definitions [] line_offset has_text has_directive dead (of_source new) step h goes =
+    absurd (goes (empty_source places error_place definitions line_offset has_text has_directive dead new step h.0))
+read_before [] places error_place definitions [] line_offset has_text has_directive dead (of_list new) step h goes = absurd h
 
 left_in_source : (old : Source) (s : Reader) (step : Step Token) → old.spent ≡ false → Reads (of_source old) step s → (step ≡ Err Finished → ⊥)
     → (old.rest ≢ []) ⊎ (old.blocks ≢ [])
 left_in_source old s step unspent h goes =
-    read_before old.rest old.places old.error_place old.definitions old.blocks old.line_offset old.has_text old.has_directive s step
+    read_before old.rest old.places old.error_place old.definitions old.blocks old.line_offset old.has_text old.has_directive old.dead_for_good s step
     (subst (λ (b : Bool). Reads (of_source (record {
       rest = old.rest;
       places = old.places;
@@ -81,8 +84,8 @@ left_in_source old s step unspent h goes =
       line_offset = old.line_offset;
       spent = b;
       has_text = old.has_text;
-      has_directive =
-          old.has_directive;
+      has_directive = old.has_directive;
+      dead_for_good = old.dead_for_good;
     })) step s) unspent h) goes
 
 reads_more : (frames : List Layer) (old : Source) → (old.rest ≢ []) ⊎ (old.blocks ≢ []) → (frames ≢ []) ⊎ (old.rest ≢ []) ⊎ (old.blocks ≢ [])

@@ -23,6 +23,7 @@ start_of text = record {
     spent = false;
     has_text = false;
     has_directive = false;
+    dead_for_good = false;
   };
   spent = false;
   place = nowhere;
@@ -45,6 +46,7 @@ start_stands text = record {
     truths = tt;
     unfinished = refl;
     unspent = refl;
+    not_dead = refl;
     remembers_text = refl;
     remembers_directive = refl;
     directives = λ after. refl;

@@ -46,10 +46,12 @@ module _ (old new : Source) (step : Step Token) (unspent : old.spent ≡ false) 
   effect_unspent (renumbers word tokens) taken note h = renumbers_unspent word tokens taken note h
 
   pub steps_unspent : (spent : Bool) → old.spent ≡ spent → wants_memory step ≡ false
-      → MatchBool spent ((step ≡ Err Finished) × (new ≡ old)) (IsRefusedStep old step ⊎ Makes (move_of old.blocks old.rest) old step new) → new.spent ≡ false
+      → MatchBool spent ((step ≡ Err Finished) × (new ≡ old)) (IsRefusedStep old step ⊎ Makes (move_of old.dead_for_good old.blocks old.rest) old step new)
+      → new.spent ≡ false
   steps_unspent true e reported h = cc
   steps_unspent false e reported (inl h) =
       let bad : true ≡ false = rw h.fault at reported in
       cc
-  steps_unspent false e reported (inr h) = effect_unspent (move_of old.blocks old.rest).effect (move_of old.blocks old.rest).taken
-      (move_of old.blocks old.rest).note h
+  steps_unspent false e reported (inr h) =
+      let move = move_of old.dead_for_good old.blocks old.rest in
+      effect_unspent move.effect move.taken move.note h

@@ -128,6 +128,7 @@ renumbered_stands old r s word n = record {
   truths = s.truths;
   unfinished = s.unfinished;
   unspent = s.unspent;
+  not_dead = s.not_dead;
   remembers_text = s.remembers_text;
   remembers_directive = s.remembers_directive;
   directives = s.directives;

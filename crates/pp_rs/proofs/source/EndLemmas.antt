@@ -14,7 +14,7 @@ use Rattle.pp_model.specs.declared.directive.Directive.TheVariants as d
 use Rattle.pp_model.specs.declared.sight.Sight.{Sight}
 use Rattle.pp_model.specs.declared.sight.Sight.TheVariants as sight
 use Rattle.pp_expansion.specs.Item.{Step}
-use Rattle.pp_expansion.specs.inner.OpenBlocks.{last_block, is_live_in, block_parted, block_skipped, skips_branches}
+use Rattle.pp_expansion.specs.inner.OpenBlocks.{last_block, is_live_among, block_parted, block_skipped, skips_branches}
 use Rattle.pp_expansion.specs.declared.blocks.OpenBlock.{OpenBlock}
 use Rattle.pp_expansion.specs.inner.DirectiveItems.{version, extension, pragma, line_entries}
 use Rattle.pp_expansion.specs.inner.SourceMoves.{Effect, gives_item, fails, passes, defines, undefines, opens_where, opens_if, opens_unread, parts, parts_if, closes, renumbers, Move, failing, line_move, skip_by, skip_move, else_effect, endif_move, elif_move, live_move, dead_move, directive_move, move_at, move_of}
@@ -126,18 +126,19 @@ end_nothing false None rest old new none e h = (ap (λ (s : Source). s.rest) h.1
 end_nothing true (Some kept) rest old new some e h = let bad = h.0 in cc
 end_nothing false (Some kept) rest old new some e h = let bad = h.0 in cc
 
-makes_end : (rest : List Seen) (old new : Source) → old.rest ≡ rest → Makes (move_of old.blocks rest) old (Err Finished) new → HasNothing new
-makes_end [] old new e h = end_nothing (is_live_in (last_block old.blocks)) (last_block old.blocks) [] old new refl e h
+makes_end : (rest : List Seen) (old new : Source) → old.rest ≡ rest → Makes (move_of old.dead_for_good old.blocks rest) old (Err Finished) new
+    → HasNothing new
+makes_end [] old new e h = end_nothing (is_live_among old.dead_for_good old.blocks) (last_block old.blocks) [] old new refl e h
 makes_end (s ∷ rest) old new e h =
-    let on : is_end_effect (move_of old.blocks (s ∷ rest)).effect ≡ false =
-    sight_goes_on (is_live_in (last_block old.blocks)) (last_block old.blocks) (sight_of (s ∷ rest)) (s ∷ rest) (λ is. item_there s.item rest is) in
-    let off : is_end_effect (move_of old.blocks (s ∷ rest)).effect ≡ true =
-    finished_ends (move_of old.blocks (s ∷ rest)).effect (move_of old.blocks (s ∷ rest)).taken (move_of old.blocks (s ∷ rest)).note old new h in
+    let move = move_of old.dead_for_good old.blocks (s ∷ rest) in
+    let on : is_end_effect move.effect ≡ false =
+    sight_goes_on (is_live_among old.dead_for_good old.blocks) (last_block old.blocks) (sight_of (s ∷ rest)) (s ∷ rest) (λ is. item_there s.item rest is) in
+    let off : is_end_effect move.effect ≡ true = finished_ends move.effect move.taken move.note old new h in
     absurd (let bad : false ≡ true = sym on ∙ off in cc)
 
 pub source_end : (old new : Source) (spent : Bool) → old.spent ≡ spent → spent ≡ false
     → MatchBool spent ((◌≡◌ {A = Step Token} (Err Finished) (Err Finished)) × (new ≡ old))
-    (IsRefusedStep old (Err Finished) ⊎ Makes (move_of old.blocks old.rest) old (Err Finished) new) → HasNothing new
+    (IsRefusedStep old (Err Finished) ⊎ Makes (move_of old.dead_for_good old.blocks old.rest) old (Err Finished) new) → HasNothing new
 source_end old new true e f h = cc
 source_end old new false e f (inl h) = let bad = h.fault in cc
 source_end old new false e f (inr h) = makes_end old.rest old new refl h

@@ -74,12 +74,12 @@ module _ (old : Source) (r : SourceReader) (s : StandsForReader old r) where
 
   -- some items further on
   pub stands_further : (n : ℕ) (definitions : Definitions) (truths : Truths) (more : List BlockLine) (new : Source) → n ≤ length old.rest
-      → new.rest ≡ drop n old.rest → new.spent ≡ false → new.line_offset ≡ old.line_offset
+      → new.rest ≡ drop n old.rest → new.spent ≡ false → new.dead_for_good ≡ old.dead_for_good → new.line_offset ≡ old.line_offset
       → definitions ≡ meaning_of new.definitions → AddsLines r.position n old.rest more
       → StandForBlocks r.items truths new.blocks (blocks_at r.items (r.position + n)) → AreBefore (r.position + n) truths
       → IsRemembered new r.items truths (r.position + n) → StandsForReader new (record r
       { position = r.position + n; definitions = definitions; truths = truths })
-  stands_further n definitions truths more new within after unspent offset means adds blocks before remembered =
+  stands_further n definitions truths more new within after unspent dead offset means adds blocks before remembered =
       let further : AreLinesBefore r.items (r.position + n) (block_lines 0 (take r.position r.items) ++ more) =
       lines_further r.items r.position n (block_lines 0 (take r.position r.items)) more s.lines
       (subst (λ (items : List Seen). AddsLines r.position n items more) s.rest adds) in
@@ -95,6 +95,7 @@ module _ (old : Source) (r : SourceReader) (s : StandsForReader old r) where
         truths = before;
         unfinished = s.unfinished;
         unspent = unspent;
+        not_dead = dead ∙ s.not_dead;
         remembers_text = remembered.text;
         remembers_directive = remembered.directive;
         directives = remembered.apart;

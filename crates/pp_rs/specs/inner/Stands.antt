@@ -29,6 +29,7 @@ pub record StandsForReader (source : Source) (reader : SourceReader) : Type 0 wh
   pub truths : AreBefore reader.position reader.truths
   pub unfinished : reader.unfinished ≡ length (blocks_at reader.items (length reader.items))
   pub unspent : source.spent ≡ false
+  pub not_dead : source.dead_for_good ≡ false
   pub remembers_text : source.has_text ≡ has_live_text_before reader.items reader.truths reader.position
   pub remembers_directive : source.has_directive ≡ has_directive (take reader.position reader.items)
   pub directives : (after : List Seen) → has_directive (take reader.position reader.items ++ after)

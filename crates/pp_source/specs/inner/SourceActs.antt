@@ -12,7 +12,7 @@ use Rattle.pp_model.specs.Lines.{first_token}
 use Rattle.pp_model.specs.Names.{Name}
 use Rattle.pp_model.specs.Sights.{directive_of}
 use Rattle.pp_model.specs.declared.definition.Named.{Named}
-use Rattle.pp_expansion.specs.inner.Defined.{Defined, meaning_of}
+use Rattle.pp_expansion.specs.inner.Defined.{Defined, meaning_of, body_tokens}
 use Rattle.pp_expansion.specs.Item.{Step}
 use Rattle.pp_expansion.specs.declared.blocks.OpenBlock.{OpenBlock}
 use Rattle.pp_expansion.specs.inner.Source.{Source, Condition, LineNumber, Makes}
@@ -22,10 +22,12 @@ use Rattle.pp_expansion.specs.declared.halt.Halt.{Halt}
 use Rattle.pp_expansion.specs.declared.halt.Halt.TheVariants as halt
 use Rattle.pp_expansion.specs.declared.step.StepExit.TheVariants.{Continue}
 
--- after a fault: nothing is said of how far the reader went, nor of which blocks are open, but that no more items and blocks are left
+-- after a fault: nothing is said of how far the reader went, nor of which blocks are open and which names are defined, but that no more items
+-- and blocks are left, and no more is defined
 pub record HasKept (old new : Source) : Type 0 where
   pub left : length new.rest + length new.blocks ≤ length old.rest + length old.blocks
-  pub definitions : new.definitions ≡ old.definitions
+  pub names : length new.definitions ≤ length old.definitions
+  pub tokens : body_tokens new.definitions ≤ body_tokens old.definitions
   pub spent : new.spent ≡ false
 
 abbrev pub RedefinesWith : Named → Option Definition → Fault → Type 0

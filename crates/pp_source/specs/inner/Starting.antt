@@ -17,4 +17,5 @@ source_start input =
       spent = false;
       has_text = false;
       has_directive = false;
+      dead_for_good = false;
     }

@@ -12,8 +12,8 @@ set_last xs n x e some =
     ∙ take-length (slice_set xs last x) in
     rw e (sym all ∙ take-set_at xs last (length xs) x (omega arith) (omega arith))
 
-pub returns : goal.returns
-returns c =
+pub returns-clause-is : goal.returns-clause-is
+returns-clause-is c =
     let v = c.self.inside.open in
     let some : 0 < length v.items = rw (← c.self.view_is) at c.requires in
     rw (← c.self.view_is)

@@ -7,7 +7,7 @@ returns-in_err-line-clause-acts c =
     let p = c.self.inside in
     let e = c.in_err-line.ensures in
     rw (← c.self.view_is, err_result c.from_residual.result c.in_err-line.field-0.0 c.from_residual.ensures.1)
-    (define_failed p.definitions p.blocks p.line_offset p.has_text p.has_directive p.lexer c.define_line.new.lexer c.args.word named
+    (define_failed p.definitions p.blocks p.line_offset p.has_text p.has_directive p.dead_for_good p.lexer c.define_line.new.lexer c.args.word named
     c.in_err-line.field-0.0 e.is e.takes)
 
 pub returns-clause-acts : goal.returns-clause-acts
@@ -15,5 +15,5 @@ returns-clause-acts c =
     let p = c.self.inside in
     let e = c.in_ok-line.ensures in
     rw (← c.self.view_is)
-    (define_acts p.definitions p.blocks p.line_offset p.has_text p.has_directive p.lexer c.define_line.new.lexer c.args.word
+    (define_acts p.definitions p.blocks p.line_offset p.has_text p.has_directive p.dead_for_good p.lexer c.define_line.new.lexer c.args.word
     (named c.in_ok-line.line) c.add.result c.add.new.self e.is e.takes c.add.ensures.acts)

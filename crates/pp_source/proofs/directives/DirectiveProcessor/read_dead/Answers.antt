@@ -10,5 +10,5 @@ returns-in-Ident-clause-acts c =
     let e = c.in_ok-token.ensures in
     let acts = rw (c.directive_of-directive.ensures, c.in-Ident.name-is, ← c.self-in-Ident.view_is) at c.in_ok-act_dead-in-Ident.ensures.acts in
     rw (← c.self.view_is, e.is, c.in-Ident.is, ← e.takes.rest)
-    (word_read p.definitions p.blocks p.line_offset p.has_text p.has_directive p.lexer c.first_token.new.lexer e.takes.rest false
+    (word_read p.definitions p.blocks p.line_offset p.has_text p.has_directive p.dead_for_good p.lexer c.first_token.new.lexer e.takes.rest false
     (last_block p.blocks) (directive_of c.in-Ident.name) c.in_ok-token.token.location None _ acts)
