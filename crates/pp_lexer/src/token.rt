@@ -164,7 +164,7 @@ pub enum PreprocessorError {
     /// A `#` in live text is not the first on its line, or stands in a directive or in the content
     /// of an added definition.
     UnexpectedHash,
-    /// A directive ends before its name, or is a `#` alone.
+    /// A directive ends before its name.
     UnexpectedNewLine,
     /// The arguments of a macro call or an expression don't end.
     UnexpectedEndOfInput,
@@ -202,9 +202,9 @@ pub enum PreprocessorError {
     MacroNotDefined,
     /// A macro call is nested too deep.
     RecursionLimitReached,
-    /// An expression divides by 0, or takes a remainder by 0.
+    /// An expression divides by 0.
     DivisionByZero,
-    /// Kept from the Rust crate: a remainder by 0 is `DivisionByZero`.
+    /// An expression takes a remainder by 0.
     RemainderByZero,
     /// An allocation was refused. The Rust crate ends the process instead.
     OutOfMemory,

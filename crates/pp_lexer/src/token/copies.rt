@@ -1,6 +1,6 @@
 //! Copies of tokens and of errors. A copy takes memory, so it may be refused.
 
-ghost use Rattle.std.specs.Prelude.{◌≡◌, false, IfOk, IsOk, MatchResult};
+ghost use Rattle.std.specs.Prelude.{◌≡◌, [], false, IfOk, IsOk, MatchResult};
 ghost use Rattle.pp_lexer.specs.PreprocessorError.{out_of_memory, error_holds_memory};
 ghost use Rattle.pp_lexer.specs.TokenValue.{holds_memory};
 
@@ -29,10 +29,11 @@ impl Float {
 }
 
 impl Tokens {
-    /// A copy. Its error is that memory was refused.
+    /// A copy. Its error is that memory was refused, which an empty list never gives.
     #[cycle(copy)]
     pub fn try_clone(&self, alloc: Global) -> Result<Self, AllocError>
-        ensures { IfOk result (λ copy. copy ≡ self.now) }
+        ensures copied { IfOk result (λ copy. copy ≡ self.now) }
+        ensures without_memory { self.now ≡ [] → IsOk result }
     {
         Ok(Tokens {
             items: copy_items(alloc, &self.items)?,
@@ -42,7 +43,8 @@ impl Tokens {
 
 #[cycle(copy)]
 fn copy_items(alloc: Global, items: &Vec<Token>) -> Result<Vec<Token>, AllocError>
-    ensures { IfOk result (λ copy. copy.items ≡ items.now.items) }
+    ensures copied { IfOk result (λ copy. copy.items ≡ items.now.items) }
+    ensures without_memory { items.now.items ≡ [] → IsOk result }
 {
     let mut copies = Vec::new(alloc);
     for item in items {
@@ -52,16 +54,20 @@ fn copy_items(alloc: Global, items: &Vec<Token>) -> Result<Vec<Token>, AllocErro
 }
 
 impl Version {
-    /// A copy. Its one error is `OutOfMemory`, by `out_of_memory`.
+    /// A copy. Its one error is `OutOfMemory`, by `out_of_memory`, which one without tokens never
+    /// gives.
     pub fn clone(&self, alloc: Global) -> Result<Self, (PreprocessorError, Location)>
-        ensures { MatchResult result (λ copy. copy ≡ self.now) (λ error. error ≡ out_of_memory) }
+        ensures copied { MatchResult result (λ copy. copy ≡ self.now) (λ error. error
+            ≡ out_of_memory) }
+        ensures without_memory { self.now.tokens ≡ [] → IsOk result }
     {
         self.try_clone(alloc).map_err(refused)
     }
 
     #[cycle(copy)]
     fn try_clone(&self, alloc: Global) -> Result<Self, AllocError>
-        ensures { IfOk result (λ copy. copy ≡ self.now) }
+        ensures copied { IfOk result (λ copy. copy ≡ self.now) }
+        ensures without_memory { self.now.tokens ≡ [] → IsOk result }
     {
         Ok(Version {
             tokens: self.tokens.try_clone(alloc)?,
@@ -72,16 +78,20 @@ impl Version {
 }
 
 impl Extension {
-    /// A copy. Its one error is `OutOfMemory`, by `out_of_memory`.
+    /// A copy. Its one error is `OutOfMemory`, by `out_of_memory`, which one without tokens never
+    /// gives.
     pub fn clone(&self, alloc: Global) -> Result<Self, (PreprocessorError, Location)>
-        ensures { MatchResult result (λ copy. copy ≡ self.now) (λ error. error ≡ out_of_memory) }
+        ensures copied { MatchResult result (λ copy. copy ≡ self.now) (λ error. error
+            ≡ out_of_memory) }
+        ensures without_memory { self.now.tokens ≡ [] → IsOk result }
     {
         self.try_clone(alloc).map_err(refused)
     }
 
     #[cycle(copy)]
     fn try_clone(&self, alloc: Global) -> Result<Self, AllocError>
-        ensures { IfOk result (λ copy. copy ≡ self.now) }
+        ensures copied { IfOk result (λ copy. copy ≡ self.now) }
+        ensures without_memory { self.now.tokens ≡ [] → IsOk result }
     {
         Ok(Extension {
             tokens: self.tokens.try_clone(alloc)?,
@@ -91,16 +101,20 @@ impl Extension {
 }
 
 impl Pragma {
-    /// A copy. Its one error is `OutOfMemory`, by `out_of_memory`.
+    /// A copy. Its one error is `OutOfMemory`, by `out_of_memory`, which one without tokens never
+    /// gives.
     pub fn clone(&self, alloc: Global) -> Result<Self, (PreprocessorError, Location)>
-        ensures { MatchResult result (λ copy. copy ≡ self.now) (λ error. error ≡ out_of_memory) }
+        ensures copied { MatchResult result (λ copy. copy ≡ self.now) (λ error. error
+            ≡ out_of_memory) }
+        ensures without_memory { self.now.tokens ≡ [] → IsOk result }
     {
         self.try_clone(alloc).map_err(refused)
     }
 
     #[cycle(copy)]
     fn try_clone(&self, alloc: Global) -> Result<Self, AllocError>
-        ensures { IfOk result (λ copy. copy ≡ self.now) }
+        ensures copied { IfOk result (λ copy. copy ≡ self.now) }
+        ensures without_memory { self.now.tokens ≡ [] → IsOk result }
     {
         Ok(Pragma {
             tokens: self.tokens.try_clone(alloc)?,
