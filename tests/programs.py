@@ -2,6 +2,8 @@
 
 import concurrent.futures
 import os
+import shutil
+import signal
 import subprocess
 import sys
 
@@ -9,8 +11,11 @@ sys.dont_write_bytecode = True
 
 TOP = os.path.dirname(os.path.dirname(os.path.abspath(__file__)))
 
-# A run that takes longer has failed, unless the case allows for it.
+# A run that takes longer has failed.
 SECONDS = 60
+
+# A folder of programs that are run in place of the built ones. Only tests of the scripts set it.
+INSTEAD = os.environ.get("PROGRAMS")
 
 
 def folder_of(crate):
@@ -62,10 +67,53 @@ def build(crate, path):
 
 def program(crate):
     """The path of the crate's program, which is proved and built first where it isn't, or its sources are newer."""
+    if INSTEAD:
+        return os.path.join(INSTEAD, crate)
     path = os.path.join(folder_of(crate), "out", crate)
     if not os.path.exists(path) or os.path.getmtime(path) < newest_source(crate):
         build(crate, path)
     return path
+
+
+def linked(path, to):
+    """Gives a file a second name, or copies it to another file system."""
+    try:
+        os.link(path, to)
+    except OSError:
+        shutil.copy2(path, to)
+
+
+def copy_folder(name, crate, top, copy=shutil.copy2):
+    """Copies a folder of a crate, where there is one."""
+    path = os.path.join(folder_of(crate), name)
+    if os.path.isdir(path):
+        shutil.copytree(path, os.path.join(top, "crates", crate, name), copy_function=copy)
+
+
+def copy_sources(crate, top):
+    """Copies the sources of a crate, and of those that it stands on, to another top, so that a check there edits no file
+    of the repository."""
+    names = with_dependencies(crate)
+    for name in names:
+        for folder in ("src", "specs", "proofs"):
+            copy_folder(folder, name, top)
+    with open(os.path.join(TOP, "crates.txt"), encoding="utf-8") as file:
+        lines = [line for line in file if line.partition("#")[0].partition(":")[0].split()[:1] in [[it] for it in names]]
+    with open(os.path.join(top, "crates.txt"), "w", encoding="utf-8") as file:
+        file.writelines(lines)
+
+
+def copy_kept_work(crate, top):
+    """Copies what earlier checks kept of a crate. The libraries below it are links: rt removes them before it writes anew."""
+    copy_folder("out/incremental", crate, top)
+    for name in with_dependencies(crate)[:-1]:
+        copy_folder("out/rlib", name, top, linked)
+
+
+def end_on_signals():
+    """Lets a signal end the script as an exit does, so that its folders are removed, and what it started ends."""
+    for number in (signal.SIGTERM, signal.SIGHUP, signal.SIGINT):
+        signal.signal(number, lambda number, _: sys.exit(128 + number))
 
 
 class Ended:

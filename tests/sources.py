@@ -215,13 +215,16 @@ def disguised(r, source):
 
 
 def style(r):
-    """A source of one style, or of parts of several."""
-    source = r.choice(STYLES)(r)
+    """A source of one style, or of parts of several, and the name of the first."""
+    first = r.choice(STYLES)
+    source = first(r)
     if r.random() < 0.15:
-        source += "\n" + r.choice(STYLES)(r)
+        other = r.choice(STYLES)
+        # A macro of the first part that doubles its argument would be called inside itself a hundred times.
+        source += ("\n#undef F\n#undef G\n" if other is of_depth else "\n") + other(r)
     if r.random() < 0.3:
         source = disguised(r, source)
-    return source
+    return first.__name__, source
 
 
 def addition(r):
@@ -242,9 +245,10 @@ def calls(r):
 
 
 def case(seed, number):
-    """A source and the calls over it."""
+    """The name of a style, a source in it, and the calls over it."""
     r = random.Random(f"{seed} {number}")
-    return style(r), [*calls(r), "rest"]
+    name, source = style(r)
+    return name, source, [*calls(r), "rest"]
 
 
 CHARACTERS = [
@@ -259,5 +263,5 @@ def characters(seed, number):
     """A text for the lexer."""
     r = random.Random(f"{seed} {number} characters")
     if r.random() < 0.2:
-        return disguised(r, style(r))
+        return disguised(r, style(r)[1])
     return "".join(some(r, 40, lambda: r.choice(CHARACTERS)))

@@ -1,0 +1,98 @@
+"""Whether the docs cite what is there."""
+import re
+from collections import defaultdict
+
+INNER = 'inner'
+CITED = re.compile(r'`([A-Z]\w*): ([^`]+)`')
+
+
+class Docs:
+    """The citations of a file of docs."""
+
+    def __init__(self, path, tree):
+        self.path, self.tree, self.root, self.wrong = path, tree, tree.root, []
+        self.by_name = defaultdict(list)
+        for (crate, name), module in tree.modules.items():
+            # rules are stated by what is believed
+            if path.name != 'RULES.md' or INNER not in name.split('.'):
+                self.by_name[name.split('.')[-1]].append(module)
+        self.quotes(path.read_text())
+        for number, line in enumerate(path.read_text().split('\n'), 1):
+            self.line(f'{path.relative_to(self.root)}:{number}', line)
+
+    def line(self, where, line):
+        self.paths(where, line)
+        self.definitions(where, line)
+        if self.path.name == 'PROOFS.md' and line.startswith('|'):
+            self.edits(where, line)
+
+    def missing(self, where, what):
+        self.wrong.append(f'{where} cites {what}, which is not there')
+
+    def quotes(self, text):
+        """A block of code right after a line that names its file stands in that file so."""
+        for cited, code in re.findall(r'`(crates/[\w/]+\.rt)`[^\n]*\n\n```rust\n(.*?)```', text, re.S):
+            file = self.root / cited
+            if file.exists() and code not in file.read_text():
+                self.wrong.append(f'{self.path.name} quotes {cited} otherwise than it stands there')
+
+    def paths(self, where, line):
+        for cited in re.findall(r'`([\w.][\w.-]*/[\w./-]*)', line) + re.findall(r'(?<![\w/`.-])((?:specs|proofs|src|docs|tests|crates)/\w[\w./-]*)', line):
+            path = cited.rstrip('./').removeprefix('./')
+            if not re.search(r'\b(CRATE|NAME)\b', path) and not any(p.exists() for p in self.places(path)):
+                self.missing(where, cited)
+
+    def places(self, path):
+        """Where a cited path may be."""
+        crates, name = self.root / 'crates', path.split('/')[-1]
+        for place in (self.root, self.path.parent, *crates.iterdir()):
+            yield from (place / path, place / f'{path}.antt', place / f'{path}.rt')
+        for inner in crates.glob(f'*/specs/{INNER}'):
+            yield from (inner / name, inner / f'{name}.antt')
+        if path.startswith(('specs/', 'proofs/')):
+            yield from crates.glob(f'*/{path.split("/")[0]}/**/{name}.*')
+
+    def definitions(self, where, line):
+        last, cites_cases = None, self.path.name == 'RULES.md' and line.startswith('|')
+        for cited, bracket in re.findall(r'`([A-Z]\w*: [^`]+)`|\(((?:`\w+`(?:, )?)+)\)', line):
+            if cited:
+                last = self.cited(where, *cited.split(': ', 1), last)
+            elif last and cites_cases:
+                self.cases(where, re.findall(r'`(\w+)`', bracket), last)
+
+    def cases(self, where, cases, definitions):
+        for case in cases:
+            if not any(case in d.members for d in definitions):
+                self.missing(where, f'the case {case} of {definitions[0].name}')
+
+    def cited(self, where, module, names, last):
+        """The definitions of the last name that is cited."""
+        modules = self.by_name.get(module)
+        if not modules and re.fullmatch(r'[\w◌>=, ]+', names):
+            self.missing(where, f'the definitions {module}')
+        for name in names.split(', ') if modules else ():
+            last = [m.definitions[name] for m in modules if name in m.definitions]
+            if not last:
+                self.missing(where, f'{module}: {name}')
+        return last
+
+    def edits(self, where, line):
+        for crate, listed in re.findall(r'`(\w+)`: ((?:`[\w-]+`(?:, )?)+)', line):
+            folder = self.root / 'crates' / crate
+            for edit in re.findall(r'`([\w-]+)`', listed) if folder.is_dir() else ():
+                if not (folder / 'must-fail' / f'{edit}.edit').exists():
+                    self.missing(where, f'the must-fail edit {edit} of {crate}')
+
+
+def unnamed_files(page, definitions):
+    """The files of these definitions that a page doesn't name, each with the definitions."""
+    by_file = defaultdict(list)
+    for definition in definitions:
+        by_file[definition.module].append(definition.name)
+    text = page.read_text()
+    cited = {(file, name) for file, names in CITED.findall(text) for name in names.split(', ')}
+    unnamed = {}
+    for module, names in by_file.items():
+        if str(module) not in text and not any((module.folders[-1], n) in cited for n in names):
+            unnamed[str(module)] = sorted(names)
+    return unnamed
