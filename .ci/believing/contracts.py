@@ -158,21 +158,19 @@ class Source:
                 return number
         return len(self.lines) - 1
 
-    def end_of_clause(self, start):
+    def end_outside_braces(self, start, is_end):
         depth = 0
         for number in range(start, len(self.lines)):
             depth += self.braces(number)
-            if depth == 0 and self.bare(number).endswith(';'):
+            if depth == 0 and is_end(number):
                 return number
         return len(self.lines) - 1
 
+    def end_of_clause(self, start):
+        return self.end_outside_braces(start, lambda number: self.bare(number).endswith(';'))
+
     def end_of_braces(self, start):
-        depth = 0
-        for number in range(start, len(self.lines)):
-            depth += self.braces(number)
-            if depth == 0 and ('}' in self.code(number) or self.code(number).endswith(';')):
-                return number
-        return len(self.lines) - 1
+        return self.end_outside_braces(start, lambda number: '}' in self.code(number) or self.code(number).endswith(';'))
 
     def text(self, lines):
         return '\n'.join(re.sub(r'//.*', '', self.lines[n]) for n in lines)

@@ -74,7 +74,8 @@ alone_on_line directive words result (Ok v) = option_map_or (λ word. Err (unwan
 alone_on_line directive words result (Err found) = Err (reported directive words found.kind found.left)
 
 -- The same by the evaluation of the expression.
-pub record IsAlone {A : Type 0} (directive : Location) (words : Words) (report : ℤ → A) (result : Result A Fault) : Type 0 where
+pub record IsAlone {A : Type 0} (directive : Location) (words : Words) (report : ℤ → A)
+    (result : Result A Fault) : Type 0 where
   pub evaluation : Result Value Found
   pub evaluated : Evaluates (line_of words) evaluation
   pub is : result ≡ alone_on_line directive words report evaluation

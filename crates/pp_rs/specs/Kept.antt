@@ -1,7 +1,7 @@
--- What a preprocessor keeps: the states of a run that it stands for, whether memory was refused, how much is left, which errors of the lexer
--- were not reported yet, and where the error stands that was given last. Nothing here has to be believed. Contracts of public calls say what
--- holds of `Stands`, `is_spent`, `most_items`, `errors_left` and `error_place`, whatever these are, and no proof of a caller looks into
--- them.
+-- What a preprocessor keeps: the states of a run that it stands for, whether memory was refused, how much is left, which
+-- errors of the lexer were not reported yet, and where the error stands that was given last. Nothing here has to be
+-- believed. Contracts of public calls say what holds of `Stands`, `is_spent`, `most_items`, `errors_left` and
+-- `error_place`, and no proof of a caller looks into them.
 use Rattle.std.specs.Prelude.{Bool, if◌then◌else◌, ℕ, List}
 use Rattle.pp_lexer.specs.declared.token.Location.{Location}
 use Rattle.pp_model.specs.Emitting.{expansion_limit}
