@@ -20,8 +20,8 @@ use Rattle.pp_expansion.specs.inner.Unreported.{Unreported, unreported}
 use Rattle.pp_expansion.specs.declared.step.StepExit.TheVariants.{Error, Continue, Finished}
 
 -- the items that are left and where they stand, where the error of the lexer stands that was read and not reported, what is defined, the blocks
--- that are open, the outermost first, what `#line` adds to a line, whether memory was refused, whether a live token of the text was read so
--- far, and a directive, and whether an `#elif` outside of all blocks made all that follows dead
+-- that are open, the outermost first, what `#line` adds to a line, whether memory was refused, whether a live token of
+-- the text was read so far, and a directive, and whether an `#elif` outside of all blocks made all that follows dead
 pub record Source : Type 0 where
   pub rest : List Seen
   pub places : List Location
@@ -48,8 +48,8 @@ pub record IsAfter (taken : ℕ) (note : Note) (still_open : List OpenBlock) (ol
   pub has_directive : new.has_directive ≡ (notes_directive note || old.has_directive)
   pub dead_for_good : new.dead_for_good ≡ old.dead_for_good
 
--- after a fault: nothing is said of how far the reader went, nor of which blocks are open and which names are defined, but that fewer items
--- and blocks are left, and no more is defined
+-- after a fault: nothing is said of how far the reader went, nor of which blocks are open and which names are defined,
+-- but that fewer items and blocks are left, and no more is defined
 pub record IsAfterFault (old new : Source) : Type 0 where
   pub fewer : length new.rest + length new.blocks < length old.rest + length old.blocks
   pub names : length new.definitions ≤ length old.definitions
@@ -135,4 +135,6 @@ pub record IsRefusedStep (old : Source) (step : Step Token) : Type 0 where
 
 -- One step of a source. Of the source after a refusal of memory nothing is said, but that each further step is the end.
 abbrev pub StepsSource : Source → Step Token → Source → Type 0
-StepsSource old step new = MatchBool old.spent ((step ≡ Err Finished) × (new ≡ old)) (IsRefusedStep old step ⊎ Makes (move_of old.dead_for_good old.blocks old.rest) old step new)
+StepsSource old step new =
+    MatchBool old.spent ((step ≡ Err Finished) × (new ≡ old))
+    (IsRefusedStep old step ⊎ Makes (move_of old.dead_for_good old.blocks old.rest) old step new)

@@ -167,4 +167,5 @@ move_at live block shown rest = if live then live_move_at block shown rest else 
 
 -- what is first of these items means this move, if these blocks are open and all text is dead for good or not
 abbrev pub move_of : Bool → List OpenBlock → List Seen → Move
-move_of dead_for_good blocks rest = move_at (is_live_among dead_for_good blocks) (last_block blocks) (sight_of rest) rest
+move_of dead_for_good blocks rest =
+    move_at (is_live_among dead_for_good blocks) (last_block blocks) (sight_of rest) rest
