@@ -22,8 +22,8 @@ use Rattle.pp_expansion.specs.declared.halt.Halt.{Halt}
 use Rattle.pp_expansion.specs.declared.halt.Halt.TheVariants as halt
 use Rattle.pp_expansion.specs.declared.step.StepExit.TheVariants.{Continue}
 
--- after a fault: nothing is said of how far the reader went, nor of which blocks are open and which names are defined, but that no more items
--- and blocks are left, and no more is defined
+-- after a fault: nothing is said of how far the reader went, nor of which blocks are open and which names are defined,
+-- but that no more items and blocks are left, and no more is defined
 pub record HasKept (old new : Source) : Type 0 where
   pub left : length new.rest + length new.blocks ≤ length old.rest + length old.blocks
   pub names : length new.definitions ≤ length old.definitions
@@ -61,9 +61,10 @@ Gives move old result new = ActsAs as_pause move old result new
 abbrev pub lone : Move
 lone = record { effect = passes; taken = 1; note = directive_line }
 
--- what a directive comes to after its number sign, where this is the token after that, and these items stand after the token
+-- what a directive does after its number sign, if this token is after that, and then these items
 abbrev pub live_name_move : Option OpenBlock → LexerToken → Option Name → List Seen → Move
-live_name_move block token (Some name) after = taking_more 1 (directive_move true block (directive_of name) token.location after)
+live_name_move block token (Some name) after =
+    taking_more 1 (directive_move true block (directive_of name) token.location after)
 live_name_move block token None after = if is_newline token.value then lone else failing (refused_token token)
 
 abbrev pub live_word_move : Option OpenBlock → Result LexerToken Fault → List Seen → Move
@@ -72,8 +73,10 @@ live_word_move block (Err fault) after = failing fault
 
 -- the same in dead text
 abbrev pub dead_name_move : Option OpenBlock → LexerToken → Option Name → List Seen → Move
-dead_name_move block token (Some name) after = taking_more 1 (directive_move false block (directive_of name) token.location after)
-dead_name_move block token None after = if is_newline token.value then lone else record { effect = passes; taken = 1; note = unnoted }
+dead_name_move block token (Some name) after =
+    taking_more 1 (directive_move false block (directive_of name) token.location after)
+dead_name_move block token None after =
+    if is_newline token.value then lone else record { effect = passes; taken = 1; note = unnoted }
 
 abbrev pub dead_word_move : Option OpenBlock → Result LexerToken Fault → List Seen → Move
 dead_word_move block (Ok token) after = dead_name_move block token (identifier_of token.value) after
@@ -81,8 +84,9 @@ dead_word_move block (Err fault) after = failing fault
 
 -- the same in live or dead text
 abbrev pub word_move : Bool → Option OpenBlock → Location → List Seen → Move
-word_move live block hash rest = if live then live_word_move block (first_token hash rest) (drop 1 rest) else dead_word_move block
-    (first_token hash rest) (drop 1 rest)
+word_move live block hash rest =
+    if live then live_word_move block (first_token hash rest) (drop 1 rest)
+    else dead_word_move block (first_token hash rest) (drop 1 rest)
 
 -- a `#define`, once its line is read
 abbrev pub defining : Named → Move
