@@ -2,32 +2,35 @@
 use Rattle.std.proofs.Common.{◌≡◌, ℕ, List, [], ◌∷◌, refl, sym, ap, Some}
 use Rattle.std.specs.Prelude.{Result, Ok, Err}
 use Rattle.pp_lexer.specs.declared.token.Location.{Location}
-use Rattle.pp_lexer.specs.declared.token.Token.{Token}
+use Rattle.pp_model.specs.declared.read.Read.{Read}
 use Rattle.pp_model.specs.Definitions.{Definition}
 use Rattle.pp_model.specs.SpliceList.{after_marks, open_names}
 use Rattle.pp_model.specs.Reading.{Reading, Expander, Opening, opening}
-use Rattle.pp_model.specs.Taking.{Takes, held, listed, read}
+use Rattle.pp_model.specs.Taking.{Takes, Fetches, held, listed, read}
 use Rattle.pp_model.specs.Calls.{Gathered, Fault, Gathers, closed, inside, overfull, ended, failed, Answers, Called, Calls, alone, broken, whole}
 use Rattle.pp_model.specs.Emitting.{opened, Emits, itself, object, name_alone, call_refused, call}
 use Rattle.pp_model.specs.ApartMarks.{AreApart, HasApartMarks, IsRest, OnlyTakesEntries, OpensNew, KeepsMarksApart, StartsApart}
-use Rattle.pp_model.specs.declared.outcome.Outcome.{Outcome}
+use Rattle.pp_model.specs.declared.read.Taken.{Taken}
 use Rattle.pp_model.specs.declared.splice.Entry.TheVariants.{Plain}
 use Rattle.pp_model.proofs.OpenNamesLemmas.{rest_of_rest, after_marks_is_rest, rest_opens_nothing, rest_is_apart, open_spliced, opening_not_open}
 
 module _ {R : Type 0} (I : Reading R) where
-  pub taking_leaves_rest : (o : Outcome) (e f : Expander R) → Takes I e o f → IsRest e.list f.list
-  taking_leaves_rest o e f (held o1 e1 f1 h p) = ([], sym (ap (λ x. x.list) p))
-  taking_leaves_rest o e f (listed o1 token rest e1 f1 h b is p) =
+  fetching_leaves_rest : (o : Taken) (e f : Expander R) → Fetches I e o f → IsRest e.list f.list
+  fetching_leaves_rest o e f (held o1 e1 f1 h p) = ([], sym (ap (λ x. x.list) p))
+  fetching_leaves_rest o e f (listed o1 token rest e1 f1 h b is p) =
       let left : f.list ≡ rest = ap (λ x. x.list) p in
       rw left (rest_of_rest e.list (after_marks e.list) rest (after_marks_is_rest e.list) (Plain token ∷ [], b))
-  taking_leaves_rest o e f (read x o1 reader e1 f1 h b r is p) =
+  fetching_leaves_rest o e f (read x o1 reader e1 f1 h b r is p) =
       let left : f.list ≡ [] = ap (λ y. y.list) p in
       rw left (rw b at (after_marks_is_rest e.list))
+
+  pub taking_leaves_rest : (o : Taken) (e f : Expander R) → Takes I e o f → IsRest e.list f.list
+  taking_leaves_rest o e f t = fetching_leaves_rest t.first e f t.fetches
 
   pub gathering_leaves_rest : (n : ℕ) (last : Location) (x : Result Gathered Fault) (e f : Expander R) → Gathers I n last e x f → IsRest e.list f.list
   gathering_leaves_rest n last x e f (closed n1 l1 token e1 f1 x1 t h p) = taking_leaves_rest _ e f t
   gathering_leaves_rest n last x e f (inside n1 k l1 token e1 f1 f2 rest x1 t h u p) =
-      rest_of_rest e.list f1.list f.list (taking_leaves_rest _ e f1 t) (gathering_leaves_rest k token.location rest f1 f u)
+      rest_of_rest e.list f1.list f.list (taking_leaves_rest _ e f1 t) (gathering_leaves_rest k token.token.location rest f1 f u)
   gathering_leaves_rest n last x e f (overfull n1 l1 token e1 f1 x1 t h p) = taking_leaves_rest _ e f t
   gathering_leaves_rest n last x e f (ended n1 l1 e1 f1 x1 t p) = taking_leaves_rest _ e f t
   gathering_leaves_rest n last x e f (failed n1 l1 fault e1 f1 x1 t p) = taking_leaves_rest _ e f t
@@ -43,19 +46,19 @@ module _ {R : Type 0} (I : Reading R) where
   only_takes_entries A = record { taking = taking_leaves_rest; gathering = gathering_leaves_rest; call = call_leaves_rest A }
 
   pub opens_new : OpensNew I
-  opens_new o m e rest h r = rest_opens_nothing m.name e.list rest r (opening_not_open I e o m h)
+  opens_new o m d e rest t h r = rest_opens_nothing m.name e.list rest r (opening_not_open I o m d e t h)
 
-  pub opened_is_apart : (o : Outcome) (m : Opening) (line : ℕ) (arguments : List (List Token)) (e f : Expander R) → opening I e o ≡ Some m
+  pub opened_is_apart : (o : Taken) (m : Opening) (line : ℕ) (arguments : List (List Read)) (d e f : Expander R) → Takes I d o e → opening I e o ≡ Some m
       → IsRest e.list f.list → HasApartMarks f.list → HasApartMarks (opened m line arguments f).list
-  opened_is_apart o m line arguments e f h r apart =
-      let both : AreApart (m.name ∷ open_names f.list) = (opens_new o m e f.list h r, apart) in
+  opened_is_apart o m line arguments d e f t h r apart =
+      let both : AreApart (m.name ∷ open_names f.list) = (opens_new o m d e f.list t h r, apart) in
       rw (open_spliced m.name m.definition line arguments f.list) both
 
-  pub item_keeps_apart : (A : Answers) (o : Outcome) (e f : Expander R) → Emits I A e o f → HasApartMarks e.list → HasApartMarks f.list
+  pub item_keeps_apart : (A : Answers) (o : Taken) (e f : Expander R) → Emits I A e o f → HasApartMarks e.list → HasApartMarks f.list
   item_keeps_apart A o e f (itself o1 e1 f1 t h) apart = rest_is_apart e.list f.list (taking_leaves_rest o e f t) apart
   item_keeps_apart A o e f (object x o1 m e1 g f1 t h k i) apart =
       let taken = rest_is_apart e.list g.list (taking_leaves_rest x e g t) apart in
-      item_keeps_apart A o (opened m m.token.location.line [] g) f i (opened_is_apart x m m.token.location.line [] g g h ([], refl) taken)
+      item_keeps_apart A o (opened m m.token.location.line [] g) f i (opened_is_apart x m m.token.location.line [] e g g t h ([], refl) taken)
   item_keeps_apart A o e f (name_alone x y o1 m e1 g g1 f1 t h k c p q) apart =
       let taken = rest_is_apart e.list g.list (taking_leaves_rest x e g t) apart in
       let called = rest_is_apart g.list g1.list (call_leaves_rest A m.definition _ g g1 c) taken in
@@ -68,7 +71,7 @@ module _ {R : Type 0} (I : Reading R) where
       let taken = rest_is_apart e.list g.list (taking_leaves_rest x e g t) apart in
       let left = call_leaves_rest A m.definition _ g g1 c in
       let called = rest_is_apart g.list g1.list left taken in
-      item_keeps_apart A o (opened m line arguments g1) f i (opened_is_apart x m line arguments g g1 h left called)
+      item_keeps_apart A o (opened m line arguments g1) f i (opened_is_apart x m line arguments e g g1 t h left called)
 
   pub keeps_marks_apart : (A : Answers) → KeepsMarksApart I A
   keeps_marks_apart A = record {

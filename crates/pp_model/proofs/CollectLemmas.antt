@@ -4,25 +4,25 @@ use Rattle.std.proofs.Common.{◌+◌, ◌≤◌, length, drop, get_or}
 use Rattle.std.proofs.lemmas.List.{append-nil, drop_all}
 use Rattle.pp_model.proofs.ListLemmas.{drop-item}
 use Rattle.std.specs.Prelude.{Result, Ok, Err}
-use Rattle.pp_lexer.specs.declared.token.Token.{Token}
+use Rattle.pp_model.specs.declared.read.Read.{Read}
 use Rattle.pp_model.specs.Names.{Name}
 use Rattle.pp_model.specs.Definitions.{Definitions}
 use Rattle.pp_model.specs.Reading.{argument_reading, reading_of}
 use Rattle.pp_model.specs.Calls.{Fault}
 use Rattle.pp_model.specs.Emitting.{Collects, Alones, Each, none, first_failed, more, Alone, answers_at}
-use Rattle.pp_model.specs.inner.Emitting.{token_before, list_before}
+use Rattle.pp_model.specs.inner.Emitting.{read_before, list_before}
 
 -- the items so far, and then what comes of the rest
 abbrev pub after_items : {X : Type 0} → List X → Result (List X) Fault → Result (List X) Fault
 after_items items (Ok rest) = Ok (items ++ rest)
 after_items items (Err fault) = Err fault
 
-pub after_items-before : (items : List Token) (token : Token) (rest : Result (List Token) Fault)
-    → after_items items (token_before token rest) ≡ after_items (items ++ token ∷ []) rest
+pub after_items-before : (items : List Read) (token : Read) (rest : Result (List Read) Fault)
+    → after_items items (read_before token rest) ≡ after_items (items ++ token ∷ []) rest
 after_items-before items token (Ok rest) = rw append_assoc refl
 after_items-before items token (Err fault) = refl
 
-pub after_lists-before : (lists : List (List Token)) (list : List Token) (rest : Result (List (List Token)) Fault)
+pub after_lists-before : (lists : List (List Read)) (list : List Read) (rest : Result (List (List Read)) Fault)
     → after_items lists (list_before list rest) ≡ after_items (lists ++ list ∷ []) rest
 after_lists-before lists list (Ok rest) = rw append_assoc refl
 after_lists-before lists list (Err fault) = refl
@@ -31,29 +31,29 @@ pub after_items-end : {X : Type 0} (items : List X) → after_items items (Ok []
 after_items-end {X} items = ap (λ (xs : List X). let r : Result (List X) Fault = Ok xs in r) (append-nil items)
 
 -- an argument alone is its items up to the end
-pub Alone-collects : (levels : ℕ) (tokens : List Token) (visible : Definitions) (hidden : List Name) (out : Result (List Token) Fault)
+pub Alone-collects : (levels : ℕ) (tokens : List Read) (visible : Definitions) (hidden : List Name) (out : Result (List Read) Fault)
     → Collects argument_reading (answers_at levels) (reading_of tokens visible hidden) out → Alone levels tokens visible hidden out
 Alone-collects zero tokens visible hidden out h = h
 Alone-collects (suc levels) tokens visible hidden out h = h
 
 -- the arguments from a place on, by the one that stands there
-pub each_at-failed : (deeper : Alones) (visible : Definitions) (hidden : List Name) (arguments : List (List Token)) (i : ℕ) (x tokens : List Token)
+pub each_at-failed : (deeper : Alones) (visible : Definitions) (hidden : List Name) (arguments : List (List Read)) (i : ℕ) (x tokens : List Read)
     (fault : Fault) → i < length arguments → x ≡ get_or arguments i x → tokens ≡ x → deeper tokens visible hidden (Err fault)
     → Each deeper visible hidden (drop i arguments) (Err fault)
 each_at-failed deeper visible hidden arguments i x tokens fault h e s d =
-    subst (λ (xs : List (List Token)). Each deeper visible hidden xs (Err fault)) (sym (drop-item arguments i x h e))
-    (first_failed x (drop (i + 1) arguments) fault (Err fault) (subst (λ (ts : List Token). deeper ts visible hidden (Err fault)) s d) refl)
+    subst (λ (xs : List (List Read)). Each deeper visible hidden xs (Err fault)) (sym (drop-item arguments i x h e))
+    (first_failed x (drop (i + 1) arguments) fault (Err fault) (subst (λ (ts : List Read). deeper ts visible hidden (Err fault)) s d) refl)
 
-pub each_at-more : (deeper : Alones) (visible : Definitions) (hidden : List Name) (arguments : List (List Token))
-    (i : ℕ) (x tokens list : List Token) (out : Result (List (List Token)) Fault) → i < length arguments → x ≡ get_or arguments i x → tokens ≡ x
+pub each_at-more : (deeper : Alones) (visible : Definitions) (hidden : List Name) (arguments : List (List Read))
+    (i : ℕ) (x tokens list : List Read) (out : Result (List (List Read)) Fault) → i < length arguments → x ≡ get_or arguments i x → tokens ≡ x
     → deeper tokens visible hidden (Ok list) → Each deeper visible hidden (drop (i + 1) arguments) out
     → Each deeper visible hidden (drop i arguments) (list_before list out)
 each_at-more deeper visible hidden arguments i x tokens list out h e s d each =
-    subst (λ (xs : List (List Token)). Each deeper visible hidden xs (list_before list out)) (sym (drop-item arguments i x h e))
-    (more x list (drop (i + 1) arguments) out (list_before list out) (subst (λ (ts : List Token). deeper ts visible hidden (Ok list)) s d) each refl)
+    subst (λ (xs : List (List Read)). Each deeper visible hidden xs (list_before list out)) (sym (drop-item arguments i x h e))
+    (more x list (drop (i + 1) arguments) out (list_before list out) (subst (λ (ts : List Read). deeper ts visible hidden (Ok list)) s d) each refl)
 
-pub each_at-end : (deeper : Alones) (visible : Definitions) (hidden : List Name) (arguments : List (List Token)) (i : ℕ) → length arguments ≤ i
+pub each_at-end : (deeper : Alones) (visible : Definitions) (hidden : List Name) (arguments : List (List Read)) (i : ℕ) → length arguments ≤ i
     → Each deeper visible hidden (drop i arguments) (Ok [])
 each_at-end deeper visible hidden arguments i h =
     let e : drop i arguments ≡ [] = drop_all i arguments h in
-    subst (λ (xs : List (List Token)). Each deeper visible hidden xs (Ok [])) (sym e) (none (Ok []) refl)
+    subst (λ (xs : List (List Read)). Each deeper visible hidden xs (Ok [])) (sym e) (none (Ok []) refl)

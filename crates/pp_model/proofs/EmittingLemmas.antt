@@ -5,8 +5,8 @@ use Rattle.pp_model.specs.Taking.{Takes}
 use Rattle.pp_model.specs.Calls.{Answers, Called, no_call, refused, fits, Calls}
 use Rattle.pp_model.specs.Emitting.{opened, Emits, itself, object, name_alone, call_refused, call, Collects, done, failed, item}
 use Rattle.pp_model.specs.ExpansionLaws.{OneReads, OneAnswer, OneItem, OneList}
-use Rattle.pp_model.specs.declared.outcome.Outcome.{Outcome}
-use Rattle.pp_model.specs.declared.outcome.Outcome.TheVariants as outcome
+use Rattle.pp_model.specs.declared.read.Taken.{Taken}
+use Rattle.pp_model.specs.declared.read.Taken.TheVariants as taken
 use Rattle.pp_model.proofs.TakingLemmas.{one_taking}
 use Rattle.pp_model.proofs.CallsLemmas.{one_call}
 
@@ -19,7 +19,7 @@ one_kind m n same h k =
 
 module _ {R : Type 0} (I : Reading R) (one : OneReads I) (A : Answers) (single : OneAnswer A) where
   -- two takings open one macro, or neither opens one
-  one_opening : (v w : Option Opening) (x y : Outcome) (e f g : Expander R) → Takes I e x f → Takes I e y g → opening I f x ≡ v → opening I g y ≡ w
+  one_opening : (v w : Option Opening) (x y : Taken) (e f g : Expander R) → Takes I e x f → Takes I e y g → opening I f x ≡ v → opening I g y ≡ w
       → (x ≡ y) × (f ≡ g) × (v ≡ w)
   one_opening v w x y e f g a b h k =
       let same = one_taking I one x y e f g a b in
@@ -27,12 +27,12 @@ module _ {R : Type 0} (I : Reading R) (one : OneReads I) (A : Answers) (single :
       (same.0, same.1, sym h ∙ there)
 
   -- an object-like macro and a function-like one are not opened by one taking
-  not_both_kinds : (m n : Opening) (x y : Outcome) (e f g : Expander R) → Takes I e x f → Takes I e y g → opening I f x ≡ Some m
+  not_both_kinds : (m n : Opening) (x y : Taken) (e f g : Expander R) → Takes I e x f → Takes I e y g → opening I f x ≡ Some m
       → opening I g y ≡ Some n → m.definition.function_like ≡ false → n.definition.function_like ≡ true → false ≡ true
   not_both_kinds m n x y e f g a b h k = one_kind m n (one_opening (Some m) (Some n) x y e f g a b h k).2
 
   -- after two takings that open macros stands one call, or none
-  one_called : (c d : Called) (m n : Opening) (x y : Outcome) (e f g h k : Expander R) → Takes I e x f → Takes I e y g → opening I f x ≡ Some m
+  one_called : (c d : Called) (m n : Opening) (x y : Taken) (e f g h k : Expander R) → Takes I e x f → Takes I e y g → opening I f x ≡ Some m
       → opening I g y ≡ Some n → Calls I A m.definition f c h → Calls I A n.definition g d k → (x ≡ y) × (m ≡ n) × (c ≡ d) × (h ≡ k)
   one_called c d m n x y e f g h k a b i j p q =
       let same = one_opening (Some m) (Some n) x y e f g a b i j in
@@ -93,18 +93,18 @@ module _ {R : Type 0} (I : Reading R) (one : OneReads I) (A : Answers) (single :
 
   pub one_list : OneList I A
   one_list x y e (done e1 f x1 a p) (done e2 g y1 b q) = p ∙ sym q
-  one_list x y e (done e1 f x1 a p) (failed d e2 g y1 b q) = let bad = (one_item outcome.End (outcome.Fault d) e f g a b).0 in cc
-  one_list x y e (done e1 f x1 a p) (item u s y1 e2 g b v q) = let bad = (one_item outcome.End (outcome.Token u) e f g a b).0 in cc
-  one_list x y e (failed c e1 f x1 a p) (done e2 g y1 b q) = let bad = (one_item (outcome.Fault c) outcome.End e f g a b).0 in cc
+  one_list x y e (done e1 f x1 a p) (failed d e2 g y1 b q) = let bad = (one_item taken.End (taken.Fault d) e f g a b).0 in cc
+  one_list x y e (done e1 f x1 a p) (item u s y1 e2 g b v q) = let bad = (one_item taken.End (taken.Token u) e f g a b).0 in cc
+  one_list x y e (failed c e1 f x1 a p) (done e2 g y1 b q) = let bad = (one_item (taken.Fault c) taken.End e f g a b).0 in cc
   one_list x y e (failed c e1 f x1 a p) (failed d e2 g y1 b q) =
-      let same = (one_item (outcome.Fault c) (outcome.Fault d) e f g a b).0 in
+      let same = (one_item (taken.Fault c) (taken.Fault d) e f g a b).0 in
       let fault : c ≡ d = cc in
       p ∙ (rw fault (sym q))
-  one_list x y e (failed c e1 f x1 a p) (item u s y1 e2 g b v q) = let bad = (one_item (outcome.Fault c) (outcome.Token u) e f g a b).0 in cc
-  one_list x y e (item t r x1 e1 f a i p) (done e2 g y1 b q) = let bad = (one_item (outcome.Token t) outcome.End e f g a b).0 in cc
-  one_list x y e (item t r x1 e1 f a i p) (failed d e2 g y1 b q) = let bad = (one_item (outcome.Token t) (outcome.Fault d) e f g a b).0 in cc
+  one_list x y e (failed c e1 f x1 a p) (item u s y1 e2 g b v q) = let bad = (one_item (taken.Fault c) (taken.Token u) e f g a b).0 in cc
+  one_list x y e (item t r x1 e1 f a i p) (done e2 g y1 b q) = let bad = (one_item (taken.Token t) taken.End e f g a b).0 in cc
+  one_list x y e (item t r x1 e1 f a i p) (failed d e2 g y1 b q) = let bad = (one_item (taken.Token t) (taken.Fault d) e f g a b).0 in cc
   one_list x y e (item t r x1 e1 f a i p) (item u s y1 e2 g b v q) =
-      let same = one_item (outcome.Token t) (outcome.Token u) e f g a b in
+      let same = one_item (taken.Token t) (taken.Token u) e f g a b in
       let token : t ≡ u = (let z = same.0 in cc) in
       let v1 : Collects I A f s = rw same.1 v in
       let rest = one_list r s f i v1 in

@@ -9,10 +9,12 @@ use Rattle.pp_model.specs.Names.{Name, is_identifier, line_name}
 use Rattle.pp_model.specs.Definitions.{Definition, Definitions}
 use Rattle.pp_model.specs.SpliceList.{after_marks, outermost_line, parameter_of, replacement, replaced, spliced}
 use Rattle.pp_model.specs.inner.SpliceList.{followed_by}
-use Rattle.pp_model.specs.Taking.{line_number, taken_token, read_outcome}
+use Rattle.pp_model.specs.Painting.{taken_among}
+use Rattle.pp_model.specs.Taking.{line_number, shown_token, shown_outcome}
 use Rattle.pp_model.specs.Calls.{Pieces, is_comma, nesting_after, cut_before, pieces, arguments_of}
-use Rattle.pp_model.specs.declared.outcome.Outcome.{Outcome}
-use Rattle.pp_model.specs.declared.outcome.Outcome.TheVariants as outcome
+use Rattle.pp_model.specs.declared.read.Read.{Read}
+use Rattle.pp_model.specs.declared.read.Taken.{Taken}
+use Rattle.pp_model.specs.declared.read.Taken.TheVariants as taken
 use Rattle.pp_model.specs.declared.splice.Entry.{Entry}
 use Rattle.pp_model.specs.declared.splice.Entry.TheVariants.{Plain, End}
 
@@ -29,19 +31,23 @@ pub record AreClosed (Q : Token → Type 0) (L : ℕ → Type 0) : Type 0 where
 abbrev pub HoldInBodies : (Token → Type 0) → Definitions → Type 0
 HoldInBodies Q definitions = (name : Name) (definition : Definition) → definitions name ≡ Some definition → Each Q definition.body
 
-abbrev pub HoldsOfOutcome : (Token → Type 0) → Outcome → Type 0
-HoldsOfOutcome Q (outcome.Token token) = Q token
-HoldsOfOutcome Q (outcome.Fault fault) = ⊤
-HoldsOfOutcome Q outcome.End = ⊤
+-- a token has it, painted or not
+abbrev pub HoldsOfRead : (Token → Type 0) → Read → Type 0
+HoldsOfRead Q read = Q read.token
 
-abbrev pub HoldsOfHeld : (Token → Type 0) → Option Outcome → Type 0
+abbrev pub HoldsOfTaken : (Token → Type 0) → Taken → Type 0
+HoldsOfTaken Q (taken.Token read) = Q read.token
+HoldsOfTaken Q (taken.Fault fault) = ⊤
+HoldsOfTaken Q taken.End = ⊤
+
+abbrev pub HoldsOfHeld : (Token → Type 0) → Option Taken → Type 0
 HoldsOfHeld Q None = ⊤
-HoldsOfHeld Q (Some o) = HoldsOfOutcome Q o
+HoldsOfHeld Q (Some o) = HoldsOfTaken Q o
 
 module _ (Q : Token → Type 0) (L : ℕ → Type 0) where
   -- an entry has it: a token, or the line of an end mark
   abbrev pub HoldsOfEntry : Entry → Type 0
-  HoldsOfEntry (Plain token) = Q token
+  HoldsOfEntry (Plain read) = Q read.token
   HoldsOfEntry (End mark) = L mark.line
 
   abbrev pub HoldInList : List Entry → Type 0
@@ -57,71 +63,77 @@ module _ (Q : Token → Type 0) (L : ℕ → Type 0) where
   outermost_holds (End mark ∷ entries) line all h = outermost_holds entries mark.line all.1 all.0
   outermost_holds (Plain token ∷ entries) line all h = outermost_holds entries line all.1 h
 
-  pub followed_hold : (tokens : List Token) (entries : List Entry) → Each Q tokens → HoldInList entries → HoldInList (followed_by tokens entries)
+  pub followed_hold : (tokens : List Read) (entries : List Entry) → Each (HoldsOfRead Q) tokens → HoldInList entries → HoldInList (followed_by tokens entries)
   followed_hold [] entries all h = h
   followed_hold (token ∷ tokens) entries all h = (all.0, followed_hold tokens entries all.1 h)
 
-  argument_holds : (arguments : List (List Token)) (k : ℕ) → Each (λ tokens. Each Q tokens) arguments → Each Q (unwrap_or (slice_get arguments k) [])
+  argument_holds : (arguments : List (List Read)) (k : ℕ) → Each (λ tokens. Each (HoldsOfRead Q) tokens) arguments → Each (HoldsOfRead Q) (unwrap_or (slice_get arguments k) [])
   argument_holds [] k all = tt
   argument_holds (argument ∷ arguments) zero all = all.0
   argument_holds (argument ∷ arguments) (suc k) all = argument_holds arguments k all.1
 
-  replacement_holds : (arguments : List (List Token)) (token : Token) (k : Option ℕ) (entries : List Entry)
-      → Each (λ tokens. Each Q tokens) arguments → Q token → HoldInList entries → HoldInList (replacement arguments token k entries)
+  replacement_holds : (arguments : List (List Read)) (token : Token) (k : Option ℕ) (entries : List Entry)
+      → Each (λ tokens. Each (HoldsOfRead Q) tokens) arguments → Q token → HoldInList entries → HoldInList (replacement arguments token k entries)
   replacement_holds arguments token None entries all q h = (q, h)
   replacement_holds arguments token (Some k) entries all q h = followed_hold (unwrap_or (slice_get arguments k) []) entries (argument_holds arguments k all) h
 
-  replaced_holds : (parameters : List Name) (arguments : List (List Token)) (body : List Token) (entries : List Entry)
-      → Each (λ tokens. Each Q tokens) arguments → Each Q body → HoldInList entries → HoldInList (replaced parameters arguments body entries)
+  replaced_holds : (parameters : List Name) (arguments : List (List Read)) (body : List Token) (entries : List Entry)
+      → Each (λ tokens. Each (HoldsOfRead Q) tokens) arguments → Each Q body → HoldInList entries → HoldInList (replaced parameters arguments body entries)
   replaced_holds parameters arguments [] entries all q h = h
   replaced_holds parameters arguments (token ∷ body) entries all q h =
       replacement_holds arguments token (parameter_of parameters token.value) (replaced parameters arguments body entries) all q.0
       (replaced_holds parameters arguments body entries all q.1 h)
 
   -- a macro's replacement has it where its body, its arguments and its line have it
-  pub spliced_holds : (name : Name) (definition : Definition) (line : ℕ) (arguments : List (List Token)) (entries : List Entry)
-      → Each Q definition.body → L line → Each (λ tokens. Each Q tokens) arguments → HoldInList entries
+  pub spliced_holds : (name : Name) (definition : Definition) (line : ℕ) (arguments : List (List Read)) (entries : List Entry)
+      → Each Q definition.body → L line → Each (λ tokens. Each (HoldsOfRead Q) tokens) arguments → HoldInList entries
       → HoldInList (spliced name definition line arguments entries)
   spliced_holds name definition line arguments entries body l all h =
       replaced_holds definition.parameters arguments definition.body (End (record { name = name; line = line }) ∷ entries) all body (l, h)
 
-  cut_holds : (parts : Bool) (token : Token) (cut : Pieces) → Q token → Each Q cut.first → Each (λ tokens. Each Q tokens) cut.others
-      → Each Q (cut_before parts token cut).first × Each (λ tokens. Each Q tokens) (cut_before parts token cut).others
+  cut_holds : (parts : Bool) (token : Read) (cut : Pieces) → Q token.token → Each (HoldsOfRead Q) cut.first → Each (λ tokens. Each (HoldsOfRead Q) tokens) cut.others
+      → Each (HoldsOfRead Q) (cut_before parts token cut).first × Each (λ tokens. Each (HoldsOfRead Q) tokens) (cut_before parts token cut).others
   cut_holds true token cut q first others = (tt, (first, others))
   cut_holds false token cut q first others = ((q, first), others)
 
-  pieces_hold : (n : ℕ) (tokens : List Token) → Each Q tokens → Each Q (pieces n tokens).first × Each (λ ts. Each Q ts) (pieces n tokens).others
+  pieces_hold : (n : ℕ) (tokens : List Read) → Each (HoldsOfRead Q) tokens → Each (HoldsOfRead Q) (pieces n tokens).first × Each (λ ts. Each (HoldsOfRead Q) ts) (pieces n tokens).others
   pieces_hold n [] all = (tt, tt)
   pieces_hold n (token ∷ tokens) all =
-      let later = pieces_hold (nesting_after n token.value) tokens all.1 in
-      cut_holds (is_comma token.value && (n == 0)) token (pieces (nesting_after n token.value) tokens) all.0 later.0 later.1
+      let later = pieces_hold (nesting_after n token.token.value) tokens all.1 in
+      cut_holds (is_comma token.token.value && (n == 0)) token (pieces (nesting_after n token.token.value) tokens) all.0 later.0 later.1
 
   -- the arguments of a call have it where the tokens between its parentheses have it
-  pub arguments_hold : (tokens : List Token) → Each Q tokens → Each (λ ts. Each Q ts) (arguments_of tokens)
+  pub arguments_hold : (tokens : List Read) → Each (HoldsOfRead Q) tokens → Each (λ ts. Each (HoldsOfRead Q) ts) (arguments_of tokens)
   arguments_hold tokens all =
       let cut = pieces_hold 0 tokens all in
       (cut.0, cut.1)
 
   module _ (closed : AreClosed Q L) (shown_line : ℕ → Option ℕ) (shown : (line n : ℕ) → L line → shown_line line ≡ Some n → L n) where
     number_holds : (place : Location) (line : ℕ) (found : Option ℕ) → L place.line → L line → shown_line line ≡ found
-        → HoldsOfOutcome Q (line_number place found)
+        → HoldsOfTaken Q (line_number place found)
     number_holds place line None here l e = tt
     number_holds place line (Some n) here l e = closed.number place n here (shown line n l e)
 
     -- what is taken has it where the token and the rest of the list have it
-    pub taken_holds : (after : List Entry) (token : Token) → HoldInList after → Q token → HoldsOfOutcome Q (taken_token shown_line after token)
-    taken_holds after token all q = go (is_identifier line_name token.value) refl
+    pub taken_holds : (after : List Entry) (token : Read) → HoldInList after → Q token.token → HoldsOfTaken Q (shown_token shown_line after token)
+    taken_holds after token all q = go (is_identifier line_name token.token.value) refl
       where
         line : ℕ
-        line = unwrap_or (outermost_line after) token.location.line
+        line = unwrap_or (outermost_line after) token.token.location.line
 
-        go : (b : Bool) → is_identifier line_name token.value ≡ b
-            → HoldsOfOutcome Q (if b then line_number token.location (shown_line line) else outcome.Token token)
-        go true e = number_holds token.location line (shown_line line) (closed.line token q)
-            (outermost_holds after token.location.line all (closed.line token q)) refl
+        go : (b : Bool) → is_identifier line_name token.token.value ≡ b
+            → HoldsOfTaken Q (if b then line_number token.token.location (shown_line line) else taken.Token token)
+        go true e = number_holds token.token.location line (shown_line line) (closed.line token.token q)
+            (outermost_holds after token.token.location.line all (closed.line token.token q)) refl
         go false e = q
 
-    pub read_holds : (x : Outcome) → HoldsOfOutcome Q x → HoldsOfOutcome Q (read_outcome shown_line x)
-    read_holds (outcome.Token token) q = taken_holds [] token tt q
-    read_holds (outcome.Fault fault) q = tt
-    read_holds outcome.End q = tt
+    pub read_holds : (x : Taken) → HoldsOfTaken Q x → HoldsOfTaken Q (shown_outcome shown_line x)
+    read_holds (taken.Token token) q = taken_holds [] token tt q
+    read_holds (taken.Fault fault) q = tt
+    read_holds taken.End q = tt
+
+  -- paint changes nothing of it
+  pub painted_holds : (names : List Name) (x : Taken) → HoldsOfTaken Q x → HoldsOfTaken Q (taken_among names x)
+  painted_holds names (taken.Token token) q = q
+  painted_holds names (taken.Fault fault) q = tt
+  painted_holds names taken.End q = tt

@@ -7,30 +7,31 @@ use Rattle.pp_lexer.specs.declared.token.PreprocessorError.{PreprocessorError}
 use Rattle.pp_lexer.specs.declared.token.Token.{Token}
 use Rattle.pp_lexer.specs.declared.token.TokenValue.{TokenValue}
 use Rattle.pp_lexer.specs.declared.token.TokenValue.TheVariants.{Ident, Integer, Float, Punct, Version, Extension, Pragma}
-use Rattle.pp_model.specs.Names.{Name, is_in}
+use Rattle.pp_model.specs.Names.{Name}
 use Rattle.pp_model.specs.Definitions.{Definition, Definitions}
 use Rattle.pp_model.specs.Reading.{Reading, Expander, Opening, opening_of, opening, masked, Listed, argument_reading, reading_of}
 use Rattle.pp_model.specs.inner.Reading.{first_listed, opening_by, after_listed}
-use Rattle.pp_model.specs.Taking.{Takes, held, listed, read}
+use Rattle.pp_model.specs.Taking.{Takes, Fetches, held, listed, read}
 use Rattle.pp_model.specs.Calls.{Gathered, before, Fault, Gathers, closed, inside, overfull, ended, failed, Answers, Site, misfit, Called, no_call, refused, fits, called_by, Calls, alone, broken, whole}
 use Rattle.pp_model.specs.Emitting.{opened, Emits, itself, object, name_alone, call_refused, call, Collects, done, failed as failing, item, Alones, Each as Expanded, none, first_failed, more, EachOrRefused, answers_at_limit, answers_below, Alone, answers_at}
-use Rattle.pp_model.specs.inner.Emitting.{token_before, list_before}
-use Rattle.pp_model.specs.declared.outcome.Outcome.{Outcome}
-use Rattle.pp_model.specs.declared.outcome.Outcome.TheVariants as outcome
+use Rattle.pp_model.specs.inner.Emitting.{read_before, list_before}
+use Rattle.pp_model.specs.declared.read.Read.{Read}
+use Rattle.pp_model.specs.declared.read.Taken.{Taken}
+use Rattle.pp_model.specs.declared.read.Taken.TheVariants as taken
 use Rattle.pp_model.specs.declared.splice.Entry.TheVariants.{Plain}
-use Rattle.pp_model.proofs.HoldingLemmas.{AreClosed, HoldInBodies, HoldsOfOutcome, HoldsOfHeld, HoldInList, after_marks_hold, spliced_holds, arguments_hold, taken_holds, read_holds}
+use Rattle.pp_model.proofs.HoldingLemmas.{AreClosed, HoldInBodies, HoldsOfRead, HoldsOfTaken, HoldsOfHeld, HoldInList, after_marks_hold, spliced_holds, arguments_hold, taken_holds, read_holds, painted_holds}
 
 module _ (Q : Token → Type 0) (L : ℕ → Type 0) where
   -- a reader keeps it where this holds of the reader
   pub record ReaderKeeps {R : Type 0} (I : Reading R) (K : R → Type 0) : Type 0 where
-    pub reads : (old new : R) (x : Outcome) → I.Reads old x new → K old → HoldsOfOutcome Q x × K new
+    pub reads : (old new : R) (x : Taken) → I.Reads old x new → K old → HoldsOfTaken Q x × K new
     pub visible : (r : R) → K r → HoldInBodies Q (I.visible r)
     pub shown : (r : R) → K r → (line n : ℕ) → L line → I.shown_line r line ≡ Some n → L n
 
   -- so does what calls come to
   abbrev pub AnswersKeep : Answers → Type 0
-  AnswersKeep A = (definition : Definition) (site : Site) (answer : Result (List (List Token)) Fault) → A definition site answer
-      → HoldInBodies Q site.visible → Each (λ ts. Each Q ts) site.arguments → IfOk answer (λ lists. Each (λ ts. Each Q ts) lists)
+  AnswersKeep A = (definition : Definition) (site : Site) (answer : Result (List (List Read)) Fault) → A definition site answer
+      → HoldInBodies Q site.visible → Each (λ ts. Each (HoldsOfRead Q) ts) site.arguments → IfOk answer (λ lists. Each (λ ts. Each (HoldsOfRead Q) ts) lists)
 
   -- it holds of what an expander holds, lists and reads
   pub record HoldsOf {R : Type 0} (K : R → Type 0) (e : Expander R) : Type 0 where
@@ -39,28 +40,28 @@ module _ (Q : Token → Type 0) (L : ℕ → Type 0) where
     pub reader : K e.reader
 
   abbrev pub HoldsOfGathered : Gathered → Type 0
-  HoldsOfGathered g = Each Q g.tokens × L g.closing.line
+  HoldsOfGathered g = Each (HoldsOfRead Q) g.tokens × L g.closing.line
 
   abbrev pub HoldsOfCalled : Called → Type 0
-  HoldsOfCalled (no_call o) = HoldsOfOutcome Q o
+  HoldsOfCalled (no_call o) = HoldsOfTaken Q o
   HoldsOfCalled (refused fault) = ⊤
-  HoldsOfCalled (fits arguments line) = Each (λ ts. Each Q ts) arguments × L line
+  HoldsOfCalled (fits arguments line) = Each (λ ts. Each (HoldsOfRead Q) ts) arguments × L line
 
 module _ (Q : Token → Type 0) (L : ℕ → Type 0) (closed_under : AreClosed Q L) where
-  gathered_more : (token : Token) (rest : Result Gathered Fault) → Q token → IfOk rest (HoldsOfGathered Q L) → IfOk (before token rest) (HoldsOfGathered Q L)
+  gathered_more : (token : Read) (rest : Result Gathered Fault) → Q token.token → IfOk rest (HoldsOfGathered Q L) → IfOk (before token rest) (HoldsOfGathered Q L)
   gathered_more token (Ok rest) q h = ((q, h.0), h.1)
   gathered_more token (Err fault) q h = tt
 
-  token_more : (token : Token) (rest : Result (List Token) Fault) → Q token → IfOk rest (Each Q) → IfOk (token_before token rest) (Each Q)
+  token_more : (token : Read) (rest : Result (List Read) Fault) → Q token.token → IfOk rest (Each (HoldsOfRead Q)) → IfOk (read_before token rest) (Each (HoldsOfRead Q))
   token_more token (Ok rest) q h = (q, h)
   token_more token (Err fault) q h = tt
 
-  list_more : (tokens : List Token) (rest : Result (List (List Token)) Fault) → Each Q tokens → IfOk rest (λ lists. Each (λ ts. Each Q ts) lists)
-      → IfOk (list_before tokens rest) (λ lists. Each (λ ts. Each Q ts) lists)
+  list_more : (tokens : List Read) (rest : Result (List (List Read)) Fault) → Each (HoldsOfRead Q) tokens → IfOk rest (λ lists. Each (λ ts. Each (HoldsOfRead Q) ts) lists)
+      → IfOk (list_before tokens rest) (λ lists. Each (λ ts. Each (HoldsOfRead Q) ts) lists)
   list_more tokens (Ok rest) q h = (q, h)
   list_more tokens (Err fault) q h = tt
 
-  called_holds : (line : ℕ) (answer : Result (List (List Token)) Fault) → L line → IfOk answer (λ lists. Each (λ ts. Each Q ts) lists)
+  called_holds : (line : ℕ) (answer : Result (List (List Read)) Fault) → L line → IfOk answer (λ lists. Each (λ ts. Each (HoldsOfRead Q) ts) lists)
       → HoldsOfCalled Q L (called_by line answer)
   called_holds line (Ok lists) l h = (h, l)
   called_holds line (Err fault) l h = tt
@@ -80,9 +81,9 @@ module _ (Q : Token → Type 0) (L : ℕ → Type 0) (closed_under : AreClosed Q
         let by = opened_by token name (I.visible e.reader name) m is in
         (keeps.visible e.reader k name m.definition by.1, subst (λ (t : Token). L t.location.line) (sym by.0) (closed_under.line token q))
 
-    opened_value : (e : Expander R) (token : Token) (value : TokenValue) (m : Opening) → opening_of I e token value ≡ Some m → K e.reader → Q token
+    opened_value : (e : Expander R) (token : Read) (value : TokenValue) (m : Opening) → opening_of I e token value ≡ Some m → K e.reader → Q token.token
         → Each Q m.definition.body × L m.token.location.line
-    opened_value e token (Ident name) m is k q = opened_when (I.is_reserved name || is_in name (masked e)) e token name m is k q
+    opened_value e token (Ident name) m is k q = opened_when (I.is_reserved name || token.painted) e token.token name m is k q
     opened_value e token (Integer i) m is k q = cc
     opened_value e token (Float f) m is k q = cc
     opened_value e token (Punct p) m is k q = cc
@@ -90,36 +91,41 @@ module _ (Q : Token → Type 0) (L : ℕ → Type 0) (closed_under : AreClosed Q
     opened_value e token (Extension x) m is k q = cc
     opened_value e token (Pragma p) m is k q = cc
 
-    opened_holds : (e : Expander R) (x : Outcome) (m : Opening) → opening I e x ≡ Some m → HoldsOf Q L K e → HoldsOfOutcome Q x
+    opened_holds : (e : Expander R) (x : Taken) (m : Opening) → opening I e x ≡ Some m → HoldsOf Q L K e → HoldsOfTaken Q x
         → Each Q m.definition.body × L m.token.location.line
-    opened_holds e (outcome.Token token) m is h q = opened_value e token token.value m is h.reader q
-    opened_holds e (outcome.Fault fault) m is h q = cc
-    opened_holds e outcome.End m is h q = cc
+    opened_holds e (taken.Token token) m is h q = opened_value e token token.token.value m is h.reader q
+    opened_holds e (taken.Fault fault) m is h q = cc
+    opened_holds e taken.End m is h q = cc
 
-    pub taking_keeps : (o : Outcome) (e f : Expander R) → Takes I e o f → HoldsOf Q L K e → HoldsOfOutcome Q o × HoldsOf Q L K f
-    taking_keeps o e f (held o1 e1 f1 is p) h = (
-      subst (λ (x : Option Outcome). HoldsOfHeld Q x) is h.held,
+    fetching_keeps : (o : Taken) (e f : Expander R) → Fetches I e o f → HoldsOf Q L K e → HoldsOfTaken Q o × HoldsOf Q L K f
+    fetching_keeps o e f (held o1 e1 f1 is p) h = (
+      subst (λ (x : Option Taken). HoldsOfHeld Q x) is h.held,
       subst (λ (g : Expander R). HoldsOf Q L K g) (sym p) (record { held = tt; list = h.list; reader = h.reader }),
     )
-    taking_keeps o e f (listed o1 token rest e1 f1 is b q p) h =
+    fetching_keeps o e f (listed o1 token rest e1 f1 is b q p) h =
         let all : HoldInList Q L (Plain token ∷ rest) = subst (HoldInList Q L) b (after_marks_hold Q L e.list h.list) in (
-          subst (HoldsOfOutcome Q) (sym q) (taken_holds Q L closed_under (I.shown_line e.reader) (keeps.shown e.reader h.reader) rest token all.1 all.0),
+          subst (HoldsOfTaken Q) (sym q) (taken_holds Q L closed_under (I.shown_line e.reader) (keeps.shown e.reader h.reader) rest token all.1 all.0),
           subst (λ (g : Expander R). HoldsOf Q L K g) (sym p) (record { held = h.held; list = all.1; reader = h.reader }),
         )
-    taking_keeps o e f (read x o1 reader e1 f1 is b r q p) h =
+    fetching_keeps o e f (read x o1 reader e1 f1 is b r q p) h =
         let more = keeps.reads e.reader reader x r h.reader in (
-          subst (HoldsOfOutcome Q) (sym q) (read_holds Q L closed_under (I.shown_line reader) (keeps.shown reader more.1) x more.0),
+          subst (HoldsOfTaken Q) (sym q) (read_holds Q L closed_under (I.shown_line reader) (keeps.shown reader more.1) x more.0),
           subst (λ (g : Expander R). HoldsOf Q L K g) (sym p) (record { held = h.held; list = tt; reader = more.1 }),
         )
+
+    pub taking_keeps : (o : Taken) (e f : Expander R) → Takes I e o f → HoldsOf Q L K e → HoldsOfTaken Q o × HoldsOf Q L K f
+    taking_keeps o e f t h =
+        let there = fetching_keeps t.first e f t.fetches h in
+        (subst (HoldsOfTaken Q) (sym t.paints) (painted_holds Q L (masked f) t.first there.0), there.1)
 
     pub gathering_keeps : (n : ℕ) (last : Location) (x : Result Gathered Fault) (e f : Expander R) → Gathers I n last e x f → HoldsOf Q L K e
         → IfOk x (HoldsOfGathered Q L) × HoldsOf Q L K f
     gathering_keeps n last x e f (closed n1 l1 token e1 f1 x1 t is p) h =
         let taken = taking_keeps _ e f t h in
-        (subst (λ (y : Result Gathered Fault). IfOk y (HoldsOfGathered Q L)) (sym p) (tt, closed_under.line token taken.0), taken.1)
+        (subst (λ (y : Result Gathered Fault). IfOk y (HoldsOfGathered Q L)) (sym p) (tt, closed_under.line token.token taken.0), taken.1)
     gathering_keeps n last x e f (inside n1 k l1 token e1 g f1 rest x1 t is u p) h =
-        let taken = taking_keeps (outcome.Token token) e g t h in
-        let later = gathering_keeps k token.location rest g f u taken.1 in
+        let taken = taking_keeps (taken.Token token) e g t h in
+        let later = gathering_keeps k token.token.location rest g f u taken.1 in
         (subst (λ (y : Result Gathered Fault). IfOk y (HoldsOfGathered Q L)) (sym p) (gathered_more token rest taken.0 later.0), later.1)
     gathering_keeps n last x e f (overfull n1 l1 token e1 f1 x1 t is p) h =
         (subst (λ (y : Result Gathered Fault). IfOk y (HoldsOfGathered Q L)) (sym p) tt, (taking_keeps _ e f t h).1)
@@ -140,8 +146,8 @@ module _ (Q : Token → Type 0) (L : ℕ → Type 0) (closed_under : AreClosed Q
           let lists = answers m _ answer a (keeps.visible f.reader later.1.reader) (arguments_hold Q L gathered.tokens later.0.0) in
           (subst (HoldsOfCalled Q L) (sym p) (called_holds gathered.closing.line answer later.0.1 lists), later.1)
 
-      opening_keeps : (m : Opening) (line : ℕ) (arguments : List (List Token)) (e : Expander R) → Each Q m.definition.body → L line
-          → Each (λ ts. Each Q ts) arguments → HoldsOf Q L K e → HoldsOf Q L K (opened m line arguments e)
+      opening_keeps : (m : Opening) (line : ℕ) (arguments : List (List Read)) (e : Expander R) → Each Q m.definition.body → L line
+          → Each (λ ts. Each (HoldsOfRead Q) ts) arguments → HoldsOf Q L K e → HoldsOf Q L K (opened m line arguments e)
       opening_keeps m line arguments e body l all h = record {
         held = h.held;
         list = spliced_holds Q L m.name m.definition line arguments e.list body l all h.list;
@@ -149,7 +155,7 @@ module _ (Q : Token → Type 0) (L : ℕ → Type 0) (closed_under : AreClosed Q
       }
 
       -- what is given has it, where what is held, listed and read has it
-      pub item_keeps : (o : Outcome) (e f : Expander R) → Emits I A e o f → HoldsOf Q L K e → HoldsOfOutcome Q o × HoldsOf Q L K f
+      pub item_keeps : (o : Taken) (e f : Expander R) → Emits I A e o f → HoldsOf Q L K e → HoldsOfTaken Q o × HoldsOf Q L K f
       item_keeps o e f (itself o1 e1 f1 t is) h = taking_keeps o e f t h
       item_keeps o e f (object x o1 m e1 g f1 t is k i) h =
           let taken = taking_keeps x e g t h in
@@ -158,34 +164,34 @@ module _ (Q : Token → Type 0) (L : ℕ → Type 0) (closed_under : AreClosed Q
       item_keeps o e f (name_alone x y o1 m e1 g g1 f1 t is k c p q) h =
           let taken = taking_keeps x e g t h in
           let called = call_keeps m.definition (no_call y) g g1 c taken.1 in (
-            subst (HoldsOfOutcome Q) (sym p) taken.0,
+            subst (HoldsOfTaken Q) (sym p) taken.0,
             subst (λ (z : Expander R). HoldsOf Q L K z) (sym q)
                 (record { held = called.0; list = called.1.list; reader = called.1.reader }),
           )
       item_keeps o e f (call_refused x o1 fault m e1 g f1 t is k c p) h =
-          (subst (HoldsOfOutcome Q) (sym p) tt, (call_keeps m.definition (refused fault) g f c (taking_keeps x e g t h).1).1)
+          (subst (HoldsOfTaken Q) (sym p) tt, (call_keeps m.definition (refused fault) g f c (taking_keeps x e g t h).1).1)
       item_keeps o e f (call x o1 arguments line m e1 g g1 f1 t is k c i) h =
           let taken = taking_keeps x e g t h in
           let by = opened_holds g x m is taken.1 taken.0 in
           let called = call_keeps m.definition (fits arguments line) g g1 c taken.1 in
           item_keeps o (opened m line arguments g1) f i (opening_keeps m line arguments g1 by.0 called.0.1 called.0.0 called.1)
 
-      pub list_keeps : (x : Result (List Token) Fault) (e : Expander R) → Collects I A e x → HoldsOf Q L K e → IfOk x (Each Q)
-      list_keeps x e (done e1 f x1 i p) h = subst (λ (y : Result (List Token) Fault). IfOk y (Each Q)) (sym p) tt
-      list_keeps x e (failing fault e1 f x1 i p) h = subst (λ (y : Result (List Token) Fault). IfOk y (Each Q)) (sym p) tt
+      pub list_keeps : (x : Result (List Read) Fault) (e : Expander R) → Collects I A e x → HoldsOf Q L K e → IfOk x (Each (HoldsOfRead Q))
+      list_keeps x e (done e1 f x1 i p) h = subst (λ (y : Result (List Read) Fault). IfOk y (Each (HoldsOfRead Q))) (sym p) tt
+      list_keeps x e (failing fault e1 f x1 i p) h = subst (λ (y : Result (List Read) Fault). IfOk y (Each (HoldsOfRead Q))) (sym p) tt
       list_keeps x e (item token rest x1 e1 f i c p) h =
-          let given = item_keeps (outcome.Token token) e f i h in
-          subst (λ (y : Result (List Token) Fault). IfOk y (Each Q)) (sym p) (token_more token rest given.0 (list_keeps rest f c given.1))
+          let given = item_keeps (taken.Token token) e f i h in
+          subst (λ (y : Result (List Read) Fault). IfOk y (Each (HoldsOfRead Q))) (sym p) (token_more token rest given.0 (list_keeps rest f c given.1))
 
   -- a list of tokens has it where its tokens have it, and the definitions that are seen
   abbrev HoldsOfListed : Listed → Type 0
-  HoldsOfListed r = Each Q r.tokens × HoldInBodies Q r.visible
+  HoldsOfListed r = Each (HoldsOfRead Q) r.tokens × HoldInBodies Q r.visible
 
-  first_holds : (tokens : List Token) → Each Q tokens → HoldsOfOutcome Q (first_listed tokens)
+  first_holds : (tokens : List Read) → Each (HoldsOfRead Q) tokens → HoldsOfTaken Q (first_listed tokens)
   first_holds [] all = tt
   first_holds (token ∷ tokens) all = all.0
 
-  after_holds : (tokens : List Token) → Each Q tokens → Each Q (after_listed tokens)
+  after_holds : (tokens : List Read) → Each (HoldsOfRead Q) tokens → Each (HoldsOfRead Q) (after_listed tokens)
   after_holds [] all = tt
   after_holds (token ∷ tokens) all = all.1
 
@@ -195,7 +201,7 @@ module _ (Q : Token → Type 0) (L : ℕ → Type 0) (closed_under : AreClosed Q
   listed_keeps : ReaderKeeps Q L argument_reading HoldsOfListed
   listed_keeps = record {
     reads = λ old new x is h. (
-      subst (HoldsOfOutcome Q) (sym is.0) (first_holds old.tokens h.0),
+      subst (HoldsOfTaken Q) (sym is.0) (first_holds old.tokens h.0),
       subst HoldsOfListed (sym is.1) (after_holds old.tokens h.0, h.1),
     );
     visible = λ r h. h.1;
@@ -204,36 +210,36 @@ module _ (Q : Token → Type 0) (L : ℕ → Type 0) (closed_under : AreClosed Q
 
   -- what lists of tokens come to alone
   abbrev AloneKeeps : Alones → Type 0
-  AloneKeeps deeper = (tokens : List Token) (visible : Definitions) (hidden : List Name) (out : Result (List Token) Fault)
-      → deeper tokens visible hidden out → Each Q tokens → HoldInBodies Q visible → IfOk out (Each Q)
+  AloneKeeps deeper = (tokens : List Read) (visible : Definitions) (hidden : List Name) (out : Result (List Read) Fault)
+      → deeper tokens visible hidden out → Each (HoldsOfRead Q) tokens → HoldInBodies Q visible → IfOk out (Each (HoldsOfRead Q))
 
-  each_keeps : (deeper : Alones) → AloneKeeps deeper → (visible : Definitions) (hidden : List Name) (arguments : List (List Token))
-      (out : Result (List (List Token)) Fault) → Expanded deeper visible hidden arguments out
-      → HoldInBodies Q visible → Each (λ ts. Each Q ts) arguments → IfOk out (λ lists. Each (λ ts. Each Q ts) lists)
+  each_keeps : (deeper : Alones) → AloneKeeps deeper → (visible : Definitions) (hidden : List Name) (arguments : List (List Read))
+      (out : Result (List (List Read)) Fault) → Expanded deeper visible hidden arguments out
+      → HoldInBodies Q visible → Each (λ ts. Each (HoldsOfRead Q) ts) arguments → IfOk out (λ lists. Each (λ ts. Each (HoldsOfRead Q) ts) lists)
   each_keeps deeper keeps visible hidden arguments out (none out1 p) v all =
-      subst (λ (y : Result (List (List Token)) Fault). IfOk y (λ lists. Each (λ ts. Each Q ts) lists)) (sym p) tt
+      subst (λ (y : Result (List (List Read)) Fault). IfOk y (λ lists. Each (λ ts. Each (HoldsOfRead Q) ts) lists)) (sym p) tt
   each_keeps deeper keeps visible hidden arguments out (first_failed t ts c out1 a p) v all =
-      subst (λ (y : Result (List (List Token)) Fault). IfOk y (λ lists. Each (λ ts. Each Q ts) lists)) (sym p) tt
+      subst (λ (y : Result (List (List Read)) Fault). IfOk y (λ lists. Each (λ ts. Each (HoldsOfRead Q) ts) lists)) (sym p) tt
   each_keeps deeper keeps visible hidden arguments out (more t c ts r out1 a later p) v all =
-      subst (λ (y : Result (List (List Token)) Fault). IfOk y (λ lists. Each (λ ts. Each Q ts) lists)) (sym p)
+      subst (λ (y : Result (List (List Read)) Fault). IfOk y (λ lists. Each (λ ts. Each (HoldsOfRead Q) ts) lists)) (sym p)
       (list_more c r (keeps t visible hidden (Ok c) a all.0 v) (each_keeps deeper keeps visible hidden ts r later v all.1))
 
   each_or_refused_keeps : (deeper : Alones) → AloneKeeps deeper
-      → (error : Option PreprocessorError) (site : Site) (out : Result (List (List Token)) Fault) → EachOrRefused deeper error site out
-      → HoldInBodies Q site.visible → Each (λ ts. Each Q ts) site.arguments → IfOk out (λ lists. Each (λ ts. Each Q ts) lists)
+      → (error : Option PreprocessorError) (site : Site) (out : Result (List (List Read)) Fault) → EachOrRefused deeper error site out
+      → HoldInBodies Q site.visible → Each (λ ts. Each (HoldsOfRead Q) ts) site.arguments → IfOk out (λ lists. Each (λ ts. Each (HoldsOfRead Q) ts) lists)
   each_or_refused_keeps deeper keeps (Some error) site out is v all =
-      subst (λ (y : Result (List (List Token)) Fault). IfOk y (λ lists. Each (λ ts. Each Q ts) lists)) (sym is) tt
+      subst (λ (y : Result (List (List Read)) Fault). IfOk y (λ lists. Each (λ ts. Each (HoldsOfRead Q) ts) lists)) (sym is) tt
   each_or_refused_keeps deeper keeps None site out is v all = each_keeps deeper keeps site.visible site.open_around site.arguments out is v all
 
   limit_keeps : AnswersKeep Q L answers_at_limit
-  limit_keeps definition site out is v all = subst (λ (y : Result (List (List Token)) Fault). IfOk y (λ lists. Each (λ ts. Each Q ts) lists)) (sym is) tt
+  limit_keeps definition site out is v all = subst (λ (y : Result (List (List Read)) Fault). IfOk y (λ lists. Each (λ ts. Each (HoldsOfRead Q) ts) lists)) (sym is) tt
 
   below_keeps : (deeper : Alones) → AloneKeeps deeper → AnswersKeep Q L (answers_below deeper)
   below_keeps deeper keeps definition site out is v all = each_or_refused_keeps deeper keeps (misfit definition.parameters site.arguments) site out is v all
 
-  collected_keeps : (A : Answers) → AnswersKeep Q L A → (tokens : List Token) (visible : Definitions) (hidden : List Name)
-      (out : Result (List Token) Fault) → Collects argument_reading A (reading_of tokens visible hidden) out → Each Q tokens → HoldInBodies Q visible
-      → IfOk out (Each Q)
+  collected_keeps : (A : Answers) → AnswersKeep Q L A → (tokens : List Read) (visible : Definitions) (hidden : List Name)
+      (out : Result (List Read) Fault) → Collects argument_reading A (reading_of tokens visible hidden) out → Each (HoldsOfRead Q) tokens → HoldInBodies Q visible
+      → IfOk out (Each (HoldsOfRead Q))
   collected_keeps A answers tokens visible hidden out c all v =
       list_keeps argument_reading HoldsOfListed listed_keeps A answers out (reading_of tokens visible hidden) c
       (record { held = tt; list = tt; reader = (all, v) })

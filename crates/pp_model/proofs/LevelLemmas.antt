@@ -2,7 +2,7 @@
 use Rattle.std.proofs.Common.{◌≡◌, ◌∙◌, ℕ, zero, suc, List, sym, Option, Some, None}
 use Rattle.std.specs.Prelude.{Result, Ok, Err}
 use Rattle.pp_lexer.specs.declared.token.PreprocessorError.{PreprocessorError}
-use Rattle.pp_lexer.specs.declared.token.Token.{Token}
+use Rattle.pp_model.specs.declared.read.Read.{Read}
 use Rattle.pp_model.specs.Reading.{Reading, argument_reading, reading_of}
 use Rattle.pp_model.specs.Calls.{Fault, Site, misfit}
 use Rattle.pp_model.specs.Emitting.{Alones, none, first_failed, more, EachOrRefused, answers_at_limit, answers_below, Alone, answers_at}
@@ -26,7 +26,7 @@ one_each deeper one visible hidden arguments x y (more t c ts r x1 a v p) (more 
     p ∙ (rw (tokens, rest) (sym q))
 
 one_each_or_refusal : (deeper : Alones) → OneArgument deeper
-    → (error : Option PreprocessorError) (site : Site) (x y : Result (List (List Token)) Fault) → EachOrRefused deeper error site x
+    → (error : Option PreprocessorError) (site : Site) (x y : Result (List (List Read)) Fault) → EachOrRefused deeper error site x
     → EachOrRefused deeper error site y → x ≡ y
 one_each_or_refusal deeper one (Some error) site x y a b = a ∙ sym b
 one_each_or_refusal deeper one None site x y a b = one_each deeper one site.visible site.open_around site.arguments x y a b

@@ -4,6 +4,8 @@ use Rattle.pp_expression.specs.declared.symbol.Value.{Value}
 use Rattle.pp_expression.specs.Lines.{Line}
 use Rattle.pp_expression.specs.FirstFault.{Evaluates}
 use Rattle.pp_expression.proofs.OneOutcome.{one_outcome}
+use Rattle.pp_model.specs.Painting.{unpainted}
+use Rattle.std.specs.Prelude.{map}
 use Rattle.pp_model.specs.Reading.{reading_of}
 use Rattle.pp_lexer.specs.declared.token.Location.{Location}
 use Rattle.pp_model.specs.LineWords.{Words}
@@ -19,7 +21,7 @@ one_evaluation line x y a b = one_outcome line x y a b
 
 pub one_condition : (A : Answers) → OneAnswer A → OneCondition A
 one_condition A single directive tokens definitions x y a b =
-    let words = one_line A single Condition directive a.words b.words (reading_of tokens definitions []) a.read b.read in
+    let words = one_line A single Condition directive a.words b.words (reading_of (map unpainted tokens) definitions []) a.read b.read in
     let there : Evaluates (line_of a.words) b.evaluation = rw words b.evaluated in
     let found = one_evaluation (line_of a.words) a.evaluation b.evaluation a.evaluated there in
     a.is ∙ rw (words, found) (sym b.is)
@@ -80,6 +82,6 @@ one_number directive words x y (with_source v n x1 i h o s1 e1 p1) (with_source 
 
 pub one_line_number : (A : Answers) → OneAnswer A → OneLineNumber A
 one_line_number A single directive tokens definitions x y a b =
-    let words = one_line A single LineNumber directive a.words b.words (reading_of tokens definitions []) a.read b.read in
+    let words = one_line A single LineNumber directive a.words b.words (reading_of (map unpainted tokens) definitions []) a.read b.read in
     let there : Numbers directive a.words y = rw words b.numbers in
     one_number directive a.words x y a.numbers there

@@ -2,14 +2,14 @@
 use Rattle.std.proofs.Common.{◌≡◌, ◌∙◌, ℕ, Bool, sym}
 use Rattle.std.specs.Prelude.{Result, Ok, Err}
 use Rattle.pp_lexer.specs.declared.token.Location.{Location}
-use Rattle.pp_lexer.specs.declared.token.Token.{Token}
+use Rattle.pp_model.specs.declared.read.Read.{Read}
 use Rattle.pp_model.specs.Reading.{Expander, Listed, line_reading}
 use Rattle.pp_model.specs.Calls.{Fault, Answers}
 use Rattle.pp_model.specs.Emitting.{Emits, answers_at}
 use Rattle.pp_model.specs.LineWords.{Reading, operator, word, fault, reading, Operand, LineWords, ended, failed, refused, plain, answered, faulty}
 use Rattle.pp_model.specs.ExpansionLaws.{OneAnswer, OneOperand, OneLine}
-use Rattle.pp_model.specs.declared.outcome.Outcome.{Outcome}
-use Rattle.pp_model.specs.declared.outcome.Outcome.TheVariants as outcome
+use Rattle.pp_model.specs.declared.read.Taken.{Taken}
+use Rattle.pp_model.specs.declared.read.Taken.TheVariants as taken
 use Rattle.pp_model.specs.declared.word.LineKind.{LineKind}
 use Rattle.pp_model.proofs.TakingLemmas.{line_reads_one}
 use Rattle.pp_model.proofs.EmittingLemmas.{one_item}
@@ -18,24 +18,24 @@ use Rattle.pp_model.proofs.OperandLemmas.{one_operand}
 
 module _ (A : Answers) (single : OneAnswer A) where
   -- one outcome is the next item of a line
-  one_next : (x y : Outcome) (e f g : Expander Listed) → Emits line_reading A e x f → Emits line_reading A e y g → (x ≡ y) × (f ≡ g)
+  one_next : (x y : Taken) (e f g : Expander Listed) → Emits line_reading A e x f → Emits line_reading A e y g → (x ≡ y) × (f ≡ g)
   one_next = one_item line_reading line_reads_one A single
 
   -- a token of a line is read in one way
-  one_way : (kind : LineKind) (v w : Reading) (t u : Token) (e f g : Expander Listed) → Emits line_reading A e (outcome.Token t) f
-      → Emits line_reading A e (outcome.Token u) g → reading kind t ≡ v → reading kind u ≡ w → (t ≡ u) × (f ≡ g) × (v ≡ w)
+  one_way : (kind : LineKind) (v w : Reading) (t u : Read) (e f g : Expander Listed) → Emits line_reading A e (taken.Token t) f
+      → Emits line_reading A e (taken.Token u) g → reading kind t.token ≡ v → reading kind u.token ≡ w → (t ≡ u) × (f ≡ g) × (v ≡ w)
   one_way kind v w t u e f g a b h k =
-      let same = one_next (outcome.Token t) (outcome.Token u) e f g a b in
+      let same = one_next (taken.Token t) (taken.Token u) e f g a b in
       let token : t ≡ u = (let i = same.0 in cc) in
-      let there : reading kind t ≡ w = rw token k in
+      let there : reading kind t.token ≡ w = rw token k in
       (token, same.1, sym h ∙ there)
 
   -- the operand after a token of a line has one outcome
-  one_outcome : (kind : LineKind) (directive : Location) (v w : Result Bool Fault) (t u : Token) (e f g h i : Expander Listed)
-      → Emits line_reading A e (outcome.Token t) f → Emits line_reading A e (outcome.Token u) g → Operand kind directive A f v h
+  one_outcome : (kind : LineKind) (directive : Location) (v w : Result Bool Fault) (t u : Read) (e f g h i : Expander Listed)
+      → Emits line_reading A e (taken.Token t) f → Emits line_reading A e (taken.Token u) g → Operand kind directive A f v h
       → Operand kind directive A g w i → (t ≡ u) × (v ≡ w) × (h ≡ i)
   one_outcome kind directive v w t u e f g h i a b p q =
-      let same = one_next (outcome.Token t) (outcome.Token u) e f g a b in
+      let same = one_next (taken.Token t) (taken.Token u) e f g a b in
       let token : t ≡ u = (let j = same.0 in cc) in
       let q1 : Operand kind directive A f w i = rw same.1 q in
       let answers = one_operand A single kind directive v w f h i p q1 in
@@ -43,25 +43,25 @@ module _ (A : Answers) (single : OneAnswer A) where
 
   pub one_line : OneLine A
   one_line kind directive x y e (ended e1 f x1 a p) (ended e2 g y1 b q) = p ∙ sym q
-  one_line kind directive x y e (ended e1 f x1 a p) (failed d e2 g y1 b q) = let bad = (one_next outcome.End (outcome.Fault d) e f g a b).0 in cc
-  one_line kind directive x y e (ended e1 f x1 a p) (refused u d e2 g y1 b k q) = let bad = (one_next outcome.End (outcome.Token u) e f g a b).0 in cc
-  one_line kind directive x y e (ended e1 f x1 a p) (plain u w e2 g s y1 b k l q) = let bad = (one_next outcome.End (outcome.Token u) e f g a b).0 in cc
-  one_line kind directive x y e (ended e1 f x1 a p) (answered u w e2 g g1 s y1 b k o l q) = let bad = (one_next outcome.End (outcome.Token u) e f g a b).0 in cc
-  one_line kind directive x y e (ended e1 f x1 a p) (faulty u d e2 g g1 y1 b k o q) = let bad = (one_next outcome.End (outcome.Token u) e f g a b).0 in cc
-  one_line kind directive x y e (failed c e1 f x1 a p) (ended e2 g y1 b q) = let bad = (one_next (outcome.Fault c) outcome.End e f g a b).0 in cc
+  one_line kind directive x y e (ended e1 f x1 a p) (failed d e2 g y1 b q) = let bad = (one_next taken.End (taken.Fault d) e f g a b).0 in cc
+  one_line kind directive x y e (ended e1 f x1 a p) (refused u d e2 g y1 b k q) = let bad = (one_next taken.End (taken.Token u) e f g a b).0 in cc
+  one_line kind directive x y e (ended e1 f x1 a p) (plain u w e2 g s y1 b k l q) = let bad = (one_next taken.End (taken.Token u) e f g a b).0 in cc
+  one_line kind directive x y e (ended e1 f x1 a p) (answered u w e2 g g1 s y1 b k o l q) = let bad = (one_next taken.End (taken.Token u) e f g a b).0 in cc
+  one_line kind directive x y e (ended e1 f x1 a p) (faulty u d e2 g g1 y1 b k o q) = let bad = (one_next taken.End (taken.Token u) e f g a b).0 in cc
+  one_line kind directive x y e (failed c e1 f x1 a p) (ended e2 g y1 b q) = let bad = (one_next (taken.Fault c) taken.End e f g a b).0 in cc
   one_line kind directive x y e (failed c e1 f x1 a p) (failed d e2 g y1 b q) =
-      let same = (one_next (outcome.Fault c) (outcome.Fault d) e f g a b).0 in
+      let same = (one_next (taken.Fault c) (taken.Fault d) e f g a b).0 in
       let faults : c ≡ d = cc in
       p ∙ (rw faults (sym q))
-  one_line kind directive x y e (failed c e1 f x1 a p) (refused u d e2 g y1 b k q) = let bad = (one_next (outcome.Fault c) (outcome.Token u) e f g a b).0 in cc
+  one_line kind directive x y e (failed c e1 f x1 a p) (refused u d e2 g y1 b k q) = let bad = (one_next (taken.Fault c) (taken.Token u) e f g a b).0 in cc
   one_line kind directive x y e (failed c e1 f x1 a p) (plain u w e2 g s y1 b k l q) = let bad =
-      (one_next (outcome.Fault c) (outcome.Token u) e f g a b).0 in cc
+      (one_next (taken.Fault c) (taken.Token u) e f g a b).0 in cc
   one_line kind directive x y e (failed c e1 f x1 a p) (answered u w e2 g g1 s y1 b k o l q) = let bad =
-      (one_next (outcome.Fault c) (outcome.Token u) e f g a b).0 in cc
+      (one_next (taken.Fault c) (taken.Token u) e f g a b).0 in cc
   one_line kind directive x y e (failed c e1 f x1 a p) (faulty u d e2 g g1 y1 b k o q) = let bad =
-      (one_next (outcome.Fault c) (outcome.Token u) e f g a b).0 in cc
-  one_line kind directive x y e (refused t c e1 f x1 a h p) (ended e2 g y1 b q) = let bad = (one_next (outcome.Token t) outcome.End e f g a b).0 in cc
-  one_line kind directive x y e (refused t c e1 f x1 a h p) (failed d e2 g y1 b q) = let bad = (one_next (outcome.Token t) (outcome.Fault d) e f g a b).0 in cc
+      (one_next (taken.Fault c) (taken.Token u) e f g a b).0 in cc
+  one_line kind directive x y e (refused t c e1 f x1 a h p) (ended e2 g y1 b q) = let bad = (one_next (taken.Token t) taken.End e f g a b).0 in cc
+  one_line kind directive x y e (refused t c e1 f x1 a h p) (failed d e2 g y1 b q) = let bad = (one_next (taken.Token t) (taken.Fault d) e f g a b).0 in cc
   one_line kind directive x y e (refused t c e1 f x1 a h p) (refused u d e2 g y1 b k q) =
       let same = (one_way kind (fault c) (fault d) t u e f g a b h k).2 in
       let faults : c ≡ d = cc in
@@ -72,9 +72,9 @@ module _ (A : Answers) (single : OneAnswer A) where
       (one_way kind (fault c) operator t u e f g a b h k).2 in cc
   one_line kind directive x y e (refused t c e1 f x1 a h p) (faulty u d e2 g g1 y1 b k o q) = let bad =
       (one_way kind (fault c) operator t u e f g a b h k).2 in cc
-  one_line kind directive x y e (plain t v e1 f r x1 a h i p) (ended e2 g y1 b q) = let bad = (one_next (outcome.Token t) outcome.End e f g a b).0 in cc
+  one_line kind directive x y e (plain t v e1 f r x1 a h i p) (ended e2 g y1 b q) = let bad = (one_next (taken.Token t) taken.End e f g a b).0 in cc
   one_line kind directive x y e (plain t v e1 f r x1 a h i p) (failed d e2 g y1 b q) = let bad =
-      (one_next (outcome.Token t) (outcome.Fault d) e f g a b).0 in cc
+      (one_next (taken.Token t) (taken.Fault d) e f g a b).0 in cc
   one_line kind directive x y e (plain t v e1 f r x1 a h i p) (refused u d e2 g y1 b k q) = let bad =
       (one_way kind (word v) (fault d) t u e f g a b h k).2 in cc
   one_line kind directive x y e (plain t v e1 f r x1 a h i p) (plain u w e2 g s y1 b k l q) =
@@ -87,9 +87,9 @@ module _ (A : Answers) (single : OneAnswer A) where
       (one_way kind (word v) operator t u e f g a b h k).2 in cc
   one_line kind directive x y e (plain t v e1 f r x1 a h i p) (faulty u d e2 g g1 y1 b k o q) = let bad =
       (one_way kind (word v) operator t u e f g a b h k).2 in cc
-  one_line kind directive x y e (answered t v e1 f f1 r x1 a h n i p) (ended e2 g y1 b q) = let bad = (one_next (outcome.Token t) outcome.End e f g a b).0 in cc
+  one_line kind directive x y e (answered t v e1 f f1 r x1 a h n i p) (ended e2 g y1 b q) = let bad = (one_next (taken.Token t) taken.End e f g a b).0 in cc
   one_line kind directive x y e (answered t v e1 f f1 r x1 a h n i p) (failed d e2 g y1 b q) = let bad =
-      (one_next (outcome.Token t) (outcome.Fault d) e f g a b).0 in cc
+      (one_next (taken.Token t) (taken.Fault d) e f g a b).0 in cc
   one_line kind directive x y e (answered t v e1 f f1 r x1 a h n i p) (refused u d e2 g y1 b k q) = let bad =
       (one_way kind operator (fault d) t u e f g a b h k).2 in cc
   one_line kind directive x y e (answered t v e1 f f1 r x1 a h n i p) (plain u w e2 g s y1 b k l q) = let bad =
@@ -102,9 +102,9 @@ module _ (A : Answers) (single : OneAnswer A) where
       p ∙ (rw (same.0, answers, rest) (sym q))
   one_line kind directive x y e (answered t v e1 f f1 r x1 a h n i p) (faulty u d e2 g g1 y1 b k o q) = let bad =
       (one_outcome kind directive (Ok v) (Err d) t u e f g f1 g1 a b n o).1 in cc
-  one_line kind directive x y e (faulty t c e1 f f1 x1 a h n p) (ended e2 g y1 b q) = let bad = (one_next (outcome.Token t) outcome.End e f g a b).0 in cc
+  one_line kind directive x y e (faulty t c e1 f f1 x1 a h n p) (ended e2 g y1 b q) = let bad = (one_next (taken.Token t) taken.End e f g a b).0 in cc
   one_line kind directive x y e (faulty t c e1 f f1 x1 a h n p) (failed d e2 g y1 b q) = let bad =
-      (one_next (outcome.Token t) (outcome.Fault d) e f g a b).0 in cc
+      (one_next (taken.Token t) (taken.Fault d) e f g a b).0 in cc
   one_line kind directive x y e (faulty t c e1 f f1 x1 a h n p) (refused u d e2 g y1 b k q) = let bad =
       (one_way kind operator (fault d) t u e f g a b h k).2 in cc
   one_line kind directive x y e (faulty t c e1 f f1 x1 a h n p) (plain u w e2 g s y1 b k l q) = let bad =

@@ -1,19 +1,20 @@
 -- No `__LINE__` is taken, gathered or given, where none is held.
-use Rattle.std.proofs.Common.{◌≡◌, ◌∙◌, ℕ, zero, suc, Bool, true, false, List, [], refl, sym, Option, Some, None}
+use Rattle.std.proofs.Common.{◌≡◌, ◌∙◌, ℕ, zero, suc, Bool, true, false, List, [], refl, ap, sym, Option, Some, None}
 use Rattle.std.specs.Prelude.{IfOk, Result, Ok, Err}
 use Rattle.std.proofs.lemmas.List.Elements.{All-nil, All-cons}
 use Rattle.pp_lexer.specs.declared.token.Location.{Location}
-use Rattle.pp_lexer.specs.declared.token.Token.{Token}
-use Rattle.pp_model.specs.Names.{is_identifier, line_name}
+use Rattle.pp_model.specs.declared.read.Read.{Read}
+use Rattle.pp_model.specs.Names.{Name, is_identifier, line_name}
 use Rattle.pp_model.specs.Definitions.{Definition}
-use Rattle.pp_model.specs.Reading.{Reading, Expander, argument_reading, reading_of}
-use Rattle.pp_model.specs.Taking.{line_number, taken_token, read_outcome, Takes, held, listed, read}
+use Rattle.pp_model.specs.Painting.{taken_among}
+use Rattle.pp_model.specs.Reading.{Reading, Expander, masked, argument_reading, reading_of}
+use Rattle.pp_model.specs.Taking.{line_number, shown_token, shown_outcome, Takes, Fetches, held, listed, read}
 use Rattle.pp_model.specs.Calls.{Gathered, before, Fault, Gathers, closed, inside, overfull, ended, failed, Answers, Called, no_call, refused, fits, called_by, Calls, alone, broken, whole}
 use Rattle.pp_model.specs.Emitting.{opened, Emits, itself, object, name_alone, call_refused, call, Collects, done, failed as failing, item, answers_at_limit, answers_below, Alone}
-use Rattle.pp_model.specs.inner.Emitting.{token_before}
+use Rattle.pp_model.specs.inner.Emitting.{read_before}
 use Rattle.pp_model.specs.NoLineName.{is_line_name, HoldsNoLineName, AreNoLineNames, ShowsNoLineName, AloneShowsNoLineName}
-use Rattle.pp_model.specs.declared.outcome.Outcome.{Outcome}
-use Rattle.pp_model.specs.declared.outcome.Outcome.TheVariants as outcome
+use Rattle.pp_model.specs.declared.read.Taken.{Taken}
+use Rattle.pp_model.specs.declared.read.Taken.TheVariants as taken
 use Rattle.pp_model.specs.declared.splice.Entry.{Entry}
 
 -- a number, or the fault of one that is out of range, is no name
@@ -21,54 +22,65 @@ number_is_no_line : (location : Location) (shown : Option ℕ) → is_line_name 
 number_is_no_line location (Some n) = refl
 number_is_no_line location None = refl
 
-taken_is_no_line : (shown_line : ℕ → Option ℕ) (after : List Entry) (token : Token) → is_line_name (taken_token shown_line after token) ≡ false
-taken_is_no_line shown_line after token = go (is_identifier line_name token.value) refl
+taken_is_no_line : (shown_line : ℕ → Option ℕ) (after : List Entry) (token : Read) → is_line_name (shown_token shown_line after token) ≡ false
+taken_is_no_line shown_line after token = go (is_identifier line_name token.token.value) refl
   where
-    go : (b : Bool) → is_identifier line_name token.value ≡ b → is_line_name (taken_token shown_line after token) ≡ false
-    go true e = rw e (number_is_no_line token.location _)
+    go : (b : Bool) → is_identifier line_name token.token.value ≡ b → is_line_name (shown_token shown_line after token) ≡ false
+    go true e = rw e (number_is_no_line token.token.location _)
     go false e = rw e e
 
-read_is_no_line : (shown_line : ℕ → Option ℕ) (x : Outcome) → is_line_name (read_outcome shown_line x) ≡ false
-read_is_no_line shown_line (outcome.Token token) = taken_is_no_line shown_line [] token
-read_is_no_line shown_line (outcome.Fault fault) = refl
-read_is_no_line shown_line outcome.End = refl
+read_is_no_line : (shown_line : ℕ → Option ℕ) (x : Taken) → is_line_name (shown_outcome shown_line x) ≡ false
+read_is_no_line shown_line (taken.Token token) = taken_is_no_line shown_line [] token
+read_is_no_line shown_line (taken.Fault fault) = refl
+read_is_no_line shown_line taken.End = refl
+
+-- paint changes no name
+painted_is_no_line : (names : List Name) (x : Taken) → is_line_name (taken_among names x) ≡ is_line_name x
+painted_is_no_line names (taken.Token token) = refl
+painted_is_no_line names (taken.Fault fault) = refl
+painted_is_no_line names taken.End = refl
 
 -- one more token that is none
-one_more : (token : Token) (rest : Result (List Token) Fault) → is_identifier line_name token.value ≡ false → IfOk rest AreNoLineNames
-    → IfOk (token_before token rest) AreNoLineNames
-one_more token (Ok tokens) h all = All-cons (λ t. is_identifier line_name t.value ≡ false) token tokens h all
+one_more : (token : Read) (rest : Result (List Read) Fault) → is_identifier line_name token.token.value ≡ false → IfOk rest AreNoLineNames
+    → IfOk (read_before token rest) AreNoLineNames
+one_more token (Ok tokens) h all = All-cons (λ t. is_identifier line_name t.token.value ≡ false) token tokens h all
 one_more token (Err fault) h all = tt
 
-one_gathered_more : (token : Token) (rest : Result Gathered Fault) → is_identifier line_name token.value ≡ false
+one_gathered_more : (token : Read) (rest : Result Gathered Fault) → is_identifier line_name token.token.value ≡ false
     → IfOk rest (λ g. AreNoLineNames g.tokens) → IfOk (before token rest) (λ g. AreNoLineNames g.tokens)
-one_gathered_more token (Ok gathered) h all = All-cons (λ t. is_identifier line_name t.value ≡ false) token gathered.tokens h all
+one_gathered_more token (Ok gathered) h all = All-cons (λ t. is_identifier line_name t.token.value ≡ false) token gathered.tokens h all
 one_gathered_more token (Err fault) h all = tt
 
 -- what a call comes to is no missing call
-called_is_a_call : (line : ℕ) (answer : Result (List (List Token)) Fault) (o : Outcome) → called_by line answer ≡ no_call o → is_line_name o ≡ false
+called_is_a_call : (line : ℕ) (answer : Result (List (List Read)) Fault) (o : Taken) → called_by line answer ≡ no_call o → is_line_name o ≡ false
 called_is_a_call line (Ok arguments) o h = cc
 called_is_a_call line (Err fault) o h = cc
 
 module _ {R : Type 0} (I : Reading R) where
-  pub taking_shows_none : (o : Outcome) (e f : Expander R) → Takes I e o f → HoldsNoLineName e → (is_line_name o ≡ false) × HoldsNoLineName f
-  taking_shows_none o e f (held o1 e1 f1 h p) none = (rw h at none, rw p tt)
-  taking_shows_none o e f (listed o1 token rest e1 f1 h b is p) none = (rw is (taken_is_no_line (I.shown_line e.reader) rest token), rw (p, h) tt)
-  taking_shows_none o e f (read x o1 reader e1 f1 h b r is p) none = (rw is (read_is_no_line (I.shown_line reader) x), rw (p, h) tt)
+  fetching_shows_none : (o : Taken) (e f : Expander R) → Fetches I e o f → HoldsNoLineName e → (is_line_name o ≡ false) × HoldsNoLineName f
+  fetching_shows_none o e f (held o1 e1 f1 h p) none = (rw h at none, rw p tt)
+  fetching_shows_none o e f (listed o1 token rest e1 f1 h b is p) none = (rw is (taken_is_no_line (I.shown_line e.reader) rest token), rw (p, h) tt)
+  fetching_shows_none o e f (read x o1 reader e1 f1 h b r is p) none = (rw is (read_is_no_line (I.shown_line reader) x), rw (p, h) tt)
+
+  pub taking_shows_none : (o : Taken) (e f : Expander R) → Takes I e o f → HoldsNoLineName e → (is_line_name o ≡ false) × HoldsNoLineName f
+  taking_shows_none o e f t none =
+      let there = fetching_shows_none t.first e f t.fetches none in
+      (ap is_line_name t.paints ∙ painted_is_no_line (masked f) t.first ∙ there.0, there.1)
 
   pub gathering_shows_none : (n : ℕ) (last : Location) (x : Result Gathered Fault) (e f : Expander R) → Gathers I n last e x f → HoldsNoLineName e
       → IfOk x (λ g. AreNoLineNames g.tokens) × HoldsNoLineName f
   gathering_shows_none n last x e f (closed n1 l1 token e1 f1 x1 t h p) none =
-      (rw p (All-nil (λ t. is_identifier line_name t.value ≡ false)), (taking_shows_none _ e f t none).1)
+      (rw p (All-nil (λ t. is_identifier line_name t.token.value ≡ false)), (taking_shows_none _ e f t none).1)
   gathering_shows_none n last x e f (inside n1 k l1 token e1 g f1 rest x1 t h u p) none =
-      let taken = taking_shows_none (outcome.Token token) e g t none in
-      let more = gathering_shows_none k token.location rest g f u taken.1 in
+      let taken = taking_shows_none (taken.Token token) e g t none in
+      let more = gathering_shows_none k token.token.location rest g f u taken.1 in
       (rw p (one_gathered_more token rest taken.0 more.0), more.1)
   gathering_shows_none n last x e f (overfull n1 l1 token e1 f1 x1 t h p) none = (rw p tt, (taking_shows_none _ e f t none).1)
   gathering_shows_none n last x e f (ended n1 l1 e1 f1 x1 t p) none = (rw p tt, (taking_shows_none _ e f t none).1)
   gathering_shows_none n last x e f (failed n1 l1 fault e1 f1 x1 t p) none = (rw p tt, (taking_shows_none _ e f t none).1)
 
   pub call_shows_none : (A : Answers) (d : Definition) (c : Called) (e f : Expander R) → Calls I A d e c f → HoldsNoLineName e
-      → ((o : Outcome) → c ≡ no_call o → is_line_name o ≡ false) × HoldsNoLineName f
+      → ((o : Taken) → c ≡ no_call o → is_line_name o ≡ false) × HoldsNoLineName f
   call_shows_none A d c e f (alone x e1 f1 c1 t h p) none =
       let taken = taking_shows_none x e f t none in
       (λ o q. let is : x ≡ o = cc in (rw is at taken.0), taken.1)
@@ -79,7 +91,7 @@ module _ {R : Type 0} (I : Reading R) where
       let taken = taking_shows_none x e g t none in
       (λ o q. called_is_a_call gathered.closing.line answer o (sym p ∙ q), (gathering_shows_none 0 paren (Ok gathered) g f u taken.1).1)
 
-  pub item_shows_none : (A : Answers) (o : Outcome) (e f : Expander R) → Emits I A e o f → HoldsNoLineName e → (is_line_name o ≡ false) × HoldsNoLineName f
+  pub item_shows_none : (A : Answers) (o : Taken) (e f : Expander R) → Emits I A e o f → HoldsNoLineName e → (is_line_name o ≡ false) × HoldsNoLineName f
   item_shows_none A o e f (itself o1 e1 f1 t h) none = taking_shows_none o e f t none
   item_shows_none A o e f (object x o1 m e1 g f1 t h k i) none =
       item_shows_none A o (opened m m.token.location.line [] g) f i (taking_shows_none x e g t none).1
@@ -95,11 +107,11 @@ module _ {R : Type 0} (I : Reading R) where
       let called = call_shows_none A m.definition (fits arguments line) g g1 c taken.1 in
       item_shows_none A o (opened m line arguments g1) f i called.1
 
-  pub list_shows_none : (A : Answers) (x : Result (List Token) Fault) (e : Expander R) → Collects I A e x → HoldsNoLineName e → IfOk x AreNoLineNames
-  list_shows_none A x e (done e1 f x1 i p) none = rw p (All-nil (λ t. is_identifier line_name t.value ≡ false))
+  pub list_shows_none : (A : Answers) (x : Result (List Read) Fault) (e : Expander R) → Collects I A e x → HoldsNoLineName e → IfOk x AreNoLineNames
+  list_shows_none A x e (done e1 f x1 i p) none = rw p (All-nil (λ t. is_identifier line_name t.token.value ≡ false))
   list_shows_none A x e (failing fault e1 f x1 i p) none = rw p tt
   list_shows_none A x e (item token rest x1 e1 f i c p) none =
-      let given = item_shows_none A (outcome.Token token) e f i none in
+      let given = item_shows_none A (taken.Token token) e f i none in
       rw p (one_more token rest given.0 (list_shows_none A rest f c given.1))
 
   pub shows_no_line_name : (A : Answers) → ShowsNoLineName I A

@@ -1,19 +1,22 @@
 -- The open names of a list, of what is left of it, and of one into which a macro is spliced; and what opens.
-use Rattle.std.proofs.Common.{◌≡◌, ◌∙◌, ℕ, Bool, true, false, List, [], ◌∷◌, ◌++◌, refl, sym, ap, Option, Some, None}
+use Rattle.std.proofs.Common.{◌≡◌, ◌∙◌, ℕ, Bool, true, false, ◌||◌, List, [], ◌∷◌, ◌++◌, refl, sym, ap, Option, Some, None}
 use Rattle.std.specs.Prelude.{unwrap_or, slice_get}
 use Rattle.std.proofs.lemmas.List.{append_assoc}
 use Rattle.pp_lexer.specs.declared.token.Token.{Token}
+use Rattle.pp_model.specs.declared.read.Read.{Read}
 use Rattle.pp_lexer.specs.declared.token.TokenValue.{TokenValue}
 use Rattle.pp_lexer.specs.declared.token.TokenValue.TheVariants.{Ident}
 use Rattle.pp_model.specs.Names.{Name, is_same_name, is_in}
 use Rattle.pp_model.specs.Definitions.{Definition}
 use Rattle.pp_model.specs.SpliceList.{after_marks, open_names, parameter_of, replacement, replaced, spliced}
 use Rattle.pp_model.specs.inner.SpliceList.{followed_by}
+use Rattle.pp_model.specs.Painting.{is_one_of, painted_among, taken_among}
+use Rattle.pp_model.specs.Taking.{Takes}
 use Rattle.pp_model.specs.Reading.{Reading, Expander, masked, Opening, opening_of, opening}
 use Rattle.pp_model.specs.inner.Reading.{opening_by}
 use Rattle.pp_model.specs.ApartMarks.{HasApartMarks, IsRest}
-use Rattle.pp_model.specs.declared.outcome.Outcome.{Outcome}
-use Rattle.pp_model.specs.declared.outcome.Outcome.TheVariants as outcome
+use Rattle.pp_model.specs.declared.read.Taken.{Taken}
+use Rattle.pp_model.specs.declared.read.Taken.TheVariants as taken
 use Rattle.pp_model.specs.declared.splice.Entry.{Entry}
 use Rattle.pp_model.specs.declared.splice.Entry.TheVariants.{Plain, End}
 
@@ -63,58 +66,84 @@ pub rest_is_apart : (old new : List Entry) → IsRest old new → HasApartMarks 
 rest_is_apart old new (front, p) h = apart_after front new (rw p at h)
 
 -- a macro's replacement holds no mark but its own
-open_followed_by : (tokens : List Token) (entries : List Entry) → open_names (followed_by tokens entries) ≡ open_names entries
+open_followed_by : (tokens : List Read) (entries : List Entry) → open_names (followed_by tokens entries) ≡ open_names entries
 open_followed_by [] entries = refl
 open_followed_by (token ∷ tokens) entries = open_followed_by tokens entries
 
-open_replacement : (arguments : List (List Token)) (token : Token) (position : Option ℕ) (entries : List Entry)
+open_replacement : (arguments : List (List Read)) (token : Token) (position : Option ℕ) (entries : List Entry)
     → open_names (replacement arguments token position entries) ≡ open_names entries
 open_replacement arguments token None entries = refl
 open_replacement arguments token (Some k) entries = open_followed_by (unwrap_or (slice_get arguments k) []) entries
 
-open_replaced : (parameters : List Name) (arguments : List (List Token)) (body : List Token) (entries : List Entry)
+open_replaced : (parameters : List Name) (arguments : List (List Read)) (body : List Token) (entries : List Entry)
     → open_names (replaced parameters arguments body entries) ≡ open_names entries
 open_replaced parameters arguments [] entries = refl
 open_replaced parameters arguments (token ∷ body) entries =
     open_replacement arguments token (parameter_of parameters token.value) (replaced parameters arguments body entries)
     ∙ open_replaced parameters arguments body entries
 
-pub open_spliced : (name : Name) (definition : Definition) (line : ℕ) (arguments : List (List Token)) (entries : List Entry)
+pub open_spliced : (name : Name) (definition : Definition) (line : ℕ) (arguments : List (List Read)) (entries : List Entry)
     → open_names (spliced name definition line arguments entries) ≡ name ∷ open_names entries
 open_spliced name definition line arguments entries = open_replaced definition.parameters arguments definition.body
     (End (record { name = name; line = line }) ∷ entries)
 
--- what is known of a taken token that opens a macro
-pub record IsOpening {R : Type 0} (I : Reading R) (e : Expander R) (o : Outcome) (m : Opening) : Type 0 where
-  pub taken : o ≡ outcome.Token m.token
+-- what is known of a token that was taken and opens a macro
+pub record IsOpening {R : Type 0} (I : Reading R) (e : Expander R) (o : Taken) (m : Opening) : Type 0 where
+  pub token : Read
+  pub taken : o ≡ taken.Token token
+  pub same : token.token ≡ m.token
   pub named : m.token.value ≡ Ident m.name
   pub free : I.is_reserved m.name ≡ false
-  pub closed : is_in m.name (masked e) ≡ false
+  pub unpainted : token.painted ≡ false
   pub defined : I.visible e.reader m.name ≡ Some m.definition
 
 module _ {R : Type 0} (I : Reading R) (e : Expander R) where
-  opening_by_name : (token : Token) (name : Name) (m : Opening) → token.value ≡ Ident name → I.is_reserved name ≡ false
-      → is_in name (masked e) ≡ false → (found : Option Definition) → I.visible e.reader name ≡ found → opening_by token name found ≡ Some m
-      → IsOpening I e (outcome.Token token) m
-  opening_by_name token name m named free closed None defined h = cc
-  opening_by_name token name m named free closed (Some definition) defined h =
-      let same : record { token = token; name = name; definition = definition } ≡ m = cc in
-      rw (← same) (record { taken = refl; named = named; free = free; closed = closed; defined = defined })
+  opening_by_name : (read : Read) (name : Name) (m : Opening) → read.token.value ≡ Ident name → I.is_reserved name ≡ false
+      → read.painted ≡ false → (found : Option Definition) → I.visible e.reader name ≡ found → opening_by read.token name found ≡ Some m
+      → IsOpening I e (taken.Token read) m
+  opening_by_name read name m named free bare None defined h = cc
+  opening_by_name read name m named free bare (Some definition) defined h =
+      let same : record { token = read.token; name = name; definition = definition } ≡ m = cc in
+      rw (← same) (record { token = read; taken = refl; same = refl; named = named; free = free; unpainted = bare; defined = defined })
 
-  opening_of_value : (token : Token) (m : Opening) (v : TokenValue) → token.value ≡ v → opening_of I e token v ≡ Some m → IsOpening I e (outcome.Token token) m
-  opening_of_value token m (Ident name) named h = go (I.is_reserved name) refl (is_in name (masked e)) refl
+  opening_of_value : (read : Read) (m : Opening) (v : TokenValue) → read.token.value ≡ v → opening_of I e read v ≡ Some m → IsOpening I e (taken.Token read) m
+  opening_of_value read m (Ident name) named h = go (I.is_reserved name) refl read.painted refl
     where
-      go : (b : Bool) → I.is_reserved name ≡ b → (c : Bool) → is_in name (masked e) ≡ c → IsOpening I e (outcome.Token token) m
+      go : (b : Bool) → I.is_reserved name ≡ b → (c : Bool) → read.painted ≡ c → IsOpening I e (taken.Token read) m
       go true p c q = let bad : None ≡ Some m = rw p at h in cc
       go false p true q = let bad : None ≡ Some m = rw (p, q) at h in cc
-      go false p false q = opening_by_name token name m named p q (I.visible e.reader name) refl (rw (p, q) at h)
-  opening_of_value token m _ named h = cc
+      go false p false q = opening_by_name read name m named p q (I.visible e.reader name) refl (rw (p, q) at h)
+  opening_of_value read m _ named h = cc
 
-  pub opening_known : (o : Outcome) (m : Opening) → opening I e o ≡ Some m → IsOpening I e o m
-  opening_known (outcome.Token token) m h = opening_of_value token m token.value refl h
-  opening_known (outcome.Fault fault) m h = cc
-  opening_known outcome.End m h = cc
+  pub opening_known : (o : Taken) (m : Opening) → opening I e o ≡ Some m → IsOpening I e o m
+  opening_known (taken.Token read) m h = opening_of_value read m read.token.value refl h
+  opening_known (taken.Fault fault) m h = cc
+  opening_known taken.End m h = cc
 
-  -- it has no mark in the list
-  pub opening_not_open : (o : Outcome) (m : Opening) → opening I e o ≡ Some m → is_in m.name (open_names e.list) ≡ false
-  opening_not_open o m h = not_in_front m.name (open_names e.list) e.hidden (opening_known o m h).closed
+-- a token that is painted among these names and isn't painted is none of them
+unpainted_before : (a b : Bool) → (a || b) ≡ false → b ≡ false
+unpainted_before true b h = cc
+unpainted_before false b h = h
+
+unpainted_is_none : (names : List Name) (first : Taken) (read : Read) (name : Name) → taken.Token read ≡ taken_among names first
+    → read.token.value ≡ Ident name → read.painted ≡ false → is_in name names ≡ false
+unpainted_is_none names (taken.Token before) read name e named bare =
+    let same : read ≡ painted_among names before = cc in
+    let value : before.token.value ≡ Ident name = ap (λ r. r.token.value) (sym same) ∙ named in
+    let painted : before.painted || is_one_of names before.token.value ≡ false = ap (λ r. r.painted) (sym same) ∙ bare in
+    let none : is_one_of names before.token.value ≡ false = unpainted_before before.painted (is_one_of names before.token.value) painted in
+    ap (is_one_of names) (sym value) ∙ none
+unpainted_is_none names (taken.Fault fault) read name e named bare = cc
+unpainted_is_none names taken.End read name e named bare = cc
+
+-- where it was taken, it is open neither here nor around
+pub opening_not_masked : {R : Type 0} (I : Reading R) (o : Taken) (m : Opening) (d e : Expander R) → Takes I d o e → opening I e o ≡ Some m
+    → is_in m.name (masked e) ≡ false
+opening_not_masked I o m d e t h =
+    let k = opening_known I e o m h in
+    unpainted_is_none (masked e) t.first k.token m.name (sym k.taken ∙ t.paints) (ap (λ x. x.value) k.same ∙ k.named) k.unpainted
+
+-- it has no mark in the list
+pub opening_not_open : {R : Type 0} (I : Reading R) (o : Taken) (m : Opening) (d e : Expander R) → Takes I d o e → opening I e o ≡ Some m
+    → is_in m.name (open_names e.list) ≡ false
+opening_not_open I o m d e t h = not_in_front m.name (open_names e.list) e.hidden (opening_not_masked I o m d e t h)

@@ -10,8 +10,8 @@ use Rattle.pp_model.specs.Emitting.{Emits}
 use Rattle.pp_model.specs.LineWords.{name_in_value, name_in, name, neither, no_name, unclosed, in_parentheses}
 use Rattle.pp_model.specs.inner.LineWords.{is_open_paren, is_close_paren}
 use Rattle.pp_model.specs.ExpansionLaws.{OneAnswer, OneOperand}
-use Rattle.pp_model.specs.declared.outcome.Outcome.{Outcome}
-use Rattle.pp_model.specs.declared.outcome.Outcome.TheVariants as outcome
+use Rattle.pp_model.specs.declared.read.Taken.{Taken}
+use Rattle.pp_model.specs.declared.read.Taken.TheVariants as taken
 use Rattle.pp_model.proofs.TakingLemmas.{line_reads_one, one_taking}
 use Rattle.pp_model.proofs.EmittingLemmas.{one_item}
 
@@ -20,34 +20,34 @@ named_value_not_open : (v : TokenValue) (n : Name) → name_in_value v ≡ Some 
 named_value_not_open (Ident text) n h k = cc
 named_value_not_open _ n h k = cc
 
-named_not_open : (o : Outcome) (n : Name) → name_in o ≡ Some n → is_open_paren o ≡ true → ⊥
-named_not_open (outcome.Token token) n h k = named_value_not_open token.value n h k
-named_not_open (outcome.Fault f) n h k = cc
-named_not_open outcome.End n h k = cc
+named_not_open : (o : Taken) (n : Name) → name_in o ≡ Some n → is_open_paren o ≡ true → ⊥
+named_not_open (taken.Token token) n h k = named_value_not_open token.token.value n h k
+named_not_open (taken.Fault f) n h k = cc
+named_not_open taken.End n h k = cc
 
 -- two takings take one outcome, so what is said of them agrees
-one_name : (v w : Option Name) (x y : Outcome) (e f g : Expander Listed) → Takes line_reading e x f → Takes line_reading e y g → name_in x ≡ v
+one_name : (v w : Option Name) (x y : Taken) (e f g : Expander Listed) → Takes line_reading e x f → Takes line_reading e y g → name_in x ≡ v
     → name_in y ≡ w → v ≡ w
 one_name v w x y e f g a b h k =
     let same = one_taking line_reading line_reads_one x y e f g a b in
     let there : name_in x ≡ w = rw same.0 k in
     sym h ∙ there
 
-one_open : (v w : Bool) (x y : Outcome) (e f g : Expander Listed) → Takes line_reading e x f → Takes line_reading e y g → is_open_paren x ≡ v
+one_open : (v w : Bool) (x y : Taken) (e f g : Expander Listed) → Takes line_reading e x f → Takes line_reading e y g → is_open_paren x ≡ v
     → is_open_paren y ≡ w → v ≡ w
 one_open v w x y e f g a b h k =
     let same = one_taking line_reading line_reads_one x y e f g a b in
     let there : is_open_paren x ≡ w = rw same.0 k in
     sym h ∙ there
 
-not_both : (n : Name) (x y : Outcome) (e f g : Expander Listed) → Takes line_reading e x f → Takes line_reading e y g → name_in x ≡ Some n
+not_both : (n : Name) (x y : Taken) (e f g : Expander Listed) → Takes line_reading e x f → Takes line_reading e y g → name_in x ≡ Some n
     → is_open_paren y ≡ true → ⊥
 not_both n x y e f g a b h k =
     let same = one_taking line_reading line_reads_one x y e f g a b in
     named_not_open x n h (rw same.0 k)
 
 -- what is taken second
-taken_second : (x y w : Outcome) (e f g h : Expander Listed) → Takes line_reading e x f → Takes line_reading e y g → Takes line_reading g w h
+taken_second : (x y w : Taken) (e f g h : Expander Listed) → Takes line_reading e x f → Takes line_reading e y g → Takes line_reading g w h
     → Takes line_reading f w h
 taken_second x y w e f g h a b c =
     let same = one_taking line_reading line_reads_one x y e f g a b in
@@ -55,7 +55,7 @@ taken_second x y w e f g h a b c =
 
 module _ (A : Answers) (single : OneAnswer A) where
   -- what is taken second, and the item after it
-  one_after : (t u v w x y : Outcome) (d e f g h i j : Expander Listed) → Takes line_reading d t e → Takes line_reading d u f
+  one_after : (t u v w x y : Taken) (d e f g h i j : Expander Listed) → Takes line_reading d t e → Takes line_reading d u f
       → Takes line_reading e v g → Takes line_reading f w h → Emits line_reading A g x i → Emits line_reading A h y j → (v ≡ w) × (x ≡ y) × (i ≡ j)
   one_after t u v w x y d e f g h i j a b p q r s =
       let second = one_taking line_reading line_reads_one v w e g h p (taken_second t u w d e f h a b q) in
@@ -63,7 +63,7 @@ module _ (A : Answers) (single : OneAnswer A) where
       let same = one_item line_reading line_reads_one A single x y g i j r s1 in
       (second.0, same.0, same.1)
 
-  one_close : (k l : Bool) (t u v w x y : Outcome) (d e f g h i j : Expander Listed) → Takes line_reading d t e → Takes line_reading d u f
+  one_close : (k l : Bool) (t u v w x y : Taken) (d e f g h i j : Expander Listed) → Takes line_reading d t e → Takes line_reading d u f
       → Takes line_reading e v g → Takes line_reading f w h → Emits line_reading A g x i → Emits line_reading A h y j → is_close_paren x ≡ k
       → is_close_paren y ≡ l → k ≡ l
   one_close k l t u v w x y d e f g h i j a b p q r s m n =

@@ -1,5 +1,5 @@
 -- A step of reading a source has one outcome, and so has reading, where the answers have.
-use Rattle.std.proofs.Common.{◌≡◌, ◌∙◌, sym, subst, Option, Some, None, ◌⊎◌, inl, inr}
+use Rattle.std.proofs.Common.{◌≡◌, ◌∙◌, ap, sym, subst, Option, Some, None, ◌⊎◌, inl, inr}
 use Rattle.std.specs.Prelude.{ℕ, Bool, Result, Ok, Err}
 use Rattle.pp_lexer.specs.declared.token.Location.{Location}
 use Rattle.pp_lexer.specs.declared.token.PreprocessorError.TheVariants.{DefineRedefined}
@@ -13,6 +13,7 @@ use Rattle.pp_model.specs.inner.Reads.{renumbered, defining}
 use Rattle.pp_model.specs.ExpansionLaws.{OneReads, OneAnswer}
 use Rattle.pp_model.specs.RunLaws.{OneStep}
 use Rattle.pp_model.specs.declared.definition.Named.{Named}
+use Rattle.pp_model.specs.Painting.{taken_of}
 use Rattle.pp_model.specs.declared.outcome.Outcome.{Outcome}
 use Rattle.pp_model.specs.declared.outcome.Outcome.TheVariants as outcome
 use Rattle.pp_model.specs.declared.step.Step.{Step}
@@ -106,12 +107,12 @@ module _ (A : Answers) (single : OneAnswer A) where
 
   -- so reading passes one outcome next
   pub source_reads_one : OneReads (source_reading A)
-  source_reads_one r x y s t (here x1 r1 s1 a) (here y1 r2 t1 b) =
-      let same = one_step r (Some x) (Some y) s t a b in
-      let given : x ≡ y = (let z = same.0 in cc) in
-      (given, same.1)
-  source_reads_one r x y s t (here x1 r1 s1 a) (later y1 r2 v t1 b k) = let bad = (one_step r (Some x) None s v a b).0 in cc
-  source_reads_one r x y s t (later x1 r1 u s1 a h) (here y1 r2 t1 b) = let bad = (one_step r None (Some y) u t a b).0 in cc
+  source_reads_one r x y s t (here o1 x1 r1 s1 a p) (here o2 y1 r2 t1 b q) =
+      let same = one_step r (Some o1) (Some o2) s t a b in
+      let given : o1 ≡ o2 = (let z = same.0 in cc) in
+      (p ∙ ap taken_of given ∙ sym q, same.1)
+  source_reads_one r x y s t (here o1 x1 r1 s1 a p) (later y1 r2 v t1 b k) = let bad = (one_step r (Some o1) None s v a b).0 in cc
+  source_reads_one r x y s t (later x1 r1 u s1 a h) (here o2 y1 r2 t1 b q) = let bad = (one_step r None (Some o2) u t a b).0 in cc
   source_reads_one r x y s t (later x1 r1 u s1 a h) (later y1 r2 v t1 b k) =
       let same = one_step r None None u v a b in
       let k1 : Reads A u y t = rw same.1 k in

@@ -40,11 +40,14 @@ use Rattle.pp_model.specs.declared.call.Reply.{Reply}
 use Rattle.pp_model.specs.declared.call.Reply.TheVariants as reply
 use Rattle.pp_model.specs.declared.outcome.Outcome.{Outcome}
 use Rattle.pp_model.specs.declared.outcome.Outcome.TheVariants as outcome
-use Rattle.pp_model.proofs.HoldingLemmas.{AreClosed, HoldsOfOutcome}
+use Rattle.pp_model.specs.declared.read.Taken.{Taken}
+use Rattle.pp_model.specs.declared.read.Taken.TheVariants as taken
+use Rattle.pp_model.specs.Painting.{item_of}
+use Rattle.pp_model.proofs.HoldingLemmas.{AreClosed, HoldsOfTaken}
 use Rattle.pp_model.proofs.KeptTokensLemmas.{ReaderKeeps, HoldsOf, item_keeps, answers_keep}
 use Rattle.pp_model.proofs.LineHoldsLemmas.{HoldsOfLexeme, HoldInItems}
 use Rattle.pp_model.proofs.RunStatesLemmas.{run_shows_no_line_name}
-use Rattle.pp_model.proofs.SourceHoldsLemmas.{DirectiveItemsHold, HoldsOfReader, source_keeps, defined_now_holds}
+use Rattle.pp_model.proofs.SourceHoldsLemmas.{HoldsOfOutcome, DirectiveItemsHold, HoldsOfReader, source_keeps, defined_now_holds}
 use Rattle.pp_model.proofs.SpelledRunLemmas.{IsNoHash, IsPlain, starts_there, gives_from}
 use Rattle.pp_model.proofs.PartsLemmas.{content_tokens_is}
 
@@ -126,6 +129,11 @@ content_good : (items : List Seen) → HoldInItems IsGood items → IfOk (conten
 content_good [] all = tt
 content_good (s ∷ rest) all = rw (content_tokens_is s rest) (content_from_good s.item (content_tokens rest) all.0 (content_good rest all.1))
 
+item_good : (x : Taken) → HoldsOfTaken IsGood x → HoldsOfOutcome IsGood (item_of x)
+item_good (taken.Token token) q = q
+item_good (taken.Fault fault) q = tt
+item_good taken.End q = tt
+
 given_good : (o : Outcome) (later : List Token) → HoldsOfOutcome IsGood o → Each IsGood later → Each IsGood (cons_option (token_of o) later)
 given_good (outcome.Token token) later q all = (q, all)
 given_good (outcome.Fault fault) later q all = all
@@ -181,9 +189,9 @@ module _ (level : ℕ) where
       (given_are_good e more rest runs (All-tail HasText (add_define name content) more texts) h)
   given_are_good e calls replies (given o e1 f more rest r1 item is runs p) texts h =
       let after = item_keeps IsGood IsLine good_closed (source_reading (answers_at level)) K keeps (answers_at level)
-      (answers_keep IsGood IsLine good_closed level) o e f item h in
+      (answers_keep IsGood IsLine good_closed level) item.taken e f item.emits h in
       subst (λ (rs : List Reply). Each IsGood (given_tokens rs)) (sym p)
-      (given_good o (given_tokens rest) after.0 (given_are_good f more rest runs (All-tail HasText next more texts) after.1))
+      (given_good o (given_tokens rest) (subst (HoldsOfOutcome IsGood) (sym item.is) (item_good item.taken after.0)) (given_are_good f more rest runs (All-tail HasText next more texts) after.1))
   given_are_good e calls replies (failed fault e1 f more r1 item p) texts h = subst (λ (rs : List Reply). Each IsGood (given_tokens rs)) (sym p) tt
 
   run_is_good : (text : List ℕ) (calls : List Call) (replies : List Reply) → IsText text → All HasText calls

@@ -8,6 +8,7 @@ use Rattle.pp_model.specs.RunChains.{AnswersIn, adds, refuses, gives, Chain, non
 use Rattle.pp_model.specs.declared.call.Reply.{Reply}
 use Rattle.pp_model.specs.declared.call.Reply.TheVariants as reply
 use Rattle.pp_model.specs.declared.outcome.Outcome.TheVariants as outcome
+use Rattle.pp_model.specs.declared.read.Taken.TheVariants as taken
 
 module _ (C : Comings) where
   -- equal calls and replies make the same run
@@ -58,5 +59,5 @@ module _ (C : Comings) where
 pub chains_are_runs : (A : Answers) → ChainsAreRuns A
 chains_are_runs A = record {
   whole = λ source calls replies f chain. chain_runs (by_rules A) (start source) f calls replies chain;
-  to_error = λ source calls replies f g fault chain item. chain_runs_to_error (by_rules A) (start source) f g calls [] replies fault chain item;
+  to_error = λ source calls replies f g fault chain item. chain_runs_to_error (by_rules A) (start source) f g calls [] replies fault chain (record { taken = taken.Fault fault; emits = item; is = refl });
 }

@@ -1,5 +1,5 @@
 -- After the end a run gives no item, whatever is added.
-use Rattle.std.proofs.Common.{◌≡◌, ◌∙◌, false, List, [], ◌∷◌, ◌++◌, refl, sym}
+use Rattle.std.proofs.Common.{◌≡◌, ◌∙◌, false, List, [], ◌∷◌, ◌++◌, refl, ap, sym}
 use Rattle.std.specs.Prelude.{All}
 use Rattle.std.proofs.lemmas.List.Elements.{All-nil, All-cons}
 use Rattle.pp_model.specs.Calls.{Answers}
@@ -11,6 +11,9 @@ use Rattle.pp_model.specs.declared.call.Reply.{Reply}
 use Rattle.pp_model.specs.declared.call.Reply.TheVariants as reply
 use Rattle.pp_model.specs.declared.outcome.Outcome.{Outcome}
 use Rattle.pp_model.specs.declared.outcome.Outcome.TheVariants as outcome
+use Rattle.pp_model.specs.declared.read.Taken.{Taken}
+use Rattle.pp_model.specs.declared.read.Taken.TheVariants as taken
+use Rattle.pp_model.specs.Painting.{item_of}
 use Rattle.pp_model.proofs.EndLemmas.{IsOver, HoldsLastEnd, holds_nothing, item_ends, item_when_over}
 
 abbrev IsNoItem : Reply → Type 0
@@ -18,6 +21,12 @@ IsNoItem answer = gives_item answer ≡ false
 
 end_is_no_item : (o : Outcome) → o ≡ outcome.End → IsNoItem (reply.Given o)
 end_is_no_item o is = rw is refl
+
+-- only the end is the end
+item_end : (x : Taken) → item_of x ≡ outcome.End → x ≡ taken.End
+item_end (taken.Token token) e = cc
+item_end (taken.Fault fault) e = cc
+item_end taken.End e = refl
 
 -- no list that ends here goes on
 goes_not_on : (former later : List Reply) (answer : Reply) → [] ≡ former ++ (answer ∷ later) → ⊥
@@ -54,7 +63,7 @@ module _ (A : Answers) where
   pub end_stays : EndStays A
   end_stays source o e f g h reached end more item =
       let last = leads_to_last_end (start source) e reached (holds_nothing (start source) refl) in
-      let over = (item_ends A outcome.End e f end last).1 refl in
+      let over = (item_ends A taken.End e f end last).1 refl in
       (item_when_over A o g h item (stays_over f g more over)).0
 
   -- where nothing is left no reply is an item
@@ -66,10 +75,10 @@ module _ (A : Answers) where
   no_item_when_over e calls replies (refused name content fault e1 later rest r1 h more p) over =
       rw p (All-cons IsNoItem (reply.Refused fault) rest refl (no_item_when_over e later rest more over))
   no_item_when_over e calls replies (given o e1 f later rest r1 item h more p) over =
-      let there = item_when_over A o e f item over in
-      rw p (All-cons IsNoItem (reply.Given o) rest (end_is_no_item o there.0) (no_item_when_over f later rest more there.1))
+      let there = item_when_over A item.taken e f item.emits over in
+      rw p (All-cons IsNoItem (reply.Given o) rest (end_is_no_item o (item.is ∙ ap item_of there.0)) (no_item_when_over f later rest more there.1))
   no_item_when_over e calls replies (failed fault e1 f later r1 item p) over =
-      let bad = (item_when_over A (outcome.Fault fault) e f item over).0 in
+      let bad = item.is ∙ ap item_of (item_when_over A item.taken e f item.emits over).0 in
       cc
 
   -- so after the end none is
@@ -85,10 +94,10 @@ module _ (A : Answers) where
   no_item_after e calls replies [] later (given o e1 f cs rest r1 item h more p) last is =
       let end : o ≡ outcome.End = cc in
       let same : rest ≡ later = cc in
-      let over = (item_ends A o e f item last).1 end in
+      let over = (item_ends A item.taken e f item.emits last).1 (item_end item.taken (sym item.is ∙ end)) in
       rw same at (no_item_when_over f cs rest more over)
   no_item_after e calls replies (first ∷ former) later (given o e1 f cs rest r1 item h more p) last is =
-      no_item_after f cs rest former later more (item_ends A o e f item last).0 cc
+      no_item_after f cs rest former later more (item_ends A item.taken e f item.emits last).0 cc
   no_item_after e calls replies [] later (failed fault e1 f cs r1 item p) last is = cc
   no_item_after e calls replies (first ∷ former) later (failed fault e1 f cs r1 item p) last is =
       absurd (goes_not_on former later (reply.Given outcome.End) cc)

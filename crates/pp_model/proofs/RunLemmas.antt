@@ -1,5 +1,5 @@
 -- Equal sources and calls have equal replies.
-use Rattle.std.proofs.Common.{◌≡◌, ◌∙◌, ℕ, List, true, false, sym}
+use Rattle.std.proofs.Common.{◌≡◌, ◌∙◌, ℕ, List, true, false, ap, sym}
 use Rattle.pp_model.specs.Calls.{Fault, Answers}
 use Rattle.pp_model.specs.Emitting.{answers_at, expansion_limit}
 use Rattle.pp_model.specs.Reading.{Expander}
@@ -11,6 +11,7 @@ use Rattle.pp_model.specs.RunLaws.{OneReplies, OneRun}
 use Rattle.pp_model.specs.declared.call.Reply.{Reply}
 use Rattle.pp_model.specs.declared.outcome.Outcome.{Outcome}
 use Rattle.pp_model.specs.declared.outcome.Outcome.TheVariants as outcome
+use Rattle.pp_model.specs.Painting.{item_of}
 use Rattle.pp_model.proofs.EmittingLemmas.{one_item}
 use Rattle.pp_model.proofs.LevelLemmas.{one_answer}
 use Rattle.pp_model.proofs.ReadsLemmas.{source_reads_one}
@@ -47,7 +48,9 @@ module _ (C : Comings) (one_next : (o w : Outcome) (e f g : Expander SourceReade
 
 -- by the definitions it has one
 one_replies : (A : Answers) → OneAnswer A → OneReplies A
-one_replies A single = one_replies_of (by_rules A) (one_item (source_reading A) (source_reads_one A single) A single)
+one_replies A single = one_replies_of (by_rules A) (λ o w e f g a b.
+    let same = one_item (source_reading A) (source_reads_one A single) A single a.taken b.taken e f g a.emits b.emits in
+    (a.is ∙ ap item_of same.0 ∙ sym b.is, same.1))
 
 pub one_replies_at : (level : ℕ) → OneReplies (answers_at level)
 one_replies_at level = one_replies (answers_at level) (one_answer level)

@@ -6,7 +6,10 @@ use Rattle.pp_model.specs.Blocks.{Block, blocks_at, innermost, is_live}
 use Rattle.pp_model.specs.SourceReader.{SourceReader}
 use Rattle.pp_model.specs.Acts.{Acted, live_directive, dead_directive, ended_by, live_act, dead_act, act}
 use Rattle.pp_model.specs.Reads.{Steps, passes, gives, defines, repeats, redefines, decides, undecided, renumbers, unnumbered, Reads, here, later}
+use Rattle.pp_model.specs.Painting.{taken_of}
 use Rattle.pp_model.specs.declared.outcome.Outcome.{Outcome}
+use Rattle.pp_model.specs.declared.read.Taken.{Taken}
+use Rattle.pp_model.specs.declared.read.Taken.TheVariants as taken
 use Rattle.pp_model.specs.declared.outcome.Outcome.TheVariants as outcome
 use Rattle.pp_model.specs.declared.sight.Sight.{Sight}
 use Rattle.pp_model.specs.declared.sight.Sight.TheVariants as sight
@@ -98,6 +101,12 @@ acts_at_end false s r h k = subst (λ z. acts false z r ≡ at_end r) (sym h) (r
 end_acts : (r : SourceReader) → IsAtEnd r → act r ≡ at_end r
 end_acts r end = acts_at_end (is_live r.items r.truths r.position) (sight_of (drop r.position r.items)) r end.nothing_left end.all_reported
 
+-- only the end is the end
+given_end : (o : Outcome) → taken_of o ≡ taken.End → o ≡ outcome.End
+given_end (outcome.Token token) e = cc
+given_end (outcome.Fault fault) e = cc
+given_end outcome.End e = refl
+
 module _ (A : Answers) where
   -- a step that gives the end stands there
   step_ends : (r t : SourceReader) → Steps A r (Some outcome.End) t → IsAtEnd r × (t ≡ r)
@@ -115,19 +124,20 @@ module _ (A : Answers) where
   step_ends r t (unnumbered word tokens fault o r1 t1 h is p q) = cc
 
   -- after the end that is read the reader stands there,
-  pub reading_ends : (o : Outcome) (r t : SourceReader) → Reads A r o t → o ≡ outcome.End → IsAtEnd t
-  reading_ends o r t (here o1 r1 t1 s) same =
-      let s1 : Steps A r (Some outcome.End) t = rw same at s in
+  pub reading_ends : (x : Taken) (r t : SourceReader) → Reads A r x t → x ≡ taken.End → IsAtEnd t
+  reading_ends x r t (here o1 x1 r1 t1 s p) same =
+      let s1 : Steps A r (Some outcome.End) t = rw (given_end o1 (sym p ∙ same)) at s in
       let there = step_ends r t s1 in
       rw there.1 there.0
-  reading_ends o r t (later o1 r1 s t1 h more) same = reading_ends o s t more same
+  reading_ends x r t (later x1 r1 s t1 h more) same = reading_ends x s t more same
 
   -- and there reading gives it again
-  pub reading_at_end : (o : Outcome) (r t : SourceReader) → IsAtEnd r → Reads A r o t → (o ≡ outcome.End) × (t ≡ r)
-  reading_at_end o r t end (here o1 r1 t1 s) =
+  pub reading_at_end : (x : Taken) (r t : SourceReader) → IsAtEnd r → Reads A r x t → (x ≡ taken.End) × (t ≡ r)
+  reading_at_end x r t end (here o1 x1 r1 t1 s p) =
       let acts = end_acts r end in
-      let same = gives_that A outcome.End r (Some o) t (ap (λ a. a.step) acts) s in
-      (cc, same.1 ∙ ap (λ a. a.after) acts)
-  reading_at_end o r t end (later o1 r1 s t1 h more) =
+      let same = gives_that A outcome.End r (Some o1) t (ap (λ a. a.step) acts) s in
+      let is : o1 ≡ outcome.End = (let z = same.0 in cc) in
+      (p ∙ ap taken_of is, same.1 ∙ ap (λ a. a.after) acts)
+  reading_at_end x r t end (later o1 r1 s t1 h more) =
       let same = (gives_that A outcome.End r None s (ap (λ a. a.step) (end_acts r end)) h).0 in
       cc

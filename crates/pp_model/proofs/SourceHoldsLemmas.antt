@@ -27,16 +27,24 @@ use Rattle.pp_model.specs.Reads.{Steps, passes, gives, defines, repeats, redefin
 use Rattle.pp_model.specs.declared.definition.Named.{Named}
 use Rattle.pp_model.specs.declared.directive.Directive.{Directive}
 use Rattle.pp_model.specs.declared.directive.Directive.TheVariants as d
+use Rattle.pp_model.specs.Painting.{taken_of}
 use Rattle.pp_model.specs.declared.outcome.Outcome.{Outcome}
+use Rattle.pp_model.specs.declared.read.Taken.{Taken}
 use Rattle.pp_model.specs.declared.outcome.Outcome.TheVariants as outcome
 use Rattle.pp_model.specs.declared.sight.Sight.{Sight}
 use Rattle.pp_model.specs.declared.sight.Sight.TheVariants as sight
 use Rattle.pp_model.specs.declared.step.Step.TheVariants as step
 use Rattle.pp_model.proofs.ActsLemmas.{HoldsOfDead, value_holds, condition_holds, elif_holds, else_line_holds, endif_holds, dead_text_holds, either_holds}
-use Rattle.pp_model.proofs.HoldingLemmas.{AreClosed, HoldInBodies, HoldsOfOutcome}
+use Rattle.pp_model.proofs.HoldingLemmas.{AreClosed, HoldInBodies, HoldsOfTaken}
 use Rattle.pp_model.proofs.KeptItemsLemmas.{step_keeps_items}
 use Rattle.pp_model.proofs.KeptTokensLemmas.{ReaderKeeps}
 use Rattle.pp_model.proofs.LineHoldsLemmas.{HoldsOfLexeme, HoldInItems, defined_holds}
+
+-- what a source gives has it
+abbrev pub HoldsOfOutcome : (Token → Type 0) → Outcome → Type 0
+HoldsOfOutcome Q (outcome.Token token) = Q token
+HoldsOfOutcome Q (outcome.Fault fault) = ⊤
+HoldsOfOutcome Q outcome.End = ⊤
 
 module _ (Q : Token → Type 0) (L : ℕ → Type 0) (closed : AreClosed Q L) where
   -- it holds of what stands at a place of the source: of a token, and of the line of a directive's word
@@ -246,13 +254,20 @@ module _ (Q : Token → Type 0) (L : ℕ → Type 0) (closed : AreClosed Q L) wh
     step_bodies o r t (unnumbered word tokens fault o1 r1 t1 e is p q) h =
         (subst (λ (x : Option Outcome). IfSome x (HoldsOfOutcome Q)) (sym p) tt, subst (λ (x : SourceReader). HoldInBodies Q x.definitions) (sym q) h.1)
 
+    unpainted_holds : (o : Outcome) → HoldsOfOutcome Q o → HoldsOfTaken Q (taken_of o)
+    unpainted_holds (outcome.Token token) q = q
+    unpainted_holds (outcome.Fault fault) q = tt
+    unpainted_holds outcome.End q = tt
+
     step_holds : (o : Option Outcome) (r t : SourceReader) → Steps A r o t → HoldsOfReader r → IfSome o (HoldsOfOutcome Q) × HoldsOfReader t
     step_holds o r t s h =
         let b = step_bodies o r t s h in
         (b.0, (subst (λ (x : List Seen). HoldInItems Q x) (sym (step_keeps_items A o r t s)) h.0, b.1))
 
-    reading_holds : (r t : SourceReader) (x : Outcome) → Reads A r x t → HoldsOfReader r → HoldsOfOutcome Q x × HoldsOfReader t
-    reading_holds r t x (here x1 r1 t1 s) h = step_holds (Some x) r t s h
+    reading_holds : (r t : SourceReader) (x : Taken) → Reads A r x t → HoldsOfReader r → HoldsOfTaken Q x × HoldsOfReader t
+    reading_holds r t x (here o x1 r1 t1 s p) h =
+        let there = step_holds (Some o) r t s h in
+        (subst (HoldsOfTaken Q) (sym p) (unpainted_holds o there.0), there.1)
     reading_holds r t x (later x1 r1 s t1 first more) h = reading_holds s t x more (step_holds None r s first h).1
 
     -- so reading a source keeps it, where the numbers that it shows are such lines

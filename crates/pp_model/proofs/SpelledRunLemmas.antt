@@ -1,5 +1,5 @@
 -- The run of a text in which only plain tokens stand, and a newline after them: it gives the tokens, and then the end.
-use Rattle.std.proofs.Common.{◌≡◌, ◌∙◌, ◌⊎◌, inl, inr, ℕ, zero, suc, pos, ◌+◌, Bool, true, false, if◌then◌else◌, List, [], ◌∷◌, ◌++◌, length, take, drop, map, refl, ap, sym, Option, Some, None, arith}
+use Rattle.std.proofs.Common.{◌≡◌, ◌∙◌, ◌⊎◌, inl, inr, ℕ, zero, suc, pos, ◌+◌, Bool, true, false, ◌||◌, if◌then◌else◌, List, [], ◌∷◌, ◌++◌, length, take, drop, map, refl, ap, sym, Option, Some, None, arith}
 use Rattle.std.specs.Prelude.{Result, Ok, Err, unwrap_or}
 use Rattle.std.specs.List.{AllByRecursion as Each, cons_option, list_all}
 use Rattle.std.proofs.lemmas.List.{drop-drop}
@@ -26,7 +26,7 @@ use Rattle.pp_model.specs.SourceReader.{SourceReader}
 use Rattle.pp_model.specs.Acts.{ended_by, live_act, dead_act, act}
 use Rattle.pp_model.specs.Reading.{Expander, opening}
 use Rattle.pp_model.specs.SpliceList.{outermost_line}
-use Rattle.pp_model.specs.Taking.{line_number, Takes, read, taken_token, read_outcome}
+use Rattle.pp_model.specs.Taking.{line_number, Fetches, Takes, read, shown_token, shown_outcome}
 use Rattle.pp_model.specs.Calls.{Answers}
 use Rattle.pp_model.specs.Emitting.{Emits, itself}
 use Rattle.pp_model.specs.Reads.{Steps, passes, gives, Reads, here, later, source_reading, shown_line}
@@ -35,6 +35,10 @@ use Rattle.pp_model.specs.RespellLaws.{calls_for, replies_with}
 use Rattle.pp_model.specs.declared.call.Reply.TheVariants as reply
 use Rattle.pp_model.specs.declared.outcome.Outcome.{Outcome}
 use Rattle.pp_model.specs.declared.outcome.Outcome.TheVariants as outcome
+use Rattle.pp_model.specs.declared.read.Read.{Read}
+use Rattle.pp_model.specs.declared.read.Taken.{Taken}
+use Rattle.pp_model.specs.declared.read.Taken.TheVariants as taken
+use Rattle.pp_model.specs.Painting.{unpainted, is_one_of, taken_among}
 use Rattle.pp_model.specs.declared.sight.Sight.{Sight}
 use Rattle.pp_model.specs.declared.sight.Sight.TheVariants as sight
 use Rattle.pp_model.specs.declared.step.Step.TheVariants as step
@@ -93,9 +97,19 @@ starts_there items all =
 abbrev pub IsPlain : TokenValue → Type 0
 IsPlain value = IsSpellable value × (is_identifier line_name value ≡ false)
 
+or_none : (b : Bool) (value : TokenValue) → (b || is_one_of [] value) ≡ b
+or_none true value = refl
+or_none false (Ident name) = refl
+or_none false (Integer i) = refl
+or_none false (Float f) = refl
+or_none false (Punct p) = refl
+or_none false (Version v) = refl
+or_none false (Extension x) = refl
+or_none false (Pragma p) = refl
+
 module _ (A : Answers) (items : List Seen) (all : Each IsNoHash items) where
   opens_nothing : (position : ℕ) (value : TokenValue) (location : Location)
-      → opening (source_reading A) (state_at items position) (outcome.Token (record { value = value; location = location })) ≡ None
+      → opening (source_reading A) (state_at items position) (taken.Token (unpainted (record { value = value; location = location }))) ≡ None
   opens_nothing position (Ident name) location = refl
   opens_nothing position (Integer i) location = refl
   opens_nothing position (Float f) location = refl
@@ -114,55 +128,65 @@ module _ (A : Answers) (items : List Seen) (all : Each IsNoHash items) where
       ap (λ live. if live then live_act (sight_of (drop position items)) r else dead_act (sight_of (drop position items)) r) (live_there position)
       ∙ ap (λ s. live_act s r) e
 
-  -- what comes first of this text is taken
-  taken_there : (position : ℕ) (x o : Outcome) (after : ℕ) → Reads A (reader_at items position) x (reader_at items after)
-      → o ≡ read_outcome (shown_line (reader_at items after)) x → Takes (source_reading A) (state_at items position) o (state_at items after)
-  taken_there position x o after r is = read x o (reader_at items after) (state_at items position) (state_at items after) refl refl r is refl
+  -- what comes first of this text is taken, unpainted, where no name is open
+  painted_none : (x : Taken) → taken_among [] x ≡ x
+  painted_none (taken.Token token) = ap (λ b. taken.Token (record token { painted = b })) (or_none token.painted token.token.value)
+  painted_none (taken.Fault fault) = refl
+  painted_none taken.End = refl
+
+  taken_there : (position : ℕ) (x o : Taken) (after : ℕ) → Reads A (reader_at items position) x (reader_at items after)
+      → o ≡ shown_outcome (shown_line (reader_at items after)) x → Takes (source_reading A) (state_at items position) o (state_at items after)
+  taken_there position x o after r is = record {
+    first = o;
+    fetches = read x o (reader_at items after) (state_at items position) (state_at items after) refl refl r is refl;
+    paints = sym (painted_none o);
+  }
 
   taken_plain : (shown : ℕ → Option ℕ) (value : TokenValue) (location : Location) → is_identifier line_name value ≡ false
-      → outcome.Token (record { value = value; location = location }) ≡ taken_token shown [] (record { value = value; location = location })
+      → taken.Token (unpainted (record { value = value; location = location })) ≡ shown_token shown [] (unpainted (record { value = value; location = location }))
   taken_plain shown value location e =
-      ap (λ b. if b then line_number location (shown (unwrap_or (outermost_line []) location.line)) else outcome.Token
-      (record { value = value; location = location })) (sym e)
+      ap (λ b. if b then line_number location (shown (unwrap_or (outermost_line []) location.line)) else taken.Token
+      (unpainted (record { value = value; location = location }))) (sym e)
 
   -- a token gives itself
   gives_token : (position : ℕ) (value : TokenValue) (location : Location)
       → sight_of (drop position items) ≡ sight.Token (record { value = value; location = location }) → is_identifier line_name value ≡ false
-      → Emits (source_reading A) A (state_at items position) (outcome.Token (record { value = value; location = location })) (state_at items (position + 1))
+      → Emits (source_reading A) A (state_at items position) (taken.Token (unpainted (record { value = value; location = location }))) (state_at items (position + 1))
   gives_token position value location e plain =
       let token : Token = record { value = value; location = location } in
       let a = act_there position (sight.Token token) e in
       let r = reader_at items position in
       let s : Steps A r (Some (outcome.Token token)) (reader_at items (position + 1)) =
       gives (outcome.Token token) (Some (outcome.Token token)) r (reader_at items (position + 1)) (ap (λ x. x.step) a) refl (sym (ap (λ x. x.after) a)) in
-      itself (outcome.Token token) (state_at items position) (state_at items (position + 1))
-      (taken_there position (outcome.Token token) (outcome.Token token) (position + 1)
-      (here (outcome.Token token) r (reader_at items (position + 1)) s) (taken_plain (shown_line (reader_at items (position + 1))) value location plain))
+      itself (taken.Token (unpainted token)) (state_at items position) (state_at items (position + 1))
+      (taken_there position (taken.Token (unpainted token)) (taken.Token (unpainted token)) (position + 1)
+      (here (outcome.Token token) (taken.Token (unpainted token)) r (reader_at items (position + 1)) s refl)
+      (taken_plain (shown_line (reader_at items (position + 1))) value location plain))
       (opens_nothing (position + 1) value location)
 
   ended_there : innermost (take 0 (blocks_at items (length items))) ≡ None
   ended_there = ap (λ (blocks : List Block). innermost (take 0 blocks)) (no_blocks items (length items) all)
 
-  reads_end : (position : ℕ) → drop position items ≡ [] → Reads A (reader_at items position) outcome.End (reader_at items position)
+  reads_end : (position : ℕ) → drop position items ≡ [] → Reads A (reader_at items position) taken.End (reader_at items position)
   reads_end position e =
       let r = reader_at items position in
       let a : act r ≡ record { step = step.Given outcome.End; after = r } = act_there position sight.End (ap sight_of e)
       ∙ ap (λ block. ended_by block r) ended_there in
-      here outcome.End r r (gives outcome.End (Some outcome.End) r r (ap (λ x. x.step) a) refl (sym (ap (λ x. x.after) a)))
+      here outcome.End taken.End r r (gives outcome.End (Some outcome.End) r r (ap (λ x. x.step) a) refl (sym (ap (λ x. x.after) a))) refl
 
   -- after the last token a newline may stand
   reads_newline : (position : ℕ) → sight_of (drop position items) ≡ sight.NewLine → drop (position + 1) items ≡ []
-      → Reads A (reader_at items position) outcome.End (reader_at items (position + 1))
+      → Reads A (reader_at items position) taken.End (reader_at items (position + 1))
   reads_newline position e last =
       let r = reader_at items position in
       let a = act_there position sight.NewLine e in
-      later outcome.End r (reader_at items (position + 1)) (reader_at items (position + 1))
+      later taken.End r (reader_at items (position + 1)) (reader_at items (position + 1))
       (passes None r (reader_at items (position + 1)) (ap (λ x. x.step) a) refl (sym (ap (λ x. x.after) a))) (reads_end (position + 1) last)
 
-  gives_end : (position after : ℕ) → Reads A (reader_at items position) outcome.End (reader_at items after)
-      → Emits (source_reading A) A (state_at items position) outcome.End (state_at items after)
-  gives_end position after r = itself outcome.End (state_at items position) (state_at items after)
-      (taken_there position outcome.End outcome.End after r refl) refl
+  gives_end : (position after : ℕ) → Reads A (reader_at items position) taken.End (reader_at items after)
+      → Emits (source_reading A) A (state_at items position) taken.End (state_at items after)
+  gives_end position after r = itself taken.End (state_at items position) (state_at items after)
+      (taken_there position taken.End taken.End after r refl) refl
 
   -- from a position on the run gives these values
   pub record GivesFrom (position : ℕ) (values : List TokenValue) : Type 0 where
@@ -170,11 +194,11 @@ module _ (A : Answers) (items : List Seen) (all : Each IsNoHash items) where
     pub same : values_of tokens ≡ values
     pub run : Runs (by_rules A) (state_at items position) (calls_for tokens) (replies_with tokens)
 
-  ends_run : (position after : ℕ) → Reads A (reader_at items position) outcome.End (reader_at items after) → GivesFrom position []
+  ends_run : (position after : ℕ) → Reads A (reader_at items position) taken.End (reader_at items after) → GivesFrom position []
   ends_run position after r = record {
     tokens = [];
     same = refl;
-    run = given outcome.End (state_at items position) (state_at items after) [] [] (reply.Given outcome.End ∷ []) (gives_end position after r) refl
+    run = given outcome.End (state_at items position) (state_at items after) [] [] (reply.Given outcome.End ∷ []) (record { taken = taken.End; emits = gives_end position after r; is = refl }) refl
         (done (state_at items after) [] refl) refl;
   }
 
@@ -236,7 +260,7 @@ module _ (A : Answers) (items : List Seen) (all : Each IsNoHash items) where
         tokens = token ∷ g.tokens;
         same = ap (λ later. value ∷ later) g.same;
         run = given (outcome.Token token) (state_at items position) (state_at items (position + 1)) (calls_for g.tokens) (replies_with g.tokens)
-            (replies_with (token ∷ g.tokens)) (gives_token position value location e plain) refl g.run refl;
+            (replies_with (token ∷ g.tokens)) (record { taken = taken.Token (unpainted token); emits = gives_token position value location e plain; is = refl }) refl g.run refl;
       }
 
   -- such a text gives its values from each position on

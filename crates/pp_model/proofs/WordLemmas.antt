@@ -10,7 +10,7 @@ use Rattle.pp_model.specs.LineWords.{Words, word_before, Operand}
 use Rattle.pp_model.specs.inner.LineWords.{is_open_paren}
 use Rattle.pp_model.specs.LineWords as line
 use Rattle.pp_model.specs.inner.WordsRead.{unclosed, closed, Parenthesized, no_name, named}
-use Rattle.pp_model.specs.declared.outcome.Outcome.{Outcome}
+use Rattle.pp_model.specs.declared.read.Taken.{Taken}
 use Rattle.pp_model.specs.declared.word.LineKind.{LineKind}
 use Rattle.pp_model.specs.declared.word.Word.{Word}
 
@@ -26,7 +26,7 @@ pub after_words-end : (words : List Word) (ending : Option Fault)
 after_words-end words ending = ap (λ (ws : List Word). let r : Words = record { words = ws; ending = ending } in r) (append-nil words)
 
 -- an operand after its `(`
-pub operand_parenthesized : (kind : LineKind) (directive : Location) (A : Answers) (o : Outcome) (e f g : Expander Listed) (r : Result Bool Fault)
+pub operand_parenthesized : (kind : LineKind) (directive : Location) (A : Answers) (o : Taken) (e f g : Expander Listed) (r : Result Bool Fault)
     → Takes line_reading e o f → is_open_paren o ≡ true → Parenthesized kind directive A f r g → Operand kind directive A e r g
 operand_parenthesized kind directive A o e f g r takes paren (no_name x _ _ _ taken is w) = line.no_name o x e f g r takes paren taken is w
 operand_parenthesized kind directive A o e f h r takes paren (named x n _ g _ _ taken is (unclosed y _ _ _ emits still w)) =

@@ -4,7 +4,6 @@ use Rattle.pp_lexer.specs.declared.token.Location.{Location}
 use Rattle.pp_lexer.specs.declared.token.PreprocessorError.{PreprocessorError}
 use Rattle.pp_lexer.specs.declared.token.PreprocessorError.TheVariants.{IntegerOverflow, UnexpectedEndOfInput, TooFewDefineArguments, TooManyDefineArguments}
 use Rattle.pp_lexer.specs.declared.token.Punct.TheVariants.{LeftParen, RightParen, Comma}
-use Rattle.pp_lexer.specs.declared.token.Token.{Token}
 use Rattle.pp_lexer.specs.declared.token.TokenValue.{TokenValue}
 use Rattle.pp_lexer.specs.declared.token.TokenValue.TheVariants.{Punct}
 use Rattle.pp_expression.specs.Answers.{◌>>=◌}
@@ -12,8 +11,9 @@ use Rattle.pp_model.specs.Names.{Name}
 use Rattle.pp_model.specs.Definitions.{Definition, Definitions}
 use Rattle.pp_model.specs.Reading.{Reading, Expander, masked}
 use Rattle.pp_model.specs.Taking.{Takes}
-use Rattle.pp_model.specs.declared.outcome.Outcome.{Outcome}
-use Rattle.pp_model.specs.declared.outcome.Outcome.TheVariants as outcome
+use Rattle.pp_model.specs.declared.read.Read.{Read}
+use Rattle.pp_model.specs.declared.read.Taken.{Taken}
+use Rattle.pp_model.specs.declared.read.Taken.TheVariants as taken
 
 abbrev pub Fault : Type 0
 Fault = PreprocessorError × Location
@@ -48,47 +48,47 @@ nesting n value =
 
 -- the tokens between the parentheses of a call, and where the closing one stands
 pub record Gathered : Type 0 where
-  pub tokens : List Token
+  pub tokens : List Read
   pub closing : Location
 
-abbrev pub before : Token → Result Gathered Fault → Result Gathered Fault
-before token rest = rest >>= λ gathered. Ok (record gathered { tokens = token ∷ gathered.tokens })
+abbrev pub before : Read → Result Gathered Fault → Result Gathered Fault
+before read rest = rest >>= λ gathered. Ok (record gathered { tokens = read ∷ gathered.tokens })
 
 -- The tokens that are taken up to the matching `)`, or the fault that is met before it; `last` is where the last token
 -- stands that was taken.
 pub data Gathers {R : Type 0} (I : Reading R) : ℕ → Location → Expander R → Result Gathered Fault → Expander R → Type 0 where
-  closed : (n : ℕ) (last : Location) (token : Token) (e f : Expander R) (g : Result Gathered Fault) → Takes I e (outcome.Token token) f → nesting n token.value ≡ closes → g ≡ Ok (record { tokens = []; closing = token.location }) → Gathers I n last e g f
-  inside : (n k : ℕ) (last : Location) (token : Token) (e f h : Expander R) (rest g : Result Gathered Fault) → Takes I e (outcome.Token token) f → nesting n token.value ≡ within k → Gathers I k token.location f rest h → g ≡ before token rest → Gathers I n last e g h
-  overfull : (n : ℕ) (last : Location) (token : Token) (e f : Expander R) (g : Result Gathered Fault) → Takes I e (outcome.Token token) f → nesting n token.value ≡ too_many → g ≡ Err (IntegerOverflow, token.location) → Gathers I n last e g f
-  ended : (n : ℕ) (last : Location) (e f : Expander R) (g : Result Gathered Fault) → Takes I e outcome.End f → g ≡ Err (UnexpectedEndOfInput, last) → Gathers I n last e g f
-  failed : (n : ℕ) (last : Location) (fault : Fault) (e f : Expander R) (g : Result Gathered Fault) → Takes I e (outcome.Fault fault) f → g ≡ Err fault → Gathers I n last e g f
+  closed : (n : ℕ) (last : Location) (read : Read) (e f : Expander R) (g : Result Gathered Fault) → Takes I e (taken.Token read) f → nesting n read.token.value ≡ closes → g ≡ Ok (record { tokens = []; closing = read.token.location }) → Gathers I n last e g f
+  inside : (n k : ℕ) (last : Location) (read : Read) (e f h : Expander R) (rest g : Result Gathered Fault) → Takes I e (taken.Token read) f → nesting n read.token.value ≡ within k → Gathers I k read.token.location f rest h → g ≡ before read rest → Gathers I n last e g h
+  overfull : (n : ℕ) (last : Location) (read : Read) (e f : Expander R) (g : Result Gathered Fault) → Takes I e (taken.Token read) f → nesting n read.token.value ≡ too_many → g ≡ Err (IntegerOverflow, read.token.location) → Gathers I n last e g f
+  ended : (n : ℕ) (last : Location) (e f : Expander R) (g : Result Gathered Fault) → Takes I e taken.End f → g ≡ Err (UnexpectedEndOfInput, last) → Gathers I n last e g f
+  failed : (n : ℕ) (last : Location) (fault : Fault) (e f : Expander R) (g : Result Gathered Fault) → Takes I e (taken.Fault fault) f → g ≡ Err fault → Gathers I n last e g f
 
 -- tokens cut at the commas that stand outside inner parentheses: the first piece, and the others
 pub record Pieces : Type 0 where
-  pub first : List Token
-  pub others : List (List Token)
+  pub first : List Read
+  pub others : List (List Read)
 
 abbrev pub nesting_after : ℕ → TokenValue → ℕ
 nesting_after n value = if is_left_paren value then n + 1 else if is_right_paren value then n - 1 else n
 
-abbrev pub cut_before : Bool → Token → Pieces → Pieces
-cut_before true token pieces = record { first = []; others = pieces.first ∷ pieces.others }
-cut_before false token pieces = record pieces { first = token ∷ pieces.first }
+abbrev pub cut_before : Bool → Read → Pieces → Pieces
+cut_before true read pieces = record { first = []; others = pieces.first ∷ pieces.others }
+cut_before false read pieces = record pieces { first = read ∷ pieces.first }
 
-abbrev pub pieces : ℕ → List Token → Pieces
+abbrev pub pieces : ℕ → List Read → Pieces
 pieces n [] = record { first = []; others = [] }
-pieces n (token ∷ tokens) = cut_before (is_comma token.value && (n == 0)) token (pieces (nesting_after n token.value) tokens)
+pieces n (read ∷ tokens) = cut_before (is_comma read.token.value && (n == 0)) read (pieces (nesting_after n read.token.value) tokens)
 
 -- a call's arguments: `()` has one, which is empty
-abbrev pub arguments_of : List Token → List (List Token)
+abbrev pub arguments_of : List Read → List (List Read)
 arguments_of tokens = (pieces 0 tokens).first ∷ (pieces 0 tokens).others
 
-abbrev pub is_one_empty : List (List Token) → Bool
+abbrev pub is_one_empty : List (List Read) → Bool
 is_one_empty ([] ∷ []) = true
 is_one_empty _ = false
 
 -- what is wrong with the number of arguments; one empty argument fits no parameter too
-abbrev pub misfit : List Name → List (List Token) → Option PreprocessorError
+abbrev pub misfit : List Name → List (List Read) → Option PreprocessorError
 misfit parameters arguments =
     if (length parameters == 0) && is_one_empty arguments then None
     else if nat_lt (length parameters) (length arguments) then Some TooManyDefineArguments
@@ -98,37 +98,37 @@ misfit parameters arguments =
 -- a call whose `)` has been taken: where its `(` stands, its arguments, and what is defined and open then
 pub record Site : Type 0 where
   pub paren : Location
-  pub arguments : List (List Token)
+  pub arguments : List (List Read)
   pub visible : Definitions
   pub open_around : List Name
 
-abbrev pub site_of : {R : Type 0} → Reading R → Expander R → Location → List Token → Site
+abbrev pub site_of : {R : Type 0} → Reading R → Expander R → Location → List Read → Site
 site_of I expander paren tokens = record { paren = paren; arguments = arguments_of tokens; visible = I.visible expander.reader; open_around = masked expander }
 
 -- what a call of a definition may come to: its arguments, each expanded alone, or a fault
 abbrev pub Answers : Type 1
-Answers = Definition → Site → Result (List (List Token)) Fault → Type 0
+Answers = Definition → Site → Result (List (List Read)) Fault → Type 0
 
 -- what stands after the name of a function-like macro: no call, but what was found there; or a call, with the line of its
 -- `)`; or the fault of a call
 pub data Called : Type 0 where
-  no_call : Outcome → Called
+  no_call : Taken → Called
   refused : Fault → Called
-  fits : List (List Token) → ℕ → Called
+  fits : List (List Read) → ℕ → Called
 
--- where the outcome is a `(`, its place
-abbrev pub paren_at : Outcome → Option Location
-paren_at (outcome.Token token) = if is_left_paren token.value then Some token.location else None
+-- where a `(` was taken, its place
+abbrev pub paren_at : Taken → Option Location
+paren_at (taken.Token read) = if is_left_paren read.token.value then Some read.token.location else None
 paren_at _ = None
 
-abbrev pub called_by : ℕ → Result (List (List Token)) Fault → Called
+abbrev pub called_by : ℕ → Result (List (List Read)) Fault → Called
 called_by line (Ok arguments) = fits arguments line
 called_by line (Err fault) = refused fault
 
 pub data Calls {R : Type 0} (I : Reading R) (A : Answers) (definition : Definition) : Expander R → Called → Expander R → Type 0 where
   -- no `(` is found
-  alone : (o : Outcome) (e f : Expander R) (c : Called) → Takes I e o f → paren_at o ≡ None → c ≡ no_call o → Calls I A definition e c f
+  alone : (o : Taken) (e f : Expander R) (c : Called) → Takes I e o f → paren_at o ≡ None → c ≡ no_call o → Calls I A definition e c f
   -- the arguments do not end
-  broken : (o : Outcome) (paren : Location) (fault : Fault) (e f g : Expander R) (c : Called) → Takes I e o f → paren_at o ≡ Some paren → Gathers I 0 paren f (Err fault) g → c ≡ refused fault → Calls I A definition e c g
+  broken : (o : Taken) (paren : Location) (fault : Fault) (e f g : Expander R) (c : Called) → Takes I e o f → paren_at o ≡ Some paren → Gathers I 0 paren f (Err fault) g → c ≡ refused fault → Calls I A definition e c g
   -- the arguments come to lists of tokens, or to a fault
-  whole : (o : Outcome) (paren : Location) (gathered : Gathered) (answer : Result (List (List Token)) Fault) (e f g : Expander R) (c : Called) → Takes I e o f → paren_at o ≡ Some paren → Gathers I 0 paren f (Ok gathered) g → A definition (site_of I g paren gathered.tokens) answer → c ≡ called_by gathered.closing.line answer → Calls I A definition e c g
+  whole : (o : Taken) (paren : Location) (gathered : Gathered) (answer : Result (List (List Read)) Fault) (e f g : Expander R) (c : Called) → Takes I e o f → paren_at o ≡ Some paren → Gathers I 0 paren f (Ok gathered) g → A definition (site_of I g paren gathered.tokens) answer → c ≡ called_by gathered.closing.line answer → Calls I A definition e c g

@@ -2,7 +2,6 @@
 use Rattle.std.specs.Prelude.{◌≡◌, ℕ, zero, suc, true, false, List, [], ◌∷◌, Option, Some, None, unwrap_or, Result, Ok, Err}
 use Rattle.pp_lexer.specs.declared.token.PreprocessorError.{PreprocessorError}
 use Rattle.pp_lexer.specs.declared.token.PreprocessorError.TheVariants.{RecursionLimitReached}
-use Rattle.pp_lexer.specs.declared.token.Token.{Token}
 use Rattle.pp_expression.specs.Answers.{◌>>=◌}
 use Rattle.pp_model.specs.Names.{Name}
 use Rattle.pp_model.specs.Definitions.{Definitions}
@@ -10,47 +9,48 @@ use Rattle.pp_model.specs.SpliceList.{spliced}
 use Rattle.pp_model.specs.Reading.{Reading, Expander, Opening, opening, argument_reading, reading_of}
 use Rattle.pp_model.specs.Taking.{Takes}
 use Rattle.pp_model.specs.Calls.{Fault, Answers, Site, misfit, no_call, refused, fits, Calls}
-use Rattle.pp_model.specs.declared.outcome.Outcome.{Outcome}
-use Rattle.pp_model.specs.declared.outcome.Outcome.TheVariants as outcome
+use Rattle.pp_model.specs.declared.read.Read.{Read}
+use Rattle.pp_model.specs.declared.read.Taken.{Taken}
+use Rattle.pp_model.specs.declared.read.Taken.TheVariants as taken
 
 -- the macro's replacement before the list
-abbrev pub opened : {R : Type 0} → Opening → ℕ → List (List Token) → Expander R → Expander R
+abbrev pub opened : {R : Type 0} → Opening → ℕ → List (List Read) → Expander R → Expander R
 opened m line arguments expander = record expander { list = spliced m.name m.definition line arguments expander.list }
 
 -- The next item: a token that opens no macro, an error or the end. `A` says what calls come to.
-pub data Emits {R : Type 0} (I : Reading R) (A : Answers) : Expander R → Outcome → Expander R → Type 0 where
+pub data Emits {R : Type 0} (I : Reading R) (A : Answers) : Expander R → Taken → Expander R → Type 0 where
   -- what opens no macro is the item
-  itself : (o : Outcome) (e f : Expander R) → Takes I e o f → opening I f o ≡ None → Emits I A e o f
+  itself : (o : Taken) (e f : Expander R) → Takes I e o f → opening I f o ≡ None → Emits I A e o f
   -- an object-like macro is replaced
-  object : (x o : Outcome) (m : Opening) (e f h : Expander R) → Takes I e x f → opening I f x ≡ Some m → m.definition.function_like ≡ false → Emits I A (opened m m.token.location.line [] f) o h → Emits I A e o h
+  object : (x o : Taken) (m : Opening) (e f h : Expander R) → Takes I e x f → opening I f x ≡ Some m → m.definition.function_like ≡ false → Emits I A (opened m m.token.location.line [] f) o h → Emits I A e o h
   -- the name of a function-like macro without a call is the item; what was found after it comes next
-  name_alone : (x y o : Outcome) (m : Opening) (e f g h : Expander R) → Takes I e x f → opening I f x ≡ Some m → m.definition.function_like ≡ true → Calls I A m.definition f (no_call y) g → o ≡ x → h ≡ record g { held = Some y } → Emits I A e o h
+  name_alone : (x y o : Taken) (m : Opening) (e f g h : Expander R) → Takes I e x f → opening I f x ≡ Some m → m.definition.function_like ≡ true → Calls I A m.definition f (no_call y) g → o ≡ x → h ≡ record g { held = Some y } → Emits I A e o h
   -- the fault of a call is the item
-  call_refused : (x o : Outcome) (fault : Fault) (m : Opening) (e f g : Expander R) → Takes I e x f → opening I f x ≡ Some m → m.definition.function_like ≡ true → Calls I A m.definition f (refused fault) g → o ≡ outcome.Fault fault → Emits I A e o g
+  call_refused : (x o : Taken) (fault : Fault) (m : Opening) (e f g : Expander R) → Takes I e x f → opening I f x ≡ Some m → m.definition.function_like ≡ true → Calls I A m.definition f (refused fault) g → o ≡ taken.Fault fault → Emits I A e o g
   -- a call is replaced
-  call : (x o : Outcome) (arguments : List (List Token)) (line : ℕ) (m : Opening) (e f g h : Expander R) → Takes I e x f → opening I f x ≡ Some m → m.definition.function_like ≡ true → Calls I A m.definition f (fits arguments line) g → Emits I A (opened m line arguments g) o h → Emits I A e o h
+  call : (x o : Taken) (arguments : List (List Read)) (line : ℕ) (m : Opening) (e f g h : Expander R) → Takes I e x f → opening I f x ≡ Some m → m.definition.function_like ≡ true → Calls I A m.definition f (fits arguments line) g → Emits I A (opened m line arguments g) o h → Emits I A e o h
 
 -- a list with this before it, where there is one
 abbrev pub first_before : {A : Type 0} → A → Result (List A) Fault → Result (List A) Fault
 first_before first rest = rest >>= λ others. Ok (first ∷ others)
 
 -- the items up to the end, or the first error
-pub data Collects {R : Type 0} (I : Reading R) (A : Answers) : Expander R → Result (List Token) Fault → Type 0 where
-  done : (e f : Expander R) (out : Result (List Token) Fault) → Emits I A e outcome.End f → out ≡ Ok [] → Collects I A e out
-  failed : (fault : Fault) (e f : Expander R) (out : Result (List Token) Fault) → Emits I A e (outcome.Fault fault) f → out ≡ Err fault → Collects I A e out
-  item : (token : Token) (rest out : Result (List Token) Fault) (e f : Expander R) → Emits I A e (outcome.Token token) f → Collects I A f rest → out ≡ first_before token rest → Collects I A e out
+pub data Collects {R : Type 0} (I : Reading R) (A : Answers) : Expander R → Result (List Read) Fault → Type 0 where
+  done : (e f : Expander R) (out : Result (List Read) Fault) → Emits I A e taken.End f → out ≡ Ok [] → Collects I A e out
+  failed : (fault : Fault) (e f : Expander R) (out : Result (List Read) Fault) → Emits I A e (taken.Fault fault) f → out ≡ Err fault → Collects I A e out
+  item : (read : Read) (rest out : Result (List Read) Fault) (e f : Expander R) → Emits I A e (taken.Token read) f → Collects I A f rest → out ≡ first_before read rest → Collects I A e out
 
 -- what a list of tokens comes to alone, where these definitions are visible and these names are open around
 abbrev pub Alones : Type 1
-Alones = List Token → Definitions → List Name → Result (List Token) Fault → Type 0
+Alones = List Read → Definitions → List Name → Result (List Read) Fault → Type 0
 
 -- the arguments from left to right, each alone, or the first fault
-pub data Each (deeper : Alones) (visible : Definitions) (hidden : List Name) : List (List Token) → Result (List (List Token)) Fault → Type 0 where
-  none : (out : Result (List (List Token)) Fault) → out ≡ Ok [] → Each deeper visible hidden [] out
-  first_failed : (argument : List Token) (arguments : List (List Token)) (fault : Fault) (out : Result (List (List Token)) Fault) → deeper argument visible hidden (Err fault) → out ≡ Err fault → Each deeper visible hidden (argument ∷ arguments) out
-  more : (argument expanded : List Token) (arguments : List (List Token)) (rest out : Result (List (List Token)) Fault) → deeper argument visible hidden (Ok expanded) → Each deeper visible hidden arguments rest → out ≡ first_before expanded rest → Each deeper visible hidden (argument ∷ arguments) out
+pub data Each (deeper : Alones) (visible : Definitions) (hidden : List Name) : List (List Read) → Result (List (List Read)) Fault → Type 0 where
+  none : (out : Result (List (List Read)) Fault) → out ≡ Ok [] → Each deeper visible hidden [] out
+  first_failed : (argument : List Read) (arguments : List (List Read)) (fault : Fault) (out : Result (List (List Read)) Fault) → deeper argument visible hidden (Err fault) → out ≡ Err fault → Each deeper visible hidden (argument ∷ arguments) out
+  more : (argument expanded : List Read) (arguments : List (List Read)) (rest out : Result (List (List Read)) Fault) → deeper argument visible hidden (Ok expanded) → Each deeper visible hidden arguments rest → out ≡ first_before expanded rest → Each deeper visible hidden (argument ∷ arguments) out
 
-abbrev pub EachOrRefused : Alones → Option PreprocessorError → Site → Result (List (List Token)) Fault → Type 0
+abbrev pub EachOrRefused : Alones → Option PreprocessorError → Site → Result (List (List Read)) Fault → Type 0
 EachOrRefused deeper (Some error) site out = out ≡ Err (error, site.paren)
 EachOrRefused deeper None site out = Each deeper site.visible site.open_around site.arguments out
 

@@ -1,7 +1,6 @@
 -- Laws of expansion: each step of it has one outcome, and leaves one state.
 use Rattle.std.specs.Prelude.{◌≡◌, ℕ, List, Bool, Result}
 use Rattle.pp_lexer.specs.declared.token.Location.{Location}
-use Rattle.pp_lexer.specs.declared.token.Token.{Token}
 use Rattle.pp_model.specs.Names.{Name}
 use Rattle.pp_model.specs.Definitions.{Definition, Definitions}
 use Rattle.pp_model.specs.Reading.{Reading, Expander, Listed}
@@ -9,16 +8,17 @@ use Rattle.pp_model.specs.Taking.{Takes}
 use Rattle.pp_model.specs.Calls.{Fault, Gathered, Gathers, Answers, Site, Called, Calls}
 use Rattle.pp_model.specs.Emitting.{Emits, Collects, Alones, Each}
 use Rattle.pp_model.specs.LineWords.{Operand, Words, LineWords}
-use Rattle.pp_model.specs.declared.outcome.Outcome.{Outcome}
+use Rattle.pp_model.specs.declared.read.Read.{Read}
+use Rattle.pp_model.specs.declared.read.Taken.{Taken}
 use Rattle.pp_model.specs.declared.word.LineKind.{LineKind}
 
 -- A reader passes one outcome, and one reader is after it.
 abbrev pub OneReads : {R : Type 0} → Reading R → Type 0
-OneReads {R} I = (r : R) (x y : Outcome) (s t : R) → I.Reads r x s → I.Reads r y t → (x ≡ y) × (s ≡ t)
+OneReads {R} I = (r : R) (x y : Taken) (s t : R) → I.Reads r x s → I.Reads r y t → (x ≡ y) × (s ≡ t)
 
 -- A taking has one outcome.
 abbrev pub OneTaking : {R : Type 0} → Reading R → Type 0
-OneTaking {R} I = (x y : Outcome) (e f g : Expander R) → Takes I e x f → Takes I e y g → (x ≡ y) × (f ≡ g)
+OneTaking {R} I = (x y : Taken) (e f g : Expander R) → Takes I e x f → Takes I e y g → (x ≡ y) × (f ≡ g)
 
 -- The search for the end of a call gathers one list of tokens, or meets one fault.
 abbrev pub OneGathering : {R : Type 0} → Reading R → Type 0
@@ -26,7 +26,7 @@ OneGathering {R} I = (n : ℕ) (last : Location) (x y : Result Gathered Fault) (
 
 -- A call at a site comes to one list of arguments, or to one fault.
 abbrev pub OneAnswer : Answers → Type 0
-OneAnswer A = (definition : Definition) (site : Site) (x y : Result (List (List Token)) Fault) → A definition site x → A definition site y → x ≡ y
+OneAnswer A = (definition : Definition) (site : Site) (x y : Result (List (List Read)) Fault) → A definition site x → A definition site y → x ≡ y
 
 -- After the name of a function-like macro stands one call, or none.
 abbrev pub OneCall : {R : Type 0} → Reading R → Answers → Type 0
@@ -34,19 +34,19 @@ OneCall {R} I A = (definition : Definition) (x y : Called) (e f g : Expander R) 
 
 -- An expander has one next item.
 abbrev pub OneItem : {R : Type 0} → Reading R → Answers → Type 0
-OneItem {R} I A = (x y : Outcome) (e f g : Expander R) → Emits I A e x f → Emits I A e y g → (x ≡ y) × (f ≡ g)
+OneItem {R} I A = (x y : Taken) (e f g : Expander R) → Emits I A e x f → Emits I A e y g → (x ≡ y) × (f ≡ g)
 
 -- An expander has one list of items, or one first fault.
 abbrev pub OneList : {R : Type 0} → Reading R → Answers → Type 0
-OneList {R} I A = (x y : Result (List Token) Fault) (e : Expander R) → Collects I A e x → Collects I A e y → x ≡ y
+OneList {R} I A = (x y : Result (List Read) Fault) (e : Expander R) → Collects I A e x → Collects I A e y → x ≡ y
 
 -- An argument alone comes to one list of tokens, or to one fault.
 abbrev pub OneArgument : Alones → Type 0
-OneArgument deeper = (tokens : List Token) (visible : Definitions) (hidden : List Name) (x y : Result (List Token) Fault) → deeper tokens visible hidden x → deeper tokens visible hidden y → x ≡ y
+OneArgument deeper = (tokens : List Read) (visible : Definitions) (hidden : List Name) (x y : Result (List Read) Fault) → deeper tokens visible hidden x → deeper tokens visible hidden y → x ≡ y
 
 -- Several arguments, each alone, come to one list, or to one fault.
 abbrev pub OneEach : Alones → Type 0
-OneEach deeper = (visible : Definitions) (hidden : List Name) (arguments : List (List Token)) (x y : Result (List (List Token)) Fault) → Each deeper visible hidden arguments x → Each deeper visible hidden arguments y → x ≡ y
+OneEach deeper = (visible : Definitions) (hidden : List Name) (arguments : List (List Read)) (x y : Result (List (List Read)) Fault) → Each deeper visible hidden arguments x → Each deeper visible hidden arguments y → x ≡ y
 
 -- The operand of a `defined` has one answer, or one fault.
 abbrev pub OneOperand : Answers → Type 0

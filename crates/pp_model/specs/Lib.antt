@@ -1,5 +1,6 @@
 pub mod Names
 pub mod Definitions
+pub mod Painting
 pub mod SpliceList
 pub mod Reading
 pub mod Taking

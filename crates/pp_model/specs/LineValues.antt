@@ -18,6 +18,7 @@ use Rattle.pp_lexer.specs.declared.token.TokenValue.{TokenValue}
 use Rattle.pp_lexer.specs.declared.token.TokenValue.TheVariants.{Ident, Integer, Punct}
 use Rattle.pp_model.specs.Names.{defined_name}
 use Rattle.pp_model.specs.Definitions.{Definitions}
+use Rattle.pp_model.specs.Painting.{unpainted}
 use Rattle.pp_model.specs.Reading.{reading_of}
 use Rattle.pp_model.specs.Calls.{Fault, Answers}
 use Rattle.pp_model.specs.LineWords.{Words, LineWords, unexpected}
@@ -83,7 +84,7 @@ pub record IsAlone {A : Type 0} (directive : Location) (words : Words) (report :
 -- The condition of an `#if` or `#elif`: it holds where its value isn't 0.
 pub record IsCondition (A : Answers) (directive : Location) (tokens : List Token) (definitions : Definitions) (result : Result Bool Fault) : Type 0 where
   pub words : Words
-  pub read : LineWords Condition directive A (reading_of tokens definitions []) words
+  pub read : LineWords Condition directive A (reading_of (map unpainted tokens) definitions []) words
   pub evaluation : Result Value Found
   pub evaluated : Evaluates (line_of words) evaluation
   pub is : result ≡ alone_on_line directive words (λ value. not (is_zero value)) evaluation
@@ -112,5 +113,5 @@ without_number (Err refused) = Err refused.fault
 -- the line number that a `#line` gives
 pub record IsLineNumber (A : Answers) (directive : Location) (tokens : List Token) (definitions : Definitions) (result : Result ℕ Fault) : Type 0 where
   pub words : Words
-  pub read : LineWords LineNumber directive A (reading_of tokens definitions []) words
+  pub read : LineWords LineNumber directive A (reading_of (map unpainted tokens) definitions []) words
   pub numbers : Numbers directive words result

@@ -10,8 +10,9 @@ use Rattle.pp_model.specs.Reading.{Expander, Listed, line_reading}
 use Rattle.pp_model.specs.Taking.{Takes}
 use Rattle.pp_model.specs.Calls.{Fault, Answers, is_left_paren, is_right_paren}
 use Rattle.pp_model.specs.Emitting.{Emits}
-use Rattle.pp_model.specs.declared.outcome.Outcome.{Outcome}
-use Rattle.pp_model.specs.declared.outcome.Outcome.TheVariants as outcome
+use Rattle.pp_model.specs.declared.read.Read.{Read}
+use Rattle.pp_model.specs.declared.read.Taken.{Taken}
+use Rattle.pp_model.specs.declared.read.Taken.TheVariants as taken
 use Rattle.pp_model.specs.declared.word.LineKind.{LineKind}
 use Rattle.pp_model.specs.declared.word.LineKind.TheVariants.{Condition, LineNumber}
 use Rattle.pp_model.specs.declared.word.Word.{Word}
@@ -39,10 +40,10 @@ abbrev pub reading : LineKind → Token → Reading
 reading kind token = reading_of_value kind token token.value
 
 -- the fault of what stands where a part of `defined` is wanted; the end's is at the directive's word
-abbrev pub unwanted : Location → Outcome → Fault
-unwanted directive (outcome.Token token) = unexpected token
-unwanted directive (outcome.Fault f) = f
-unwanted directive outcome.End = (UnexpectedEndOfInput, directive)
+abbrev pub unwanted : Location → Taken → Fault
+unwanted directive (taken.Token read) = unexpected read.token
+unwanted directive (taken.Fault f) = f
+unwanted directive taken.End = (UnexpectedEndOfInput, directive)
 
 -- the same of a token that was read as a word
 abbrev pub unwanted_reading : Token → Reading → Fault
@@ -50,8 +51,8 @@ unwanted_reading token operator = unexpected token
 unwanted_reading token (word w) = unexpected w
 unwanted_reading token (fault f) = f
 
-abbrev pub unwanted_word : LineKind → Location → Outcome → Fault
-unwanted_word kind directive (outcome.Token token) = unwanted_reading token (reading kind token)
+abbrev pub unwanted_word : LineKind → Location → Taken → Fault
+unwanted_word kind directive (taken.Token read) = unwanted_reading read.token (reading kind read.token)
 unwanted_word kind directive o = unwanted directive o
 
 abbrev pub name_in_value : TokenValue → Option Name
@@ -59,13 +60,13 @@ name_in_value (Ident name) = Some name
 name_in_value _ = None
 
 -- the name that was taken
-abbrev pub name_in : Outcome → Option Name
-name_in (outcome.Token token) = name_in_value token.value
+abbrev pub name_in : Taken → Option Name
+name_in (taken.Token read) = name_in_value read.token.value
 name_in _ = None
 
 -- a token was taken whose value is so
-abbrev pub has_value : (TokenValue → Bool) → Outcome → Bool
-has_value test (outcome.Token token) = test token.value
+abbrev pub has_value : (TokenValue → Bool) → Taken → Bool
+has_value test (taken.Token read) = test read.token.value
 has_value test _ = false
 
 abbrev pub is_defined : Expander Listed → Name → Bool
@@ -74,11 +75,11 @@ is_defined e name = is_some (e.reader.visible name)
 -- what the operand of a `defined` comes to: a name, alone or in parentheses. The `(` and the name are taken and not looked
 -- up, the `)` is read expanded.
 pub data Operand (kind : LineKind) (directive : Location) (A : Answers) : Expander Listed → Result Bool Fault → Expander Listed → Type 0 where
-  name : (o : Outcome) (n : Name) (e f : Expander Listed) (r : Result Bool Fault) → Takes line_reading e o f → name_in o ≡ Some n → r ≡ Ok (is_defined f n) → Operand kind directive A e r f
-  neither : (o : Outcome) (e f : Expander Listed) (r : Result Bool Fault) → Takes line_reading e o f → name_in o ≡ None → has_value is_left_paren o ≡ false → r ≡ Err (unwanted directive o) → Operand kind directive A e r f
-  no_name : (o x : Outcome) (e f g : Expander Listed) (r : Result Bool Fault) → Takes line_reading e o f → has_value is_left_paren o ≡ true → Takes line_reading f x g → name_in x ≡ None → r ≡ Err (unwanted directive x) → Operand kind directive A e r g
-  unclosed : (o x y : Outcome) (n : Name) (e f g h : Expander Listed) (r : Result Bool Fault) → Takes line_reading e o f → has_value is_left_paren o ≡ true → Takes line_reading f x g → name_in x ≡ Some n → Emits line_reading A g y h → has_value is_right_paren y ≡ false → r ≡ Err (unwanted_word kind directive y) → Operand kind directive A e r h
-  in_parentheses : (o x y : Outcome) (n : Name) (e f g h : Expander Listed) (r : Result Bool Fault) → Takes line_reading e o f → has_value is_left_paren o ≡ true → Takes line_reading f x g → name_in x ≡ Some n → Emits line_reading A g y h → has_value is_right_paren y ≡ true → r ≡ Ok (is_defined h n) → Operand kind directive A e r h
+  name : (o : Taken) (n : Name) (e f : Expander Listed) (r : Result Bool Fault) → Takes line_reading e o f → name_in o ≡ Some n → r ≡ Ok (is_defined f n) → Operand kind directive A e r f
+  neither : (o : Taken) (e f : Expander Listed) (r : Result Bool Fault) → Takes line_reading e o f → name_in o ≡ None → has_value is_left_paren o ≡ false → r ≡ Err (unwanted directive o) → Operand kind directive A e r f
+  no_name : (o x : Taken) (e f g : Expander Listed) (r : Result Bool Fault) → Takes line_reading e o f → has_value is_left_paren o ≡ true → Takes line_reading f x g → name_in x ≡ None → r ≡ Err (unwanted directive x) → Operand kind directive A e r g
+  unclosed : (o x y : Taken) (n : Name) (e f g h : Expander Listed) (r : Result Bool Fault) → Takes line_reading e o f → has_value is_left_paren o ≡ true → Takes line_reading f x g → name_in x ≡ Some n → Emits line_reading A g y h → has_value is_right_paren y ≡ false → r ≡ Err (unwanted_word kind directive y) → Operand kind directive A e r h
+  in_parentheses : (o x y : Taken) (n : Name) (e f g h : Expander Listed) (r : Result Bool Fault) → Takes line_reading e o f → has_value is_left_paren o ≡ true → Takes line_reading f x g → name_in x ≡ Some n → Emits line_reading A g y h → has_value is_right_paren y ≡ true → r ≡ Ok (is_defined h n) → Operand kind directive A e r h
 
 -- the words of a line, and the fault of reading that ends them, if one does
 pub record Words : Type 0 where
@@ -90,9 +91,9 @@ word_before w rest = record rest { words = w ∷ rest.words }
 
 -- The words that the rest of a line comes to. After a `defined` at fault nothing is read.
 pub data LineWords (kind : LineKind) (directive : Location) (A : Answers) : Expander Listed → Words → Type 0 where
-  ended : (e f : Expander Listed) (ws : Words) → Emits line_reading A e outcome.End f → ws ≡ record { words = []; ending = None } → LineWords kind directive A e ws
-  failed : (f : Fault) (e g : Expander Listed) (ws : Words) → Emits line_reading A e (outcome.Fault f) g → ws ≡ record { words = []; ending = Some f } → LineWords kind directive A e ws
-  refused : (token : Token) (f : Fault) (e g : Expander Listed) (ws : Words) → Emits line_reading A e (outcome.Token token) g → reading kind token ≡ fault f → ws ≡ record { words = []; ending = Some f } → LineWords kind directive A e ws
-  plain : (token w : Token) (e g : Expander Listed) (rest ws : Words) → Emits line_reading A e (outcome.Token token) g → reading kind token ≡ word w → LineWords kind directive A g rest → ws ≡ word_before (Plain w) rest → LineWords kind directive A e ws
-  answered : (token : Token) (answer : Bool) (e g h : Expander Listed) (rest ws : Words) → Emits line_reading A e (outcome.Token token) g → reading kind token ≡ operator → Operand kind directive A g (Ok answer) h → LineWords kind directive A h rest → ws ≡ word_before (Defined token.location (Ok answer)) rest → LineWords kind directive A e ws
-  faulty : (token : Token) (f : Fault) (e g h : Expander Listed) (ws : Words) → Emits line_reading A e (outcome.Token token) g → reading kind token ≡ operator → Operand kind directive A g (Err f) h → ws ≡ record { words = Defined token.location (Err f) ∷ []; ending = None } → LineWords kind directive A e ws
+  ended : (e f : Expander Listed) (ws : Words) → Emits line_reading A e taken.End f → ws ≡ record { words = []; ending = None } → LineWords kind directive A e ws
+  failed : (f : Fault) (e g : Expander Listed) (ws : Words) → Emits line_reading A e (taken.Fault f) g → ws ≡ record { words = []; ending = Some f } → LineWords kind directive A e ws
+  refused : (read : Read) (f : Fault) (e g : Expander Listed) (ws : Words) → Emits line_reading A e (taken.Token read) g → reading kind read.token ≡ fault f → ws ≡ record { words = []; ending = Some f } → LineWords kind directive A e ws
+  plain : (read : Read) (w : Token) (e g : Expander Listed) (rest ws : Words) → Emits line_reading A e (taken.Token read) g → reading kind read.token ≡ word w → LineWords kind directive A g rest → ws ≡ word_before (Plain w) rest → LineWords kind directive A e ws
+  answered : (read : Read) (answer : Bool) (e g h : Expander Listed) (rest ws : Words) → Emits line_reading A e (taken.Token read) g → reading kind read.token ≡ operator → Operand kind directive A g (Ok answer) h → LineWords kind directive A h rest → ws ≡ word_before (Defined read.token.location (Ok answer)) rest → LineWords kind directive A e ws
+  faulty : (read : Read) (f : Fault) (e g h : Expander Listed) (ws : Words) → Emits line_reading A e (taken.Token read) g → reading kind read.token ≡ operator → Operand kind directive A g (Err f) h → ws ≡ record { words = Defined read.token.location (Err f) ∷ []; ending = None } → LineWords kind directive A e ws

@@ -4,17 +4,18 @@ use Rattle.std.specs.Option.{option_map_or}
 use Rattle.pp_lexer.specs.declared.token.Token.{Token}
 use Rattle.pp_lexer.specs.declared.token.TokenValue.{TokenValue}
 use Rattle.pp_lexer.specs.declared.token.TokenValue.TheVariants.{Ident}
-use Rattle.pp_model.specs.Names.{Name, is_same_name, is_in, defined_name}
+use Rattle.pp_model.specs.Names.{Name, is_same_name, defined_name}
 use Rattle.pp_model.specs.Definitions.{Definition, Definitions}
 use Rattle.pp_model.specs.SpliceList.{open_names}
-use Rattle.pp_model.specs.declared.outcome.Outcome.{Outcome}
-use Rattle.pp_model.specs.declared.outcome.Outcome.TheVariants as outcome
+use Rattle.pp_model.specs.declared.read.Read.{Read}
+use Rattle.pp_model.specs.declared.read.Taken.{Taken}
+use Rattle.pp_model.specs.declared.read.Taken.TheVariants as taken
 use Rattle.pp_model.specs.declared.splice.Entry.{Entry}
 
 -- A kind of reader: what it gives next, which definitions it sees, what `__LINE__` shows for a line, unless the number is
 -- out of range, and which names never open where it is read.
 pub record Reading (R : Type 0) : Type 1 where
-  pub Reads : R → Outcome → R → Type 0
+  pub Reads : R → Taken → R → Type 0
   pub visible : R → Definitions
   pub shown_line : R → ℕ → Option ℕ
   pub is_reserved : Name → Bool
@@ -22,7 +23,7 @@ pub record Reading (R : Type 0) : Type 1 where
 -- An expander: an outcome that was found too early and is held, the list, the reader after it, and the names that are open
 -- in the expanders around it.
 pub record Expander (R : Type 0) : Type 0 where
-  pub held : Option Outcome
+  pub held : Option Taken
   pub list : List Entry
   pub reader : R
   pub hidden : List Name
@@ -37,26 +38,26 @@ pub record Opening : Type 0 where
   pub name : Name
   pub definition : Definition
 
-abbrev pub opening_of : {R : Type 0} → Reading R → Expander R → Token → TokenValue → Option Opening
-opening_of I expander token (Ident name) =
-    if I.is_reserved name || is_in name (masked expander) then None
-    else option_map (λ definition. record { token = token; name = name; definition = definition }) (I.visible expander.reader name)
-opening_of I expander token _ = None
+abbrev pub opening_of : {R : Type 0} → Reading R → Expander R → Read → TokenValue → Option Opening
+opening_of I expander read (Ident name) =
+    if I.is_reserved name || read.painted then None
+    else option_map (λ definition. record { token = read.token; name = name; definition = definition }) (I.visible expander.reader name)
+opening_of I expander read _ = None
 
--- When a taken identifier opens a macro: it is defined now, and open neither here nor around.
-abbrev pub opening : {R : Type 0} → Reading R → Expander R → Outcome → Option Opening
-opening I expander (outcome.Token token) = opening_of I expander token token.value
+-- When a taken identifier opens a macro: it is defined now, and not painted.
+abbrev pub opening : {R : Type 0} → Reading R → Expander R → Taken → Option Opening
+opening I expander (taken.Token read) = opening_of I expander read read.token.value
 opening I expander _ = None
 
 -- a list of tokens as a reader
 pub record Listed : Type 0 where
-  pub tokens : List Token
+  pub tokens : List Read
   pub visible : Definitions
 
 -- a list of tokens, where these names never open: its tokens in order, and then the end
 abbrev pub listed_reading : (Name → Bool) → Reading Listed
 listed_reading is_reserved = record {
-  Reads = λ old given new. (given ≡ option_map_or outcome.Token (slice_get old.tokens 0) outcome.End) × (new ≡ record old { tokens = drop 1 old.tokens });
+  Reads = λ old given new. (given ≡ option_map_or taken.Token (slice_get old.tokens 0) taken.End) × (new ≡ record old { tokens = drop 1 old.tokens });
   visible = λ reader. reader.visible;
   shown_line = λ reader line. Some line;
   is_reserved = is_reserved;
@@ -71,5 +72,5 @@ abbrev pub line_reading : Reading Listed
 line_reading = listed_reading (λ name. is_same_name name defined_name)
 
 -- the start of reading these tokens, where these names are open around
-abbrev pub reading_of : List Token → Definitions → List Name → Expander Listed
+abbrev pub reading_of : List Read → Definitions → List Name → Expander Listed
 reading_of tokens visible hidden = record { held = None; list = []; reader = record { tokens = tokens; visible = visible }; hidden = hidden }

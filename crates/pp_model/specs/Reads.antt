@@ -4,6 +4,7 @@ use Rattle.pp_lexer.specs.declared.token.Location.{Location}
 use Rattle.pp_lexer.specs.declared.token.PreprocessorError.TheVariants.{DefineRedefined}
 use Rattle.pp_lexer.specs.declared.token.Token.{Token}
 use Rattle.pp_model.specs.Definitions.{Definition, changed, IsSameDefinition}
+use Rattle.pp_model.specs.Painting.{taken_of}
 use Rattle.pp_model.specs.Reading.{Reading}
 use Rattle.pp_model.specs.Calls.{Fault, Answers}
 use Rattle.pp_model.specs.LineValues.{IsCondition, IsLineNumber, as_line_number}
@@ -12,6 +13,7 @@ use Rattle.pp_model.specs.Acts.{act, after_line, decided}
 use Rattle.pp_model.specs.declared.definition.Named.{Named}
 use Rattle.pp_model.specs.declared.outcome.Outcome.{Outcome}
 use Rattle.pp_model.specs.declared.outcome.Outcome.TheVariants as outcome
+use Rattle.pp_model.specs.declared.read.Taken.{Taken}
 use Rattle.pp_model.specs.declared.step.Step.TheVariants as step
 
 -- the line number that `__LINE__` shows for a line
@@ -39,10 +41,10 @@ pub data Steps (A : Answers) : SourceReader → Option Outcome → SourceReader 
   -- a `#line` at fault
   unnumbered : (word : Location) (tokens : List Token) (fault : Fault) (o : Option Outcome) (r t : SourceReader) → (act r).step ≡ step.LineNumber word tokens → IsLineNumber A word tokens r.definitions (Err fault) → o ≡ Some (outcome.Fault fault) → t ≡ r → Steps A r o t
 
--- What reading gives next: the first step that gives something.
-pub data Reads (A : Answers) : SourceReader → Outcome → SourceReader → Type 0 where
-  here : (o : Outcome) (r t : SourceReader) → Steps A r (Some o) t → Reads A r o t
-  later : (o : Outcome) (r s t : SourceReader) → Steps A r None s → Reads A s o t → Reads A r o t
+-- What reading gives next, unpainted: the first step that gives something.
+pub data Reads (A : Answers) : SourceReader → Taken → SourceReader → Type 0 where
+  here : (o : Outcome) (x : Taken) (r t : SourceReader) → Steps A r (Some o) t → x ≡ taken_of o → Reads A r x t
+  later : (x : Taken) (r s t : SourceReader) → Steps A r None s → Reads A s x t → Reads A r x t
 
 -- the source as a reader: `#line` moves the lines that are shown
 abbrev pub source_reading : Answers → Reading SourceReader

@@ -7,6 +7,7 @@ use Rattle.pp_lexer.specs.Spots.{spots_of}
 use Rattle.pp_lexer.specs.declared.token.Token.{Token}
 use Rattle.pp_model.specs.Names.{Name}
 use Rattle.pp_model.specs.Definitions.{object_like, changed}
+use Rattle.pp_model.specs.Painting.{item_of}
 use Rattle.pp_model.specs.Reading.{Expander}
 use Rattle.pp_model.specs.Calls.{Fault, Answers}
 use Rattle.pp_model.specs.Emitting.{first_before, Emits, answers_at, expansion_limit}
@@ -20,6 +21,7 @@ use Rattle.pp_model.specs.declared.call.Call.TheVariants as called
 use Rattle.pp_model.specs.declared.call.Reply.{Reply}
 use Rattle.pp_model.specs.declared.call.Reply.TheVariants as reply
 use Rattle.pp_model.specs.declared.outcome.Outcome.{Outcome}
+use Rattle.pp_model.specs.declared.read.Taken.{Taken}
 use Rattle.pp_model.specs.declared.outcome.Outcome.TheVariants as outcome
 
 -- a call: `add_define` of a name with a content, both as UTF-8, or `next`
@@ -68,9 +70,15 @@ ends_run _ = false
 abbrev pub Comings : Type 1
 Comings = Expander SourceReader → Outcome → Expander SourceReader → Type 0
 
+-- the next item, without its paint, and the state after it, where calls come to this
+pub record Gives (A : Answers) (e : Expander SourceReader) (o : Outcome) (f : Expander SourceReader) : Type 0 where
+  pub taken : Taken
+  pub emits : Emits (source_reading A) A e taken f
+  pub is : o ≡ item_of taken
+
 -- what comes next by the definitions, where calls come to this
 abbrev pub by_rules : Answers → Comings
-by_rules A = Emits (source_reading A) A
+by_rules A = Gives A
 
 -- What the calls answer, where this comes next, up to and with the first error item: after that nothing is said.
 pub data Runs (C : Comings) : Expander SourceReader → List Call → List Reply → Type 0 where

@@ -13,6 +13,7 @@ use Rattle.pp_model.specs.declared.call.Reply.{Reply}
 use Rattle.pp_model.specs.declared.call.Reply.TheVariants as reply
 use Rattle.pp_model.specs.declared.outcome.Outcome.{Outcome}
 use Rattle.pp_model.specs.declared.outcome.Outcome.TheVariants as outcome
+use Rattle.pp_model.specs.declared.read.Taken.TheVariants as taken
 
 -- one call in a state, what it answers, and the state after it; of the state after an error item nothing is said
 pub data AnswersIn (C : Comings) : Expander SourceReader → Call → Reply → Expander SourceReader → Type 0 where
@@ -28,5 +29,5 @@ pub data Chain (C : Comings) : Expander SourceReader → List Call → List Repl
 -- Calls that follow one another from the start of a source are a run, and so they are with an error item that comes after them.
 pub record ChainsAreRuns (A : Answers) : Type 0 where
   pub whole : (source : List Seen) (calls : List Call) (replies : List Reply) (f : Expander SourceReader) → Chain (by_rules A) (start source) calls replies f → Runs (by_rules A) (start source) calls replies
-  pub to_error : (source : List Seen) (calls : List Call) (replies : List Reply) (f g : Expander SourceReader) (fault : Fault) → Chain (by_rules A) (start source) calls replies f → Emits (source_reading A) A f (outcome.Fault fault) g
+  pub to_error : (source : List Seen) (calls : List Call) (replies : List Reply) (f g : Expander SourceReader) (fault : Fault) → Chain (by_rules A) (start source) calls replies f → Emits (source_reading A) A f (taken.Fault fault) g
       → Runs (by_rules A) (start source) (calls ++ next ∷ []) (replies ++ reply.Given (outcome.Fault fault) ∷ [])

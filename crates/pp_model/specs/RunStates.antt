@@ -4,6 +4,7 @@ use Rattle.std.specs.Prelude.{◌≡◌, Bool, true, false, List, ◌∷◌, ◌
 use Rattle.pp_lexer.specs.Lexed.{Seen}
 use Rattle.pp_lexer.specs.declared.token.Token.{Token}
 use Rattle.pp_model.specs.Names.{Name}
+use Rattle.pp_model.specs.Painting.{taken_of}
 use Rattle.pp_model.specs.Reading.{Expander}
 use Rattle.pp_model.specs.Calls.{Answers}
 use Rattle.pp_model.specs.Emitting.{Emits}
@@ -14,15 +15,16 @@ use Rattle.pp_model.specs.ApartMarks.{HasApartMarks}
 use Rattle.pp_model.specs.NoLineName.{is_line_name}
 use Rattle.pp_model.specs.declared.call.Reply.{Reply}
 use Rattle.pp_model.specs.declared.call.Reply.TheVariants as reply
-use Rattle.pp_model.specs.declared.outcome.Outcome.{Outcome}
 use Rattle.pp_model.specs.declared.outcome.Outcome.TheVariants as outcome
+use Rattle.pp_model.specs.declared.read.Taken.{Taken}
+use Rattle.pp_model.specs.declared.read.Taken.TheVariants as taken
 
 -- Definitions that are added, and items that are given, lead from one state to another; error items too, after which a run
 -- says nothing more.
 pub data LeadsTo (A : Answers) : Expander SourceReader → Expander SourceReader → Type 0 where
   nowhere : (e f : Expander SourceReader) → f ≡ e → LeadsTo A e f
   adding : (name : Name) (tokens : List Token) (e f : Expander SourceReader) → LeadsTo A (with_added name tokens e) f → LeadsTo A e f
-  giving : (o : Outcome) (e f g : Expander SourceReader) → Emits (source_reading A) A e o f → LeadsTo A f g → LeadsTo A e g
+  giving : (x : Taken) (e f g : Expander SourceReader) → Emits (source_reading A) A e x f → LeadsTo A f g → LeadsTo A e g
 
 -- a state of a run of the source
 abbrev pub IsReached : Answers → List Seen → Expander SourceReader → Type 0
@@ -34,7 +36,7 @@ RunKeepsMarksApart A = (source : List Seen) (e : Expander SourceReader) → IsRe
 
 -- whether the reply is the identifier `__LINE__`
 abbrev pub gives_line_name : Reply → Bool
-gives_line_name (reply.Given o) = is_line_name o
+gives_line_name (reply.Given o) = is_line_name (taken_of o)
 gives_line_name (reply.Refused fault) = false
 gives_line_name reply.Added = false
 
@@ -44,7 +46,7 @@ RunShowsNoLineName A = (source : List Seen) (calls : List Call) (replies : List 
 
 -- After an end that was given nothing is left, whatever is added.
 abbrev pub EndStays : Answers → Type 0
-EndStays A = (source : List Seen) (o : Outcome) (e f g h : Expander SourceReader) → IsReached A source e → Emits (source_reading A) A e outcome.End f → LeadsTo A f g → Emits (source_reading A) A g o h → o ≡ outcome.End
+EndStays A = (source : List Seen) (x : Taken) (e f g h : Expander SourceReader) → IsReached A source e → Emits (source_reading A) A e taken.End f → LeadsTo A f g → Emits (source_reading A) A g x h → x ≡ taken.End
 
 -- whether the reply is an item, which the end is not
 abbrev pub gives_item : Reply → Bool

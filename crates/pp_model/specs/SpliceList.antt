@@ -6,6 +6,8 @@ use Rattle.pp_lexer.specs.declared.token.TokenValue.{TokenValue}
 use Rattle.pp_lexer.specs.declared.token.TokenValue.TheVariants.{Ident}
 use Rattle.pp_model.specs.Names.{Name, is_same_name}
 use Rattle.pp_model.specs.Definitions.{Definition}
+use Rattle.pp_model.specs.Painting.{unpainted}
+use Rattle.pp_model.specs.declared.read.Read.{Read}
 use Rattle.pp_model.specs.declared.splice.Entry.{Entry}
 use Rattle.pp_model.specs.declared.splice.Entry.TheVariants.{Plain, End}
 
@@ -13,35 +15,35 @@ use Rattle.pp_model.specs.declared.splice.Entry.TheVariants.{Plain, End}
 abbrev pub after_marks : List Entry → List Entry
 after_marks [] = []
 after_marks (End mark ∷ entries) = after_marks entries
-after_marks (Plain token ∷ entries) = Plain token ∷ entries
+after_marks (Plain read ∷ entries) = Plain read ∷ entries
 
 -- the names whose end marks lie in the list: these macros are open
 abbrev pub open_names : List Entry → List Name
 open_names [] = []
 open_names (End mark ∷ entries) = mark.name ∷ open_names entries
-open_names (Plain token ∷ entries) = open_names entries
+open_names (Plain read ∷ entries) = open_names entries
 
 -- the line of the last mark, which is that of the outermost open macro
 abbrev pub outermost_line : List Entry → Option ℕ
 outermost_line [] = None
 outermost_line (End mark ∷ entries) = Some (unwrap_or (outermost_line entries) mark.line)
-outermost_line (Plain token ∷ entries) = outermost_line entries
+outermost_line (Plain read ∷ entries) = outermost_line entries
 
 -- the position of the parameter that the value names
 abbrev pub parameter_of : List Name → TokenValue → Option ℕ
 parameter_of parameters (Ident name) = position (is_same_name name) parameters
 parameter_of parameters _ = None
 
--- a token of a body, or the argument of the parameter that it names
-abbrev pub replacement : List (List Token) → Token → Option ℕ → List Entry → List Entry
-replacement arguments token parameter entries = option_map_or (λ k. map Plain (unwrap_or (slice_get arguments k) []) ++ entries) parameter (Plain token ∷ entries)
+-- a token of a body, unpainted, or the argument of the parameter that it names, with its paint
+abbrev pub replacement : List (List Read) → Token → Option ℕ → List Entry → List Entry
+replacement arguments token parameter entries = option_map_or (λ k. map Plain (unwrap_or (slice_get arguments k) []) ++ entries) parameter (Plain (unpainted token) ∷ entries)
 
 -- the body with each parameter replaced by its argument, and then the entries
-abbrev pub replaced : List Name → List (List Token) → List Token → List Entry → List Entry
+abbrev pub replaced : List Name → List (List Read) → List Token → List Entry → List Entry
 replaced parameters arguments [] entries = entries
 replaced parameters arguments (token ∷ body) entries =
     replacement arguments token (parameter_of parameters token.value) (replaced parameters arguments body entries)
 
 -- the macro's replacement with its end mark before the entries
-abbrev pub spliced : Name → Definition → ℕ → List (List Token) → List Entry → List Entry
+abbrev pub spliced : Name → Definition → ℕ → List (List Read) → List Entry → List Entry
 spliced name definition line arguments entries = replaced definition.parameters arguments definition.body (End (record { name = name; line = line }) ∷ entries)

@@ -1,38 +1,46 @@
--- What is taken next, before it is looked up (docs/RULES.md, Expansion 1 and 2).
+-- What is taken next, before it is looked up (docs/RULES.md, Expansion 1 to 3).
 use Rattle.std.specs.Prelude.{◌≡◌, ℕ, pos, false, if◌then◌else◌, List, [], ◌∷◌, Option, Some, None, unwrap_or}
 use Rattle.pp_lexer.specs.declared.token.Location.{Location}
 use Rattle.pp_lexer.specs.declared.token.PreprocessorError.TheVariants.{LineOverflow}
-use Rattle.pp_lexer.specs.declared.token.Token.{Token}
 use Rattle.pp_lexer.specs.declared.token.TokenValue.TheVariants.{Integer}
 use Rattle.pp_model.specs.Names.{is_identifier, line_name}
 use Rattle.pp_model.specs.SpliceList.{after_marks, outermost_line}
-use Rattle.pp_model.specs.Reading.{Reading, Expander}
-use Rattle.pp_model.specs.declared.outcome.Outcome.{Outcome}
-use Rattle.pp_model.specs.declared.outcome.Outcome.TheVariants as outcome
+use Rattle.pp_model.specs.Painting.{unpainted, taken_among}
+use Rattle.pp_model.specs.Reading.{Reading, Expander, masked}
+use Rattle.pp_model.specs.declared.read.Read.{Read}
+use Rattle.pp_model.specs.declared.read.Taken.{Taken}
+use Rattle.pp_model.specs.declared.read.Taken.TheVariants as taken
 use Rattle.pp_model.specs.declared.splice.Entry.{Entry}
 use Rattle.pp_model.specs.declared.splice.Entry.TheVariants.{Plain}
 
 -- a line number as an unsigned integer at this place, or the fault of one that is out of range
-abbrev pub line_number : Location → Option ℕ → Outcome
-line_number location (Some n) = outcome.Token (record { value = Integer (record { value = n; signed = false; width = pos 32 }); location = location })
-line_number location None = outcome.Fault (LineOverflow, location)
+abbrev pub line_number : Location → Option ℕ → Taken
+line_number location (Some n) = taken.Token (unpainted (record { value = Integer (record { value = n; signed = false; width = pos 32 }); location = location }))
+line_number location None = taken.Fault (LineOverflow, location)
 
 -- `__LINE__` becomes a number at once: from the line of the outermost open macro, or else from its own
-abbrev pub taken_token : (ℕ → Option ℕ) → List Entry → Token → Outcome
-taken_token shown_line after token =
-    if is_identifier line_name token.value
-    then line_number token.location (shown_line (unwrap_or (outermost_line after) token.location.line))
-    else outcome.Token token
+abbrev pub shown_token : (ℕ → Option ℕ) → List Entry → Read → Taken
+shown_token shown_line after read =
+    if is_identifier line_name read.token.value
+    then line_number read.token.location (shown_line (unwrap_or (outermost_line after) read.token.location.line))
+    else taken.Token read
 
 -- what the reader gives, with `__LINE__` as a number
-abbrev pub read_outcome : (ℕ → Option ℕ) → Outcome → Outcome
-read_outcome shown_line (outcome.Token token) = taken_token shown_line [] token
-read_outcome shown_line o = o
+abbrev pub shown_outcome : (ℕ → Option ℕ) → Taken → Taken
+shown_outcome shown_line (taken.Token read) = shown_token shown_line [] read
+shown_outcome shown_line x = x
 
-pub data Takes {R : Type 0} (I : Reading R) : Expander R → Outcome → Expander R → Type 0 where
+-- what comes first
+pub data Fetches {R : Type 0} (I : Reading R) : Expander R → Taken → Expander R → Type 0 where
   -- what was held
-  held : (o : Outcome) (e f : Expander R) → e.held ≡ Some o → f ≡ record e { held = None } → Takes I e o f
+  held : (o : Taken) (e f : Expander R) → e.held ≡ Some o → f ≡ record e { held = None } → Fetches I e o f
   -- the first token after the end marks at the list's front
-  listed : (o : Outcome) (token : Token) (rest : List Entry) (e f : Expander R) → e.held ≡ None → after_marks e.list ≡ Plain token ∷ rest → o ≡ taken_token (I.shown_line e.reader) rest token → f ≡ record e { list = rest } → Takes I e o f
+  listed : (o : Taken) (read : Read) (rest : List Entry) (e f : Expander R) → e.held ≡ None → after_marks e.list ≡ Plain read ∷ rest → o ≡ shown_token (I.shown_line e.reader) rest read → f ≡ record e { list = rest } → Fetches I e o f
   -- what the reader gives, where the list holds no token
-  read : (x o : Outcome) (reader : R) (e f : Expander R) → e.held ≡ None → after_marks e.list ≡ [] → I.Reads e.reader x reader → o ≡ read_outcome (I.shown_line reader) x → f ≡ record e { list = []; reader = reader } → Takes I e o f
+  read : (x o : Taken) (reader : R) (e f : Expander R) → e.held ≡ None → after_marks e.list ≡ [] → I.Reads e.reader x reader → o ≡ shown_outcome (I.shown_line reader) x → f ≡ record e { list = []; reader = reader } → Fetches I e o f
+
+-- What is taken: what comes first, and an identifier is painted whose name is open then, here or around.
+pub record Takes {R : Type 0} (I : Reading R) (e : Expander R) (o : Taken) (f : Expander R) : Type 0 where
+  pub first : Taken
+  pub fetches : Fetches I e first f
+  pub paints : o ≡ taken_among (masked f) first

@@ -3,6 +3,7 @@
 ghost use Rattle.std.specs.Prelude.{◌≡◌, IfOk};
 
 use crate::outcome::Fault;
+use crate::read::Read;
 use pp_lexer::token::Token;
 use std::alloc::{AllocError, Global};
 
@@ -14,6 +15,16 @@ pub fn copy_token(alloc: Global, token: &Token) -> Result<Token, AllocError>
         Ok(copy) => Ok(copy),
         Err(_) => Err(AllocError),
     }
+}
+
+/// A copy of a token with its paint. The error says that memory was refused.
+pub fn copy_read(alloc: Global, read: &Read) -> Result<Read, AllocError>
+    ensures { IfOk result (λ copy. copy ≡ read.now) }
+{
+    Ok(Read {
+        token: copy_token(alloc, &read.token)?,
+        painted: read.painted,
+    })
 }
 
 /// A copy of a fault. The error says that memory was refused.

@@ -12,6 +12,7 @@ pub mod laws;
 pub mod line_value;
 pub mod names;
 pub mod outcome;
+pub mod read;
 pub mod sight;
 pub mod splice;
 pub mod step;

@@ -5,7 +5,7 @@ use pp_lexer::token::{Location, PreprocessorError, Token};
 /// An error with its place.
 pub type Fault = (PreprocessorError, Location);
 
-/// What is taken from a splice list or a reader, and what comes of expanding it.
+/// What reading a source and expanding it give.
 #[derive(PartialEq, Eq, Debug, Drop)]
 pub enum Outcome {
     /// A token, or a `#version`, `#extension` or `#pragma` line.

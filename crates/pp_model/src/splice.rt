@@ -1,6 +1,7 @@
 //! The list of tokens to read, into which macros are spliced.
 
-use pp_lexer::token::{Text, Token};
+use crate::read::Read;
+use pp_lexer::token::Text;
 
 /// Where a macro's replacement ends. The macro is open as long as its mark lies in the list.
 #[derive(Drop)]
@@ -15,7 +16,7 @@ pub struct EndMark {
 #[derive(Drop)]
 pub enum Entry {
     /// A token to read.
-    Plain(Token),
+    Plain(Read),
     /// The end of a macro's replacement.
     End(EndMark),
 }

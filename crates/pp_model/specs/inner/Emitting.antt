@@ -3,19 +3,23 @@ use Rattle.std.specs.Prelude.{List, Option, Some, unwrap_or, Result}
 use Rattle.pp_lexer.specs.declared.token.PreprocessorError.{PreprocessorError}
 use Rattle.pp_lexer.specs.declared.token.PreprocessorError.TheVariants.{RecursionLimitReached}
 use Rattle.pp_lexer.specs.declared.token.Token.{Token}
+use Rattle.pp_model.specs.declared.read.Read.{Read}
 use Rattle.pp_model.specs.Calls.{Fault}
 use Rattle.pp_model.specs.Reading.{Expander}
-use Rattle.pp_model.specs.declared.outcome.Outcome.{Outcome}
+use Rattle.pp_model.specs.declared.read.Taken.{Taken}
 use Rattle.pp_model.specs.Emitting.{first_before}
 
 abbrev pub token_before : Token → Result (List Token) Fault → Result (List Token) Fault
 token_before token rest = first_before token rest
 
-abbrev pub list_before : List Token → Result (List (List Token)) Fault → Result (List (List Token)) Fault
+abbrev pub read_before : Read → Result (List Read) Fault → Result (List Read) Fault
+read_before read rest = first_before read rest
+
+abbrev pub list_before : List Read → Result (List (List Read)) Fault → Result (List (List Read)) Fault
 list_before tokens rest = first_before tokens rest
 
 abbrev pub refusal : Option PreprocessorError → PreprocessorError
 refusal error = unwrap_or error RecursionLimitReached
 
-abbrev pub holding : {R : Type 0} → Outcome → Expander R → Expander R
+abbrev pub holding : {R : Type 0} → Taken → Expander R → Expander R
 holding o expander = record expander { held = Some o }

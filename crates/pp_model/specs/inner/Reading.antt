@@ -5,18 +5,19 @@ use Rattle.pp_model.specs.Names.{Name}
 use Rattle.pp_model.specs.Definitions.{Definition}
 use Rattle.pp_model.specs.Reading.{Opening, Listed}
 use Rattle.std.specs.Option.{option_map_or}
-use Rattle.pp_model.specs.declared.outcome.Outcome.{Outcome}
-use Rattle.pp_model.specs.declared.outcome.Outcome.TheVariants as outcome
+use Rattle.pp_model.specs.declared.read.Read.{Read}
+use Rattle.pp_model.specs.declared.read.Taken.{Taken}
+use Rattle.pp_model.specs.declared.read.Taken.TheVariants as taken
 
 abbrev pub opening_by : Token → Name → Option Definition → Option Opening
 opening_by token name definition = option_map (λ definition. record { token = token; name = name; definition = definition }) definition
 
-abbrev pub after_listed : List Token → List Token
+abbrev pub after_listed : List Read → List Read
 after_listed tokens = drop 1 tokens
 
-abbrev pub first_listed : List Token → Outcome
-first_listed tokens = option_map_or outcome.Token (slice_get tokens 0) outcome.End
+abbrev pub first_listed : List Read → Taken
+first_listed tokens = option_map_or taken.Token (slice_get tokens 0) taken.End
 
 -- its tokens in order, and then the end
-abbrev pub ReadsListed : Listed → Outcome → Listed → Type 0
-ReadsListed old given new = (given ≡ option_map_or outcome.Token (slice_get old.tokens 0) outcome.End) × (new ≡ record old { tokens = drop 1 old.tokens })
+abbrev pub ReadsListed : Listed → Taken → Listed → Type 0
+ReadsListed old given new = (given ≡ option_map_or taken.Token (slice_get old.tokens 0) taken.End) × (new ≡ record old { tokens = drop 1 old.tokens })

@@ -1,0 +1,41 @@
+-- Painted tokens: an identifier that is taken while its name is open opens no macro from then on (docs/RULES.md, Expansion 2 and 3).
+use Rattle.std.specs.Prelude.{Bool, false, ◌||◌, List}
+use Rattle.pp_lexer.specs.declared.token.Token.{Token}
+use Rattle.pp_lexer.specs.declared.token.TokenValue.{TokenValue}
+use Rattle.pp_lexer.specs.declared.token.TokenValue.TheVariants.{Ident}
+use Rattle.pp_model.specs.Names.{Name, is_in}
+use Rattle.pp_model.specs.declared.outcome.Outcome.{Outcome}
+use Rattle.pp_model.specs.declared.outcome.Outcome.TheVariants as outcome
+use Rattle.pp_model.specs.declared.read.Read.{Read}
+use Rattle.pp_model.specs.declared.read.Taken.{Taken}
+use Rattle.pp_model.specs.declared.read.Taken.TheVariants as taken
+
+-- a token as it begins: of the source, of a directive's line, or of a body
+abbrev pub unpainted : Token → Read
+unpainted token = record { token = token; painted = false }
+
+-- the value is an identifier among these names
+abbrev pub is_one_of : List Name → TokenValue → Bool
+is_one_of names (Ident name) = is_in name names
+is_one_of names _ = false
+
+-- a token that is taken where these names are open: one of them is painted, and what was painted stays so
+abbrev pub painted_among : List Name → Read → Read
+painted_among names read = record read { painted = read.painted || is_one_of names read.token.value }
+
+abbrev pub taken_among : List Name → Taken → Taken
+taken_among names (taken.Token read) = taken.Token (painted_among names read)
+taken_among names (taken.Fault fault) = taken.Fault fault
+taken_among names taken.End = taken.End
+
+-- what the source gives, unpainted
+abbrev pub taken_of : Outcome → Taken
+taken_of (outcome.Token token) = taken.Token (unpainted token)
+taken_of (outcome.Fault fault) = taken.Fault fault
+taken_of outcome.End = taken.End
+
+-- an item, without its paint
+abbrev pub item_of : Taken → Outcome
+item_of (taken.Token read) = outcome.Token read.token
+item_of (taken.Fault fault) = outcome.Fault fault
+item_of taken.End = outcome.End
