@@ -31,6 +31,6 @@ is_out_of_memory OutOfMemory = true
 is_out_of_memory _ = false
 
 -- the step says that memory was refused
-abbrev pub wants_memory : Step Token → Bool
+abbrev pub wants_memory : {T : Type 0} → Step T → Bool
 wants_memory (Err (Error fault)) = is_out_of_memory fault.0
 wants_memory _ = false

@@ -8,6 +8,7 @@ pub mod SourceMoves
 pub mod OpenBlocks
 pub mod Source
 pub mod Reader
+pub mod Reading
 pub mod Frames
 pub mod OpenNames
 pub mod OpenAround

@@ -7,7 +7,7 @@ ghost use Rattle.pp_model.specs.Emitting.{Alone, Each, answers_at};
 ghost use Rattle.pp_expansion.specs.inner.Defined.{meaning_of};
 ghost use Rattle.pp_expansion.specs.inner.Finishing.{Finishes, IsAtStart, IsShort, AreShort, AreOfCall, read_to_end, site_at};
 ghost use Rattle.pp_expansion.specs.inner.Frames.{names_of};
-ghost use Rattle.pp_expansion.specs.Held.{AllHoldOrdinary};
+ghost use Rattle.pp_expansion.specs.inner.Reading.{AllReadOrdinary};
 ghost use Rattle.pp_expansion.specs.inner.Machine.{Satisfies};
 ghost use Rattle.pp_expansion.specs.inner.Plain.{is_plain};
 ghost use Rattle.pp_expansion.specs.declared.step.StepExit.TheVariants.{Error};
@@ -16,13 +16,14 @@ use crate::calls::{Call, Caller, ExpandedArguments, Taken, is_left_paren, is_rig
 use crate::define::Define;
 use crate::definitions::Definitions;
 use crate::expander::is_line_name;
-use crate::frames::TokenList;
+use crate::frames::ReadList;
 use crate::halt::{Halt, halt_of};
 use crate::list_lexer::ListLexer;
 use crate::list_step::step_list;
 use crate::open_around::OpenAround;
 use crate::step::StepExit;
-use pp_lexer::token::{PreprocessorError, Punct, Token, TokenValue};
+use pp_lexer::token::{PreprocessorError, Punct, TokenValue};
+use pp_model::read::Read;
 use std::alloc::{AllocError, Global};
 use std::mem;
 
@@ -57,44 +58,44 @@ fn nesting_after(depth: usize, value: &TokenValue) -> usize
 // Cuts the tokens at the commas that stand outside inner parentheses. The last piece stands apart.
 fn cut_at_commas(
     alloc: Global,
-    tokens: Vec<Token>,
-    pieces: &mut Vec<TokenList>,
-    piece: &mut Vec<Token>,
+    tokens: Vec<Read>,
+    pieces: &mut Vec<ReadList>,
+    piece: &mut Vec<Read>,
 ) -> Result<(), AllocError>
-    requires holds { AllHoldOrdinary tokens.items }
+    requires holds { AllReadOrdinary tokens.items }
     requires none { pieces.old.items ≡ [] }
     requires empty { piece.old.items ≡ [] }
     ensures cut { OnOk result (arguments_of tokens.items
         ≡ pieces.new.items ++ piece.new.items ∷ []) }
-    ensures holds { OnOk result (AllHoldOrdinary piece.new.items) }
+    ensures holds { OnOk result (AllReadOrdinary piece.new.items) }
 {
     let mut depth: usize = 0;
-    for token in tokens {
-        if ends_argument(depth, &token.value) {
-            drop(token);
-            pieces.push(TokenList::new(mem::replace(piece, Vec::new(alloc))))?;
+    for read in tokens {
+        if ends_argument(depth, &read.token.value) {
+            drop(read);
+            pieces.push(ReadList::new(mem::replace(piece, Vec::new(alloc))))?;
             continue;
         }
-        depth = nesting_after(depth, &token.value);
-        piece.push(token)?;
+        depth = nesting_after(depth, &read.token.value);
+        piece.push(read)?;
     }
     Ok(())
 }
 
 // The arguments of a call whose tokens are these.
-fn arguments_of(alloc: Global, tokens: Vec<Token>) -> Result<ExpandedArguments, AllocError>
-    requires { AllHoldOrdinary tokens.items }
+fn arguments_of(alloc: Global, tokens: Vec<Read>) -> Result<ExpandedArguments, AllocError>
+    requires { AllReadOrdinary tokens.items }
     ensures { IfOk result (λ arguments. arguments ≡ arguments_of tokens.items) }
 {
     let mut pieces = Vec::new(alloc);
     let mut piece = Vec::new(alloc);
     cut_at_commas(alloc, tokens, &mut pieces, &mut piece)?;
-    pieces.push(TokenList::new(piece))?;
+    pieces.push(ReadList::new(piece))?;
     Ok(ExpandedArguments::new(pieces))
 }
 
 // Whether there is one list, without a token.
-fn is_one_empty(arguments: &[TokenList]) -> bool
+fn is_one_empty(arguments: &[ReadList]) -> bool
     ensures { result ≡ is_one_empty arguments.now }
 {
     match arguments {
@@ -202,54 +203,59 @@ fn expand_arguments(
     Ok(ExpandedArguments::new(expanded))
 }
 
-// Whether the value gives itself: it is neither `__LINE__` nor a name that is defined.
-fn is_plain(value: &TokenValue, definitions: &Definitions) -> bool
-    ensures { result ≡ is_plain definitions.now value.now }
+// Whether the token gives itself, with its paint: it isn't `__LINE__`, and is painted or a name that
+// is neither defined nor open around.
+fn is_plain(read: &Read, definitions: &Definitions, hidden: &OpenAround<'_>) -> bool
+    ensures { result ≡ is_plain definitions.now hidden.now read.now }
 {
+    let value = &read.token.value;
     match value {
         TokenValue::Ident(name) => {
-            !is_line_name(value) && definitions.find(name.as_str()).is_none()
+            !is_line_name(value)
+                && (read.painted
+                    || (definitions.find(name.as_str()).is_none()
+                        && !hidden.is_open(name.as_str())))
         }
         _ => true,
     }
 }
 
 // Whether each token gives itself.
-fn are_plain(tokens: &[Token], definitions: &Definitions) -> bool
-    ensures { result ≡ list_all (λ token. is_plain definitions.now token.value) tokens.now }
+fn are_plain(tokens: &[Read], definitions: &Definitions, hidden: &OpenAround<'_>) -> bool
+    ensures { result ≡ list_all (is_plain definitions.now hidden.now) tokens.now }
 {
     tokens
         .iter()
-        .all(|token| is_plain(&token.value, definitions))
+        .all(|read| is_plain(read, definitions, hidden))
 }
 
 // What a list of tokens comes to alone.
 #[cycle(answers)]
 fn expand_argument(
     alloc: Global,
-    tokens: TokenList,
+    tokens: ReadList,
     definitions: &Definitions,
     hidden: &OpenAround<'_>,
     levels: u32,
-) -> Result<TokenList, Halt>
+) -> Result<ReadList, Halt>
     ensures alone { Satisfies result (λ out. Alone levels tokens
         (meaning_of definitions.now) hidden.now out) }
     ensures least { IfOk result (λ out. IsShort levels definitions.now (length tokens) out) }
 {
-    if are_plain(tokens.as_slice(), definitions) {
+    if are_plain(tokens.as_slice(), definitions, hidden) {
         return Ok(tokens);
     }
     let mut items = Vec::with_capacity(alloc, 16)?;
     expand_tokens(alloc, tokens, &mut items, definitions, hidden, levels)?;
-    Ok(TokenList::new(items))
+    Ok(ReadList::new(items))
 }
 
 // Gathers what a list of tokens comes to alone.
 #[cycle(answers)]
 fn expand_tokens(
     alloc: Global,
-    tokens: TokenList,
-    items: &mut Vec<Token>,
+    tokens: ReadList,
+    items: &mut Vec<Read>,
     definitions: &Definitions,
     hidden: &OpenAround<'_>,
     levels: u32,
@@ -258,7 +264,7 @@ fn expand_tokens(
     ensures alone { Satisfies result (λ end. Alone levels tokens
         (meaning_of definitions.now) hidden.now (read_to_end items.new.items end)) }
     ensures least { OnOk result (IsShort levels definitions.now (length tokens) items.new.items) }
-    ensures holds { OnOk result (AllHoldOrdinary items.new.items) }
+    ensures holds { OnOk result (AllReadOrdinary items.new.items) }
 {
     let mut lexer = ListLexer::argument(tokens.into_tokens(), definitions, &*hidden);
     let mut caller = Caller::new(alloc);
@@ -282,7 +288,7 @@ fn expand_list(
     alloc: Global,
     caller: &mut Caller,
     lexer: &mut ListLexer<'_>,
-    items: &mut Vec<Token>,
+    items: &mut Vec<Read>,
     definitions: &Definitions,
     hidden: &OpenAround<'_>,
     levels: u32,
@@ -292,11 +298,11 @@ fn expand_list(
         (meaning_of definitions.now) hidden.now (read_to_end items.new.items end)) }
     ensures least { OnOk result (IsShort levels definitions.now (length lexer.old.tokens)
         items.new.items) }
-    ensures holds { OnOk result (AllHoldOrdinary items.new.items) }
+    ensures holds { OnOk result (AllReadOrdinary items.new.items) }
 {
     'items: loop {
         match step_list(&mut *caller, &mut *lexer) {
-            Ok(Taken::Token(token)) => items.push(token)?,
+            Ok(Taken::Token(read)) => items.push(read)?,
             Ok(Taken::Call(call)) => {
                 finish_call(alloc, &mut *caller, call, definitions, hidden, levels)?
             }

@@ -6,22 +6,25 @@ ghost use Rattle.pp_model.specs.Calls.{is_left_paren, is_right_paren, nesting};
 ghost use Rattle.pp_expansion.specs.inner.CallNesting.{nesting_named};
 ghost use Rattle.pp_expansion.specs.inner.Seeking.{FindsBy, Enters, FollowsToken};
 ghost use Rattle.pp_expansion.specs.inner.Frames.{layer, names_of, outermost_frame_line};
-ghost use Rattle.pp_expansion.specs.Held.{HoldsOrdinary, AllHoldOrdinary};
+ghost use Rattle.pp_expansion.specs.Held.{HoldsOrdinary};
+ghost use Rattle.pp_expansion.specs.inner.Reading.{AllReadOrdinary};
 ghost use Rattle.pp_expansion.specs.inner.Idle.{is_idle};
 ghost use Rattle.pp_expansion.specs.inner.CallTurns.{TurnsOrRefuses, is_refusal, paren_of, TakenHoldsOrdinary};
-ghost use Rattle.pp_expansion.specs.inner.Machine.{StepsTaking, TakesNext, GathersNext, Satisfies, gathered_to, taken_as, is_pause};
-ghost use Rattle.pp_expansion.specs.inner.Turns.{opens, opens_value};
+ghost use Rattle.pp_expansion.specs.inner.Machine.{StepsFetching, StepsTaking, TakesNext, GathersNext, Satisfies, gathered_to, taken_as, is_pause};
+ghost use Rattle.pp_expansion.specs.inner.Turns.{opens};
+ghost use Rattle.pp_model.specs.Painting.{unpainted};
 ghost use Rattle.pp_lexer.specs.declared.token.TokenValue.TheVariants as value;
 ghost use Rattle.pp_expansion.specs.declared.step.StepExit.TheVariants.{Error, Continue};
 
 use crate::define::Define;
 use crate::expander::{MacroProcessor, gives_line_name, is_line_name};
-use crate::frames::{TokenList, copy_of};
+use crate::frames::ReadList;
 use crate::halt::{Halt, halt_of};
 use crate::open_around::OpenAround;
 use crate::reader::MeLexer;
 use crate::step::{Step, StepExit, is_out_of_memory};
 use pp_lexer::token::{Location, PreprocessorError, Punct, Text, Token, TokenValue, out_of_memory};
+use pp_model::read::Read;
 use std::alloc::{AllocError, Global};
 use std::marker::Model;
 use std::mem;
@@ -34,25 +37,25 @@ pub struct Call {
     define: Rc<Define>,
     paren: Location,
     closing: Location,
-    tokens: Vec<Token>,
+    tokens: Vec<Read>,
 }
 
 impl Model for Call {
     ghost use Rattle.pp_expansion.specs.inner.Calling.{PendingCall};
-    ghost use Rattle.pp_expansion.specs.Held.{AllHoldOrdinary};
+    ghost use Rattle.pp_expansion.specs.inner.Reading.{AllReadOrdinary};
 
     ghost Value = { PendingCall };
 
     ghost view = { λ c. record { name = c.name; definition = c.define.value; paren = c.paren; closing = c.closing; tokens = c.tokens.items } };
 
-    ghost invariant = { λ c. AllHoldOrdinary c.tokens.items };
+    ghost invariant = { λ c. AllReadOrdinary c.tokens.items };
 }
 
 impl Call {
     /// Takes out what stands between its parentheses.
-    pub fn take_tokens(&mut self, alloc: Global) -> Vec<Token>
+    pub fn take_tokens(&mut self, alloc: Global) -> Vec<Read>
         ensures taken { result.items ≡ self.old.tokens }
-        ensures holds { AllHoldOrdinary result.items }
+        ensures holds { AllReadOrdinary result.items }
         ensures left { self.new ≡ record self.old { tokens = [] } }
     {
         mem::replace(&mut self.tokens, Vec::new(alloc))
@@ -76,35 +79,35 @@ impl Call {
 /// Lists of tokens, one for each argument.
 #[derive(Drop)]
 pub struct ExpandedArguments {
-    items: Vec<TokenList>,
+    items: Vec<ReadList>,
 }
 
 impl Model for ExpandedArguments {
     ghost use Rattle.std.specs.Prelude.{List};
-    ghost use Rattle.pp_lexer.specs.declared.token.Token.{Token};
+    ghost use Rattle.pp_model.specs.declared.read.Read.{Read};
 
-    ghost Value = { List (List Token) };
+    ghost Value = { List (List Read) };
 
     ghost view = { λ e. e.items.items };
 }
 
 impl ExpandedArguments {
     /// These lists.
-    pub fn new(items: Vec<TokenList>) -> Self
+    pub fn new(items: Vec<ReadList>) -> Self
         ensures { result ≡ items.items }
     {
         ExpandedArguments { items }
     }
 
     /// The lists.
-    pub fn as_slice(&self) -> &[TokenList]
+    pub fn as_slice(&self) -> &[ReadList]
         ensures { result.now ≡ self.now }
     {
         &self.items
     }
 
     /// The lists as a vector.
-    pub fn into_lists(self) -> Vec<TokenList>
+    pub fn into_lists(self) -> Vec<ReadList>
         ensures { result.items ≡ self }
     {
         self.items
@@ -115,7 +118,7 @@ impl ExpandedArguments {
 #[derive(Drop)]
 pub enum Taken {
     /// A token.
-    Token(Token),
+    Token(Read),
     /// A call.
     Call(Call),
 }
@@ -125,7 +128,7 @@ pub enum Taken {
 pub struct Caller {
     alloc: Global,
     processor: MacroProcessor,
-    held: Option<Step<Token>>,
+    held: Option<Step<Read>>,
 }
 
 impl Model for Caller {
@@ -137,7 +140,7 @@ impl Model for Caller {
 
     ghost view = { λ c. record { held = c.held; frames = c.processor } };
 
-    ghost invariant = { λ c. IfSome c.held (λ step. IfOk step (λ token. HoldsOrdinary token.value)) };
+    ghost invariant = { λ c. IfSome c.held (λ step. IfOk step (λ read. HoldsOrdinary read.token.value)) };
 }
 
 /// Where a token stands among the parentheses of a call.
@@ -154,19 +157,19 @@ pub enum Nesting {
 /// The tokens between the parentheses of a call, and where the closing one stands.
 #[derive(Drop)]
 pub struct Gathered {
-    tokens: Vec<Token>,
+    tokens: Vec<Read>,
     closing: Location,
 }
 
 impl Model for Gathered {
     ghost use Rattle.pp_model.specs.Calls as spec;
-    ghost use Rattle.pp_expansion.specs.Held.{AllHoldOrdinary};
+    ghost use Rattle.pp_expansion.specs.inner.Reading.{AllReadOrdinary};
 
     ghost Value = { spec.Gathered };
 
     ghost view = { λ g. record { tokens = g.tokens.items; closing = g.closing } };
 
-    ghost invariant = { λ g. AllHoldOrdinary g.tokens.items };
+    ghost invariant = { λ g. AllReadOrdinary g.tokens.items };
 }
 
 /// Whether it is a `(`.
@@ -214,7 +217,7 @@ pub enum Found {
 }
 
 // Whether memory was refused.
-fn is_refusal(step: &Step<Token>) -> bool
+fn is_refusal(step: &Step<Read>) -> bool
     ensures { result ≡ is_refusal step.now }
 {
     match step {
@@ -226,13 +229,13 @@ fn is_refusal(step: &Step<Token>) -> bool
 }
 
 // The place of a `(`.
-fn paren_of(step: &Step<Token>) -> Option<Location>
+fn paren_of(step: &Step<Read>) -> Option<Location>
     ensures { result ≡ paren_of step.now }
 {
     match step {
-        Ok(token) => {
-            if is_left_paren(&token.value) {
-                Some(token.location)
+        Ok(read) => {
+            if is_left_paren(&read.token.value) {
+                Some(read.token.location)
             } else {
                 None
             }
@@ -242,7 +245,7 @@ fn paren_of(step: &Step<Token>) -> Option<Location>
 }
 
 // Whether the step is a pause.
-fn is_pause(step: &Step<Token>) -> bool
+fn is_pause(step: &Step<Read>) -> bool
     ensures { result ≡ is_pause step.now }
 {
     match step {
@@ -284,24 +287,36 @@ impl Caller {
     /// Holds a token that was taken, which is then the next step.
     pub fn hold(&mut self, token: Token)
         requires { HoldsOrdinary token.value }
-        ensures { self.new ≡ record self.old { held = Some (Ok token) } }
+        ensures { self.new ≡ record self.old { held = Some (Ok (unpainted token)) } }
     {
-        self.put_back(Ok(token));
+        self.put_back(Ok(Read::unpainted(token)));
     }
 
     // Holds a step.
     #[inline(always)]
-    fn put_back(&mut self, step: Step<Token>)
-        requires { IfOk step (λ token. HoldsOrdinary token.value) }
+    fn put_back(&mut self, step: Step<Read>)
+        requires { IfOk step (λ read. HoldsOrdinary read.token.value) }
         ensures { self.new ≡ record self.old { held = Some step } }
     {
         drop(self.held.replace(step));
     }
 
-    // One step of taking.
-    fn take(&mut self, lexer: &mut dyn MeLexer) -> Step<Token>
+    // One step of taking: an identifier is painted whose name is open, here or around.
+    fn take(&mut self, lexer: &mut dyn MeLexer) -> Step<Read>
         ensures steps { StepsTaking self.old (reader lexer.old) result self.new (reader lexer.new) }
-        ensures holds { IfOk result (λ token. HoldsOrdinary token.value) }
+        ensures holds { IfOk result (λ read. HoldsOrdinary read.token.value) }
+    {
+        match self.fetch(lexer) {
+            Ok(read) => Ok(self.processor.paint(&*lexer, read)),
+            Err(exit) => Err(exit),
+        }
+    }
+
+    // What comes first.
+    fn fetch(&mut self, lexer: &mut dyn MeLexer) -> Step<Read>
+        ensures steps { StepsFetching self.old (reader lexer.old) result self.new
+            (reader lexer.new) }
+        ensures holds { IfOk result (λ read. HoldsOrdinary read.token.value) }
     {
         if self.held.is_some() {
             return self.take_held();
@@ -316,11 +331,11 @@ impl Caller {
     // Takes what is held. It stands apart, as `show_line` does, so that other tokens are moved
     // less.
     #[inline(never)]
-    fn take_held(&mut self) -> Step<Token>
+    fn take_held(&mut self) -> Step<Read>
         requires { IsSome self.old.held }
         ensures held { self.old.held ≡ Some result }
         ensures left { self.new ≡ record self.old { held = None } }
-        ensures holds { IfOk result (λ token. HoldsOrdinary token.value) }
+        ensures holds { IfOk result (λ read. HoldsOrdinary read.token.value) }
     {
         match self.held.take() {
             Some(step) => step,
@@ -330,21 +345,21 @@ impl Caller {
 
     // A `__LINE__` that was read becomes a number.
     #[inline(never)]
-    fn show_line(&self, lexer: &dyn MeLexer, step: Step<Token>) -> Step<Token>
-        requires { IfOk step (λ token. HoldsOrdinary token.value) }
+    fn show_line(&self, lexer: &dyn MeLexer, step: Step<Read>) -> Step<Read>
+        requires { IfOk step (λ read. HoldsOrdinary read.token.value) }
         ensures shows { result ≡ taken_as step self.now.frames (reader lexer.now) }
-        ensures holds { IfOk result (λ token. HoldsOrdinary token.value) }
+        ensures holds { IfOk result (λ read. HoldsOrdinary read.token.value) }
     {
         match step {
-            Ok(token) => self.processor.take_in(lexer, token),
+            Ok(read) => self.processor.take_in(lexer, read),
             Err(exit) => Err(exit),
         }
     }
 
     /// What is taken next: the first step that is no pause.
-    pub fn take_next(&mut self, lexer: &mut dyn MeLexer) -> Step<Token>
+    pub fn take_next(&mut self, lexer: &mut dyn MeLexer) -> Step<Read>
         ensures takes { TakesNext self.old (reader lexer.old) result self.new (reader lexer.new) }
-        ensures holds { IfOk result (λ token. HoldsOrdinary token.value) }
+        ensures holds { IfOk result (λ read. HoldsOrdinary read.token.value) }
     {
         loop {
             let step = self.take(lexer);
@@ -370,18 +385,18 @@ impl Caller {
         &mut self,
         lexer: &mut dyn MeLexer,
         paren: Location,
-        tokens: &mut Vec<Token>,
+        tokens: &mut Vec<Read>,
     ) -> Result<Location, Halt>
         requires { tokens.old.items ≡ [] }
         ensures gathers { Satisfies result (λ end. GathersNext 0 paren self.old (reader lexer.old)
             (gathered_to tokens.new.items end) self.new (reader lexer.new)) }
-        ensures holds { OnOk result (AllHoldOrdinary tokens.new.items) }
+        ensures holds { OnOk result (AllReadOrdinary tokens.new.items) }
     {
         let mut last = paren;
         let mut depth: u32 = 0;
         'tokens: loop {
-            let token = match self.take_next(lexer) {
-                Ok(token) => token,
+            let read = match self.take_next(lexer) {
+                Ok(read) => read,
                 Err(StepExit::Error(fault)) => return Err(halt_of(fault)),
                 Err(StepExit::Finished) => {
                     return Err(Halt::Fault((PreprocessorError::UnexpectedEndOfInput, last)));
@@ -390,19 +405,19 @@ impl Caller {
                     return Err(Halt::Fault((PreprocessorError::UnexpectedEndOfInput, last)));
                 }
             };
-            last = token.location;
-            match nesting_of(depth, &token.value) {
+            last = read.token.location;
+            match nesting_of(depth, &read.token.value) {
                 Nesting::Closes => {
-                    drop(token);
+                    drop(read);
                     return Ok(last);
                 }
                 Nesting::TooMany => {
-                    drop(token);
+                    drop(read);
                     return Err(Halt::Fault((PreprocessorError::IntegerOverflow, last)));
                 }
                 Nesting::Within(deeper) => depth = deeper,
             }
-            tokens.push(token)?;
+            tokens.push(read)?;
         }
     }
 
@@ -451,18 +466,18 @@ impl Caller {
         define: Rc<Define>,
     ) -> Step<Taken>
         requires function { define.value.function_like ≡ true }
-        ensures enters { Enters (record {
+        ensures enters { Enters (unpainted (record {
           value = value.Ident name;
           location = location;
-        }) name define.value self.old (reader lexer.old) result self.new
+        })) name define.value self.old (reader lexer.old) result self.new
             (reader lexer.new) ⊎ (result ≡ Err (Error out_of_memory)) }
         ensures holds { IfOk result TakenHoldsOrdinary }
     {
         match self.seek(lexer)? {
-            Found::NoCall => Ok(Taken::Token(Token {
+            Found::NoCall => Ok(Taken::Token(Read::unpainted(Token {
                 value: TokenValue::Ident(name),
                 location,
-            })),
+            }))),
             Found::Whole(paren, gathered) => {
                 let Gathered { tokens, closing } = gathered;
                 Ok(Taken::Call(Call {
@@ -476,17 +491,19 @@ impl Caller {
         }
     }
 
-    // What the value stands for as a name, unless its macro is open.
+    // What a token that is taken stands for as a name, unless it is painted.
     fn find_macro(
         &self,
         lexer: &dyn MeLexer,
-        value: &TokenValue,
+        read: &Read,
     ) -> Result<Option<Rc<Define>>, AllocError>
         ensures { IfOk result (λ found. option_map (λ define. define.value) found
-            ≡ option_map (λ opening. opening.1) (opens_value self.now.frames
-            (reader lexer.now) value.now)) }
+            ≡ option_map (λ opening. opening.1) (opens (reader lexer.now) read.now)) }
     {
-        match value {
+        if read.painted {
+            return Ok(None);
+        }
+        match &read.token.value {
             TokenValue::Ident(name) => self.processor.find_macro(lexer, name),
             _ => Ok(None),
         }
@@ -494,17 +511,17 @@ impl Caller {
 
     // A name that is taken opens its macro, or begins its call.
     #[inline(never)]
-    fn enter(&mut self, lexer: &mut dyn MeLexer, token: Token, define: Rc<Define>) -> Step<Taken>
-        requires opens { option_map (λ opening. opening.1) (opens self.old.frames
-            (reader lexer.old) token) ≡ Some define.value }
-        requires holds { HoldsOrdinary token.value }
-        ensures follows { FollowsToken (opens self.old.frames (reader lexer.old) token) token
+    fn enter(&mut self, lexer: &mut dyn MeLexer, read: Read, define: Rc<Define>) -> Step<Taken>
+        requires opens { option_map (λ opening. opening.1) (opens (reader lexer.old) read)
+            ≡ Some define.value }
+        requires holds { HoldsOrdinary read.token.value }
+        ensures follows { FollowsToken (opens (reader lexer.old) read) read
             self.old (reader lexer.old) result self.new (reader lexer.new)
             ⊎ (result ≡ Err (Error out_of_memory)) }
         ensures holds { IfOk result TakenHoldsOrdinary }
     {
-        let location = token.location;
-        match token.value {
+        let Token { value, location } = read.token;
+        match value {
             TokenValue::Ident(name) => {
                 if define.is_function_like() {
                     self.enter_call(lexer, name, location, define)
@@ -512,22 +529,22 @@ impl Caller {
                     self.open_plain(name, location.line, define)
                 }
             }
-            value => Ok(Taken::Token(Token { value, location })),
+            value => Ok(Taken::Token(Read::unpainted(Token { value, location }))),
         }
     }
 
     // A token that is taken opens its macro, begins its call, or is given.
     #[inline(always)]
-    fn follow(&mut self, lexer: &mut dyn MeLexer, token: Token) -> Step<Taken>
-        requires { HoldsOrdinary token.value }
-        ensures follows { FollowsToken (opens self.old.frames (reader lexer.old) token) token
+    fn follow(&mut self, lexer: &mut dyn MeLexer, read: Read) -> Step<Taken>
+        requires { HoldsOrdinary read.token.value }
+        ensures follows { FollowsToken (opens (reader lexer.old) read) read
             self.old (reader lexer.old) result self.new (reader lexer.new)
             ⊎ (result ≡ Err (Error out_of_memory)) }
         ensures holds { IfOk result TakenHoldsOrdinary }
     {
-        match self.find_macro(&*lexer, &token.value) {
-            Ok(None) => Ok(Taken::Token(token)),
-            Ok(Some(define)) => self.enter(lexer, token, define),
+        match self.find_macro(&*lexer, &read) {
+            Ok(None) => Ok(Taken::Token(read)),
+            Ok(Some(define)) => self.enter(lexer, read, define),
             Err(_) => refused(),
         }
     }
@@ -539,7 +556,7 @@ impl Caller {
         ensures holds { IfOk result TakenHoldsOrdinary }
     {
         match self.take(lexer) {
-            Ok(token) => self.follow(lexer, token),
+            Ok(read) => self.follow(lexer, read),
             Err(exit) => Err(exit),
         }
     }
@@ -553,18 +570,19 @@ impl Caller {
             (reader lexer.new) }
         ensures holds { IfOk result TakenHoldsOrdinary }
     {
-        let Some(token) = self.processor.token() else {
+        let Some(ahead) = self.processor.token() else {
             self.processor.pass();
             return Err(StepExit::Continue);
         };
-        if is_line_name(&token.value) {
+        if is_line_name(ahead.value()) {
             return self.step_any(lexer);
         }
-        let Ok(copy) = copy_of(self.alloc, token) else {
+        let Ok(copy) = ahead.copied(self.alloc) else {
             return refused();
         };
         self.processor.pass();
-        self.follow(lexer, copy)
+        let read = self.processor.paint(&*lexer, copy);
+        self.follow(lexer, read)
     }
 
     /// One step: a token is taken, and is given, or opens its macro, or begins a call that is gathered.

@@ -5,20 +5,22 @@ ghost use Rattle.std.specs.Str.{chars};
 ghost use Rattle.pp_lexer.specs.declared.token.PreprocessorError.TheVariants.{LineOverflow};
 ghost use Rattle.pp_lexer.specs.declared.token.TokenValue.TheVariants as value;
 ghost use Rattle.pp_model.specs.Names.{is_in, is_identifier, line_name};
-ghost use Rattle.pp_model.specs.declared.outcome.Outcome.TheVariants as outcome;
+ghost use Rattle.pp_model.specs.Painting.{is_one_of, painted_among};
+ghost use Rattle.pp_model.specs.declared.read.Taken.TheVariants as model;
 ghost use Rattle.pp_expansion.specs.inner.Frames.{layer, names_of, outermost_frame_line};
 ghost use Rattle.pp_expansion.specs.Held.{HoldsOrdinary};
 ghost use Rattle.pp_expansion.specs.inner.Ahead.{given_next, frames_after};
-ghost use Rattle.pp_expansion.specs.inner.Turns.{Moves, taken_in, gives_line_name, opens_value};
+ghost use Rattle.pp_expansion.specs.inner.Turns.{Moves, taken_in, masks, gives_line_name, opens_value};
 ghost use Rattle.pp_expansion.specs.declared.step.StepExit.TheVariants.{Error, Continue};
 
 use crate::define::Define;
-use crate::frames::{Frame, TokenList, give};
+use crate::frames::{Ahead, Frame, ReadList, give};
 use crate::open_names::OpenNames;
 use crate::reader::MeLexer;
 use crate::step::{Step, StepExit};
 use pp_lexer::token::{Integer, Location, Text, Token, TokenValue};
 use pp_model::names::is_spelled;
+use pp_model::read::Read;
 use std::alloc::{AllocError, Global};
 use std::marker::Model;
 use std::rc::Rc;
@@ -55,11 +57,11 @@ pub fn is_line_name(value: &TokenValue) -> bool
 }
 
 /// Whether the step gives `__LINE__`.
-pub fn gives_line_name(step: &Step<Token>) -> bool
+pub fn gives_line_name(step: &Step<Read>) -> bool
     ensures { result ≡ gives_line_name step.now }
 {
     match step {
-        Ok(token) => is_line_name(&token.value),
+        Ok(read) => is_line_name(&read.token.value),
         Err(_) => false,
     }
 }
@@ -136,9 +138,9 @@ impl MacroProcessor {
     }
 
     /// The token that the innermost frame gives next: none where that is a pause.
-    pub fn token(&self) -> Option<&Token>
-        ensures token { option_map (λ token. token.now) result ≡ given_next self.now }
-        ensures holds { IfSome result (λ token. HoldsOrdinary token.now.value) }
+    pub fn token(&self) -> Option<Ahead<'_>>
+        ensures token { result ≡ given_next self.now }
+        ensures holds { IfSome result (λ ahead. HoldsOrdinary ahead.token.value) }
     {
         match self.frames.last() {
             Some(frame) => frame.token(),
@@ -163,15 +165,15 @@ impl MacroProcessor {
 
     // One step of the innermost frame, or of the reader where no macro is open. A frame at its
     // end is closed.
-    pub fn advance(&mut self, lexer: &mut dyn MeLexer) -> Step<Token>
+    pub fn advance(&mut self, lexer: &mut dyn MeLexer) -> Step<Read>
         ensures moves { Moves self.old (reader lexer.old) result self.new (reader lexer.new) }
-        ensures holds { IfOk result (λ token. HoldsOrdinary token.value) }
+        ensures holds { IfOk result (λ read. HoldsOrdinary read.token.value) }
     {
         if self.is_idle() {
             return lexer.step();
         }
         let step = match self.token() {
-            Some(token) => give(self.alloc, token),
+            Some(ahead) => give(self.alloc, ahead),
             None => Err(StepExit::Continue),
         };
         self.pass();
@@ -179,40 +181,60 @@ impl MacroProcessor {
     }
 
     // A token that is taken: `__LINE__` becomes a number at once.
-    pub fn take_in(&self, lexer: &dyn MeLexer, token: Token) -> Step<Token>
-        requires { HoldsOrdinary token.value }
+    pub fn take_in(&self, lexer: &dyn MeLexer, read: Read) -> Step<Read>
+        requires { HoldsOrdinary read.token.value }
         ensures taken { MatchResult result
-            (λ taken. taken_in self.now (reader lexer.now) token ≡ outcome.Token taken)
-            (λ exit. (exit ≡ Error (LineOverflow, token.location))
-            × (taken_in self.now (reader lexer.now) token
-            ≡ outcome.Fault (LineOverflow, token.location))) }
-        ensures holds { IfOk result (λ token. HoldsOrdinary token.value) }
+            (λ taken. taken_in self.now (reader lexer.now) read ≡ model.Token taken)
+            (λ exit. (exit ≡ Error (LineOverflow, read.token.location))
+            × (taken_in self.now (reader lexer.now) read
+            ≡ model.Fault (LineOverflow, read.token.location))) }
+        ensures holds { IfOk result (λ read. HoldsOrdinary read.token.value) }
     {
-        if !is_line_name(&token.value) {
-            return Ok(token);
+        if !is_line_name(&read.token.value) {
+            return Ok(read);
         }
-        let location = token.location;
-        drop(token);
+        let location = read.token.location;
+        drop(read);
         let line = self.outermost_line().unwrap_or(location.line);
         let shown = lexer.apply_line_offset(line, location)?;
-        Ok(make_line_number(shown, location))
+        Ok(Read::unpainted(make_line_number(shown, location)))
     }
 
-    // What the name stands for, unless its macro is open.
+    // Whether the value is the name of a macro that is open here or around.
+    fn is_masked(&self, lexer: &dyn MeLexer, value: &TokenValue) -> bool
+        ensures { result ≡ is_one_of (masks self.now (reader lexer.now)) value.now }
+    {
+        match value {
+            TokenValue::Ident(name) => {
+                self.is_open(name.as_str()) || lexer.is_hidden(name.as_str())
+            }
+            _ => false,
+        }
+    }
+
+    /// A token that is taken: the name of a macro that is open here or around is painted.
+    pub fn paint(&self, lexer: &dyn MeLexer, read: Read) -> Read
+        ensures { result ≡ painted_among (masks self.now (reader lexer.now)) read }
+    {
+        let painted = read.painted || self.is_masked(lexer, &read.token.value);
+        Read {
+            token: read.token,
+            painted,
+        }
+    }
+
+    // What the name stands for.
     pub fn find_macro(
         &self,
         lexer: &dyn MeLexer,
         name: &Text,
     ) -> Result<Option<Rc<Define>>, AllocError>
         ensures { IfOk result (λ found. option_map (λ define. (name.now, define.value)) found
-            ≡ opens_value self.now (reader lexer.now) (value.Ident name.now)) }
+            ≡ opens_value (reader lexer.now) (value.Ident name.now)) }
     {
         let Some(define) = lexer.get_define(name.as_str()) else {
             return Ok(None);
         };
-        if self.is_open(name.as_str()) {
-            return Ok(None);
-        }
         Ok(Some(define.clone()?))
     }
 
@@ -222,7 +244,7 @@ impl MacroProcessor {
         name: Text,
         line: u32,
         define: Rc<Define>,
-        arguments: Vec<TokenList>,
+        arguments: Vec<ReadList>,
     ) -> Result<(), AllocError>
         ensures { OnOk result (self.new ≡ layer name line define.value arguments.items ∷ self.old) }
     {

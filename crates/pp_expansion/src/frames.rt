@@ -7,56 +7,93 @@ ghost use Rattle.pp_model.specs.SpliceList.{parameter_of};
 ghost use Rattle.pp_expansion.specs.inner.Frames.{layer, argument_at, advance};
 ghost use Rattle.pp_expansion.specs.Held.{HoldsOrdinary, AllHoldOrdinary};
 ghost use Rattle.pp_expansion.specs.inner.Ahead.{given_by, frame_after};
+ghost use Rattle.pp_expansion.specs.inner.Reading.{AllReadOrdinary};
 ghost use Rattle.pp_expansion.specs.declared.step.StepExit.TheVariants.{Error};
 
 use crate::define::Define;
 use crate::step::{Step, StepExit};
 use pp_lexer::token::{Text, Token, TokenValue, out_of_memory};
+use pp_model::read::Read;
 use std::alloc::{AllocError, Global};
 use std::marker::Model;
 use std::rc::Rc;
 
-/// Tokens that an argument of a call comes to. A directive item among them holds ordinary tokens.
+/// Tokens that an argument of a call comes to, with their paint. A directive item among them holds
+/// ordinary tokens.
 #[derive(Drop)]
-pub struct TokenList {
-    items: Vec<Token>,
+pub struct ReadList {
+    items: Vec<Read>,
 }
 
-impl Model for TokenList {
+impl Model for ReadList {
     ghost use Rattle.std.specs.Prelude.{List};
-    ghost use Rattle.pp_lexer.specs.declared.token.Token.{Token};
-    ghost use Rattle.pp_expansion.specs.Held.{AllHoldOrdinary};
+    ghost use Rattle.pp_model.specs.declared.read.Read.{Read};
+    ghost use Rattle.pp_expansion.specs.inner.Reading.{AllReadOrdinary};
 
-    ghost Value = { List Token };
+    ghost Value = { List Read };
 
     ghost view = { λ list. list.items.items };
 
-    ghost invariant = { λ list. AllHoldOrdinary list.items.items };
+    ghost invariant = { λ list. AllReadOrdinary list.items.items };
 }
 
-impl TokenList {
+impl ReadList {
     /// The list of these tokens.
-    pub fn new(items: Vec<Token>) -> TokenList
-        requires { AllHoldOrdinary items.items }
+    pub fn new(items: Vec<Read>) -> ReadList
+        requires { AllReadOrdinary items.items }
         ensures { result ≡ items.items }
     {
-        TokenList { items }
+        ReadList { items }
     }
 
     /// The tokens as a vector.
-    pub fn into_tokens(self) -> Vec<Token>
+    pub fn into_tokens(self) -> Vec<Read>
         ensures is { result.items ≡ self }
-        ensures holds { AllHoldOrdinary result.items }
+        ensures holds { AllReadOrdinary result.items }
     {
         self.items
     }
 
     /// The tokens.
-    pub fn as_slice(&self) -> &[Token]
+    pub fn as_slice(&self) -> &[Read]
         ensures is { result.now ≡ self.now }
-        ensures holds { AllHoldOrdinary result.now }
+        ensures holds { AllReadOrdinary result.now }
     {
         &self.items
+    }
+}
+
+/// A token that a frame gives, where it stands, and whether it is painted.
+#[derive(Drop)]
+pub struct Ahead<'a> {
+    token: &'a Token,
+    painted: bool,
+}
+
+impl<'a> Model for Ahead<'a> {
+    ghost use Rattle.pp_model.specs.declared.read.Read.{Read};
+
+    ghost Value = { Read };
+
+    ghost view = { λ a. record { token = a.token.now; painted = a.painted } };
+}
+
+impl<'a> Ahead<'a> {
+    /// Its value.
+    pub fn value(&self) -> &'a TokenValue
+        ensures { result.now ≡ self.now.token.value }
+    {
+        &self.token.value
+    }
+
+    /// A copy of the token, with its paint.
+    pub fn copied(&self, alloc: Global) -> Result<Read, AllocError>
+        ensures { IfOk result (λ copy. copy ≡ self.now) }
+    {
+        Ok(Read {
+            token: copy_of(alloc, self.token)?,
+            painted: self.painted,
+        })
     }
 }
 
@@ -67,7 +104,7 @@ pub struct Frame {
     line: u32,
     define: Rc<Define>,
     position: usize,
-    arguments: Vec<TokenList>,
+    arguments: Vec<ReadList>,
     expanding: Option<usize>,
     argument_position: usize,
 }
@@ -119,16 +156,17 @@ pub fn token_at(tokens: &[Token], position: usize) -> Option<&Token>
 }
 
 // The token of the argument with this index at the position.
-fn argument_token(arguments: &[TokenList], index: usize, position: usize) -> Option<&Token>
-    ensures token { option_map (λ token. token.now) result
-        ≡ slice_get (argument_at arguments.now index) position }
+fn argument_token(arguments: &[ReadList], index: usize, position: usize) -> Option<Ahead<'_>>
+    ensures token { result ≡ slice_get (argument_at arguments.now index) position }
     ensures small { IfSome result (λ _. position < 2 ^ 63) }
-    ensures holds { IfSome result (λ token. HoldsOrdinary token.now.value) }
+    ensures holds { IfSome result (λ ahead. HoldsOrdinary ahead.token.value) }
 {
-    match arguments.get(index) {
-        Some(argument) => token_at(argument.as_slice(), position),
-        None => None,
-    }
+    let argument = arguments.get(index)?;
+    let read = argument.as_slice().get(position)?;
+    Some(Ahead {
+        token: &read.token,
+        painted: read.painted,
+    })
 }
 
 /// A copy of a token.
@@ -154,18 +192,18 @@ fn copy_of_value(alloc: Global, value: &TokenValue) -> Result<TokenValue, AllocE
 }
 
 /// A copy of a token as what a step gives.
-pub fn give(alloc: Global, token: &Token) -> Step<Token>
-    ensures { (result ≡ Err (Error out_of_memory)) ⊎ (result ≡ Ok token.now) }
+pub fn give(alloc: Global, ahead: Ahead<'_>) -> Step<Read>
+    ensures { (result ≡ Err (Error out_of_memory)) ⊎ (result ≡ Ok ahead.entry) }
 {
-    match copy_of(alloc, token) {
-        Ok(copy) => Ok(copy),
+    match ahead.copied(alloc) {
+        Ok(read) => Ok(read),
         Err(_) => refused_token(),
     }
 }
 
 // A refusal of memory, apart so that a token is moved without it.
 #[inline(never)]
-fn refused_token() -> Step<Token>
+fn refused_token() -> Step<Read>
     ensures { result ≡ Err (Error out_of_memory) }
 {
     Err(StepExit::Error(out_of_memory()))
@@ -173,7 +211,7 @@ fn refused_token() -> Step<Token>
 
 impl Frame {
     /// The frame of a macro as it opens.
-    pub fn new(name: Text, line: u32, define: Rc<Define>, arguments: Vec<TokenList>) -> Frame
+    pub fn new(name: Text, line: u32, define: Rc<Define>, arguments: Vec<ReadList>) -> Frame
         ensures { result ≡ layer name line define.value arguments.items }
     {
         Frame {
@@ -213,9 +251,9 @@ impl Frame {
 
     /// The token that its next step gives. A parameter and the end of an argument are pauses, and
     /// so is the end of the body.
-    pub fn token(&self) -> Option<&Token>
-        ensures token { option_map (λ token. token.now) result ≡ given_by (advance self.now) }
-        ensures holds { IfSome result (λ token. HoldsOrdinary token.now.value) }
+    pub fn token(&self) -> Option<Ahead<'_>>
+        ensures token { result ≡ given_by (advance self.now) }
+        ensures holds { IfSome result (λ ahead. HoldsOrdinary ahead.token.value) }
     {
         if let Some(index) = self.expanding {
             return argument_token(&self.arguments, index, self.argument_position);
@@ -225,7 +263,10 @@ impl Frame {
         };
         match parameter_of(self.define.parameters(), &token.value) {
             Some(_) => None,
-            None => Some(token),
+            None => Some(Ahead {
+                token,
+                painted: false,
+            }),
         }
     }
 

@@ -1,10 +1,11 @@
 //! A list of tokens as a reader: an argument of a call, or the line of a directive.
 
-ghost use Rattle.std.specs.Prelude.{◌≡◌, ◌&&◌, false, true};
+ghost use Rattle.std.specs.Prelude.{◌≡◌, ◌&&◌, false, true, map, IfOk};
 ghost use Rattle.std.specs.Str.{chars};
 ghost use Rattle.pp_model.specs.Names.{is_same_name, defined_name};
-ghost use Rattle.pp_expansion.specs.Held.{AllHoldOrdinary};
-ghost use Rattle.pp_expansion.specs.inner.Reader.{of_list, is_masked};
+ghost use Rattle.pp_expansion.specs.inner.Reading.{AllReadOrdinary};
+ghost use Rattle.pp_expansion.specs.inner.Reader.{of_list};
+ghost use Rattle.pp_model.specs.Painting.{unpainted};
 
 use crate::define::Define;
 use crate::definitions::Definitions;
@@ -12,6 +13,8 @@ use crate::open_around::OpenAround;
 use crate::reader::MeLexer;
 use crate::step::{Step, StepExit};
 use pp_lexer::token::{Location, Token};
+use pp_model::read::Read;
+use std::alloc::{AllocError, Global};
 use std::marker::Model;
 use std::rc::Rc;
 use std::vec::IntoIter;
@@ -23,10 +26,21 @@ fn is_reserved(is_line: bool, name: &str) -> bool
     is_line && name == "defined"
 }
 
+/// The tokens, unpainted.
+pub fn unpainted(alloc: Global, tokens: Vec<Token>) -> Result<Vec<Read>, AllocError>
+    ensures { IfOk result (λ reads. reads.items ≡ map unpainted tokens.items) }
+{
+    let mut reads = Vec::with_capacity(alloc, tokens.len())?;
+    for token in tokens {
+        reads.push(Read::unpainted(token))?;
+    }
+    Ok(reads)
+}
+
 /// A list of tokens, with what is defined there and the names that are open around.
 #[derive(Drop)]
 pub struct ListLexer<'a> {
-    tokens: IntoIter<Token>,
+    tokens: IntoIter<Read>,
     definitions: &'a Definitions,
     hidden: &'a OpenAround<'a>,
     is_line: bool,
@@ -34,24 +48,24 @@ pub struct ListLexer<'a> {
 
 impl<'a> Model for ListLexer<'a> {
     ghost use Rattle.std.specs.Vec.Iter.{into_iter_items};
-    ghost use Rattle.pp_expansion.specs.Held.{AllHoldOrdinary};
+    ghost use Rattle.pp_expansion.specs.inner.Reading.{AllReadOrdinary};
     ghost use Rattle.pp_expansion.specs.inner.Reader.{Listing};
 
     ghost Value = { Listing };
 
     ghost view = { λ l. record { tokens = into_iter_items l.tokens; definitions = l.definitions.now; hidden = l.hidden.now; is_line = l.is_line } };
 
-    ghost invariant = { λ l. AllHoldOrdinary (into_iter_items l.tokens) };
+    ghost invariant = { λ l. AllReadOrdinary (into_iter_items l.tokens) };
 }
 
 impl<'a> ListLexer<'a> {
     /// An argument of a call.
     pub fn argument(
-        tokens: Vec<Token>,
+        tokens: Vec<Read>,
         definitions: &'a Definitions,
         hidden: &'a OpenAround<'a>,
     ) -> Self
-        requires { AllHoldOrdinary tokens.items }
+        requires { AllReadOrdinary tokens.items }
         ensures { result ≡ record {
           tokens = tokens.items;
           definitions = definitions.now;
@@ -69,11 +83,11 @@ impl<'a> ListLexer<'a> {
 
     /// The line of an `#if`, `#elif` or `#line`, where `defined` is reserved.
     pub fn line(
-        tokens: Vec<Token>,
+        tokens: Vec<Read>,
         definitions: &'a Definitions,
         hidden: &'a OpenAround<'a>,
     ) -> Self
-        requires { AllHoldOrdinary tokens.items }
+        requires { AllReadOrdinary tokens.items }
         ensures { result ≡ record {
           tokens = tokens.items;
           definitions = definitions.now;
@@ -88,34 +102,27 @@ impl<'a> ListLexer<'a> {
             is_line: true,
         }
     }
-
-    // Whether the name never opens there.
-    fn is_masked(&self, name: &str) -> bool
-        ensures { result ≡ is_masked self.now (chars name.now) }
-    {
-        is_reserved(self.is_line, name) || self.hidden.is_open(name)
-    }
 }
 
 impl<'a> MeLexer for ListLexer<'a> {
     ghost reader = { λ list. of_list list };
 
-    fn step(&mut self) -> Step<Token> {
-        let Some(token) = self.tokens.next() else {
+    fn step(&mut self) -> Step<Read> {
+        let Some(read) = self.tokens.next() else {
             return Err(StepExit::Finished);
         };
-        Ok(token)
+        Ok(read)
     }
 
     fn get_define(&self, name: &str) -> Option<&Rc<Define>> {
-        let Some(define) = self.definitions.find(name) else {
+        if is_reserved(self.is_line, name) {
             return None;
-        };
-        if self.is_masked(name) {
-            None
-        } else {
-            Some(define)
         }
+        self.definitions.find(name)
+    }
+
+    fn is_hidden(&self, name: &str) -> bool {
+        self.hidden.is_open(name)
     }
 
     fn apply_line_offset(&self, line: u32, _location: Location) -> Step<u32> {

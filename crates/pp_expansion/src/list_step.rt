@@ -9,7 +9,7 @@ ghost use Rattle.pp_expansion.specs.inner.Reader.{of_list};
 use crate::calls::{Caller, Taken};
 use crate::list_lexer::ListLexer;
 use crate::step::Step;
-use pp_lexer::token::Token;
+use pp_model::read::Read;
 
 /// One step of the expander, where a list stands after the frames.
 pub fn step_list(caller: &mut Caller, list: &mut ListLexer<'_>) -> Step<Taken>
@@ -21,9 +21,9 @@ pub fn step_list(caller: &mut Caller, list: &mut ListLexer<'_>) -> Step<Taken>
 }
 
 /// What is taken next and not looked up, where a list stands after the frames.
-pub fn take_list(caller: &mut Caller, list: &mut ListLexer<'_>) -> Step<Token>
+pub fn take_list(caller: &mut Caller, list: &mut ListLexer<'_>) -> Step<Read>
     ensures takes { TakesNext caller.old (of_list list.old) result caller.new (of_list list.new) }
-    ensures holds { IfOk result (λ token. HoldsOrdinary token.value) }
+    ensures holds { IfOk result (λ read. HoldsOrdinary read.token.value) }
 {
     caller.take_next(list)
 }

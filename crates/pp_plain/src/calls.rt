@@ -5,10 +5,10 @@ ghost use Rattle.pp_model.specs.Calls.{nesting, nesting_after, arguments_of, mis
 ghost use Rattle.pp_plain.specs.inner.Nested.{nesting_named};
 
 use crate::list::take_first;
-use crate::lists::TokenLists;
-use pp_lexer::token::{Location, PreprocessorError, Punct, Token, TokenValue};
-use pp_model::definition::{Definition, TokenList};
-use pp_model::outcome::Outcome;
+use crate::lists::{ReadList, ReadLists};
+use pp_lexer::token::{Location, PreprocessorError, Punct, TokenValue};
+use pp_model::definition::Definition;
+use pp_model::read::{Read, Taken};
 use std::alloc::{AllocError, Global};
 use std::marker::Model;
 
@@ -27,7 +27,7 @@ pub enum Nesting {
 #[derive(Drop)]
 pub struct Gathered {
     /// The tokens.
-    pub tokens: Vec<Token>,
+    pub tokens: Vec<Read>,
     /// The place of the `)`.
     pub closing: Location,
 }
@@ -62,11 +62,11 @@ pub fn is_comma(value: &TokenValue) -> bool
 }
 
 /// The place of a `(`.
-pub fn paren_at(outcome: &Outcome) -> Option<Location>
-    ensures { result ≡ paren_at outcome.now }
+pub fn paren_at(taken: &Taken) -> Option<Location>
+    ensures { result ≡ paren_at taken.now }
 {
-    match outcome {
-        Outcome::Token(token) if is_left_paren(&token.value) => Some(token.location),
+    match taken {
+        Taken::Token(read) if is_left_paren(&read.token.value) => Some(read.token.location),
         _ => None,
     }
 }
@@ -108,28 +108,28 @@ fn nesting_after(depth: usize, value: &TokenValue) -> usize
 }
 
 /// The tokens of a call cut at the commas that stand outside inner parentheses.
-pub fn arguments_of(alloc: Global, mut tokens: Vec<Token>) -> Result<TokenLists, AllocError>
+pub fn arguments_of(alloc: Global, mut tokens: Vec<Read>) -> Result<ReadLists, AllocError>
     ensures { IfOk result (λ arguments. arguments ≡ arguments_of tokens.items) }
 {
     let mut pieces = Vec::new(alloc);
     let mut piece = Vec::new(alloc);
     let mut depth: usize = 0;
-    while let Some(token) = take_first(&mut tokens) {
-        let after = nesting_after(depth, &token.value);
-        if is_comma(&token.value) && depth == 0 {
-            pieces.push(TokenList { items: piece })?;
+    while let Some(read) = take_first(&mut tokens) {
+        let after = nesting_after(depth, &read.token.value);
+        if is_comma(&read.token.value) && depth == 0 {
+            pieces.push(ReadList { items: piece })?;
             piece = Vec::new(alloc);
         } else {
-            piece.push(token)?;
+            piece.push(read)?;
         }
         depth = after;
     }
-    pieces.push(TokenList { items: piece })?;
-    Ok(TokenLists { items: pieces })
+    pieces.push(ReadList { items: piece })?;
+    Ok(ReadLists { items: pieces })
 }
 
 /// Whether there is one list, without a token.
-fn is_one_empty(arguments: &[TokenList]) -> bool
+fn is_one_empty(arguments: &[ReadList]) -> bool
     ensures { result ≡ is_one_empty arguments.now }
 {
     match arguments {
@@ -139,7 +139,7 @@ fn is_one_empty(arguments: &[TokenList]) -> bool
 }
 
 /// What is wrong with the number of arguments.
-pub fn misfit(definition: &Definition, arguments: &TokenLists) -> Option<PreprocessorError>
+pub fn misfit(definition: &Definition, arguments: &ReadLists) -> Option<PreprocessorError>
     ensures { result ≡ misfit definition.now.parameters arguments.now }
 {
     let wanted = definition.parameters.len();

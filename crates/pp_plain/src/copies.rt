@@ -3,8 +3,9 @@
 ghost use Rattle.std.specs.Prelude.{◌≡◌, IfOk};
 
 use pp_lexer::token::{Text, Token};
-use pp_model::copies::copy_token;
+use pp_model::copies::{copy_read, copy_token};
 use pp_model::definition::Definition;
+use pp_model::read::Read;
 use std::alloc::{AllocError, Global};
 
 /// Copies of the tokens, in order.
@@ -14,6 +15,17 @@ pub fn copy_tokens(alloc: Global, tokens: &[Token]) -> Result<Vec<Token>, AllocE
     let mut copies = Vec::new(alloc);
     for token in tokens {
         copies.push(copy_token(alloc, token)?)?;
+    }
+    Ok(copies)
+}
+
+/// Copies of the tokens with their paint, in order.
+pub fn copy_reads(alloc: Global, reads: &[Read]) -> Result<Vec<Read>, AllocError>
+    ensures { IfOk result (λ copies. copies.items ≡ reads.now) }
+{
+    let mut copies = Vec::new(alloc);
+    for read in reads {
+        copies.push(copy_read(alloc, read)?)?;
     }
     Ok(copies)
 }

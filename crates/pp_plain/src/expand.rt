@@ -8,15 +8,15 @@ ghost use Rattle.pp_plain.specs.inner.Seen.{seen};
 ghost use Rattle.pp_plain.specs.inner.SeenList.{list_state};
 
 use crate::calls::misfit;
-use crate::copies::{copy_names, copy_tokens};
+use crate::copies::{copy_names, copy_reads};
 use crate::definitions::Definitions;
 use crate::expander::{Call, Expander, Turn};
-use crate::lists::TokenLists;
+use crate::lists::{ReadList, ReadLists};
 use crate::reader::{ArgumentReader, Reader};
 use crate::stop::{Budget, Stop};
-use pp_lexer::token::{PreprocessorError, Text, Token};
-use pp_model::definition::TokenList;
-use pp_model::outcome::{Fault, Outcome};
+use pp_lexer::token::{PreprocessorError, Text};
+use pp_model::outcome::Fault;
+use pp_model::read::{Read, Taken};
 use std::alloc::{AllocError, Global};
 
 /// How many argument expansions may be read inside each other.
@@ -39,7 +39,7 @@ pub fn answer(
     hidden: &[Text],
     levels: u32,
     budget: &mut Budget,
-) -> Result<Result<TokenLists, Fault>, Stop>
+) -> Result<Result<ReadLists, Fault>, Stop>
     ensures answers { IfOk result (λ answer. answers_at levels call.now.opening.definition
         (record {
           paren = call.now.site.paren;
@@ -71,12 +71,12 @@ pub fn answer(
 #[cycle(answers)]
 pub fn expand_arguments(
     alloc: Global,
-    arguments: &[TokenList],
+    arguments: &[ReadList],
     visible: &Definitions,
     hidden: &[Text],
     levels: u32,
     budget: &mut Budget,
-) -> Result<Result<TokenLists, Fault>, Stop>
+) -> Result<Result<ReadLists, Fault>, Stop>
     ensures each { IfOk result (λ answer. Each (Alone levels)
         (meaning_of visible.now) hidden.now arguments.now answer) }
     ensures budget { budget.new.steps ≤ budget.old.steps }
@@ -88,19 +88,19 @@ pub fn expand_arguments(
             Err(fault) => return Ok(Err(fault)),
         }
     }
-    Ok(Ok(TokenLists { items: expanded }))
+    Ok(Ok(ReadLists { items: expanded }))
 }
 
 /// What a list of tokens comes to alone.
 #[cycle(answers)]
 pub fn expand_argument(
     alloc: Global,
-    tokens: &[Token],
+    tokens: &[Read],
     visible: &Definitions,
     hidden: &[Text],
     levels: u32,
     budget: &mut Budget,
-) -> Result<Result<TokenList, Fault>, Stop>
+) -> Result<Result<ReadList, Fault>, Stop>
     ensures alone { IfOk result (λ expanded. Alone levels tokens.now
         (meaning_of visible.now) hidden.now expanded) }
     ensures budget { budget.new.steps ≤ budget.old.steps }
@@ -118,7 +118,7 @@ fn collect(
     expander: &mut Expander<ArgumentReader<'_>>,
     levels: u32,
     budget: &mut Budget,
-) -> Result<Result<TokenList, Fault>, Stop>
+) -> Result<Result<ReadList, Fault>, Stop>
     ensures collects { IfOk result (λ expanded. Collects argument_reading (answers_at levels)
         (seen list_state expander.old) expanded) }
     ensures budget { budget.new.steps ≤ budget.old.steps }
@@ -127,9 +127,9 @@ fn collect(
     'items: loop {
         budget.spend()?;
         match emit_alone(expander, levels, budget)? {
-            Outcome::Token(token) => items.push(token)?,
-            Outcome::Fault(fault) => return Ok(Err(fault)),
-            Outcome::End => return Ok(Ok(TokenList { items })),
+            Taken::Token(read) => items.push(read)?,
+            Taken::Fault(fault) => return Ok(Err(fault)),
+            Taken::End => return Ok(Ok(ReadList { items })),
         }
     }
 }
@@ -137,7 +137,7 @@ fn collect(
 /// The start of an argument.
 fn argument_expander<'a>(
     alloc: Global,
-    tokens: &[Token],
+    tokens: &[Read],
     visible: &'a Definitions,
     hidden: &[Text],
 ) -> Result<Expander<ArgumentReader<'a>>, AllocError>
@@ -145,7 +145,7 @@ fn argument_expander<'a>(
         ≡ reading_of tokens.now (meaning_of visible.now) hidden.now) }
 {
     let reader = ArgumentReader {
-        tokens: copy_tokens(alloc, tokens)?,
+        tokens: copy_reads(alloc, tokens)?,
         definitions: visible,
     };
     Ok(Expander::new(alloc, reader, copy_names(alloc, hidden)?))
@@ -158,7 +158,7 @@ fn answer_alone(
     call: &Call,
     levels: u32,
     budget: &mut Budget,
-) -> Result<Result<TokenLists, Fault>, Stop>
+) -> Result<Result<ReadLists, Fault>, Stop>
     ensures answers { IfOk result (λ answer. answers_at levels call.now.opening.definition
         (record {
           paren = call.now.site.paren;
@@ -179,20 +179,20 @@ fn emit_alone(
     expander: &mut Expander<ArgumentReader<'_>>,
     levels: u32,
     budget: &mut Budget,
-) -> Result<Outcome, Stop>
-    ensures emits { IfOk result (λ outcome. Emits argument_reading (answers_at levels)
-        (seen list_state expander.old) outcome (seen list_state expander.new)) }
+) -> Result<Taken, Stop>
+    ensures emits { IfOk result (λ taken. Emits argument_reading (answers_at levels)
+        (seen list_state expander.old) taken (seen list_state expander.new)) }
     ensures budget { budget.new.steps ≤ budget.old.steps }
 {
     'turns: loop {
         budget.spend()?;
         match expander.turn(budget)? {
-            Turn::Item(outcome) => return Ok(outcome),
+            Turn::Item(taken) => return Ok(taken),
             Turn::Replaced => {}
             Turn::Called(call) => match answer_alone(expander, &call, levels, budget) {
                 Ok(answer) => {
                     if let Some(fault) = expander.resolve(call, answer)? {
-                        return Ok(Outcome::Fault(fault));
+                        return Ok(Taken::Fault(fault));
                     }
                 }
                 Err(stop) => {
@@ -210,7 +210,7 @@ fn answer_in<R: Reader>(
     call: &Call,
     levels: u32,
     budget: &mut Budget,
-) -> Result<Result<TokenLists, Fault>, Stop>
+) -> Result<Result<ReadLists, Fault>, Stop>
     ensures answers { IfOk result (λ answer. answers_at levels call.now.opening.definition
         (record {
           paren = call.now.site.paren;
@@ -230,20 +230,20 @@ pub fn emit<R: Reader>(
     expander: &mut Expander<R>,
     levels: u32,
     budget: &mut Budget,
-) -> Result<Outcome, Stop>
-    ensures emits { IfOk result (λ outcome. Emits R.reading (answers_at levels)
-        (seen R.state expander.old) outcome (seen R.state expander.new)) }
+) -> Result<Taken, Stop>
+    ensures emits { IfOk result (λ taken. Emits R.reading (answers_at levels)
+        (seen R.state expander.old) taken (seen R.state expander.new)) }
     ensures budget { budget.new.steps ≤ budget.old.steps }
 {
     'turns: loop {
         budget.spend()?;
         match expander.turn(budget)? {
-            Turn::Item(outcome) => return Ok(outcome),
+            Turn::Item(taken) => return Ok(taken),
             Turn::Replaced => {}
             Turn::Called(call) => match answer_in(expander, &call, levels, budget) {
                 Ok(answer) => {
                     if let Some(fault) = expander.resolve(call, answer)? {
-                        return Ok(Outcome::Fault(fault));
+                        return Ok(Taken::Fault(fault));
                     }
                 }
                 Err(stop) => {

@@ -1,9 +1,9 @@
 //! Expanders: what is taken next, which names open a macro, and one turn of reading.
 
-ghost use Rattle.std.specs.Prelude.{◌≡◌, ◌≤◌, ◌||◌, [], None, IfOk, OnOk};
-ghost use Rattle.pp_model.specs.Names.{is_in};
+ghost use Rattle.std.specs.Prelude.{◌≡◌, ◌≤◌, [], None, IfOk, OnOk};
 ghost use Rattle.pp_model.specs.Reading.{opening, masked};
-ghost use Rattle.pp_model.specs.Taking.{Takes, taken_token, read_outcome, line_number};
+ghost use Rattle.pp_model.specs.Painting.{is_one_of, painted_among, taken_among};
+ghost use Rattle.pp_model.specs.Taking.{Fetches, Takes, shown_token, shown_outcome, line_number};
 ghost use Rattle.pp_model.specs.Calls.{Gathers};
 ghost use Rattle.pp_model.specs.Emitting.{opened};
 ghost use Rattle.pp_plain.specs.inner.Seen.{seen, turned, Resolves, TakesParen, Finds, TurnsAt, Turns};
@@ -12,7 +12,7 @@ use crate::calls::{Gathered, Nesting, arguments_of, nesting_of, paren_at};
 use crate::copies::{copy_definition, copy_names};
 use crate::list;
 use crate::list::{open_names, outermost_line, take_token};
-use crate::lists::TokenLists;
+use crate::lists::ReadLists;
 use crate::names::is_among;
 use crate::reader::Reader;
 use crate::stop::{Budget, Stop};
@@ -20,7 +20,8 @@ use pp_lexer::token::{Integer, Location, PreprocessorError, Text, Token, TokenVa
 use pp_model::copies::copy_token;
 use pp_model::definition::Definition;
 use pp_model::names::is_line_name;
-use pp_model::outcome::{Fault, Outcome};
+use pp_model::outcome::Fault;
+use pp_model::read::{Read, Taken};
 use pp_model::splice::Entry;
 use std::alloc::{AllocError, Global};
 use std::marker::Model;
@@ -52,7 +53,7 @@ pub struct Site {
     /// The line of the `)`.
     pub line: u32,
     /// The arguments, as they were read.
-    pub arguments: TokenLists,
+    pub arguments: ReadLists,
 }
 
 /// What stands after the name of a macro with parameters.
@@ -79,7 +80,7 @@ pub struct Call {
 #[derive(Drop)]
 pub enum Turn {
     /// An item.
-    Item(Outcome),
+    Item(Taken),
     /// A macro without parameters was replaced.
     Replaced,
     /// A call was gathered.
@@ -91,8 +92,8 @@ pub enum Turn {
 pub struct Expander<R> {
     /// Where its memory comes from.
     pub alloc: Global,
-    /// An outcome that was found too early.
-    pub held: Option<Outcome>,
+    /// What was found too early.
+    pub held: Option<Taken>,
     /// What was spliced in and is not read yet.
     pub list: Vec<Entry>,
     /// What stands after the list.
@@ -134,47 +135,80 @@ fn line_of(opening: &Opening) -> u32
 }
 
 /// A line number at this place.
-fn line_number(location: Location, shown: Option<u32>) -> Outcome
+fn line_number(location: Location, shown: Option<u32>) -> Taken
     ensures { result ≡ line_number location shown }
 {
     match shown {
-        Some(line) => Outcome::Token(Token {
+        Some(line) => Taken::Token(Read::unpainted(Token {
             value: TokenValue::Integer(Integer {
                 value: line as u64,
                 signed: false,
                 width: 32,
             }),
             location,
-        }),
-        None => Outcome::Fault((PreprocessorError::LineOverflow, location)),
+        })),
+        None => Taken::Fault((PreprocessorError::LineOverflow, location)),
     }
 }
 
 /// A taken token, with `__LINE__` as a number.
-fn taken_token<R: Reader>(reader: &R, after: &[Entry], token: Token) -> Outcome
-    ensures { result ≡ taken_token (R.reading.shown_line (R.state reader.now)) after.now token }
+fn shown_token<R: Reader>(reader: &R, after: &[Entry], read: Read) -> Taken
+    ensures { result ≡ shown_token (R.reading.shown_line (R.state reader.now)) after.now read }
 {
-    if is_line_name(&token.value) {
-        let line = outermost_line(after).unwrap_or(token.location.line);
-        line_number(token.location, reader.shown_line(line))
+    if is_line_name(&read.token.value) {
+        let location = read.token.location;
+        let line = outermost_line(after).unwrap_or(location.line);
+        line_number(location, reader.shown_line(line))
     } else {
-        Outcome::Token(token)
+        Taken::Token(read)
     }
 }
 
 /// What a reader gave, with `__LINE__` as a number.
-fn read_outcome<R: Reader>(reader: &R, outcome: Outcome) -> Outcome
-    ensures { result ≡ read_outcome (R.reading.shown_line (R.state reader.now)) outcome }
+fn shown_outcome<R: Reader>(reader: &R, taken: Taken) -> Taken
+    ensures { result ≡ shown_outcome (R.reading.shown_line (R.state reader.now)) taken }
 {
-    match outcome {
-        Outcome::Token(token) => taken_token(reader, &[], token),
-        Outcome::Fault(fault) => Outcome::Fault(fault),
-        Outcome::End => Outcome::End,
+    match taken {
+        Taken::Token(read) => shown_token(reader, &[], read),
+        Taken::Fault(fault) => Taken::Fault(fault),
+        Taken::End => Taken::End,
+    }
+}
+
+/// Whether the value is an identifier among the names.
+fn is_one_of(names: &[Text], value: &TokenValue) -> bool
+    ensures { result ≡ is_one_of names.now value.now }
+{
+    match value {
+        TokenValue::Ident(name) => is_among(name, names),
+        _ => false,
+    }
+}
+
+/// A taken token where these names are open.
+fn painted_among(names: &[Text], read: Read) -> Read
+    ensures { result ≡ painted_among names.now read }
+{
+    let painted = read.painted || is_one_of(names, &read.token.value);
+    Read {
+        token: read.token,
+        painted,
+    }
+}
+
+/// What is taken where these names are open.
+fn taken_among(names: &[Text], taken: Taken) -> Taken
+    ensures { result ≡ taken_among names.now taken }
+{
+    match taken {
+        Taken::Token(read) => Taken::Token(painted_among(names, read)),
+        Taken::Fault(fault) => Taken::Fault(fault),
+        Taken::End => Taken::End,
     }
 }
 
 /// The turn at the name of a macro with parameters, where this stands after it.
-fn turned(taken: Outcome, opening: Opening, found: Found) -> Turn
+fn turned(taken: Taken, opening: Opening, found: Found) -> Turn
     ensures { result ≡ turned taken opening found }
 {
     match found {
@@ -185,7 +219,7 @@ fn turned(taken: Outcome, opening: Opening, found: Found) -> Turn
         Found::Broken(fault) => {
             drop(taken);
             drop(opening);
-            Turn::Item(Outcome::Fault(fault))
+            Turn::Item(Taken::Fault(fault))
         }
         Found::Whole(site) => {
             drop(taken);
@@ -213,20 +247,36 @@ impl<R: Reader> Expander<R> {
         }
     }
 
-    /// The next outcome, before it is looked up.
-    pub fn take(&mut self, budget: &mut Budget) -> Result<Outcome, Stop>
-        ensures takes { IfOk result (λ outcome. Takes R.reading (seen R.state self.old) outcome
+    /// What comes first, before it is painted.
+    fn fetch(&mut self, budget: &mut Budget) -> Result<Taken, Stop>
+        ensures takes { IfOk result (λ taken. Fetches R.reading (seen R.state self.old) taken
             (seen R.state self.new)) }
         ensures budget { budget.new.steps ≤ budget.old.steps }
     {
-        if let Some(outcome) = self.held.take() {
-            return Ok(outcome);
+        if let Some(taken) = self.held.take() {
+            return Ok(taken);
         }
-        if let Some(token) = take_token(&mut self.list) {
-            return Ok(taken_token(&self.reader, &self.list, token));
+        if let Some(read) = take_token(&mut self.list) {
+            return Ok(shown_token(&self.reader, &self.list, read));
         }
-        let outcome = self.reader.read(budget)?;
-        Ok(read_outcome(&self.reader, outcome))
+        let taken = self.reader.read(budget)?;
+        Ok(shown_outcome(&self.reader, taken))
+    }
+
+    /// What is next, before it is looked up.
+    pub fn take(&mut self, budget: &mut Budget) -> Result<Taken, Stop>
+        ensures takes { IfOk result (λ taken. Takes R.reading (seen R.state self.old) taken
+            (seen R.state self.new)) }
+        ensures budget { budget.new.steps ≤ budget.old.steps }
+    {
+        let taken = self.fetch(budget)?;
+        match self.masked() {
+            Ok(names) => Ok(taken_among(&names, taken)),
+            Err(_) => {
+                drop(taken);
+                Err(Stop::OutOfMemory)
+            }
+        }
     }
 
     /// The names that are open here or around.
@@ -239,36 +289,24 @@ impl<R: Reader> Expander<R> {
         Ok(names)
     }
 
-    /// Whether the name does not open here: it is reserved, or open here or around.
-    fn stays_closed(&self, name: &Text) -> Result<bool, AllocError>
-        ensures { IfOk result (λ closed. closed
-            ≡ (R.reading.is_reserved name.now || is_in name.now (masked (seen R.state self.now)))) }
-    {
-        let masked = self.masked()?;
-        if self.reader.is_reserved(name) || is_among(name, &masked) {
-            return Ok(true);
-        }
-        Ok(false)
-    }
-
-    /// The macro that a taken outcome opens, if it does.
-    pub fn opening(&self, outcome: &Outcome) -> Result<Option<Opening>, AllocError>
+    /// The macro that what was taken opens, if it does.
+    pub fn opening(&self, taken: &Taken) -> Result<Option<Opening>, AllocError>
         ensures { IfOk result (λ found. found
-            ≡ opening R.reading (seen R.state self.now) outcome.now) }
+            ≡ opening R.reading (seen R.state self.now) taken.now) }
     {
-        let Outcome::Token(token) = outcome else {
+        let Taken::Token(read) = taken else {
             return Ok(None);
         };
-        let TokenValue::Ident(name) = &token.value else {
+        let TokenValue::Ident(name) = &read.token.value else {
             return Ok(None);
         };
-        if self.stays_closed(name)? {
+        if self.reader.is_reserved(name) || read.painted {
             return Ok(None);
         }
         let Some(definition) = self.reader.visible().find(name) else {
             return Ok(None);
         };
-        Ok(Some(opening_of(self.alloc, token, name, definition)?))
+        Ok(Some(opening_of(self.alloc, &read.token, name, definition)?))
     }
 
     /// Puts a macro's replacement before the list.
@@ -276,7 +314,7 @@ impl<R: Reader> Expander<R> {
         &mut self,
         opening: Opening,
         line: u32,
-        arguments: &TokenLists,
+        arguments: &ReadLists,
     ) -> Result<(), AllocError>
         ensures { OnOk result (seen R.state self.new
             ≡ opened opening line arguments.now (seen R.state self.old)) }
@@ -300,7 +338,7 @@ impl<R: Reader> Expander<R> {
     pub fn resolve(
         &mut self,
         call: Call,
-        answer: Result<TokenLists, Fault>,
+        answer: Result<ReadLists, Fault>,
     ) -> Result<Option<Fault>, AllocError>
         ensures { IfOk result (λ fault. Resolves call answer (seen R.state self.old) fault
             (seen R.state self.new)) }
@@ -336,27 +374,27 @@ impl<R: Reader> Expander<R> {
         let mut depth = 0;
         'tokens: loop {
             budget.spend()?;
-            let token = match self.take(budget)? {
-                Outcome::Token(token) => token,
-                Outcome::Fault(fault) => return Ok(Err(fault)),
-                Outcome::End => return Ok(Err((PreprocessorError::UnexpectedEndOfInput, last))),
+            let read = match self.take(budget)? {
+                Taken::Token(read) => read,
+                Taken::Fault(fault) => return Ok(Err(fault)),
+                Taken::End => return Ok(Err((PreprocessorError::UnexpectedEndOfInput, last))),
             };
-            last = token.location;
-            match nesting_of(depth, &token.value) {
+            last = read.token.location;
+            match nesting_of(depth, &read.token.value) {
                 Nesting::Closes => {
-                    drop(token);
+                    drop(read);
                     return Ok(Ok(Gathered {
                         tokens,
                         closing: last,
                     }));
                 }
                 Nesting::TooMany => {
-                    drop(token);
+                    drop(read);
                     return Ok(Err((PreprocessorError::IntegerOverflow, last)));
                 }
                 Nesting::Within(deeper) => depth = deeper,
             }
-            tokens.push(token)?;
+            tokens.push(read)?;
         }
     }
 
@@ -422,7 +460,7 @@ impl<R: Reader> Expander<R> {
     /// The turn at a token that opens a macro.
     fn turn_at(
         &mut self,
-        taken: Outcome,
+        taken: Taken,
         opening: Opening,
         budget: &mut Budget,
     ) -> Result<Turn, Stop>
@@ -451,7 +489,7 @@ impl<R: Reader> Expander<R> {
             ≡ opened opening opening.token.location.line [] (seen R.state self.old)) }
     {
         let line = line_of(&opening);
-        let none = TokenLists {
+        let none = ReadLists {
             items: Vec::new(self.alloc),
         };
         self.splice(opening, line, &none)

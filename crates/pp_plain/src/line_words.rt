@@ -1,10 +1,11 @@
 //! The words of an `#if`, `#elif` or `#line` line.
 
-ghost use Rattle.std.specs.Prelude.{◌≡◌, ◌≤◌, [], IfOk, MatchResult, Some, None};
+ghost use Rattle.std.specs.Prelude.{◌≡◌, ◌≤◌, [], map, IfOk, MatchResult, Some, None};
 ghost use Rattle.pp_plain.specs.inner.Changes.{meaning_of};
 ghost use Rattle.pp_model.specs.Emitting.{answers_at};
 ghost use Rattle.pp_model.specs.LineWords.{LineWords, Operand, name_in, is_defined, unwanted, unwanted_word};
 ghost use Rattle.pp_model.specs.inner.LineWords.{is_open_paren, is_close_paren};
+ghost use Rattle.pp_model.specs.Painting.{unpainted};
 ghost use Rattle.pp_model.specs.Reading.{reading_of};
 ghost use Rattle.pp_model.specs.inner.WordsRead.{Closes, Parenthesized};
 ghost use Rattle.pp_plain.specs.inner.Seen.{seen};
@@ -17,56 +18,57 @@ use crate::expander::Expander;
 use crate::reader::LineReader;
 use crate::stop::{Budget, Stop};
 use pp_lexer::token::{Location, PreprocessorError, Text, Token, TokenValue};
-use pp_model::outcome::{Fault, Outcome};
+use pp_model::outcome::Fault;
+use pp_model::read::{Read, Taken};
 use pp_model::word::{LineKind, Word, WordReading, Words, reading_of, unwanted_reading};
-use std::alloc::Global;
+use std::alloc::{AllocError, Global};
 
 /// The fault of an item where a part of `defined` is wanted.
-fn unwanted_word(kind: LineKind, directive: Location, outcome: Outcome) -> Fault
-    ensures { result ≡ unwanted_word kind directive outcome }
+fn unwanted_word(kind: LineKind, directive: Location, taken: Taken) -> Fault
+    ensures { result ≡ unwanted_word kind directive taken }
 {
-    match outcome {
-        Outcome::Token(token) => unwanted_reading(reading_of(kind, token)),
-        Outcome::Fault(fault) => fault,
-        Outcome::End => (PreprocessorError::UnexpectedEndOfInput, directive),
+    match taken {
+        Taken::Token(read) => unwanted_reading(reading_of(kind, read.token)),
+        Taken::Fault(fault) => fault,
+        Taken::End => (PreprocessorError::UnexpectedEndOfInput, directive),
     }
 }
 
 /// The name of an identifier, or the fault of anything else where a part of `defined` is wanted.
-fn name_or_fault(directive: Location, outcome: Outcome) -> Result<Text, Fault>
-    ensures { MatchResult result (λ name. name_in outcome ≡ Some name)
-        (λ fault. (name_in outcome ≡ None) × (fault ≡ unwanted directive outcome)) }
+fn name_or_fault(directive: Location, taken: Taken) -> Result<Text, Fault>
+    ensures { MatchResult result (λ name. name_in taken ≡ Some name)
+        (λ fault. (name_in taken ≡ None) × (fault ≡ unwanted directive taken)) }
 {
-    match outcome {
-        Outcome::Token(token) => {
-            let Token { value, location } = token;
+    match taken {
+        Taken::Token(read) => {
+            let Token { value, location } = read.token;
             match value {
                 TokenValue::Ident(name) => Ok(name),
                 other => Err((PreprocessorError::UnexpectedToken(other), location)),
             }
         }
-        Outcome::Fault(fault) => Err(fault),
-        Outcome::End => Err((PreprocessorError::UnexpectedEndOfInput, directive)),
+        Taken::Fault(fault) => Err(fault),
+        Taken::End => Err((PreprocessorError::UnexpectedEndOfInput, directive)),
     }
 }
 
 /// Whether it is a `(`.
-fn is_open_paren(outcome: &Outcome) -> bool
-    ensures { result ≡ is_open_paren outcome.now }
+fn is_open_paren(taken: &Taken) -> bool
+    ensures { result ≡ is_open_paren taken.now }
 {
-    match outcome {
-        Outcome::Token(token) => is_left_paren(&token.value),
-        Outcome::Fault(_) | Outcome::End => false,
+    match taken {
+        Taken::Token(read) => is_left_paren(&read.token.value),
+        Taken::Fault(_) | Taken::End => false,
     }
 }
 
 /// Whether it is a `)`.
-fn is_close_paren(outcome: &Outcome) -> bool
-    ensures { result ≡ is_close_paren outcome.now }
+fn is_close_paren(taken: &Taken) -> bool
+    ensures { result ≡ is_close_paren taken.now }
 {
-    match outcome {
-        Outcome::Token(token) => is_right_paren(&token.value),
-        Outcome::Fault(_) | Outcome::End => false,
+    match taken {
+        Taken::Token(read) => is_right_paren(&read.token.value),
+        Taken::Fault(_) | Taken::End => false,
     }
 }
 
@@ -160,9 +162,9 @@ fn read_into(
     'words: loop {
         budget.spend()?;
         let token = match emit(expander, levels, budget)? {
-            Outcome::Token(token) => token,
-            Outcome::Fault(fault) => return Ok(Some(fault)),
-            Outcome::End => return Ok(None),
+            Taken::Token(read) => read.token,
+            Taken::Fault(fault) => return Ok(Some(fault)),
+            Taken::End => return Ok(None),
         };
         let place = token.location;
         match reading_of(kind, token) {
@@ -204,6 +206,17 @@ fn read_words(
     }
 }
 
+/// The tokens of a line, unpainted.
+fn unpainted(alloc: Global, tokens: Vec<Token>) -> Result<Vec<Read>, AllocError>
+    ensures { IfOk result (λ reads. reads.items ≡ map unpainted tokens.items) }
+{
+    let mut reads = Vec::new(alloc);
+    for token in tokens {
+        reads.push(Read::unpainted(token))?;
+    }
+    Ok(reads)
+}
+
 /// The words that a line comes to, and the fault of reading that ends them, if one does.
 pub fn line_words(
     alloc: Global,
@@ -215,11 +228,11 @@ pub fn line_words(
     budget: &mut Budget,
 ) -> Result<Words, Stop>
     ensures words { IfOk result (λ words. LineWords kind directive (answers_at levels)
-        (reading_of tokens.items (meaning_of definitions.now) []) words) }
+        (reading_of (map unpainted tokens.items) (meaning_of definitions.now) []) words) }
     ensures budget { budget.new.steps ≤ budget.old.steps }
 {
     let reader = LineReader {
-        tokens,
+        tokens: unpainted(alloc, tokens)?,
         definitions,
     };
     let mut expander = Expander::new(alloc, reader, Vec::new(alloc));

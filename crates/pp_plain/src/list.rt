@@ -6,10 +6,11 @@ ghost use Rattle.pp_model.specs.SpliceList.{after_marks, open_names, outermost_l
 ghost use Rattle.pp_model.specs.inner.SpliceList.{followed_by};
 ghost use Rattle.pp_model.specs.declared.splice.Entry.{Entry as Item};
 
-use crate::lists::TokenLists;
+use crate::lists::{ReadList, ReadLists};
 use pp_lexer::token::{Text, Token, TokenValue};
-use pp_model::copies::copy_token;
-use pp_model::definition::{Definition, TokenList};
+use pp_model::copies::{copy_read, copy_token};
+use pp_model::definition::Definition;
+use pp_model::read::Read;
 use pp_model::splice::{EndMark, Entry};
 use std::alloc::{AllocError, Global};
 
@@ -26,14 +27,14 @@ pub fn take_first<T>(items: &mut Vec<T>) -> Option<T>
 }
 
 /// Takes the first token, with the end marks before it.
-pub fn take_token(list: &mut Vec<Entry>) -> Option<Token>
+pub fn take_token(list: &mut Vec<Entry>) -> Option<Read>
     ensures { MatchOption result ((after_marks list.old.items ≡ [])
-        × (list.new.items ≡ [])) (λ token. after_marks list.old.items
-        ≡ Entry.Plain token ∷ list.new.items) }
+        × (list.new.items ≡ [])) (λ read. after_marks list.old.items
+        ≡ Entry.Plain read ∷ list.new.items) }
 {
     while let Some(entry) = take_first(list) {
-        if let Entry::Plain(token) = entry {
-            return Some(token);
+        if let Entry::Plain(read) = entry {
+            return Some(read);
         }
     }
     None
@@ -66,12 +67,12 @@ pub fn open_names(alloc: Global, list: &[Entry]) -> Result<Vec<Text>, AllocError
 }
 
 /// Puts copies of the tokens at the end.
-fn push_tokens(alloc: Global, list: &mut Vec<Entry>, tokens: &[Token]) -> Result<(), AllocError>
+fn push_tokens(alloc: Global, list: &mut Vec<Entry>, tokens: &[Read]) -> Result<(), AllocError>
     ensures { OnOk result ((rest : List Item) → list.new.items ++ rest
         ≡ list.old.items ++ followed_by tokens.now rest) }
 {
-    for token in tokens {
-        list.push(Entry::Plain(copy_token(alloc, token)?))?;
+    for read in tokens {
+        list.push(Entry::Plain(copy_read(alloc, read)?))?;
     }
     Ok(())
 }
@@ -99,13 +100,13 @@ fn push_replacement(
     list: &mut Vec<Entry>,
     token: &Token,
     parameter: Option<usize>,
-    arguments: &[TokenList],
+    arguments: &[ReadList],
 ) -> Result<(), AllocError>
     ensures { OnOk result ((rest : List Item) → list.new.items ++ rest
         ≡ list.old.items ++ replacement arguments.now token.now parameter rest) }
 {
     let Some(position) = parameter else {
-        list.push(Entry::Plain(copy_token(alloc, token)?))?;
+        list.push(Entry::Plain(Read::unpainted(copy_token(alloc, token)?)))?;
         return Ok(());
     };
     match arguments.get(position) {
@@ -119,7 +120,7 @@ fn push_replaced(
     alloc: Global,
     list: &mut Vec<Entry>,
     parameters: &[Text],
-    arguments: &[TokenList],
+    arguments: &[ReadList],
     body: &[Token],
 ) -> Result<(), AllocError>
     ensures { OnOk result ((rest : List Item) → list.new.items ++ rest
@@ -139,7 +140,7 @@ pub fn splice(
     name: Text,
     definition: &Definition,
     line: u32,
-    arguments: &TokenLists,
+    arguments: &ReadLists,
 ) -> Result<(), AllocError>
     ensures { OnOk result (list.new.items
         ≡ spliced name definition.now line arguments.now list.old.items) }

@@ -1,21 +1,37 @@
 //! Lists of lists.
 
 use pp_lexer::token::Text;
-use pp_model::definition::TokenList;
+use pp_model::read::Read;
 use std::marker::Model;
+
+/// A list of tokens with their paint.
+#[derive(Drop)]
+pub struct ReadList {
+    /// The tokens.
+    pub items: Vec<Read>,
+}
+
+impl Model for ReadList {
+    ghost use Rattle.std.specs.Prelude.{List};
+    ghost use Rattle.pp_model.specs.declared.read.Read.{Read};
+
+    ghost Value = { List Read };
+
+    ghost view = { λ list. list.items.items };
+}
 
 /// A list of lists of tokens, as the arguments of a call.
 #[derive(Drop)]
-pub struct TokenLists {
+pub struct ReadLists {
     /// The lists.
-    pub items: Vec<TokenList>,
+    pub items: Vec<ReadList>,
 }
 
-impl Model for TokenLists {
+impl Model for ReadLists {
     ghost use Rattle.std.specs.Prelude.{List};
-    ghost use Rattle.pp_lexer.specs.declared.token.Token.{Token};
+    ghost use Rattle.pp_model.specs.declared.read.Read.{Read};
 
-    ghost Value = { List (List Token) };
+    ghost Value = { List (List Read) };
 
     ghost view = { λ lists. lists.items.items };
 }

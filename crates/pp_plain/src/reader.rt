@@ -7,9 +7,9 @@ ghost use Rattle.pp_model.specs.inner.Reading.{first_listed, after_listed};
 use crate::definitions::Definitions;
 use crate::list::take_first;
 use crate::stop::{Budget, Stop};
-use pp_lexer::token::{Text, Token};
+use pp_lexer::token::Text;
 use pp_model::names::is_defined_name;
-use pp_model::outcome::Outcome;
+use pp_model::read::{Read, Taken};
 
 /// A reader of tokens. `State` is what contracts see of it, and `reading` is its kind.
 pub trait Reader {
@@ -22,8 +22,8 @@ pub trait Reader {
     ghost reading: { Reading State };
 
     /// What it gives next.
-    fn read(&mut self, budget: &mut Budget) -> Result<Outcome, Stop>
-        ensures reads { IfOk result (λ outcome. reading.Reads (state self.old) outcome
+    fn read(&mut self, budget: &mut Budget) -> Result<Taken, Stop>
+        ensures reads { IfOk result (λ taken. reading.Reads (state self.old) taken
             (state self.new)) }
         ensures budget { budget.new.steps ≤ budget.old.steps };
 
@@ -41,13 +41,13 @@ pub trait Reader {
 }
 
 /// The next token of a list, which is taken, or the end.
-fn next_listed(tokens: &mut Vec<Token>) -> Outcome
+fn next_listed(tokens: &mut Vec<Read>) -> Taken
     ensures given { result ≡ first_listed tokens.old.items }
     ensures rest { tokens.new.items ≡ after_listed tokens.old.items }
 {
     match take_first(tokens) {
-        Some(token) => Outcome::Token(token),
-        None => Outcome::End,
+        Some(read) => Taken::Token(read),
+        None => Taken::End,
     }
 }
 
@@ -55,7 +55,7 @@ fn next_listed(tokens: &mut Vec<Token>) -> Outcome
 #[derive(Drop)]
 pub struct ArgumentReader<'a> {
     /// The tokens that are left.
-    pub tokens: Vec<Token>,
+    pub tokens: Vec<Read>,
     /// The definitions that it sees.
     pub definitions: &'a Definitions,
 }
@@ -69,7 +69,7 @@ impl Reader for ArgumentReader<'_> {
 
     ghost reading = { argument_reading };
 
-    fn read(&mut self, _budget: &mut Budget) -> Result<Outcome, Stop> {
+    fn read(&mut self, _budget: &mut Budget) -> Result<Taken, Stop> {
         Ok(next_listed(&mut self.tokens))
     }
 
@@ -90,7 +90,7 @@ impl Reader for ArgumentReader<'_> {
 #[derive(Drop)]
 pub struct LineReader<'a> {
     /// The tokens that are left.
-    pub tokens: Vec<Token>,
+    pub tokens: Vec<Read>,
     /// The definitions that it sees.
     pub definitions: &'a Definitions,
 }
@@ -104,7 +104,7 @@ impl Reader for LineReader<'_> {
 
     ghost reading = { line_reading };
 
-    fn read(&mut self, _budget: &mut Budget) -> Result<Outcome, Stop> {
+    fn read(&mut self, _budget: &mut Budget) -> Result<Taken, Stop> {
         Ok(next_listed(&mut self.tokens))
     }
 

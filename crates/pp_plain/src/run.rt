@@ -172,7 +172,10 @@ fn reply_to(
 {
     match call {
         Call::AddDefine(name, content) => add_define(alloc, expander, name, content),
-        Call::Next => Ok(Reply::Given(emit(expander, expansion_limit(), budget)?)),
+        Call::Next => {
+            let taken = emit(expander, expansion_limit(), budget)?;
+            Ok(Reply::Given(taken.into_item()))
+        }
     }
 }
 

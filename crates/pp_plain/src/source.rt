@@ -18,6 +18,7 @@ use crate::stop::{Budget, Halt, Stop};
 use pp_lexer::token::{Location, PreprocessorError, Text};
 use pp_model::definition::{Named, TokenList};
 use pp_model::outcome::{Fault, Outcome};
+use pp_model::read::Taken;
 use pp_model::step::Step;
 use std::alloc::Global;
 
@@ -145,11 +146,11 @@ impl Reader for Source<'_> {
 
     ghost reading = { source_reading (answers_at expansion_limit) };
 
-    fn read(&mut self, budget: &mut Budget) -> Result<Outcome, Stop> {
+    fn read(&mut self, budget: &mut Budget) -> Result<Taken, Stop> {
         'lines: loop {
             budget.spend()?;
             if let Some(outcome) = self.step(budget)? {
-                return Ok(outcome);
+                return Ok(Taken::unpainted(outcome));
             }
         }
     }

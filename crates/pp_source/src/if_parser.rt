@@ -12,7 +12,7 @@ use pp_expansion::arguments::finish_call;
 use pp_expansion::calls::{Caller, Taken, is_left_paren, is_right_paren};
 use pp_expansion::definitions::Definitions;
 use pp_expansion::halt::{Halt, halt_of};
-use pp_expansion::list_lexer::ListLexer;
+use pp_expansion::list_lexer::{ListLexer, unpainted};
 use pp_expansion::list_step::{step_list, take_list};
 use pp_expansion::open_around::OpenAround;
 use pp_expansion::step::StepExit;
@@ -83,7 +83,7 @@ impl<'a> IfParser<'a> {
     {
         'items: loop {
             match step_list(&mut line.caller, &mut line.lexer) {
-                Ok(Taken::Token(token)) => return Ok(Some(token)),
+                Ok(Taken::Token(read)) => return Ok(Some(read.token)),
                 Ok(Taken::Call(call)) => finish_call(
                     self.alloc,
                     &mut line.caller,
@@ -105,7 +105,7 @@ impl<'a> IfParser<'a> {
         ensures { GivesTaken self.now line.old result line.new }
     {
         match take_list(&mut line.caller, &mut line.lexer) {
-            Ok(token) => Ok(Some(token)),
+            Ok(read) => Ok(Some(read.token)),
             Err(StepExit::Finished) => Ok(None),
             Err(StepExit::Continue) => Ok(None),
             Err(StepExit::Error(fault)) => Err(halt_of(fault)),
@@ -233,7 +233,7 @@ impl<'a> IfParser<'a> {
             (AreWordsOfLine self.now.kind self.now.directive self.now.levels tokens.items
             definitions.now) }
     {
-        let lexer = ListLexer::line(tokens, definitions, &*around);
+        let lexer = ListLexer::line(unpainted(self.alloc, tokens)?, definitions, &*around);
         let mut line = LineExpander {
             caller: Caller::new(self.alloc),
             lexer,

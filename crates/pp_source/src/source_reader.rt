@@ -6,18 +6,26 @@ use crate::directives::DirectiveProcessor;
 use pp_expansion::define::Define;
 use pp_expansion::reader::MeLexer;
 use pp_expansion::step::{Step, StepExit};
-use pp_lexer::token::{Location, PreprocessorError, Token};
+use pp_lexer::token::{Location, PreprocessorError};
+use pp_model::read::Read;
 use std::rc::Rc;
 
 impl<'a> MeLexer for DirectiveProcessor<'a> {
     ghost reader = { λ source. of_source source };
 
-    fn step(&mut self) -> Step<Token> {
-        DirectiveProcessor::step(self)
+    fn step(&mut self) -> Step<Read> {
+        match DirectiveProcessor::step(self) {
+            Ok(token) => Ok(Read::unpainted(token)),
+            Err(exit) => Err(exit),
+        }
     }
 
     fn get_define(&self, name: &str) -> Option<&Rc<Define>> {
         self.find(name)
+    }
+
+    fn is_hidden(&self, _name: &str) -> bool {
+        false
     }
 
     fn apply_line_offset(&self, line: u32, location: Location) -> Step<u32> {

@@ -1,11 +1,11 @@
 -- What the innermost frame gives next, and the frames after its step.
 use Rattle.std.specs.Prelude.{List, [], ◌∷◌, Option, Some, None}
-use Rattle.pp_lexer.specs.declared.token.Token.{Token}
+use Rattle.pp_model.specs.declared.read.Read.{Read}
 use Rattle.pp_expansion.specs.inner.Frames.{Layer, Advance, advance}
 use Rattle.pp_expansion.specs.inner.Turns.{frame_move}
 
 -- what a frame gives in its step: nothing where it pauses or is at its end
-abbrev pub given_by : Option Advance → Option Token
+abbrev pub given_by : Option Advance → Option Read
 given_by (Some a) = a.gives
 given_by None = None
 
@@ -15,7 +15,7 @@ frame_after f (Some a) = a.after
 frame_after f None = f
 
 -- what the innermost frame gives next
-abbrev pub given_next : List Layer → Option Token
+abbrev pub given_next : List Layer → Option Read
 given_next [] = None
 given_next (f ∷ fs) = given_by (advance f)
 

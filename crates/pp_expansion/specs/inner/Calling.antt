@@ -1,7 +1,7 @@
 -- A call whose `)` has been taken, and whose arguments are still to be expanded (docs/RULES.md, Expansion 6).
 use Rattle.std.specs.Prelude.{List}
 use Rattle.pp_lexer.specs.declared.token.Location.{Location}
-use Rattle.pp_lexer.specs.declared.token.Token.{Token}
+use Rattle.pp_model.specs.declared.read.Read.{Read}
 use Rattle.pp_model.specs.Names.{Name}
 use Rattle.pp_model.specs.Definitions.{Definition}
 
@@ -11,4 +11,4 @@ pub record PendingCall : Type 0 where
   pub definition : Definition
   pub paren : Location
   pub closing : Location
-  pub tokens : List Token
+  pub tokens : List Read

@@ -1,6 +1,6 @@
 -- How a call goes on whose tokens were gathered: its arguments are expanded, and its frame opens (docs/RULES.md, Expansion 7 to 9).
 use Rattle.std.specs.Prelude.{◌≡◌, ◌≤◌, ◌-◌, ℕ, false, List, [], ◌∷◌, ◌++◌, All, length, None, Result, Ok, Err, ⊤}
-use Rattle.pp_lexer.specs.declared.token.Token.{Token}
+use Rattle.pp_model.specs.declared.read.Read.{Read}
 use Rattle.pp_model.specs.Calls.{Fault, Site, arguments_of}
 use Rattle.pp_model.specs.Emitting.{answers_at}
 use Rattle.pp_model.specs.Names.{Name}
@@ -18,12 +18,12 @@ abbrev pub site_at : PendingCall → List Defined → List Name → Site
 site_at call definitions around = record { paren = call.paren; arguments = arguments_of call.tokens; visible = meaning_of definitions; open_around = around }
 
 -- no argument of the call is longer than it may be
-abbrev pub AreOfCall : ℕ → List Defined → PendingCall → List (List Token) → Type 0
+abbrev pub AreOfCall : ℕ → List Defined → PendingCall → List (List Read) → Type 0
 AreOfCall levels definitions call arguments = All (λ argument. length argument ≤ most_alone (levels - 1) definitions (length call.tokens)) arguments
 
 -- its frame is open, with arguments that it comes to, which are no longer than they may be
 pub record IsOpened (levels : ℕ) (definitions : List Defined) (around : List Name) (call : PendingCall) (old new : Machine) : Type 0 where
-  pub arguments : List (List Token)
+  pub arguments : List (List Read)
   pub answers : answers_at levels call.definition (site_at call definitions around) (Ok arguments)
   pub least : AreOfCall levels definitions call arguments
   pub opens : new ≡ record old { frames = layer call.name call.closing.line call.definition arguments ∷ old.frames }
@@ -36,21 +36,21 @@ Finishes levels definitions hidden call old (Err (halt.Fault fault)) new =
 Finishes levels definitions hidden call old (Err halt.OutOfMemory) new = ⊤
 
 -- an argument alone, no longer than it may be
-abbrev pub IsShort : ℕ → List Defined → ℕ → List Token → Type 0
+abbrev pub IsShort : ℕ → List Defined → ℕ → List Read → Type 0
 IsShort levels definitions n out = length out ≤ most_alone levels definitions n
 
 -- each argument, where none of them had more tokens than this
-abbrev pub AreShort : ℕ → List Defined → List (List Token) → List (List Token) → Type 0
+abbrev pub AreShort : ℕ → List Defined → List (List Read) → List (List Read) → Type 0
 AreShort levels definitions arguments outs = (n : ℕ) → All (λ argument. length argument ≤ n) arguments
     → All (λ out. length out ≤ most_alone levels definitions n) outs
 
 -- nothing is open or held, the list is an argument where these definitions and names stand, and it gave no item yet
-pub record IsAtStart (definitions : List Defined) (hidden : List Name) (m : Machine) (l : Listing) (items : List Token) : Type 0 where
+pub record IsAtStart (definitions : List Defined) (hidden : List Name) (m : Machine) (l : Listing) (items : List Read) : Type 0 where
   pub idle : m ≡ record { held = None; frames = [] }
   pub argument : l ≡ record { tokens = l.tokens; definitions = definitions; hidden = hidden; is_line = false }
   pub empty : items ≡ []
 
 -- what a list comes to whose items are these, where it was read to its end
-abbrev pub read_to_end : List Token → Result (Unit {0}) Fault → Result (List Token) Fault
+abbrev pub read_to_end : List Read → Result (Unit {0}) Fault → Result (List Read) Fault
 read_to_end items (Ok done) = Ok items
 read_to_end items (Err fault) = Err fault

@@ -1,6 +1,8 @@
 -- Frames: macros that are open, each with what is left of its body and its arguments (docs/RULES.md, Expansion 4 and 9).
 use Rattle.std.specs.Prelude.{ℕ, List, [], ◌∷◌, map, Option, Some, None, unwrap_or, slice_get}
 use Rattle.pp_lexer.specs.declared.token.Token.{Token}
+use Rattle.pp_model.specs.declared.read.Read.{Read}
+use Rattle.pp_model.specs.Painting.{unpainted}
 use Rattle.pp_model.specs.Names.{Name}
 use Rattle.pp_model.specs.Definitions.{Definition}
 use Rattle.pp_model.specs.SpliceList.{replaced, parameter_of}
@@ -15,11 +17,11 @@ pub record Layer : Type 0 where
   pub line : ℕ
   pub parameters : List Name
   pub body : List Token
-  pub arguments : List (List Token)
-  pub reading : Option (List Token)
+  pub arguments : List (List Read)
+  pub reading : Option (List Read)
 
 -- the frame of a macro as it opens
-abbrev pub layer : Name → ℕ → Definition → List (List Token) → Layer
+abbrev pub layer : Name → ℕ → Definition → List (List Read) → Layer
 layer name line definition arguments = record {
   name = name;
   line = line;
@@ -32,15 +34,15 @@ layer name line definition arguments = record {
 
 -- what a frame gives, or nothing where it pauses, and the frame after it
 pub record Advance : Type 0 where
-  pub gives : Option Token
+  pub gives : Option Read
   pub after : Layer
 
-abbrev pub argument_at : List (List Token) → ℕ → List Token
+abbrev pub argument_at : List (List Read) → ℕ → List Read
 argument_at arguments k = unwrap_or (slice_get arguments k) []
 
 -- a parameter in the body starts its argument, and pauses; another token of the body is given
 abbrev pub body_token : Layer → Token → List Token → Option ℕ → Advance
-body_token f token rest None = record { gives = Some token; after = record f { body = rest } }
+body_token f token rest None = record { gives = Some (unpainted token); after = record f { body = rest } }
 body_token f token rest (Some k) = record { gives = None; after = record f { body = rest; reading = Some (argument_at f.arguments k) } }
 
 -- nothing where the body is at its end
@@ -49,7 +51,7 @@ advance_body f [] = None
 advance_body f (token ∷ rest) = Some (body_token f token rest (parameter_of f.parameters token.value))
 
 -- the next token of the argument that is being read is given; its end pauses
-abbrev pub advance_reading : Layer → Option (List Token) → Option Advance
+abbrev pub advance_reading : Layer → Option (List Read) → Option Advance
 advance_reading f (Some (token ∷ rest)) = Some (record { gives = Some token; after = record f { reading = Some rest } })
 advance_reading f (Some []) = Some (record { gives = None; after = record f { reading = None } })
 advance_reading f None = advance_body f f.body
@@ -58,7 +60,7 @@ advance_reading f None = advance_body f f.body
 abbrev pub advance : Layer → Option Advance
 advance f = advance_reading f f.reading
 
-abbrev pub reading_before : Option (List Token) → List Entry → List Entry
+abbrev pub reading_before : Option (List Read) → List Entry → List Entry
 reading_before None entries = entries
 reading_before (Some tokens) entries = followed_by tokens entries
 

@@ -4,7 +4,9 @@ use Rattle.pp_lexer.specs.declared.token.PreprocessorError.TheVariants.{LineOver
 use Rattle.pp_lexer.specs.declared.token.Token.{Token}
 use Rattle.pp_lexer.specs.declared.token.TokenValue.{TokenValue}
 use Rattle.pp_model.specs.Names.{is_identifier, line_name}
-use Rattle.pp_model.specs.declared.outcome.Outcome.TheVariants as outcome
+use Rattle.pp_model.specs.Painting.{unpainted}
+use Rattle.pp_model.specs.declared.read.Read.{Read}
+use Rattle.pp_model.specs.declared.read.Taken.TheVariants as given
 use Rattle.pp_expansion.specs.inner.Frames.{outermost_frame_line}
 use Rattle.pp_expansion.specs.Item.{Step}
 use Rattle.pp_expansion.specs.inner.Machine.{Machine}
@@ -19,16 +21,16 @@ is_idle m = not (is_some m.held) && not (is_some (outermost_frame_line m.frames)
 
 -- the value is given as it stands in the source, where no macro is open: it is not `__LINE__`, and opens none
 abbrev pub gives_itself : Source → TokenValue → Bool
-gives_itself source value = not (is_identifier line_name value) && not (is_some (opens_value [] (of_source source) value))
+gives_itself source value = not (is_identifier line_name value) && not (is_some (opens_value (of_source source) value))
 
 -- the word as it is taken is held
 pub record IsHeld (word : Token) (source : Source) (old new : Machine) : Type 0 where
-  pub token : Token
-  pub taken : taken_in [] (of_source source) word ≡ outcome.Token token
+  pub token : Read
+  pub taken : taken_in [] (of_source source) (unpainted word) ≡ given.Token token
   pub holds : new ≡ record old { held = Some (Ok token) }
 
 -- it is held, or `__LINE__` out of range
 abbrev pub HoldsWord : Token → Source → Machine → Step (Unit {0}) → Machine → Type 0
 HoldsWord word source old (Ok done) new = IsHeld word source old new
 HoldsWord word source old (Err exit) new =
-    (exit ≡ Error (LineOverflow, word.location)) × (taken_in [] (of_source source) word ≡ outcome.Fault (LineOverflow, word.location)) × (new ≡ old)
+    (exit ≡ Error (LineOverflow, word.location)) × (taken_in [] (of_source source) (unpainted word) ≡ given.Fault (LineOverflow, word.location)) × (new ≡ old)

@@ -1,6 +1,6 @@
 -- How much is left to do of an expander with calls.
 use Rattle.std.specs.Prelude.{ℕ, suc, ◌+◌, if◌then◌else◌, List, [], ◌∷◌, length, Option, Some, None, IsSome, ⊤}
-use Rattle.pp_lexer.specs.declared.token.Token.{Token}
+use Rattle.pp_model.specs.declared.read.Read.{Read}
 use Rattle.pp_model.specs.ApartMarks.{AreApart}
 use Rattle.pp_model.specs.Names.{Name}
 use Rattle.pp_expansion.specs.inner.Defined.{Defined, meaning_of, body_tokens}
@@ -32,7 +32,7 @@ one_more [] = 1 ∷ []
 one_more (s ∷ regions) = suc s ∷ regions
 
 -- what is held is one more step of the innermost region, but for the end
-abbrev pub holding_step : Option (Step Token) → List ℕ → List ℕ
+abbrev pub holding_step : Option (Step Read) → List ℕ → List ℕ
 holding_step None regions = regions
 holding_step (Some step) regions = if is_end step then regions else one_more regions
 

@@ -6,7 +6,7 @@ use Rattle.pp_expansion.specs.inner.Frames.{layer}
 use Rattle.pp_expansion.specs.declared.calls.Taken.{Taken}
 use Rattle.pp_expansion.specs.declared.calls.Taken.TheVariants as taken
 use Rattle.pp_expansion.specs.declared.step.StepExit.TheVariants.{Continue}
-use Rattle.pp_lexer.specs.declared.token.Token.{Token}
+use Rattle.pp_model.specs.declared.read.Read.{Read}
 use Rattle.pp_expansion.specs.inner.CallTurns.{Seeks, Sought, Finds, no_call, refused, gathered}
 use Rattle.pp_expansion.specs.Item.{Step}
 use Rattle.pp_expansion.specs.inner.Machine.{Machine}
@@ -18,7 +18,7 @@ use Rattle.pp_expansion.specs.declared.halt.Halt.TheVariants as halt
 
 -- no call: what was found is held
 pub record FindsNothing (m : Machine) (r : Reader) (n : Machine) (s : Reader) : Type 0 where
-  pub next : Step Token
+  pub next : Step Read
   pub before : Machine
   pub seeks : Seeks m r (no_call next) before s
   pub holds : n ≡ record before { held = Some next }
@@ -30,12 +30,12 @@ FindsBy m r (Err (halt.Fault fault)) n s = Seeks m r (refused fault) n s
 FindsBy m r (Err halt.OutOfMemory) n s = ⊤
 
 -- a token opens its macro or begins its call, or is given
-pub data Enters (token : Token) (name : Name) (definition : Definition) : Machine → Reader → Step Taken → Machine → Reader → Type 0 where
+pub data Enters (token : Read) (name : Name) (definition : Definition) : Machine → Reader → Step Taken → Machine → Reader → Type 0 where
   plain : (step : Step Taken) (m n : Machine) (r s : Reader) → definition.function_like ≡ false → step ≡ Err Continue
-      → n ≡ record m { frames = layer name token.location.line definition [] ∷ m.frames } → s ≡ r → Enters token name definition m r step n s
+      → n ≡ record m { frames = layer name token.token.location.line definition [] ∷ m.frames } → s ≡ r → Enters token name definition m r step n s
   called : (c : Sought) (step : Step Taken) (m p n : Machine) (r s : Reader) → definition.function_like ≡ true → Seeks m r c p s
       → Finds token name definition c step p n → Enters token name definition m r step n s
 
-abbrev pub FollowsToken : Option (Name × Definition) → Token → Machine → Reader → Step Taken → Machine → Reader → Type 0
+abbrev pub FollowsToken : Option (Name × Definition) → Read → Machine → Reader → Step Taken → Machine → Reader → Type 0
 FollowsToken None token m r step n s = (step ≡ Ok (taken.Token token)) × (n ≡ m) × (s ≡ r)
 FollowsToken (Some (name, definition)) token m r step n s = Enters token name definition m r step n s

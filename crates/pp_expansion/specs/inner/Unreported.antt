@@ -45,11 +45,11 @@ StepReports (Ok value) old new = new ≡ old
 StepReports (Err exit) old new = ExitReports exit old new
 
 -- the errors that are still to be reported, where this is held: it may be one that was read
-abbrev pub unreported_with : Option (Step Token) → Unreported → List ErrorAt
+abbrev pub unreported_with : {T : Type 0} → Option (Step T) → Unreported → List ErrorAt
 unreported_with (Some (Err (Error fault))) u = with_read fault u.read u.later
 unreported_with _ u = u.later
 
 -- an error that was read and is unreported is held
-abbrev pub IsReportedBut : Option (Step Token) → Unreported → Type 0
+abbrev pub IsReportedBut : {T : Type 0} → Option (Step T) → Unreported → Type 0
 IsReportedBut (Some (Err (Error fault))) u = ⊤
 IsReportedBut _ u = u.read ≡ None

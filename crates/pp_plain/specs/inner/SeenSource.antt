@@ -7,11 +7,9 @@ use Rattle.pp_lexer.specs.declared.token.PreprocessorError.TheVariants.{OutOfMem
 use Rattle.pp_lexer.specs.declared.token.Token.{Token}
 use Rattle.pp_model.specs.Reading.{Expander}
 use Rattle.pp_model.specs.Calls.{Fault, Answers}
-use Rattle.pp_model.specs.Emitting.{Emits}
 use Rattle.pp_model.specs.SourceReader.{SourceReader}
 use Rattle.pp_plain.specs.inner.ReaderState.{reader_of}
-use Rattle.pp_model.specs.Reads.{source_reading}
-use Rattle.pp_model.specs.Run.{Call, add_define, next, items_of, content_tokens, with_added}
+use Rattle.pp_model.specs.Run.{by_rules, Call, add_define, next, items_of, content_tokens, with_added}
 use Rattle.pp_model.specs.declared.call.Reply.{Reply}
 use Rattle.pp_model.specs.declared.call.Reply.TheVariants as reply
 use Rattle.pp_model.specs.declared.outcome.Outcome.{Outcome}
@@ -38,7 +36,7 @@ pub data Replying (A : Answers) : Expander SourceReader → Call → Reply → E
       → Replying A e (add_define name content) r f
   refused : (name content : List ℕ) (fault : Fault) (e f : Expander SourceReader) (r : Reply)
       → content_tokens (items_of content) ≡ Err fault → r ≡ reply.Refused fault → f ≡ e → Replying A e (add_define name content) r f
-  given : (o : Outcome) (e f : Expander SourceReader) (r : Reply) → Emits (source_reading A) A e o f → r ≡ reply.Given o → Replying A e next r f
+  given : (o : Outcome) (e f : Expander SourceReader) (r : Reply) → by_rules A e o f → r ≡ reply.Given o → Replying A e next r f
 
 -- what is refused of a content, or nothing is said
 abbrev pub RefusedBy : Halt → Reply → Type 0

@@ -60,7 +60,7 @@ fn turn_caller(
     ensures holds { IfOk result (λ token. HoldsOrdinary token.value) }
 {
     match step_source(caller, source)? {
-        Taken::Token(token) => Ok(token),
+        Taken::Token(read) => Ok(read.token),
         Taken::Call(call) => follow_call(alloc, caller, &*source, call),
     }
 }
