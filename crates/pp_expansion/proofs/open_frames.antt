@@ -6,3 +6,4 @@ pub mod OpenMacroLemmas
 pub mod OpenNamesLemmas
 pub mod OpenAroundLemmas
 pub mod OpenSoundLemmas
+pub mod PaintLemmas

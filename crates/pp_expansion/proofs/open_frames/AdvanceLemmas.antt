@@ -1,6 +1,7 @@
 -- A step of a frame lowers the count of its steps, and keeps its name; and how many steps a frame has that opens.
 use Rattle.std.proofs.Common.{◌≡◌, ℕ, ◌+◌, ◌*◌, ◌<◌, ◌≤◌, Bool, true, false, List, [], ◌∷◌, length, refl, ap, arith, Option, Some, None, IfSome}
 use Rattle.pp_lexer.specs.declared.token.Token.{Token}
+use Rattle.pp_model.specs.declared.read.Read.{Read}
 use Rattle.pp_model.specs.Names.{Name, is_same_name}
 use Rattle.pp_model.specs.Definitions.{Definition}
 use Rattle.pp_model.specs.SpliceList.{parameter_of}
@@ -14,7 +15,7 @@ pub record Advances (f : Layer) (a : Advance) : Type 0 where
   pub name : a.after.name ≡ f.name
 
 -- the end of a body is a step too
-pub body_steps_some : (parameters : List Name) (arguments : List (List Token)) (body : List Token) → 0 < body_steps parameters arguments body
+pub body_steps_some : (parameters : List Name) (arguments : List (List Read)) (body : List Token) → 0 < body_steps parameters arguments body
 body_steps_some parameters arguments [] = omega arith
 body_steps_some parameters arguments (token ∷ rest) = omega (arith, body_steps_some parameters arguments rest)
 
@@ -23,7 +24,7 @@ pub some_steps_left : (f : Layer) → 0 < steps_left f
 some_steps_left f = omega (arith, body_steps_some f.parameters f.arguments f.body)
 
 -- a frame with these parts
-abbrev frame : Name → ℕ → List Name → List Token → List (List Token) → Option (List Token) → Layer
+abbrev frame : Name → ℕ → List Name → List Token → List (List Read) → Option (List Read) → Layer
 frame name line parameters body arguments reading = record {
   name = name;
   line = line;
@@ -33,7 +34,7 @@ frame name line parameters body arguments reading = record {
   reading = reading;
 }
 
-token_lowers : (name : Name) (line : ℕ) (parameters : List Name) (token : Token) (rest : List Token) (arguments : List (List Token)) (p : Option ℕ)
+token_lowers : (name : Name) (line : ℕ) (parameters : List Name) (token : Token) (rest : List Token) (arguments : List (List Read)) (p : Option ℕ)
     → parameter_of parameters token.value ≡ p
     → Advances (frame name line parameters (token ∷ rest) arguments None) (body_token (frame name line parameters (token ∷ rest) arguments None) token rest p)
 token_lowers name line parameters token rest arguments None e =
@@ -43,7 +44,7 @@ token_lowers name line parameters token rest arguments (Some k) e =
     let s : token_steps arguments (parameter_of parameters token.value) ≡ length (argument_at arguments k) + 2 = ap (token_steps arguments) e in
     record { lower = omega arith; name = refl }
 
-frame_lowers : (name : Name) (line : ℕ) (parameters : List Name) (body : List Token) (arguments : List (List Token)) (reading : Option (List Token))
+frame_lowers : (name : Name) (line : ℕ) (parameters : List Name) (body : List Token) (arguments : List (List Read)) (reading : Option (List Read))
     → IfSome (advance (frame name line parameters body arguments reading)) (Advances (frame name line parameters body arguments reading))
 frame_lowers name line parameters body arguments (Some (token ∷ rest)) = record { lower = omega arith; name = refl }
 frame_lowers name line parameters body arguments (Some []) = record { lower = omega arith; name = refl }

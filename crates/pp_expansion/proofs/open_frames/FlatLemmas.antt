@@ -2,6 +2,8 @@
 use Rattle.std.proofs.Common.{◌≡◌, ◌∙◌, ℕ, List, [], ◌∷◌, refl, ap, Option, Some, None}
 use Rattle.std.specs.Prelude.{Ok, Err, unwrap_or}
 use Rattle.pp_lexer.specs.declared.token.Token.{Token}
+use Rattle.pp_model.specs.declared.read.Read.{Read}
+use Rattle.pp_model.specs.Painting.{unpainted}
 use Rattle.pp_model.specs.Names.{Name}
 use Rattle.pp_model.specs.SpliceList.{after_marks, open_names, outermost_line, parameter_of, replacement, replaced}
 use Rattle.pp_model.specs.inner.SpliceList.{followed_by}
@@ -13,24 +15,24 @@ use Rattle.pp_expansion.specs.inner.Turns.{frame_move}
 use Rattle.pp_expansion.specs.declared.step.StepExit.TheVariants.{Error, Continue, Finished}
 
 -- a fact that tokens do not change sees through the tokens of a frame
-module _ {X : Type 0} (fact : List Entry → X) (blind : (token : Token) (entries : List Entry) → fact (Plain token ∷ entries) ≡ fact entries) where
-  blind_followed : (tokens : List Token) (entries : List Entry) → fact (followed_by tokens entries) ≡ fact entries
+module _ {X : Type 0} (fact : List Entry → X) (blind : (token : Read) (entries : List Entry) → fact (Plain token ∷ entries) ≡ fact entries) where
+  blind_followed : (tokens : List Read) (entries : List Entry) → fact (followed_by tokens entries) ≡ fact entries
   blind_followed [] entries = refl
   blind_followed (token ∷ tokens) entries = blind token (followed_by tokens entries) ∙ blind_followed tokens entries
 
-  blind_replacement : (arguments : List (List Token)) (token : Token) (k : Option ℕ) (entries : List Entry)
+  blind_replacement : (arguments : List (List Read)) (token : Token) (k : Option ℕ) (entries : List Entry)
       → fact (replacement arguments token k entries) ≡ fact entries
-  blind_replacement arguments token None entries = blind token entries
+  blind_replacement arguments token None entries = blind (unpainted token) entries
   blind_replacement arguments token (Some k) entries = blind_followed (argument_at arguments k) entries
 
-  blind_replaced : (parameters : List Name) (arguments : List (List Token)) (body : List Token) (entries : List Entry)
+  blind_replaced : (parameters : List Name) (arguments : List (List Read)) (body : List Token) (entries : List Entry)
       → fact (replaced parameters arguments body entries) ≡ fact entries
   blind_replaced parameters arguments [] entries = refl
   blind_replaced parameters arguments (token ∷ body) entries =
       blind_replacement arguments token (parameter_of parameters token.value) (replaced parameters arguments body entries)
       ∙ blind_replaced parameters arguments body entries
 
-  blind_reading : (reading : Option (List Token)) (entries : List Entry) → fact (reading_before reading entries) ≡ fact entries
+  blind_reading : (reading : Option (List Read)) (entries : List Entry) → fact (reading_before reading entries) ≡ fact entries
   blind_reading None entries = refl
   blind_reading (Some tokens) entries = blind_followed tokens entries
 
@@ -50,7 +52,7 @@ outermost_flat [] = refl
 outermost_flat (f ∷ fs) = blind_layer outermost_line (λ token entries. refl) f (flat fs) ∙ ap (λ line. Some (unwrap_or line f.line)) (outermost_flat fs)
 
 -- One step on the list: its first token is given, or a mark at its front is lost at the most.
-abbrev pub StepsList : Step Token → List Entry → List Entry → Type 0
+abbrev pub StepsList : Step Read → List Entry → List Entry → Type 0
 StepsList (Ok token) old new = after_marks old ≡ Plain token ∷ new
 StepsList (Err Continue) old new = after_marks old ≡ after_marks new
 StepsList (Err Finished) old new = ⊥
@@ -63,7 +65,7 @@ body_steps : (f : Layer) (token : Token) (rest : List Token) (k : Option ℕ) (f
 body_steps f token rest None fs = refl
 body_steps f token rest (Some k) fs = refl
 
-layer_steps : (name : Name) (line : ℕ) (parameters : List Name) (body : List Token) (arguments : List (List Token)) (reading : Option (List Token))
+layer_steps : (name : Name) (line : ℕ) (parameters : List Name) (body : List Token) (arguments : List (List Read)) (reading : Option (List Read))
     (fs : List Layer) → let f : Layer = record {
       name = name;
       line = line;

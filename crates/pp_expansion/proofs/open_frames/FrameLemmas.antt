@@ -5,6 +5,7 @@ use Rattle.std.proofs.lemmas.Bool.Decides.{leb_tells}
 use Rattle.std.proofs.lemmas.Option.{slice_get_within, get_or_from_slice_get, slice_get_cases}
 use Rattle.std.proofs.lemmas.List.{drop_more, drop_all, length-drop}
 use Rattle.pp_lexer.specs.declared.token.Token.{Token}
+use Rattle.pp_model.specs.declared.read.Read.{Read}
 use Rattle.pp_expansion.specs.inner.Ahead.{given_by, frame_after}
 use Rattle.pp_expansion.specs.inner.Frames.{Layer, Advance, advance, body_token}
 use Rattle.pp_model.specs.SpliceList.{parameter_of}
@@ -21,10 +22,10 @@ pub drop-none : {X : Type 0} (xs : List X) (k : ℕ) → slice_get xs k ≡ None
 drop-none xs k e = elim (slice_get_cases xs k).1 [ inl w ↦ cc | inr w ↦ drop_all k xs w.0 ]
 
 -- a frame that reads an argument gives its token
-pub given_reading : (f : Layer) (xs : List Token) (k : ℕ) (o : Option Token) → f.reading ≡ Some (drop k xs) → o ≡ slice_get xs k → o ≡ given_by (advance f)
+pub given_reading : (f : Layer) (xs : List Read) (k : ℕ) (o : Option Read) → f.reading ≡ Some (drop k xs) → o ≡ slice_get xs k → o ≡ given_by (advance f)
 given_reading f xs k o reads is = is ∙ go (slice_get xs k) refl
   where
-    go : (s : Option Token) → slice_get xs k ≡ s → s ≡ given_by (advance f)
+    go : (s : Option Read) → slice_get xs k ≡ s → s ≡ given_by (advance f)
     go None e = rw (reads, drop-none xs k e) refl
     go (Some x) e = rw (reads, drop-some xs k x e) refl
 
@@ -37,7 +38,7 @@ pub given_end : (f : Layer) (body : List Token) (k : ℕ) → f.reading ≡ None
 given_end f body k reads is at = rw (reads, is, drop-none body k at) refl
 
 -- a frame after its step
-pub passes_to : (f : Layer) (advanced : Option Advance) (given : Option Token) (new : Layer) → advanced ≡ Some (record { gives = given; after = new })
+pub passes_to : (f : Layer) (advanced : Option Advance) (given : Option Read) (new : Layer) → advanced ≡ Some (record { gives = given; after = new })
     → new ≡ frame_after f advanced
 passes_to f advanced given new e = rw e refl
 

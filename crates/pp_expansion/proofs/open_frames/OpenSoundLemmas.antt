@@ -2,7 +2,7 @@
 use Rattle.std.proofs.Common.{◌≡◌, inl, inr, ℕ, suc, ◌+◌, ◌≤◌, Bool, true, false, List, [], ◌∷◌, length, arith, refl, Option, Some, None, All, IfSome, Ok, Err}
 use Rattle.std.specs.Prelude.{IsSome, ◌||◌, Result}
 use Rattle.std.proofs.lemmas.List.Elements.{All-cons, All-nil}
-use Rattle.pp_lexer.specs.declared.token.Token.{Token}
+use Rattle.pp_model.specs.declared.read.Read.{Read}
 use Rattle.pp_lexer.specs.declared.token.Location.{Location}
 use Rattle.pp_model.specs.Calls.{Fault, Gathered}
 use Rattle.pp_model.specs.Names.{Name, is_in, is_same_name}
@@ -11,9 +11,10 @@ use Rattle.pp_expansion.specs.inner.Defined.{Defined, meaning_of}
 use Rattle.pp_expansion.specs.inner.Frames.{Layer, Advance, advance, names_of}
 use Rattle.pp_expansion.specs.Item.{Step, wants_memory}
 use Rattle.pp_expansion.specs.inner.Left.{AreDefinedAbove, AreOpenSoundly}
-use Rattle.pp_expansion.specs.inner.Machine.{Machine, taken_as, StepsTaking, held, moved, TakesNext, now, later, GathersNext, closed, inside, overfull, ended, failed}
+use Rattle.pp_expansion.specs.inner.Machine.{Machine, taken_as, StepsFetching, StepsTaking, held, moved, TakesNext, now, later, GathersNext, closed, inside, overfull, ended, failed}
 use Rattle.pp_expansion.specs.inner.Reader.{Reader, definitions_of}
-use Rattle.pp_expansion.specs.inner.Turns.{frame_move, Moves}
+use Rattle.pp_expansion.specs.inner.Reading.{painted_step}
+use Rattle.pp_expansion.specs.inner.Turns.{frame_move, Moves, masks}
 use Rattle.pp_expansion.specs.declared.step.StepExit.TheVariants.{Error, Continue, Finished}
 use Rattle.pp_expansion.proofs.open_frames.AdvanceLemmas.{Advances, advance_lowers}
 use Rattle.pp_expansion.proofs.open_frames.SoundLemmas.{IsDefined, apart_names_few}
@@ -103,24 +104,34 @@ frame_sound : (pending : Option Name) (definitions : List Defined) (f : Layer) (
 frame_sound pending definitions f fs None h sound = pop_sound definitions pending f.name (names_of fs) sound
 frame_sound pending definitions f fs (Some a) h sound = rw h.name sound
 
-moves_sound : (pending : Option Name) (move : Step Token) (fs gs : List Layer) (r s : Reader) → Moves fs r move gs s → wants_memory move ≡ false
+moves_sound : (pending : Option Name) (move : Step Read) (fs gs : List Layer) (r s : Reader) → Moves fs r move gs s → wants_memory move ≡ false
     → AreOpenSoundly (definitions_of r) (with_pending pending (names_of fs)) → AreOpenSoundly (definitions_of s) (with_pending pending (names_of gs))
 moves_sound pending move [] gs r s h reported sound = rw h.0 (lone_sound (definitions_of s) pending)
 moves_sound pending move (f ∷ fs) gs r s (same, inl h) reported sound =
     rw (same, h.1) (frame_sound pending (definitions_of r) f fs (advance f) (advance_lowers f) sound)
 moves_sound pending move (f ∷ fs) gs r s (same, inr h) reported sound = absurd (let bad : true ≡ false = rw h at reported in cc)
 
-taken_reported : (move : Step Token) (fs : List Layer) (r : Reader) → wants_memory (taken_as move fs r) ≡ false → wants_memory move ≡ false
+taken_reported : (move : Step Read) (fs : List Layer) (r : Reader) → wants_memory (taken_as move fs r) ≡ false → wants_memory move ≡ false
 taken_reported (Ok token) fs r h = refl
 taken_reported (Err exit) fs r h = h
 
-pub step_sound : (pending : Option Name) (step : Step Token) (m n : Machine) (r s : Reader) → StepsTaking m r step n s → wants_memory step ≡ false
+fetch_sound : (pending : Option Name) (step : Step Read) (m n : Machine) (r s : Reader) → StepsFetching m r step n s → wants_memory step ≡ false
     → IsSoundWith pending m r → IsSoundWith pending n s
-step_sound pending step m n r s (held step1 m1 n1 r1 s1 is at same) reported sound = rw (at, same) sound
-step_sound pending step m n r s (moved move step1 m1 n1 r1 s1 free moves is none) reported sound =
+fetch_sound pending step m n r s (held step1 m1 n1 r1 s1 is at same) reported sound = rw (at, same) sound
+fetch_sound pending step m n r s (moved move step1 m1 n1 r1 s1 free moves is none) reported sound =
     moves_sound pending move m.frames n.frames r s moves (taken_reported move n.frames s (rw is at reported)) sound
 
-pub next_sound : (pending : Option Name) (step : Step Token) (m n : Machine) (r s : Reader) → TakesNext m r step n s → wants_memory step ≡ false
+-- paint is no matter of memory
+painted_reported : (names : List Name) (first : Step Read) → wants_memory (painted_step names first) ≡ false → wants_memory first ≡ false
+painted_reported names (Ok token) h = refl
+painted_reported names (Err exit) h = h
+
+pub step_sound : (pending : Option Name) (step : Step Read) (m n : Machine) (r s : Reader) → StepsTaking m r step n s → wants_memory step ≡ false
+    → IsSoundWith pending m r → IsSoundWith pending n s
+step_sound pending step m n r s steps reported sound =
+    fetch_sound pending steps.first m n r s steps.fetches (painted_reported (masks n.frames s) steps.first (rw steps.paints at reported)) sound
+
+pub next_sound : (pending : Option Name) (step : Step Read) (m n : Machine) (r s : Reader) → TakesNext m r step n s → wants_memory step ≡ false
     → IsSoundWith pending m r → IsSoundWith pending n s
 next_sound pending step m n r s (now step1 m1 n1 r1 s1 steps goes) reported sound = step_sound pending step m n r s steps reported sound
 next_sound pending step m n r s (later step1 m1 between n1 r1 s1 t1 steps next) reported sound =
@@ -130,7 +141,7 @@ pub gather_sound : (pending : Option Name) (k : ℕ) (last : Location) (m n : Ma
     → GathersNext k last m r g n s → IsSoundWith pending m r → IsSoundWith pending n s
 gather_sound pending k last m n r s g (closed k1 last1 token m1 n1 r1 s1 g1 next out is) sound = next_sound pending (Ok token) m n r s next refl sound
 gather_sound pending k last m n r s g (inside k1 l last1 token m1 between n1 r1 s1 t1 rest g1 next in_call more is) sound =
-    gather_sound pending l token.location between n s1 s rest more (next_sound pending (Ok token) m between r s1 next refl sound)
+    gather_sound pending l token.token.location between n s1 s rest more (next_sound pending (Ok token) m between r s1 next refl sound)
 gather_sound pending k last m n r s g (overfull k1 last1 token m1 n1 r1 s1 g1 next out is) sound = next_sound pending (Ok token) m n r s next refl sound
 gather_sound pending k last m n r s g (ended k1 last1 m1 n1 r1 s1 g1 next is) sound = next_sound pending (Err Finished) m n r s next refl sound
 gather_sound pending k last m n r s g (failed k1 last1 fault m1 n1 r1 s1 g1 next reported is) sound =

@@ -2,7 +2,7 @@
 use Rattle.std.proofs.Common.{◌≡◌, ◌≢◌, ℕ, zero, suc, ◌+◌, ◌-◌, ◌≤◌, arith, All, List, [], ◌∷◌, ◌++◌, length, refl, sym, subst, Option, None, le_trans, true, false, Bool}
 use Rattle.std.specs.Prelude.{if◌then◌else◌, Result, Ok, Err, ◌&&◌, ◌==◌}
 use Rattle.std.proofs.lemmas.List.Elements.{All-cons, All-nil, All-append}
-use Rattle.pp_lexer.specs.declared.token.Token.{Token}
+use Rattle.pp_model.specs.declared.read.Read.{Read}
 use Rattle.pp_lexer.specs.declared.token.PreprocessorError.{PreprocessorError}
 use Rattle.pp_model.specs.Names.{Name}
 use Rattle.pp_model.specs.Calls.{Fault, pieces, arguments_of, misfit, cut_before, Pieces, is_comma, nesting_after}
@@ -46,25 +46,25 @@ finish_fault levels definitions hidden call old new h fault e s =
     subst (λ (x : Halt). Finishes levels definitions hidden call old (Err x) new) e s in k.0
 
 -- no piece is longer than the tokens
-pub pieces_short : (n : ℕ) (tokens : List Token) → (length (pieces n tokens).first ≤ length tokens)
-    × All (λ (a : List Token). length a ≤ length tokens) (pieces n tokens).others
-pieces_short n [] = (omega arith, All-nil (λ (a : List Token). length a ≤ 0))
-pieces_short n (token ∷ tokens) = cut (is_comma token.value && (n == 0)) (pieces (nesting_after n token.value) tokens)
-    (pieces_short (nesting_after n token.value) tokens)
+pub pieces_short : (n : ℕ) (tokens : List Read) → (length (pieces n tokens).first ≤ length tokens)
+    × All (λ (a : List Read). length a ≤ length tokens) (pieces n tokens).others
+pieces_short n [] = (omega arith, All-nil (λ (a : List Read). length a ≤ 0))
+pieces_short n (token ∷ tokens) = cut (is_comma token.token.value && (n == 0)) (pieces (nesting_after n token.token.value) tokens)
+    (pieces_short (nesting_after n token.token.value) tokens)
   where
-    cut : (b : Bool) (ps : Pieces) → (length ps.first ≤ length tokens) × All (λ (a : List Token). length a ≤ length tokens) ps.others
+    cut : (b : Bool) (ps : Pieces) → (length ps.first ≤ length tokens) × All (λ (a : List Read). length a ≤ length tokens) ps.others
         → (length (cut_before b token ps).first ≤ length (token ∷ tokens))
-        × All (λ (a : List Token). length a ≤ length (token ∷ tokens)) (cut_before b token ps).others
+        × All (λ (a : List Read). length a ≤ length (token ∷ tokens)) (cut_before b token ps).others
     cut true ps h = (
       omega arith,
-      All-cons (λ (a : List Token). length a ≤ length (token ∷ tokens)) ps.first ps.others (let k = h.0 in
+      All-cons (λ (a : List Read). length a ≤ length (token ∷ tokens)) ps.first ps.others (let k = h.0 in
           omega arith) (λ k d inside. let low = h.1 k d inside in omega arith),
     )
     cut false ps h = (let k = h.0 in omega arith, λ k d inside. let low = h.1 k d inside in omega arith)
 
 -- what the arguments come to is what the call comes to, where their number fits
 pub answers_each : (levels : ℕ) (definitions : List Defined) (around : List Name) (call : PendingCall) → levels ≢ 0
-    → misfit call.definition.parameters (arguments_of call.tokens) ≡ None → (out : Result (List (List Token)) Fault)
+    → misfit call.definition.parameters (arguments_of call.tokens) ≡ None → (out : Result (List (List Read)) Fault)
     → Each (Alone (levels - 1)) (meaning_of definitions) around (arguments_of call.tokens) out
     → answers_at levels call.definition (site_at call definitions around) out
 answers_each zero definitions around call some fits out each = absurd (some refl)
@@ -74,10 +74,10 @@ answers_each (suc levels) definitions around call some fits out each =
     (subst (λ (l : ℕ). Each (Alone l) (meaning_of definitions) around (arguments_of call.tokens) out) one each)
 
 -- no argument of a call is longer than what all of its tokens may come to
-pub of_call : (levels : ℕ) (definitions : List Defined) (call : PendingCall) (arguments : List (List Token))
+pub of_call : (levels : ℕ) (definitions : List Defined) (call : PendingCall) (arguments : List (List Read))
     → AreShort (levels - 1) definitions (arguments_of call.tokens) arguments → AreOfCall levels definitions call arguments
 of_call levels definitions call arguments short = let here = pieces_short 0 call.tokens in
-    short (length call.tokens) (All-cons (λ (a : List Token). length a ≤ length call.tokens) (pieces 0 call.tokens).first
+    short (length call.tokens) (All-cons (λ (a : List Read). length a ≤ length call.tokens) (pieces 0 call.tokens).first
     (pieces 0 call.tokens).others here.0 here.1)
 
 -- what a search gives satisfies what follows from it
@@ -90,7 +90,7 @@ satisfies_more (Err halt.OutOfMemory) P Q follows has = tt
 -- a call that has no arguments ends with what they ended with
 pub finishes_without : (levels : ℕ) (definitions : List Defined) (hidden : List Name) (call : PendingCall) (old new : Machine)
     (r : Result (Unit {0}) Halt) (h : Halt) → r ≡ Err h
-    → Satisfies {A = List (List Token)} (Err h) (answers_at levels call.definition (site_at call definitions (names_of old.frames ++ hidden)))
+    → Satisfies {A = List (List Read)} (Err h) (answers_at levels call.definition (site_at call definitions (names_of old.frames ++ hidden)))
     → new ≡ old → Finishes levels definitions hidden call old r new
 finishes_without levels definitions hidden call old new r (halt.Fault fault) is has same =
     subst (λ (x : Result (Unit {0}) Halt). Finishes levels definitions hidden call old x new) (sym is) (has, same)
@@ -98,13 +98,13 @@ finishes_without levels definitions hidden call old new r halt.OutOfMemory is ha
     subst (λ (x : Result (Unit {0}) Halt). Finishes levels definitions hidden call old x new) (sym is) tt
 
 -- one more list, no longer than it may be
-pub short_more : (most : ℕ) (lists more : List (List Token)) (list : List Token) → All (λ (a : List Token). length a ≤ most) lists
-    → length list ≤ most → more ≡ lists ++ list ∷ [] → All (λ (a : List Token). length a ≤ most) more
-short_more most lists more list all low is = rw is (All-append (λ (a : List Token). length a ≤ most) lists (list ∷ []) all
-    (All-cons (λ (a : List Token). length a ≤ most) list [] low (All-nil (λ (a : List Token). length a ≤ most))))
+pub short_more : (most : ℕ) (lists more : List (List Read)) (list : List Read) → All (λ (a : List Read). length a ≤ most) lists
+    → length list ≤ most → more ≡ lists ++ list ∷ [] → All (λ (a : List Read). length a ≤ most) more
+short_more most lists more list all low is = rw is (All-append (λ (a : List Read). length a ≤ most) lists (list ∷ []) all
+    (All-cons (λ (a : List Read). length a ≤ most) list [] low (All-nil (λ (a : List Read). length a ≤ most))))
 
 -- what an argument came to, where no argument has more tokens than this
-pub short_list : (levels : ℕ) (definitions : List Defined) (n : ℕ) (tokens list : List Token) → length tokens ≤ n
+pub short_list : (levels : ℕ) (definitions : List Defined) (n : ℕ) (tokens list : List Read) → length tokens ≤ n
     → length list ≤ most_alone levels definitions (length tokens) → length list ≤ most_alone levels definitions n
 short_list levels definitions n tokens list few low =
     let names = length definitions + 1 in

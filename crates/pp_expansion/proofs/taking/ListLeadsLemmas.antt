@@ -1,15 +1,15 @@
 -- The expander over an argument is the definitions' expander of it.
 use Rattle.std.proofs.Common.{◌≡◌, false, ℕ, ◌+◌, ◌<◌, ◌≤◌, arith, List, [], ◌∷◌, ◌++◌, length, length-append, refl, sym, ap, subst, None}
 use Rattle.std.specs.Prelude.{Result, Ok, Err}
-use Rattle.pp_lexer.specs.declared.token.Token.{Token}
+use Rattle.pp_model.specs.declared.read.Read.{Read}
 use Rattle.pp_model.specs.Names.{Name}
 use Rattle.pp_model.specs.Reading.{Expander, Listed, argument_reading, reading_of}
 use Rattle.pp_model.specs.Calls.{Fault, Site}
 use Rattle.pp_model.specs.Emitting.{Emits, Alone, Collects, done, failed, item, answers_at}
-use Rattle.pp_model.specs.inner.Emitting.{token_before}
+use Rattle.pp_model.specs.inner.Emitting.{read_before}
 use Rattle.pp_model.specs.SpliceList.{spliced}
-use Rattle.pp_model.specs.declared.outcome.Outcome.{Outcome}
-use Rattle.pp_model.specs.declared.outcome.Outcome.TheVariants as outcome
+use Rattle.pp_model.specs.declared.read.Taken.{Taken as Given}
+use Rattle.pp_model.specs.declared.read.Taken.TheVariants as given
 use Rattle.pp_model.proofs.CollectLemmas.{after_items, after_items-before, after_items-end, Alone-collects}
 use Rattle.pp_expansion.specs.inner.Calling.{PendingCall}
 use Rattle.pp_expansion.specs.inner.CallTurns.{TurnsTo}
@@ -28,16 +28,16 @@ use Rattle.pp_expansion.proofs.work.WorkFallsLemmas.{start_work}
 use Rattle.pp_expansion.proofs.taking.ListedLeadsLemmas.{IsListed, list_simulates, list_shows, list_sees, StandsListed, listed_leads, stands_listed, site_same, opened_less}
 
 -- What the loop over an argument has reached: the items so far, and a state from which the rest comes.
-pub record Reached (levels : ℕ) (definitions : List Defined) (hidden : List Name) (tokens : List Token)
-    (m : Machine) (l : Listing) (items : List Token) : Type 0 where
+pub record Reached (levels : ℕ) (definitions : List Defined) (hidden : List Name) (tokens : List Read)
+    (m : Machine) (l : Listing) (items : List Read) : Type 0 where
   pub state : Expander Listed
   pub stands : StandsListed false definitions hidden m l state
   pub sound : IsSound m (of_list l)
-  pub goes_on : (out : Result (List Token) Fault) → Collects argument_reading (answers_at levels) state out
+  pub goes_on : (out : Result (List Read) Fault) → Collects argument_reading (answers_at levels) state out
       → Alone levels tokens (meaning_of definitions) hidden (after_items items out)
   pub least : length items + work_of levels m (of_list l) ≤ most_alone levels definitions (length tokens)
 
-pub reached_start : (levels : ℕ) (definitions : List Defined) (hidden : List Name) (tokens items : List Token) (m : Machine) (l : Listing)
+pub reached_start : (levels : ℕ) (definitions : List Defined) (hidden : List Name) (tokens items : List Read) (m : Machine) (l : Listing)
     → m ≡ record { held = None; frames = [] } → l ≡ record { tokens = tokens; definitions = definitions; hidden = hidden; is_line = false }
     → items ≡ [] → Reached levels definitions hidden tokens m l items
 reached_start levels definitions hidden tokens items m l e f g =
@@ -50,14 +50,14 @@ reached_start levels definitions hidden tokens items m l e f g =
       least = omega (arith, start_work levels start);
     })
   where
-    no_items : (out : Result (List Token) Fault) → after_items [] out ≡ out
+    no_items : (out : Result (List Read) Fault) → after_items [] out ≡ out
     no_items (Ok rest) = refl
     no_items (Err fault) = refl
 
-module _ (levels : ℕ) (definitions : List Defined) (hidden : List Name) (tokens : List Token) (m : Machine) (l : Listing) (items : List Token)
+module _ (levels : ℕ) (definitions : List Defined) (hidden : List Name) (tokens : List Read) (m : Machine) (l : Listing) (items : List Read)
     (r : Reached levels definitions hidden tokens m l items) (n : Machine) (k : Listing) where
   -- a token is one more item
-  pub reached_token : (token : Token) (more : List Token) → TurnsTo m (of_list l) (Ok (taken.Token token)) n (of_list k) → more ≡ items ++ token ∷ []
+  pub reached_token : (token : Read) (more : List Read) → TurnsTo m (of_list l) (Ok (taken.Token token)) n (of_list k) → more ≡ items ++ token ∷ []
       → Reached levels definitions hidden tokens n k more
   reached_token token more turns is =
       let h = listed_leads false definitions hidden (answers_at levels) m n l k (Ok (taken.Token token)) r.state r.stands turns refl in
@@ -67,20 +67,20 @@ module _ (levels : ℕ) (definitions : List Defined) (hidden : List Name) (token
         stands = h.2;
         sound = f.sound;
         goes_on = λ out collects. rw (← after_items-before items token out)
-            (r.goes_on (token_before token out) (item token out (token_before token out) r.state h.0 h.1 collects refl));
+            (r.goes_on (read_before token out) (item token out (read_before token out) r.state h.0 h.1 collects refl));
         least = omega (arith, r.least, f.falls, length-append items (token ∷ []));
       })
 
-  pub token_less : (token : Token) → TurnsTo m (of_list l) (Ok (taken.Token token)) n (of_list k) → work_of levels n (of_list k) < work_of levels m (of_list l)
+  pub token_less : (token : Read) → TurnsTo m (of_list l) (Ok (taken.Token token)) n (of_list k) → work_of levels n (of_list k) < work_of levels m (of_list l)
   token_less token turns = let f : IsLess levels m (of_list l) n (of_list k) =
       turn_falls levels m (of_list l) r.sound (Ok (taken.Token token)) n (of_list k) turns refl in f.falls
 
-  emits_keeps : (e f : Expander Listed) → ((o : Outcome) (g : Expander Listed) → Emits argument_reading (answers_at levels) f o g
-      → Emits argument_reading (answers_at levels) e o g) → (out : Result (List Token) Fault) → Collects argument_reading (answers_at levels) f out
+  emits_keeps : (e f : Expander Listed) → ((o : Given) (g : Expander Listed) → Emits argument_reading (answers_at levels) f o g
+      → Emits argument_reading (answers_at levels) e o g) → (out : Result (List Read) Fault) → Collects argument_reading (answers_at levels) f out
       → Collects argument_reading (answers_at levels) e out
-  emits_keeps e f on out (done f1 g out1 emits is) = done e g out (on outcome.End g emits) is
-  emits_keeps e f on out (failed fault f1 g out1 emits is) = failed fault e g out (on (outcome.Fault fault) g emits) is
-  emits_keeps e f on out (item token rest out1 f1 g emits collects is) = item token rest out e g (on (outcome.Token token) g emits) collects is
+  emits_keeps e f on out (done f1 g out1 emits is) = done e g out (on given.End g emits) is
+  emits_keeps e f on out (failed fault f1 g out1 emits is) = failed fault e g out (on (given.Fault fault) g emits) is
+  emits_keeps e f on out (item token rest out1 f1 g emits collects is) = item token rest out e g (on (given.Token token) g emits) collects is
 
   pub reached_pause : TurnsTo m (of_list l) (Err Continue) n (of_list k) → Reached levels definitions hidden tokens n k items
   reached_pause turns =

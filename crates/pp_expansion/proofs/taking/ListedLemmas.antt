@@ -1,6 +1,6 @@
 -- One step of a list of tokens.
 use Rattle.std.proofs.Common.{◌≡◌, ◌∙◌, inl, List, [], ◌∷◌, ap, sym, Ok, Err}
-use Rattle.pp_lexer.specs.declared.token.Token.{Token}
+use Rattle.pp_model.specs.declared.read.Read.{Read}
 use Rattle.pp_model.specs.inner.Reading.{after_listed}
 use Rattle.pp_expansion.specs.inner.Reader.{Listing, listed_step, StepsListed}
 use Rattle.pp_expansion.specs.declared.step.StepExit.TheVariants.{Finished}
@@ -11,15 +11,15 @@ lists_end old seen new is none at =
     inl (
       sym (ap listed_step e),
       at ∙ ap (λ (l : Listing). record l { tokens = [] }) is
-          ∙ ap (λ (ts : List Token). record old { tokens = ts }) (sym (ap after_listed e)),
+          ∙ ap (λ (ts : List Read). record old { tokens = ts }) (sym (ap after_listed e)),
     )
 
-pub lists_token : (old seen new : Listing) (token : Token) (rest : List Token) → seen ≡ old → seen.tokens ≡ token ∷ rest
+pub lists_token : (old seen new : Listing) (token : Read) (rest : List Read) → seen ≡ old → seen.tokens ≡ token ∷ rest
     → new ≡ record seen { tokens = rest } → StepsListed old (Ok token) new
 lists_token old seen new token rest is e at =
     let found : old.tokens ≡ token ∷ rest = ap (λ (l : Listing). l.tokens) (sym is) ∙ e in
     inl (
       sym (ap listed_step found),
       at ∙ ap (λ (l : Listing). record l { tokens = rest }) is
-          ∙ ap (λ (ts : List Token). record old { tokens = ts }) (sym (ap after_listed found)),
+          ∙ ap (λ (ts : List Read). record old { tokens = ts }) (sym (ap after_listed found)),
     )

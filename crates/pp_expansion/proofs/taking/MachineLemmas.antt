@@ -1,85 +1,91 @@
 -- Steps of taking, as the code makes them.
 use Rattle.std.proofs.Common.{◌≡◌, ◌∙◌, false, true, List, [], ◌∷◌, ◌++◌, ◌<◌, ℕ, arith, refl, sym, ap, subst, Option, Some, None, Result, Ok, Err, MatchResult}
 use Rattle.std.specs.Prelude.{is_some}
-use Rattle.pp_lexer.specs.declared.token.Token.{Token}
+use Rattle.pp_model.specs.declared.read.Read.{Read}
 use Rattle.pp_lexer.specs.declared.token.Location.{Location}
 use Rattle.pp_lexer.specs.declared.token.PreprocessorError.TheVariants.{LineOverflow, IntegerOverflow, UnexpectedEndOfInput}
 use Rattle.pp_model.specs.Calls.{Fault, Gathered, before, nesting, closes, within, too_many}
-use Rattle.pp_model.specs.declared.outcome.Outcome.TheVariants as outcome
+use Rattle.pp_model.specs.declared.read.Taken.TheVariants as given
 use Rattle.pp_expansion.specs.Item.{Step, is_out_of_memory}
 use Rattle.pp_expansion.specs.inner.Frames.{Layer}
-use Rattle.pp_expansion.specs.inner.Machine.{Machine, is_pause, step_of_outcome, taken_as, StepsTaking, held, moved, TakesNext, now, later, GathersNext, closed, inside, overfull, ended, failed}
+use Rattle.pp_expansion.specs.inner.Machine.{Machine, is_pause, step_of_outcome, taken_as, StepsFetching, StepsTaking, held, moved, TakesNext, now, later, GathersNext, closed, inside, overfull, ended, failed}
 use Rattle.pp_expansion.specs.inner.Left.{regions, regions_of, holding_step, reads_left}
 use Rattle.pp_model.proofs.GatherLemmas.{after_tokens, after_tokens-before, after_tokens-closed}
 use Rattle.pp_expansion.specs.inner.Reach.{total}
 use Rattle.pp_expansion.specs.inner.Reader.{Reader}
 use Rattle.pp_expansion.proofs.work.SpendLemmas.{step_spends, next_spends, total_one_more}
-use Rattle.pp_expansion.specs.inner.Turns.{Moves, taken_in, gives_line_name}
+use Rattle.pp_expansion.specs.inner.Reading.{painted_step}
+use Rattle.pp_expansion.specs.inner.Turns.{Moves, masks, taken_in, gives_line_name}
 use Rattle.pp_expansion.specs.declared.step.StepExit.{StepExit}
 use Rattle.pp_expansion.specs.declared.step.StepExit.TheVariants.{Error, Continue, Finished}
 
--- what is held is taken
-pub takes_held : (m n : Machine) (step : Step Token) (r : Reader) → m.held ≡ Some step → n ≡ record m { held = None } → StepsTaking m r step n r
-takes_held m n step r is at = held step m n r r is at refl
+-- what is held comes first
+pub fetches_held : (m n : Machine) (step : Step Read) (r : Reader) → m.held ≡ Some step → n ≡ record m { held = None } → StepsFetching m r step n r
+fetches_held m n step r is at = held step m n r r is at refl
 
-pub none_held : (o : Option (Step Token)) → is_some o ≡ false → o ≡ None
+pub none_held : (o : Option (Step Read)) → is_some o ≡ false → o ≡ None
 none_held None e = refl
 none_held (Some step) e = cc
 
 -- a step of the frames or the reader that gives no token
-pub takes_exit : (m : Machine) (old new : Option (Step Token)) (frames after : List Layer) (move step : Step Token) (exit : StepExit) (r s : Reader)
+pub fetches_exit : (m : Machine) (old new : Option (Step Read)) (frames after : List Layer) (move step : Step Read) (exit : StepExit) (r s : Reader)
     → m ≡ record { held = old; frames = frames } → old ≡ None → new ≡ None
-    → Moves frames r move after s → move ≡ Err exit → step ≡ Err exit → StepsTaking m r step (record { held = new; frames = after }) s
-takes_exit m old new frames after move step exit r s e f g moves is same =
+    → Moves frames r move after s → move ≡ Err exit → step ≡ Err exit → StepsFetching m r step (record { held = new; frames = after }) s
+fetches_exit m old new frames after move step exit r s e f g moves is same =
     moved (Err exit) step m (record { held = new; frames = after }) r s (ap (λ (k : Machine). k.held) e ∙ f)
-    (subst (λ (x : Step Token). Moves m.frames r x after s) is
+    (subst (λ (x : Step Read). Moves m.frames r x after s) is
     (subst (λ (fs : List Layer). Moves fs r move after s) (sym (ap (λ (k : Machine). k.frames) e)) moves)) same g
 
 -- a step of the frames or the reader that gives no `__LINE__`
-pub takes_step : (m : Machine) (old new : Option (Step Token)) (frames after : List Layer) (move : Step Token) (r s : Reader)
+pub fetches_step : (m : Machine) (old new : Option (Step Read)) (frames after : List Layer) (move : Step Read) (r s : Reader)
     → m ≡ record { held = old; frames = frames } → old ≡ None → new ≡ None
-    → Moves frames r move after s → gives_line_name move ≡ false → StepsTaking m r move (record { held = new; frames = after }) s
-takes_step m old new frames after move r s e f g moves is =
+    → Moves frames r move after s → gives_line_name move ≡ false → StepsFetching m r move (record { held = new; frames = after }) s
+fetches_step m old new frames after move r s e f g moves is =
     moved move move m (record { held = new; frames = after }) r s (ap (λ (k : Machine). k.held) e ∙ f)
     (subst (λ (fs : List Layer). Moves fs r move after s) (sym (ap (λ (k : Machine). k.frames) e)) moves) (same move is) g
   where
-    same : (step : Step Token) → gives_line_name step ≡ false → step ≡ taken_as step after s
+    same : (step : Step Read) → gives_line_name step ≡ false → step ≡ taken_as step after s
     same (Ok token) apart = rw apart refl
     same (Err exit) apart = refl
 
--- what a step of the frames or the reader is once it is taken
-pub takes_shown : (m : Machine) (old new : Option (Step Token)) (frames after : List Layer) (move step : Step Token) (r s : Reader)
+-- what a step of the frames or the reader is once it comes first
+pub fetches_shown : (m : Machine) (old new : Option (Step Read)) (frames after : List Layer) (move step : Step Read) (r s : Reader)
     → m ≡ record { held = old; frames = frames } → old ≡ None → new ≡ None
-    → Moves frames r move after s → step ≡ taken_as move after s → StepsTaking m r step (record { held = new; frames = after }) s
-takes_shown m old new frames after move step r s e f g moves is =
+    → Moves frames r move after s → step ≡ taken_as move after s → StepsFetching m r step (record { held = new; frames = after }) s
+fetches_shown m old new frames after move step r s e f g moves is =
     moved move step m (record { held = new; frames = after }) r s (ap (λ (k : Machine). k.held) e ∙ f)
     (subst (λ (fs : List Layer). Moves fs r move after s) (sym (ap (λ (k : Machine). k.frames) e)) moves) is g
 
+-- what comes first is painted, or gives no token
+pub takes_painted : (m n : Machine) (r s : Reader) (first step : Step Read) → StepsFetching m r first n s → step ≡ painted_step (masks n.frames s) first
+    → StepsTaking m r step n s
+takes_painted m n r s first step fetches is = record { first = first; fetches = fetches; paints = is }
+
 -- a token that is taken
-pub shows_token : (frames : List Layer) (reader : Reader) (token : Token) (step : Step Token)
-    → MatchResult step (λ taken. taken_in frames reader token ≡ outcome.Token taken)
-    (λ exit. (exit ≡ Error (LineOverflow, token.location)) × (taken_in frames reader token ≡ outcome.Fault (LineOverflow, token.location)))
+pub shows_token : (frames : List Layer) (reader : Reader) (token : Read) (step : Step Read)
+    → MatchResult step (λ taken. taken_in frames reader token ≡ given.Token taken)
+    (λ exit. (exit ≡ Error (LineOverflow, token.token.location)) × (taken_in frames reader token ≡ given.Fault (LineOverflow, token.token.location)))
     → step ≡ taken_as (Ok token) frames reader
 shows_token frames reader token (Ok t) h = ap step_of_outcome (sym h)
 shows_token frames reader token (Err exit) h = ap Err h.0 ∙ ap step_of_outcome (sym h.1)
 
 -- what is taken next from here on is taken next from the beginning on
 abbrev pub LeadsToNext : Machine → Reader → Machine → Reader → Type 0
-LeadsToNext m r n s = (step : Step Token) (p : Machine) (t : Reader) → TakesNext n s step p t → TakesNext m r step p t
+LeadsToNext m r n s = (step : Step Read) (p : Machine) (t : Reader) → TakesNext n s step p t → TakesNext m r step p t
 
-pub leads_more : (m n p : Machine) (r s t : Reader) (step : Step Token) → LeadsToNext m r n s → StepsTaking n s step p t → is_pause step ≡ true
+pub leads_more : (m n p : Machine) (r s t : Reader) (step : Step Read) → LeadsToNext m r n s → StepsTaking n s step p t → is_pause step ≡ true
     → LeadsToNext m r p t
 leads_more m n p r s t (Err Continue) leads steps pause = λ step q u next. leads step q u (later step n p q s t u steps next)
 leads_more m n p r s t (Err Finished) leads steps pause = cc
 leads_more m n p r s t (Err (Error fault)) leads steps pause = cc
 leads_more m n p r s t (Ok token) leads steps pause = cc
 
-pub leads_now : (m n p : Machine) (r s t : Reader) (step : Step Token) → LeadsToNext m r n s → StepsTaking n s step p t → is_pause step ≡ false
+pub leads_now : (m n p : Machine) (r s t : Reader) (step : Step Read) → LeadsToNext m r n s → StepsTaking n s step p t → is_pause step ≡ false
     → TakesNext m r step p t
 leads_now m n p r s t step leads steps goes = leads step p t (now step n p s t steps goes)
 
 -- a pause falls
-pub pause_falls : (m n : Machine) (r s : Reader) (step : Step Token) → StepsTaking m r step n s → is_pause step ≡ true
+pub pause_falls : (m n : Machine) (r s : Reader) (step : Step Read) → StepsTaking m r step n s → is_pause step ≡ true
     → total (regions n s) < total (regions m r)
 pause_falls m n r s (Err Continue) steps pause = (step_spends (λ c. c) 0 (λ a b low. low) (Err Continue) m n r s steps refl).spends.least
 pause_falls m n r s (Err Finished) steps pause = cc
@@ -87,23 +93,23 @@ pause_falls m n r s (Err (Error fault)) steps pause = cc
 pause_falls m n r s (Ok token) steps pause = cc
 
 -- what comes next is no pause
-pub next_no_pause : (m n : Machine) (r s : Reader) (step : Step Token) → TakesNext m r step n s → is_pause step ≡ false
+pub next_no_pause : (m n : Machine) (r s : Reader) (step : Step Read) → TakesNext m r step n s → is_pause step ≡ false
 next_no_pause m n r s step (now step1 m1 n1 r1 s1 steps goes) = goes
 next_no_pause m n r s step (later step1 m1 between n1 r1 s1 t1 steps next) = next_no_pause between n s1 s step next
 
 -- what comes next lowers what is left, but at the end
-pub next_falls : (m n : Machine) (r s : Reader) (token : Token) → TakesNext m r (Ok token) n s → total (regions n s) < total (regions m r)
+pub next_falls : (m n : Machine) (r s : Reader) (token : Read) → TakesNext m r (Ok token) n s → total (regions n s) < total (regions m r)
 next_falls m n r s token next =
     let h = next_spends (λ c. c) 0 (λ a b low. low) (Ok token) m n r s next refl in
     let free : regions n s ≡ regions_of n.frames (reads_left s) = ap (λ o. holding_step o (regions_of n.frames (reads_left s))) h.free in
     omega (arith, h.spends.least, total_one_more (regions_of n.frames (reads_left s)), ap total free)
 
 -- how the search goes on from here is how it goes on from the beginning, after these tokens
-abbrev pub Gathering : Location → Machine → Reader → List Token → ℕ → Location → Machine → Reader → Type 0
+abbrev pub Gathering : Location → Machine → Reader → List Read → ℕ → Location → Machine → Reader → Type 0
 Gathering paren m r tokens k last n s = (rest : Result Gathered Fault) (p : Machine) (t : Reader) → GathersNext k last n s rest p t
     → GathersNext 0 paren m r (after_tokens tokens rest) p t
 
-module _ (paren : Location) (m : Machine) (r : Reader) (tokens : List Token)
+module _ (paren : Location) (m : Machine) (r : Reader) (tokens : List Read)
     (k : ℕ) (last : Location) (n : Machine) (s : Reader) (so_far : Gathering paren m r tokens k last n s) (p : Machine) (t : Reader) where
   pub gathers_fault : (fault : Fault) → TakesNext n s (Err (Error fault)) p t → is_out_of_memory fault.0 ≡ false → GathersNext 0 paren m r (Err fault) p t
   gathers_fault fault next reported = so_far (Err fault) p t (failed k last fault n p s t (Err fault) next reported refl)
@@ -114,19 +120,19 @@ module _ (paren : Location) (m : Machine) (r : Reader) (tokens : List Token)
   pub gathers_never : (g : Result Gathered Fault) → TakesNext n s (Err Continue) p t → GathersNext 0 paren m r g p t
   gathers_never g next = absurd (let bad : true ≡ false = next_no_pause n p s t (Err Continue) next in cc)
 
-  pub gathers_closed : (token : Token) → TakesNext n s (Ok token) p t → nesting k token.value ≡ closes
-      → GathersNext 0 paren m r (Ok (record { tokens = tokens; closing = token.location })) p t
-  gathers_closed token next out = rw (← after_tokens-closed tokens token.location)
-      (so_far (Ok (record { tokens = []; closing = token.location })) p t
-      (closed k last token n p s t (Ok (record { tokens = []; closing = token.location })) next out refl))
+  pub gathers_closed : (token : Read) → TakesNext n s (Ok token) p t → nesting k token.token.value ≡ closes
+      → GathersNext 0 paren m r (Ok (record { tokens = tokens; closing = token.token.location })) p t
+  gathers_closed token next out = rw (← after_tokens-closed tokens token.token.location)
+      (so_far (Ok (record { tokens = []; closing = token.token.location })) p t
+      (closed k last token n p s t (Ok (record { tokens = []; closing = token.token.location })) next out refl))
 
-  pub gathers_overfull : (token : Token) → TakesNext n s (Ok token) p t → nesting k token.value ≡ too_many
-      → GathersNext 0 paren m r (Err (IntegerOverflow, token.location)) p t
-  gathers_overfull token next out = so_far (Err (IntegerOverflow, token.location)) p t (overfull k last token n p s t
-      (Err (IntegerOverflow, token.location)) next out refl)
+  pub gathers_overfull : (token : Read) → TakesNext n s (Ok token) p t → nesting k token.token.value ≡ too_many
+      → GathersNext 0 paren m r (Err (IntegerOverflow, token.token.location)) p t
+  gathers_overfull token next out = so_far (Err (IntegerOverflow, token.token.location)) p t (overfull k last token n p s t
+      (Err (IntegerOverflow, token.token.location)) next out refl)
 
-  pub gathers_more : (token : Token) (l : ℕ) (more : List Token) → TakesNext n s (Ok token) p t → nesting k token.value ≡ within l
-      → more ≡ tokens ++ token ∷ [] → Gathering paren m r more l token.location p t
+  pub gathers_more : (token : Read) (l : ℕ) (more : List Read) → TakesNext n s (Ok token) p t → nesting k token.token.value ≡ within l
+      → more ≡ tokens ++ token ∷ [] → Gathering paren m r more l token.token.location p t
   gathers_more token l more next in_call is =
       rw is (λ rest q u gathers. rw (← after_tokens-before tokens token rest)
       (so_far (before token rest) q u (inside k l last token n p q s t u rest (before token rest) next in_call gathers refl)))

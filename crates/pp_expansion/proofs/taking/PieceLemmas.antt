@@ -2,7 +2,7 @@
 use Rattle.std.proofs.Common.{◌≡◌, ◌∙◌, ℕ, ◌+◌, ◌-◌, ◌≤◌, Bool, true, false, ◌&&◌, ◌==◌, if◌then◌else◌, List, [], ◌∷◌, ◌++◌, length, refl, sym, ap, arith, append_assoc}
 use Rattle.std.proofs.lemmas.List.{append-nil}
 use Rattle.pp_lexer.specs.declared.token.Punct.TheVariants.{Comma}
-use Rattle.pp_lexer.specs.declared.token.Token.{Token}
+use Rattle.pp_model.specs.declared.read.Read.{Read}
 use Rattle.pp_lexer.specs.declared.token.TokenValue.{TokenValue}
 use Rattle.pp_lexer.specs.declared.token.TokenValue.TheVariants.{Punct}
 use Rattle.pp_model.specs.Calls.{arguments_of, pieces, Pieces, cut_before, is_comma, nesting_after}
@@ -22,43 +22,43 @@ one_more n false true = omega arith
 one_more n false false = omega arith
 
 -- an argument ends
-pub ends_piece : (tokens rest old : List Token) (token : Token) (depth : ℕ) (done after : List (List Token)) (piece empty : List Token)
+pub ends_piece : (tokens rest old : List Read) (token : Read) (depth : ℕ) (done after : List (List Read)) (piece empty : List Read)
     → arguments_of tokens ≡ done ++ ((piece ++ (pieces depth old).first) ∷ (pieces depth old).others)
-    → old ≡ token ∷ rest → (is_comma token.value && (depth == 0)) ≡ true → after ≡ done ++ piece ∷ [] → empty ≡ []
+    → old ≡ token ∷ rest → (is_comma token.token.value && (depth == 0)) ≡ true → after ≡ done ++ piece ∷ [] → empty ≡ []
     → arguments_of tokens ≡ after ++ ((empty ++ (pieces depth rest).first) ∷ (pieces depth rest).others)
 ends_piece tokens rest old token depth done after piece empty cut is ends closed none =
-    let kept : nesting_after depth token.value ≡ depth = kept_open depth token.value (first_true (is_comma token.value) (depth == 0) ends) in
+    let kept : nesting_after depth token.token.value ≡ depth = kept_open depth token.token.value (first_true (is_comma token.token.value) (depth == 0) ends) in
     let here : pieces depth old ≡ cut_before true token (pieces depth rest) =
-    ap (pieces depth) is ∙ ap (λ (b : Bool). cut_before b token (pieces (nesting_after depth token.value) rest)) ends
+    ap (pieces depth) is ∙ ap (λ (b : Bool). cut_before b token (pieces (nesting_after depth token.token.value) rest)) ends
     ∙ ap (λ (n : ℕ). cut_before true token (pieces n rest)) kept in
     cut ∙ ap (λ (p : Pieces). done ++ ((piece ++ p.first) ∷ p.others)) here
-    ∙ ap (λ (first : List Token). done ++ (first ∷ ((pieces depth rest).first ∷ (pieces depth rest).others))) (append-nil piece)
+    ∙ ap (λ (first : List Read). done ++ (first ∷ ((pieces depth rest).first ∷ (pieces depth rest).others))) (append-nil piece)
     ∙ sym (append_assoc done (piece ∷ []) ((pieces depth rest).first ∷ (pieces depth rest).others))
-    ∙ ap (λ (ps : List (List Token)). ps ++ ((pieces depth rest).first ∷ (pieces depth rest).others)) (sym closed)
-    ∙ ap (λ (start : List Token). after ++ ((start ++ (pieces depth rest).first) ∷ (pieces depth rest).others)) (sym none)
+    ∙ ap (λ (ps : List (List Read)). ps ++ ((pieces depth rest).first ∷ (pieces depth rest).others)) (sym closed)
+    ∙ ap (λ (start : List Read). after ++ ((start ++ (pieces depth rest).first) ∷ (pieces depth rest).others)) (sym none)
 
 -- an argument goes on
-pub grows_piece : (tokens rest old : List Token) (token : Token) (depth deeper : ℕ) (done : List (List Token)) (piece grown : List Token)
+pub grows_piece : (tokens rest old : List Read) (token : Read) (depth deeper : ℕ) (done : List (List Read)) (piece grown : List Read)
     → arguments_of tokens ≡ done ++ ((piece ++ (pieces depth old).first) ∷ (pieces depth old).others)
-    → old ≡ token ∷ rest → (is_comma token.value && (depth == 0)) ≡ false → deeper ≡ nesting_after depth token.value → grown ≡ piece ++ token ∷ []
+    → old ≡ token ∷ rest → (is_comma token.token.value && (depth == 0)) ≡ false → deeper ≡ nesting_after depth token.token.value → grown ≡ piece ++ token ∷ []
     → arguments_of tokens ≡ done ++ ((grown ++ (pieces deeper rest).first) ∷ (pieces deeper rest).others)
 grows_piece tokens rest old token depth deeper done piece grown cut is goes_on after more =
     let here : pieces depth old ≡ cut_before false token (pieces deeper rest) =
-    ap (pieces depth) is ∙ ap (λ (b : Bool). cut_before b token (pieces (nesting_after depth token.value) rest)) goes_on
+    ap (pieces depth) is ∙ ap (λ (b : Bool). cut_before b token (pieces (nesting_after depth token.token.value) rest)) goes_on
     ∙ ap (λ (n : ℕ). cut_before false token (pieces n rest)) (sym after) in
     cut ∙ ap (λ (p : Pieces). done ++ ((piece ++ p.first) ∷ p.others)) here
-    ∙ ap (λ (first : List Token). done ++ (first ∷ (pieces deeper rest).others))
-    (sym (append_assoc piece (token ∷ []) (pieces deeper rest).first) ∙ ap (λ (ts : List Token). ts ++ (pieces deeper rest).first) (sym more))
+    ∙ ap (λ (first : List Read). done ++ (first ∷ (pieces deeper rest).others))
+    (sym (append_assoc piece (token ∷ []) (pieces deeper rest).first) ∙ ap (λ (ts : List Read). ts ++ (pieces deeper rest).first) (sym more))
 
 -- so many parentheses are open at most
-pub piece_within : (rest old : List Token) (token : Token) (depth deeper n : ℕ) → depth + length old ≤ n → old ≡ token ∷ rest
-    → deeper ≡ nesting_after depth token.value → deeper + length rest ≤ n
+pub piece_within : (rest old : List Read) (token : Read) (depth deeper n : ℕ) → depth + length old ≤ n → old ≡ token ∷ rest
+    → deeper ≡ nesting_after depth token.token.value → deeper + length rest ≤ n
 piece_within rest old token depth deeper n few is after =
     let here : depth + length (token ∷ rest) ≤ n = rw is at few in
     let more : deeper ≤ depth + 1 = rw after (one_more depth _ _) in
     omega (arith, here, more)
 
-pub piece_ended : (rest old : List Token) (token : Token) (depth n : ℕ) → depth + length old ≤ n → old ≡ token ∷ rest → depth + length rest ≤ n
+pub piece_ended : (rest old : List Read) (token : Read) (depth n : ℕ) → depth + length old ≤ n → old ≡ token ∷ rest → depth + length rest ≤ n
 piece_ended rest old token depth n few is =
     let here : depth + length (token ∷ rest) ≤ n = rw is at few in
     omega (arith, here)

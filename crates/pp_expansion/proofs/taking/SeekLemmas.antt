@@ -2,7 +2,8 @@
 use Rattle.std.proofs.Common.{◌≡◌, ◌∙◌, ◌⊎◌, inl, inr, refl, sym, ap, subst, Option, Some, None, true, false, [], ◌∷◌}
 use Rattle.std.specs.Prelude.{List, Bool, Result, Ok, Err, option_map, if◌then◌else◌}
 use Rattle.pp_lexer.specs.declared.token.Location.{Location}
-use Rattle.pp_lexer.specs.declared.token.Token.{Token}
+use Rattle.pp_model.specs.declared.read.Read.{Read}
+use Rattle.pp_model.specs.Painting.{unpainted}
 use Rattle.pp_model.specs.Calls.{Gathered}
 use Rattle.pp_expansion.specs.inner.CallTurns.{Seeks, alone, called, no_call, refused, gathered, paren_of, is_refusal}
 use Rattle.pp_expansion.specs.Item.{Step}
@@ -15,8 +16,8 @@ use Rattle.pp_expansion.specs.inner.Turns.{opens, opens_value, opened_by}
 use Rattle.pp_expansion.specs.Halting.{exit_of}
 use Rattle.pp_lexer.specs.declared.token.TokenValue.{TokenValue}
 use Rattle.pp_lexer.specs.declared.token.TokenValue.TheVariants.{Ident}
-use Rattle.pp_expansion.specs.inner.Frames.{Layer, layer, names_of}
-use Rattle.pp_model.specs.Names.{Name, is_in}
+use Rattle.pp_expansion.specs.inner.Frames.{layer}
+use Rattle.pp_model.specs.Names.{Name}
 use Rattle.pp_model.specs.Definitions.{Definition}
 use Rattle.pp_lexer.specs.PreprocessorError.{out_of_memory}
 use Rattle.pp_expansion.specs.declared.calls.Taken.{Taken}
@@ -30,7 +31,7 @@ use Rattle.pp_expansion.specs.declared.calls.Found.{Found}
 use Rattle.pp_expansion.specs.declared.halt.Halt.{Halt}
 use Rattle.pp_expansion.specs.declared.halt.Halt.TheVariants as halt
 
-pub finds_nothing : (m n p : Machine) (r s : Reader) (next : Step Token) → TakesNext m r next n s → is_refusal next ≡ false → paren_of next ≡ None
+pub finds_nothing : (m n p : Machine) (r s : Reader) (next : Step Read) → TakesNext m r next n s → is_refusal next ≡ false → paren_of next ≡ None
     → p ≡ record n { held = Some next } → FindsNothing m r p s
 finds_nothing m n p r s next takes reported none is = record {
   next = next;
@@ -39,11 +40,11 @@ finds_nothing m n p r s next takes reported none is = record {
   holds = is;
 }
 
-pub finds_whole : (m n p : Machine) (r s t : Reader) (next : Step Token) (paren : Location) (g : Gathered) → TakesNext m r next n s
+pub finds_whole : (m n p : Machine) (r s t : Reader) (next : Step Read) (paren : Location) (g : Gathered) → TakesNext m r next n s
     → paren_of next ≡ Some paren → GathersNext 0 paren n s (Ok g) p t → Seeks m r (gathered paren g) p t
 finds_whole m n p r s t next paren g takes at gathers = called next paren m n p r s t (Ok g) (gathered paren g) takes at gathers refl
 
-pub finds_fault : (m n p : Machine) (r s t : Reader) (next : Step Token) (paren : Location) (h : Halt) (result : Result Found Halt)
+pub finds_fault : (m n p : Machine) (r s t : Reader) (next : Step Read) (paren : Location) (h : Halt) (result : Result Found Halt)
     → TakesNext m r next n s → paren_of next ≡ Some paren → Satisfies {A = Gathered} (Err h) (λ g. GathersNext 0 paren n s g p t) → result ≡ Err h
     → FindsBy m r result p t
 finds_fault m n p r s t next paren (halt.Fault fault) result takes at gathers is =
@@ -54,7 +55,7 @@ abbrev Refused : Step Taken → Type 0
 Refused step = step ≡ Err (Error out_of_memory)
 
 -- after a name: no call, a call, or its fault
-module _ (token : Token) (name : Name) (definition : Definition) (m n : Machine) (r s : Reader) (function : definition.function_like ≡ true) where
+module _ (token : Read) (name : Name) (definition : Definition) (m n : Machine) (r s : Reader) (function : definition.function_like ≡ true) where
   pub enters_nothing : FindsNothing m r n s → Enters token name definition m r (Ok (taken.Token token)) n s
   enters_nothing h = e.called (no_call h.next) (Ok (taken.Token token)) m h.before n r s function h.seeks (refl, h.holds)
 
@@ -68,20 +69,23 @@ module _ (token : Token) (name : Name) (definition : Definition) (m n : Machine)
   enters_halt halt.OutOfMemory step h is = inr is
 
 pub follows_plain : (o : Option (Name
-    × Definition)) (token : Token) (name : Name) (definition : Definition) (m n : Machine) (r : Reader) (step : Step Taken)
+    × Definition)) (token : Read) (name : Name) (definition : Definition) (m n : Machine) (r : Reader) (step : Step Taken)
     → o ≡ Some (name, definition) → definition.function_like ≡ false
-    → ((step ≡ Err Continue) × (n ≡ record m { frames = layer name token.location.line definition [] ∷ m.frames })) ⊎ Refused step
+    → ((step ≡ Err Continue) × (n ≡ record m { frames = layer name token.token.location.line definition [] ∷ m.frames })) ⊎ Refused step
     → FollowsToken o token m r step n r ⊎ Refused step
 follows_plain o token name definition m n r step is plain (inl h) = inl (rw is (e.plain step m n r r plain h.0 h.1 refl))
 follows_plain o token name definition m n r step is plain (inr h) = inr h
 
--- a token whose value is a name
-pub follows_named : (m n : Machine) (r s : Reader) (token : Token) (given name : Name) (step : Step Taken) → token.value ≡ Ident name → given ≡ name
-    → FollowsToken (opens_value m.frames r (Ident given)) (record { value = Ident given; location = token.location }) m r step n s ⊎ Refused step
-    → FollowsToken (opens m.frames r token) token m r step n s ⊎ Refused step
-follows_named m n r s token given name step is same h =
-    subst (λ (v : TokenValue). FollowsToken (opens_value m.frames r v) (record { value = v; location = token.location }) m r step n s ⊎ Refused step)
-    (ap (λ (x : Name). Ident x) same ∙ sym is) h
+-- an unpainted token whose value is a name
+pub follows_named : (m n : Machine) (r s : Reader) (token : Read) (given name : Name) (step : Step Taken) → token.painted ≡ false
+    → token.token.value ≡ Ident name → given ≡ name
+    → FollowsToken (opens_value r (Ident given)) (unpainted (record { value = Ident given; location = token.token.location })) m r step n s ⊎ Refused step
+    → FollowsToken (opens r token) token m r step n s ⊎ Refused step
+follows_named m n r s token given name step bare is same h =
+    let whole : ◌≡◌ {A = Read} (unpainted (record { value = Ident given; location = token.token.location })) token =
+    ap (λ (v : TokenValue). unpainted (record { value = v; location = token.token.location })) (ap (λ (x : Name). Ident x) same ∙ sym is)
+    ∙ ap (λ (b : Bool). record { token = token.token; painted = b }) (sym bare) in
+    subst (λ (x : Read). FollowsToken (opens r x) x m r step n s ⊎ Refused step) whole h
 
 -- what a value stands for as a name
 abbrev pub meant : Option (Name × Definition) → Option Definition
@@ -97,32 +101,42 @@ meant_none None e = refl
 meant_none (Some x) e = cc
 
 -- what opens is the name itself
-pub opens_named : (frames : List Layer) (r : Reader) (name : Name) (definition : Definition)
-    → meant (opens_value frames r (Ident name)) ≡ Some definition → opens_value frames r (Ident name) ≡ Some (name, definition)
-opens_named frames r name definition = go (is_in name (names_of frames)) (visible r name)
+pub opens_named : (r : Reader) (name : Name) (definition : Definition)
+    → meant (opens_value r (Ident name)) ≡ Some definition → opens_value r (Ident name) ≡ Some (name, definition)
+opens_named r name definition = go (visible r name)
   where
-    go : (open_now : Bool) (found : Option Definition) → meant (if open_now then None else opened_by name found) ≡ Some definition
-        → (if open_now then None else opened_by name found) ≡ Some (name, definition)
-    go true found e = cc
-    go false None e = cc
-    go false (Some d) e = let same : d ≡ definition = cc in ap (λ (x : Definition). Some (name, x)) same
+    go : (found : Option Definition) → meant (opened_by name found) ≡ Some definition → opened_by name found ≡ Some (name, definition)
+    go None e = cc
+    go (Some d) e = let same : d ≡ definition = cc in ap (λ (x : Definition). Some (name, x)) same
+
+-- what opens is unpainted
+opening_bare : (painted : Bool) (o : Option (Name × Definition)) (definition : Definition) → meant (if painted then None else o) ≡ Some definition
+    → painted ≡ false
+opening_bare true o definition e = cc
+opening_bare false o definition e = refl
 
 -- the name of an object-like macro that opens
-module _ (m n : Machine) (r : Reader) (token : Token) (given name : Name) (definition : Definition) (step : Step Taken)
-    (is : token.value ≡ Ident name) (same : given ≡ name) (opening : meant (opens m.frames r token) ≡ Some definition) where
-  named : opens_value m.frames r (Ident given) ≡ Some (given, definition)
-  named = opens_named m.frames r given definition (subst (λ (v : TokenValue). meant (opens_value m.frames r v) ≡ Some definition)
-      (is ∙ ap (λ (x : Name). Ident x) (sym same)) opening)
+module _ (m n : Machine) (r : Reader) (token : Read) (given name : Name) (definition : Definition) (step : Step Taken)
+    (is : token.token.value ≡ Ident name) (same : given ≡ name) (opening : meant (opens r token) ≡ Some definition) where
+  bare : token.painted ≡ false
+  bare = opening_bare token.painted (opens_value r token.token.value) definition opening
+
+  opening_value : meant (opens_value r token.token.value) ≡ Some definition
+  opening_value = subst (λ (b : Bool). meant (if b then None else opens_value r token.token.value) ≡ Some definition) bare opening
+
+  named : opens_value r (Ident given) ≡ Some (given, definition)
+  named = opens_named r given definition (subst (λ (v : TokenValue). meant (opens_value r v) ≡ Some definition)
+      (is ∙ ap (λ (x : Name). Ident x) (sym same)) opening_value)
 
   pub follows_object : definition.function_like ≡ false → ((step ≡ Err Continue)
-      × (n ≡ record m { frames = layer given token.location.line definition [] ∷ m.frames })) ⊎ Refused step
-      → FollowsToken (opens m.frames r token) token m r step n r ⊎ Refused step
-  follows_object plain h = follows_named m n r r token given name step is same (follows_plain (opens_value m.frames r (Ident given))
-      (record { value = Ident given; location = token.location }) given definition m n r step named plain h)
+      × (n ≡ record m { frames = layer given token.token.location.line definition [] ∷ m.frames })) ⊎ Refused step
+      → FollowsToken (opens r token) token m r step n r ⊎ Refused step
+  follows_object plain h = follows_named m n r r token given name step bare is same (follows_plain (opens_value r (Ident given))
+      (unpainted (record { value = Ident given; location = token.token.location })) given definition m n r step named plain h)
 
 -- a turn, by what is taken
-pub turns_token : (m n p : Machine) (r s t : Reader) (token : Token) (step : Step Taken) → StepsTaking m r (Ok token) n s
-    → (o : Option (Name × Definition)) → opens n.frames s token ≡ o → FollowsToken o token n s step p t ⊎ Refused step → TurnsOrRefuses m r step p t
+pub turns_token : (m n p : Machine) (r s t : Reader) (token : Read) (step : Step Taken) → StepsTaking m r (Ok token) n s
+    → (o : Option (Name × Definition)) → opens s token ≡ o → FollowsToken o token n s step p t ⊎ Refused step → TurnsOrRefuses m r step p t
 turns_token m n p r s t token step steps o is (inr h) =
     inr (record { some = record { step = Ok token; after = n; reader = s; takes = steps; goes = refl }; fault = h })
 turns_token m n p r s t token step steps None is (inl (gives, same, stays)) = inl (rw (same, stays) (turn.gives token step m n r s steps is gives))

@@ -2,25 +2,26 @@
 use Rattle.std.proofs.Common.{◌≡◌, ◌∙◌, ℕ, List, ap, Option, Some, None}
 use Rattle.std.specs.Prelude.{if◌then◌else◌, unwrap_or}
 use Rattle.pp_lexer.specs.declared.token.Token.{Token}
+use Rattle.pp_model.specs.declared.read.Read.{Read}
 use Rattle.pp_model.specs.Names.{Name, is_identifier, line_name}
 use Rattle.pp_model.specs.Definitions.{Definition}
 use Rattle.pp_model.specs.SpliceList.{outermost_line}
 use Rattle.pp_model.specs.Reading.{Opening}
-use Rattle.pp_model.specs.Taking.{line_number, taken_token}
-use Rattle.pp_model.specs.declared.outcome.Outcome.TheVariants as outcome
+use Rattle.pp_model.specs.Taking.{line_number, shown_token}
+use Rattle.pp_model.specs.declared.read.Taken.TheVariants as given
 use Rattle.pp_expansion.specs.inner.Reader.{Reader, shown_line}
 use Rattle.pp_expansion.specs.inner.Frames.{Layer, flat, outermost_frame_line}
 use Rattle.pp_expansion.specs.inner.Turns.{taken_in}
 use Rattle.pp_expansion.proofs.open_frames.FlatLemmas.{outermost_flat}
 
 -- what a token becomes that is taken, whether from the list or from the reader
-pub taken_flat : (shown : ℕ → Option ℕ) (frames : List Layer) (reader : Reader) (token : Token) → ((line : ℕ) → shown line ≡ shown_line reader line)
-    → taken_token shown (flat frames) token ≡ taken_in frames reader token
+pub taken_flat : (shown : ℕ → Option ℕ) (frames : List Layer) (reader : Reader) (token : Read) → ((line : ℕ) → shown line ≡ shown_line reader line)
+    → shown_token shown (flat frames) token ≡ taken_in frames reader token
 taken_flat shown frames reader token same =
-    let place = λ (line : Option ℕ). unwrap_or line token.location.line in
+    let place = λ (line : Option ℕ). unwrap_or line token.token.location.line in
     let number : shown (place (outermost_line (flat frames))) ≡ shown_line reader (place (outermost_frame_line frames)) =
     ap (λ line. shown (place line)) (outermost_flat frames) ∙ same (place (outermost_frame_line frames)) in
-    ap (λ n. if is_identifier line_name token.value then line_number token.location n else outcome.Token token) number
+    ap (λ n. if is_identifier line_name token.token.value then line_number token.token.location n else given.Token token) number
 
 -- a macro that a token opens
 abbrev pub as_opening : Token → Option (Name × Definition) → Option Opening

@@ -3,7 +3,7 @@ use Rattle.std.proofs.Common.{◌≡◌, ◌∙◌, true, false, ℕ, Bool, List
 use Rattle.std.specs.Prelude.{if◌then◌else◌, ◌||◌, Result, Ok, Err}
 use Rattle.std.proofs.lemmas.List.Folds.{list_any-append}
 use Rattle.pp_lexer.specs.declared.token.Location.{Location}
-use Rattle.pp_lexer.specs.declared.token.Token.{Token}
+use Rattle.pp_model.specs.declared.read.Read.{Read}
 use Rattle.pp_lexer.specs.declared.token.TokenValue.{TokenValue}
 use Rattle.pp_lexer.specs.declared.token.TokenValue.TheVariants.{Ident}
 use Rattle.pp_model.specs.Names.{Name, is_in, is_same_name}
@@ -18,13 +18,13 @@ use Rattle.pp_model.specs.Emitting.{Emits, opened}
 use Rattle.pp_model.specs.inner.Emitting.{holding}
 use Rattle.pp_model.specs.SpliceList.{open_names, spliced}
 use Rattle.pp_model.specs.declared.splice.Entry.{Entry}
-use Rattle.pp_model.specs.declared.outcome.Outcome.{Outcome}
-use Rattle.pp_model.specs.declared.outcome.Outcome.TheVariants as outcome
+use Rattle.pp_model.specs.declared.read.Taken.{Taken as Given}
+use Rattle.pp_model.specs.declared.read.Taken.TheVariants as given
 use Rattle.pp_expansion.specs.inner.CallTurns.{Sought, no_call, Seeks, alone, called, Finds, TurnsTo, passes, gives, object, seeks, paren_of, is_refusal, sought_by}
 use Rattle.pp_expansion.specs.Item.{Step, wants_memory, is_out_of_memory}
 use Rattle.pp_expansion.specs.inner.Frames.{layer, flat, names_of}
 use Rattle.pp_expansion.specs.inner.Machine.{Machine, outcome_of_step, StepsTaking, TakesNext}
-use Rattle.pp_expansion.specs.inner.Reader.{Reader, Reads, shown_line, visible}
+use Rattle.pp_expansion.specs.inner.Reader.{Reader, Reads, hidden_of, shown_line, visible}
 use Rattle.pp_expansion.specs.inner.Turns.{opens, opens_value, opened_by}
 use Rattle.pp_expansion.specs.declared.calls.Taken.{Taken}
 use Rattle.pp_expansion.specs.declared.calls.Taken.TheVariants as taken
@@ -42,124 +42,122 @@ wants_taken (Err (Error fault)) = is_out_of_memory fault.0
 wants_taken _ = false
 
 module _ {R : Type 0} (I : Reading R) (StandsR : Reader → R → Type 0) (hidden : List Name)
-    (simulates : (r s : Reader) (x : R) (step : Step Token) → StandsR r x → Reads r step s → wants_memory step ≡ false → ReadsTo I StandsR hidden step x s)
+    (simulates : (r s : Reader) (x : R) (step : Step Read) → StandsR r x → Reads r step s → wants_memory step ≡ false → ReadsTo I StandsR hidden step x s)
     (shows : (s : Reader) (y : R) (line : ℕ) → StandsR s y → I.shown_line y line ≡ shown_line s line)
-    (sees : (s : Reader) (y : R) (name : Name) → StandsR s y → visible s name ≡ (if I.is_reserved name || is_in name hidden then None else I.visible y name))
+    (hides : (s : Reader) (y : R) → StandsR s y → hidden_of s ≡ hidden)
+    (sees : (s : Reader) (y : R) (name : Name) → StandsR s y → visible s name ≡ (if I.is_reserved name then None else I.visible y name))
     (A : Answers) where
   -- what one turn is to the expander
   abbrev pub LeadsTo : Step Taken → Expander R → Machine → Reader → Type 0
-  LeadsTo (Ok (taken.Token token)) e n s = (f : Expander R) × Emits I A e (outcome.Token token) f × StandsIn I StandsR hidden n s f
+  LeadsTo (Ok (taken.Token token)) e n s = (f : Expander R) × Emits I A e (given.Token token) f × StandsIn I StandsR hidden n s f
   LeadsTo (Ok (taken.Call c)) e n s =
       (f : Expander R) × StandsIn I StandsR hidden n s f
-      × ((fault : Fault) → A c.definition (site_of I f c.paren c.tokens) (Err fault) → Emits I A e (outcome.Fault fault) f)
-      × ((arguments : List (List Token)) → A c.definition (site_of I f c.paren c.tokens) (Ok arguments) → (o : Outcome) (g : Expander R)
+      × ((fault : Fault) → A c.definition (site_of I f c.paren c.tokens) (Err fault) → Emits I A e (given.Fault fault) f)
+      × ((arguments : List (List Read)) → A c.definition (site_of I f c.paren c.tokens) (Ok arguments) → (o : Given) (g : Expander R)
       → Emits I A (record f { list = spliced c.name c.definition c.closing.line arguments f.list }) o g → Emits I A e o g)
-  LeadsTo (Err Continue) e n s = (f : Expander R) × StandsIn I StandsR hidden n s f × ((o : Outcome) (g : Expander R) → Emits I A f o g → Emits I A e o g)
-  LeadsTo (Err Finished) e n s = (f : Expander R) × Emits I A e outcome.End f × StandsIn I StandsR hidden n s f
-  LeadsTo (Err (Error fault)) e n s = (f : Expander R) × Emits I A e (outcome.Fault fault) f
+  LeadsTo (Err Continue) e n s = (f : Expander R) × StandsIn I StandsR hidden n s f × ((o : Given) (g : Expander R) → Emits I A f o g → Emits I A e o g)
+  LeadsTo (Err Finished) e n s = (f : Expander R) × Emits I A e given.End f × StandsIn I StandsR hidden n s f
+  LeadsTo (Err (Error fault)) e n s = (f : Expander R) × Emits I A e (given.Fault fault) f
 
   -- the macro that a token opens over frames is the one that it opens over their list
-  opens_same : (n : Machine) (s : Reader) (f : Expander R) (token : Token) → f.list ≡ flat n.frames → f.hidden ≡ hidden → StandsR s f.reader
-      → opening I f (outcome.Token token) ≡ as_opening token (opens n.frames s token)
-  opens_same n s f token list names reader = go token.value
+  opens_same : (n : Machine) (s : Reader) (f : Expander R) (token : Read) → f.list ≡ flat n.frames → f.hidden ≡ hidden → StandsR s f.reader
+      → opening I f (given.Token token) ≡ as_opening token.token (opens s token)
+  opens_same n s f token list names reader = go token.token.value
     where
-      mask : (reserved here hid : Bool) (name : Name) (d : Option Definition)
-          → (if reserved || (here || hid) then None else opening_by token name d) ≡ as_opening token
-          (if here then None else opened_by name (if reserved || hid then None else d))
-      mask true true hid name d = refl
-      mask true false hid name d = refl
-      mask false true hid name d = refl
-      mask false false true name d = refl
-      mask false false false name None = refl
-      mask false false false name (Some d) = refl
+      paint : (reserved painted : Bool) (name : Name) (d : Option Definition) → (if reserved || painted then None else opening_by token.token name d)
+          ≡ as_opening token.token (if painted then None else opened_by name (if reserved then None else d))
+      paint true true name d = refl
+      paint true false name d = refl
+      paint false true name d = refl
+      paint false false name None = refl
+      paint false false name (Some d) = refl
 
-      go : (value : TokenValue) → opening_of I f token value ≡ as_opening token (opens_value n.frames s value)
-      go (Ident name) =
-          let all : is_in name (masked f) ≡ (is_in name (names_of n.frames) || is_in name hidden) =
-          ap (λ (l : List Entry). is_in name (open_names l ++ f.hidden)) list ∙ ap (λ (h : List Name). is_in name (open_names (flat n.frames) ++ h)) names
-          ∙ ap (λ (o : List Name). is_in name (o ++ hidden)) (open_flat n.frames) ∙ list_any-append (is_same_name name) (names_of n.frames) hidden in
-          ap (λ b. if I.is_reserved name || b then None else opening_by token name (I.visible f.reader name)) all
-          ∙ mask (I.is_reserved name) (is_in name (names_of n.frames)) (is_in name hidden) name (I.visible f.reader name)
-          ∙ ap (λ d. as_opening token (if is_in name (names_of n.frames) then None else opened_by name d)) (sym (sees s f.reader name reader))
-      go _ = refl
+      unopened : (painted : Bool) → None ≡ as_opening token.token (if painted then None else None)
+      unopened true = refl
+      unopened false = refl
+
+      go : (value : TokenValue) → opening_of I f token value ≡ as_opening token.token (if token.painted then None else opens_value s value)
+      go (Ident name) = paint (I.is_reserved name) token.painted name (I.visible f.reader name)
+          ∙ ap (λ d. as_opening token.token (if token.painted then None else opened_by name d)) (sym (sees s f.reader name reader))
+      go _ = unopened token.painted
 
   -- after a token the reader stands
-  token_stands : (m n : Machine) (r s : Reader) (token : Token) (e : Expander R) → StandsIn I StandsR hidden m r e → StepsTaking m r (Ok token) n s
-      → (f : Expander R) × Takes I e (outcome.Token token) f × StandsIn I StandsR hidden n s f × StandsR s f.reader
+  token_stands : (m n : Machine) (r s : Reader) (token : Read) (e : Expander R) → StandsIn I StandsR hidden m r e → StepsTaking m r (Ok token) n s
+      → (f : Expander R) × Takes I e (given.Token token) f × StandsIn I StandsR hidden n s f × StandsR s f.reader
   token_stands m n r s token e stands steps =
-      let h = step_simulates I StandsR hidden simulates shows m n r s (Ok token) e stands steps refl in (
+      let h = step_simulates I StandsR hidden simulates shows hides m n r s (Ok token) e stands steps refl in (
         h.0,
         h.1,
         h.2,
-        subst (λ (o : Option (Step Token)). StandsHeld I StandsR hidden o s h.0.reader)
-            (step_frees I StandsR hidden simulates shows m n r s (Ok token) steps) h.2.reader,
+        subst (λ (o : Option (Step Read)). StandsHeld I StandsR hidden o s h.0.reader)
+            (step_frees I StandsR hidden simulates shows hides m n r s (Ok token) steps) h.2.reader,
       )
 
   exit_leads : (exit : StepExit) (m n : Machine) (r s : Reader) (e : Expander R) → StandsIn I StandsR hidden m r e → StepsTaking m r (Err exit) n s
-      → wants_memory (Err exit) ≡ false → LeadsTo (Err exit) e n s
+      → wants_memory {T = Read} (Err exit) ≡ false → LeadsTo (Err exit) e n s
   exit_leads Continue m n r s e stands steps reported =
-      let h = step_simulates I StandsR hidden simulates shows m n r s (Err Continue) e stands steps refl in
+      let h = step_simulates I StandsR hidden simulates shows hides m n r s (Err Continue) e stands steps refl in
       (h.0, h.1, pause_emits I A e h.0 h.2)
   exit_leads Finished m n r s e stands steps reported =
-      let h = step_simulates I StandsR hidden simulates shows m n r s (Err Finished) e stands steps refl in
-      (h.0, emitting.itself outcome.End e h.0 h.1 refl, h.2)
+      let h = step_simulates I StandsR hidden simulates shows hides m n r s (Err Finished) e stands steps refl in
+      (h.0, emitting.itself given.End e h.0 h.1 refl, h.2)
   exit_leads (Error fault) m n r s e stands steps reported =
-      let h = step_simulates I StandsR hidden simulates shows m n r s (Err (Error fault)) e stands steps reported in
-      (h.0, emitting.itself (outcome.Fault fault) e h.0 h.1 refl)
+      let h = step_simulates I StandsR hidden simulates shows hides m n r s (Err (Error fault)) e stands steps reported in
+      (h.0, emitting.itself (given.Fault fault) e h.0 h.1 refl)
 
-  no_paren : (next : Step Token) → paren_of next ≡ None → paren_at (outcome_of_step next) ≡ None
+  no_paren : (next : Step Read) → paren_of next ≡ None → paren_at (outcome_of_step next) ≡ None
   no_paren (Ok token) h = h
   no_paren (Err Continue) h = refl
   no_paren (Err Finished) h = refl
   no_paren (Err (Error fault)) h = refl
 
-  some_paren : (next : Step Token) (paren : Location) → paren_of next ≡ Some paren → (token : Token) × (next ≡ Ok token)
-      × (paren_at (outcome.Token token) ≡ Some paren)
+  some_paren : (next : Step Read) (paren : Location) → paren_of next ≡ Some paren → (token : Read) × (next ≡ Ok token)
+      × (paren_at (given.Token token) ≡ Some paren)
   some_paren (Ok token) paren h = (token, refl, h)
   some_paren (Err exit) paren h = cc
 
-  not_refused : (next : Step Token) → is_refusal next ≡ false → wants_memory next ≡ false
+  not_refused : (next : Step Read) → is_refusal next ≡ false → wants_memory next ≡ false
   not_refused (Ok token) h = refl
   not_refused (Err Continue) h = refl
   not_refused (Err Finished) h = refl
   not_refused (Err (Error fault)) h = h
 
   -- a call that was gathered, or its fault
-  call_leads : (token : Token) (name : Name) (definition : Definition) (first : Token) (paren : Location) (step : Step Taken)
-      (p q : Machine) (t : Reader) (e f h : Expander R) (g : Result Gathered Fault) → Takes I e (outcome.Token token) f
-      → opening I f (outcome.Token token) ≡ Some (record { token = token; name = name; definition = definition }) → definition.function_like ≡ true
-      → Takes I f (outcome.Token first) h → paren_at (outcome.Token first) ≡ Some paren
-      → GathersTo I StandsR hidden simulates shows 0 paren h g p t → Finds token name definition (sought_by paren g) step p q → LeadsTo step e q t
+  call_leads : (token : Read) (name : Name) (definition : Definition) (first : Read) (paren : Location) (step : Step Taken)
+      (p q : Machine) (t : Reader) (e f h : Expander R) (g : Result Gathered Fault) → Takes I e (given.Token token) f
+      → opening I f (given.Token token) ≡ Some (record { token = token.token; name = name; definition = definition }) → definition.function_like ≡ true
+      → Takes I f (given.Token first) h → paren_at (given.Token first) ≡ Some paren
+      → GathersTo I StandsR hidden simulates shows hides 0 paren h g p t → Finds token name definition (sought_by paren g) step p q → LeadsTo step e q t
   call_leads token name definition first paren step p q t e f h (Err fault) takes opens function takes_paren at (k, gathers) (is, becomes) =
-      let m : Opening = record { token = token; name = name; definition = definition } in
+      let m : Opening = record { token = token.token; name = name; definition = definition } in
       rw is (
         k,
-        emitting.call_refused (outcome.Token token) (outcome.Fault fault) fault m e f k takes opens function
-            (calls.broken (outcome.Token first) paren fault f h k (calls.refused fault) takes_paren at gathers refl) refl,
+        emitting.call_refused (given.Token token) (given.Fault fault) fault m e f k takes opens function
+            (calls.broken (given.Token first) paren fault f h k (calls.refused fault) takes_paren at gathers refl) refl,
       )
   call_leads token name definition first paren step p q t e f h (Ok g) takes opens function takes_paren at (k, gathers, stands) (is, becomes) =
-      let m : Opening = record { token = token; name = name; definition = definition } in
+      let m : Opening = record { token = token.token; name = name; definition = definition } in
       rw (is, becomes) (
         k,
         stands,
-        (λ fault answers. emitting.call_refused (outcome.Token token) (outcome.Fault fault) fault m e f k takes opens function
-            (calls.whole (outcome.Token first) paren g (Err fault) f h k (calls.refused fault) takes_paren at gathers answers refl) refl),
-        (λ arguments answers o l emits. emitting.call (outcome.Token token) o arguments g.closing.line m e f k l takes opens function
-            (calls.whole (outcome.Token first) paren g (Ok arguments) f h k (calls.fits arguments g.closing.line) takes_paren at gathers answers refl) emits),
+        (λ fault answers. emitting.call_refused (given.Token token) (given.Fault fault) fault m e f k takes opens function
+            (calls.whole (given.Token first) paren g (Err fault) f h k (calls.refused fault) takes_paren at gathers answers refl) refl),
+        (λ arguments answers o l emits. emitting.call (given.Token token) o arguments g.closing.line m e f k l takes opens function
+            (calls.whole (given.Token first) paren g (Ok arguments) f h k (calls.fits arguments g.closing.line) takes_paren at gathers answers refl) emits),
       )
 
   -- what is sought after a name
-  seek_leads : (token : Token) (name : Name) (definition : Definition) (c : Sought) (step : Step Taken)
-      (n p q : Machine) (s t : Reader) (e f : Expander R) → Takes I e (outcome.Token token) f → StandsIn I StandsR hidden n s f
-      → opening I f (outcome.Token token) ≡ Some (record { token = token; name = name; definition = definition }) → definition.function_like ≡ true
+  seek_leads : (token : Read) (name : Name) (definition : Definition) (c : Sought) (step : Step Taken)
+      (n p q : Machine) (s t : Reader) (e f : Expander R) → Takes I e (given.Token token) f → StandsIn I StandsR hidden n s f
+      → opening I f (given.Token token) ≡ Some (record { token = token.token; name = name; definition = definition }) → definition.function_like ≡ true
       → Seeks n s c p t → Finds token name definition c step p q → LeadsTo step e q t
   seek_leads token name definition c step n p q s t e f takes stands opens function (alone next n1 p1 s1 t1 c1 taken_next none reported is) found =
-      let m : Opening = record { token = token; name = name; definition = definition } in
-      let h = next_simulates I StandsR hidden simulates shows n p s t next f stands taken_next (not_refused next reported) in
+      let m : Opening = record { token = token.token; name = name; definition = definition } in
+      let h = next_simulates I StandsR hidden simulates shows hides n p s t next f stands taken_next (not_refused next reported) in
       let found' : Finds token name definition (no_call next) step p q = subst (λ (x : Sought). Finds token name definition x step p q) is found in
       rw (found'.0, found'.1) (
         holding (outcome_of_step next) h.0,
-        emitting.name_alone (outcome.Token token) (outcome_of_step next) (outcome.Token token) m e f h.0
+        emitting.name_alone (given.Token token) (outcome_of_step next) (given.Token token) m e f h.0
             (holding (outcome_of_step next) h.0) takes opens function
             (calls.alone (outcome_of_step next) f h.0 (calls.no_call (outcome_of_step next)) h.1 (no_paren next none) refl) refl refl,
         h.2,
@@ -167,29 +165,29 @@ module _ {R : Type 0} (I : Reading R) (StandsR : Reader → R → Type 0) (hidde
   seek_leads token name definition c step n p q s t e f takes stands opens function
       (called next paren n1 between p1 s1 u t1 g c1 taken_next at gathers is) found =
       let first = some_paren next paren at in
-      let h = SearchSimulates.token_stands I StandsR hidden simulates shows first.0 n between s u f stands
-      (subst (λ (x : Step Token). TakesNext n s x between u) first.1 taken_next) in
+      let h = SearchSimulates.token_stands I StandsR hidden simulates shows hides first.0 n between s u f stands
+      (subst (λ (x : Step Read). TakesNext n s x between u) first.1 taken_next) in
       call_leads token name definition first.0 paren step p q t e f h.0 g takes opens function h.1 first.2
-      (gather_simulates I StandsR hidden simulates shows 0 paren between p u t g h.0 h.2 gathers)
+      (gather_simulates I StandsR hidden simulates shows hides 0 paren between p u t g h.0 h.2 gathers)
       (subst (λ (x : Sought). Finds token name definition x step p q) is found)
 
-  object_leads : (token : Token) (name : Name) (definition : Definition) (n p : Machine) (s : Reader) (e f : Expander R)
-      → Takes I e (outcome.Token token) f → StandsIn I StandsR hidden n s f → n.held ≡ None
-      → opening I f (outcome.Token token) ≡ Some (record { token = token; name = name; definition = definition }) → definition.function_like ≡ false
-      → p ≡ record n { frames = layer name token.location.line definition [] ∷ n.frames } → LeadsTo (Err Continue) e p s
+  object_leads : (token : Read) (name : Name) (definition : Definition) (n p : Machine) (s : Reader) (e f : Expander R)
+      → Takes I e (given.Token token) f → StandsIn I StandsR hidden n s f → n.held ≡ None
+      → opening I f (given.Token token) ≡ Some (record { token = token.token; name = name; definition = definition }) → definition.function_like ≡ false
+      → p ≡ record n { frames = layer name token.token.location.line definition [] ∷ n.frames } → LeadsTo (Err Continue) e p s
   object_leads token name definition n p s e f takes stands free opens plain is =
-      let m : Opening = record { token = token; name = name; definition = definition } in
+      let m : Opening = record { token = token.token; name = name; definition = definition } in
       rw is (
-        opened m token.location.line [] f,
-        record { holds = stands.holds; list = ap (spliced name definition token.location.line []) stands.list; reader = stands.reader; names = stands.names },
-        λ o g emits. emitting.object (outcome.Token token) o m e f g takes opens plain emits,
+        opened m token.token.location.line [] f,
+        record { holds = stands.holds; list = ap (spliced name definition token.token.location.line []) stands.list; reader = stands.reader; names = stands.names },
+        λ o g emits. emitting.object (given.Token token) o m e f g takes opens plain emits,
       )
 
-  as_opens : (n : Machine) (s : Reader) (f : Expander R) (token : Token) (m : Option (Name × Definition)) → StandsIn I StandsR hidden n s f
-      → StandsR s f.reader → opens n.frames s token ≡ m → opening I f (outcome.Token token) ≡ as_opening token m
-  as_opens n s f token m stands reader is = opens_same n s f token stands.list stands.names reader ∙ ap (as_opening token) is
+  as_opens : (n : Machine) (s : Reader) (f : Expander R) (token : Read) (m : Option (Name × Definition)) → StandsIn I StandsR hidden n s f
+      → StandsR s f.reader → opens s token ≡ m → opening I f (given.Token token) ≡ as_opening token.token m
+  as_opens n s f token m stands reader is = opens_same n s f token stands.list stands.names reader ∙ ap (as_opening token.token) is
 
-  exit_reported : (exit : StepExit) → wants_taken (Err exit) ≡ false → wants_memory (Err exit) ≡ false
+  exit_reported : (exit : StepExit) → wants_taken (Err exit) ≡ false → wants_memory {T = Read} (Err exit) ≡ false
   exit_reported (Error fault) h = h
   exit_reported Continue h = refl
   exit_reported Finished h = refl
@@ -201,10 +199,10 @@ module _ {R : Type 0} (I : Reading R) (StandsR : Reader → R → Type 0) (hidde
       rw is (exit_leads exit m n r s e stands steps (exit_reported exit (rw is at reported)))
   turn_leads m n r s step e stands (gives token step1 m1 n1 r1 s1 steps none is) reported =
       let h = token_stands m n r s token e stands steps in
-      rw is (h.0, emitting.itself (outcome.Token token) e h.0 h.1 (as_opens n s h.0 token None h.2 h.3 none), h.2)
+      rw is (h.0, emitting.itself (given.Token token) e h.0 h.1 (as_opens n s h.0 token None h.2 h.3 none), h.2)
   turn_leads m p r s step e stands (object token name definition step1 m1 n p1 r1 s1 steps some plain is at) reported =
       let h = token_stands m n r s token e stands steps in
-      rw is (object_leads token name definition n p s e h.0 h.1 h.2 (step_frees I StandsR hidden simulates shows m n r s (Ok token) steps)
+      rw is (object_leads token name definition n p s e h.0 h.1 h.2 (step_frees I StandsR hidden simulates shows hides m n r s (Ok token) steps)
       (as_opens n s h.0 token (Some (name, definition)) h.2 h.3 some) plain at)
   turn_leads m q r t step e stands (seeks token name definition c step1 m1 n p q1 r1 s t1 steps some function sought found) reported =
       let h = token_stands m n r s token e stands steps in

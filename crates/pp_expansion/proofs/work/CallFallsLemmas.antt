@@ -1,7 +1,7 @@
 -- Each turn of an expander with calls lowers what is left to do, and so does the frame that opens after a call.
-use Rattle.std.proofs.Common.{◌≡◌, ℕ, suc, ◌+◌, ◌<◌, ◌≤◌, Bool, true, false, if◌then◌else◌, List, [], ◌∷◌, length, arith, subst, refl, le_trans, Option, Some, None, All, Ok, Err}
+use Rattle.std.proofs.Common.{◌≡◌, ℕ, suc, ◌+◌, ◌<◌, ◌≤◌, Bool, true, false, if◌then◌else◌, List, [], ◌∷◌, length, arith, ap, subst, refl, le_trans, Option, Some, None, All, Ok, Err}
 use Rattle.std.specs.Prelude.{Result}
-use Rattle.pp_lexer.specs.declared.token.Token.{Token}
+use Rattle.pp_model.specs.declared.read.Read.{Read}
 use Rattle.pp_lexer.specs.declared.token.TokenValue.{TokenValue}
 use Rattle.pp_lexer.specs.declared.token.TokenValue.TheVariants.{Ident}
 use Rattle.pp_model.specs.Calls.{Fault, Gathered}
@@ -15,13 +15,14 @@ use Rattle.pp_expansion.specs.Item.{Step, wants_memory, is_out_of_memory}
 use Rattle.pp_expansion.specs.inner.Left.{reads_left, most_open, most_bodies, one_more, regions_of, regions, work_of, IsSound, most_alone}
 use Rattle.pp_expansion.specs.inner.Machine.{Machine, StepsTaking, GathersNext}
 use Rattle.pp_expansion.specs.inner.Reach.{total}
-use Rattle.pp_expansion.specs.inner.Reader.{Reader, of_source, of_list, visible, definitions_of, is_masked}
+use Rattle.pp_expansion.specs.inner.Reader.{Reader, of_source, of_list, visible, definitions_of, is_reserved}
 use Rattle.pp_expansion.specs.inner.Turns.{opens, opens_value, opened_by}
 use Rattle.pp_expansion.specs.declared.calls.Taken.{Taken}
 use Rattle.pp_expansion.specs.declared.calls.Taken.TheVariants as taken
 use Rattle.pp_expansion.specs.declared.step.StepExit.{StepExit}
 use Rattle.pp_expansion.specs.declared.step.StepExit.TheVariants.{Error, Continue, Finished}
 use Rattle.pp_expansion.proofs.open_frames.AdvanceLemmas.{body_within}
+use Rattle.pp_expansion.proofs.open_frames.PaintLemmas.{opens_apart}
 use Rattle.pp_expansion.proofs.open_frames.OpenSoundLemmas.{open_names_few, IsSoundWith, step_sound, next_sound, gather_sound, opened_sound}
 use Rattle.pp_expansion.proofs.work.ReachLemmas.{frame_steps_level}
 use Rattle.pp_expansion.proofs.open_frames.SoundLemmas.{length_names}
@@ -40,27 +41,32 @@ pub record IsFound (n : Machine) (s : Reader) (macro : Name × Definition) : Typ
 
 visible_defined : (s : Reader) (name : Name) (definition : Definition) → visible s name ≡ Some definition → meaning_of (definitions_of s) name ≡ Some definition
 visible_defined (of_source source) name definition e = e
-visible_defined (of_list list) name definition e = go (is_masked list name) e
+visible_defined (of_list list) name definition e = go (is_reserved list name) e
   where
     go : (b : Bool) → (if b then None else meaning_of list.definitions name) ≡ Some definition → meaning_of list.definitions name ≡ Some definition
     go true e = cc
     go false e = e
 
-found_named : (n : Machine) (s : Reader) (x name : Name) (definition : Definition) (b : Bool) (d : Option Definition)
-    → is_in x (names_of n.frames) ≡ b → visible s x ≡ d → (if b then None else opened_by x d) ≡ Some (name, definition) → IsFound n s (name, definition)
-found_named n s x name definition true d e f is = cc
-found_named n s x name definition false None e f is = cc
-found_named n s x name definition false (Some k) e f is =
+found_named : (n : Machine) (s : Reader) (x name : Name) (definition : Definition) (d : Option Definition) → is_in name (names_of n.frames) ≡ false
+    → visible s x ≡ d → opened_by x d ≡ Some (name, definition) → IsFound n s (name, definition)
+found_named n s x name definition None apart f is = cc
+found_named n s x name definition (Some k) apart f is =
     let pair : ◌≡◌ {A = Name × Definition} (x, k) (name, definition) = cc in
-    subst (IsFound n s) pair (record { apart = e; defined = visible_defined s x k f })
+    let same : x ≡ name = ap (λ (p : Name × Definition). p.0) pair in
+    let meaning : k ≡ definition = ap (λ (p : Name × Definition). p.1) pair in
+    record { apart = apart; defined = visible_defined s name definition (rw (same, meaning) at f) }
 
-pub opens_found : (n : Machine) (s : Reader) (token : Token) (name : Name) (definition : Definition)
-    → opens n.frames s token ≡ Some (name, definition) → IsFound n s (name, definition)
-opens_found n s token name definition is = go token.value is
+pub opens_found : (n : Machine) (s : Reader) (token : Read) (name : Name) (definition : Definition) → is_in name (names_of n.frames) ≡ false
+    → opens s token ≡ Some (name, definition) → IsFound n s (name, definition)
+opens_found n s token name definition apart is = by_paint token.painted is
   where
-    go : (value : TokenValue) → opens_value n.frames s value ≡ Some (name, definition) → IsFound n s (name, definition)
-    go (Ident x) e = found_named n s x name definition (is_in x (names_of n.frames)) (visible s x) refl refl e
+    go : (value : TokenValue) → opens_value s value ≡ Some (name, definition) → IsFound n s (name, definition)
+    go (Ident x) e = found_named n s x name definition (visible s x) apart refl e
     go _ e = cc
+
+    by_paint : (painted : Bool) → (if painted then None else opens_value s token.token.value) ≡ Some (name, definition) → IsFound n s (name, definition)
+    by_paint true e = cc
+    by_paint false e = go token.token.value e
 
 bodies_least : (s : Reader) → body_tokens (definitions_of s) ≤ most_bodies s
 bodies_least (of_source source) = omega arith
@@ -77,7 +83,7 @@ pub found_sound : (n : Machine) (s : Reader) (name : Name) (definition : Definit
     → IsSoundWith (Some name) n s
 found_sound n s name definition found sound = opened_sound (definitions_of s) name (names_of n.frames) sound found.apart (rw found.defined refl)
 
-pub pending_few : (name : Name) (line : ℕ) (definition : Definition) (arguments : List (List Token)) (n : Machine) (s : Reader)
+pub pending_few : (name : Name) (line : ℕ) (definition : Definition) (arguments : List (List Read)) (n : Machine) (s : Reader)
     → IsSoundWith (Some name) n s → length (layer name line definition arguments ∷ n.frames) ≤ most_open s
 pending_few name line definition arguments n s sound = omega (
   arith,
@@ -113,7 +119,7 @@ module _ (levels : ℕ) (m : Machine) (r : Reader) (sound : IsSound m r) where
       → IsLess levels m r n s
   less_by n s tight falls kept = record { falls = falls_work levels m n r s tight falls; tight = tight; sound = kept }
 
-  exit_falls : (exit : StepExit) (n : Machine) (s : Reader) → StepsTaking m r (Err exit) n s → wants_memory (Err exit) ≡ false
+  exit_falls : (exit : StepExit) (n : Machine) (s : Reader) → StepsTaking m r (Err exit) n s → wants_memory {T = Read} (Err exit) ≡ false
       → FallsBy levels m r (Err exit) n s
   exit_falls Continue n s steps reported =
       let h = step_spends (frame_of levels r) (most_open r) rises (Err Continue) m n r s steps refl in
@@ -131,7 +137,7 @@ module _ (levels : ℕ) (m : Machine) (r : Reader) (sound : IsSound m r) where
     free : n.held ≡ None
     kept : IsSound n s
 
-  token_taken : (token : Token) (n : Machine) (s : Reader) → StepsTaking m r (Ok token) n s → IsTokenTaken n s
+  token_taken : (token : Read) (n : Machine) (s : Reader) → StepsTaking m r (Ok token) n s → IsTokenTaken n s
   token_taken token n s steps =
       let h = step_spends (frame_of levels r) (most_open r) rises (Ok token) m n r s steps refl in
       record { room = h.spends; tight = h.tightens; free = h.free; kept = step_sound None (Ok token) m n r s steps refl sound }
@@ -155,7 +161,7 @@ module _ (levels : ℕ) (m : Machine) (r : Reader) (sound : IsSound m r) where
       }
 
   -- what is sought after a name
-  seek_falls : (token : Token) (name : Name) (definition : Definition) (c : Sought) (step : Step Taken) (n p q : Machine) (s t : Reader)
+  seek_falls : (token : Read) (name : Name) (definition : Definition) (c : Sought) (step : Step Taken) (n p q : Machine) (s t : Reader)
       → IsTokenTaken n s → IsFound n s (name, definition) → Seeks n s c p t → Finds token name definition c step p q → FallsBy levels m r step q t
   seek_falls token name definition c step n p q s t h found (alone next n1 p1 s1 t1 c1 taken_next none reported is) finds =
       let quiet : wants_memory next ≡ false = not_refused next reported in
@@ -166,7 +172,7 @@ module _ (levels : ℕ) (m : Machine) (r : Reader) (sound : IsSound m r) where
       (falls_no_more (frame_of levels r) (most_open r) rises (regions m r) (regions n s) (regions (record p { held = Some next }) t)
       (token_falls n s h) k.spends) kept)
     where
-      not_refused : (next : Step Token) → is_refusal next ≡ false → wants_memory next ≡ false
+      not_refused : (next : Step Read) → is_refusal next ≡ false → wants_memory next ≡ false
       not_refused (Ok token) h = refl
       not_refused (Err Continue) h = refl
       not_refused (Err Finished) h = refl
@@ -174,7 +180,7 @@ module _ (levels : ℕ) (m : Machine) (r : Reader) (sound : IsSound m r) where
   seek_falls token name definition c step n p q s t h found (called next paren n1 between p1 s1 u t1 g c1 taken_next at gathers is) finds =
       go g gathers (subst (λ (x : Sought). Finds token name definition x step p q) is finds)
     where
-      first : (next : Step Token) → paren_of next ≡ Some paren → wants_memory next ≡ false
+      first : (next : Step Read) → paren_of next ≡ Some paren → wants_memory next ≡ false
       first (Ok token) e = refl
       first (Err exit) e = cc
 
@@ -208,7 +214,7 @@ module _ (levels : ℕ) (m : Machine) (r : Reader) (sound : IsSound m r) where
                 (next_sound (Some name) next n between s u taken_next (first next at) (found_sound n s name definition found h.kept));
           })
 
-  exit_reported : (exit : StepExit) → wants_taken (Err exit) ≡ false → wants_memory (Err exit) ≡ false
+  exit_reported : (exit : StepExit) → wants_taken (Err exit) ≡ false → wants_memory {T = Read} (Err exit) ≡ false
   exit_reported (Error fault) h = h
   exit_reported Continue h = refl
   exit_reported Finished h = refl
@@ -220,12 +226,12 @@ module _ (levels : ℕ) (m : Machine) (r : Reader) (sound : IsSound m r) where
       let h = token_taken token n s steps in
       rw is (less_by n s h.tight (token_falls n s h) h.kept)
   turn_falls step p s (object token name definition step1 m1 n p1 r1 s1 steps some plain is at) reported =
-      rw (is, at) (object_falls name token.location.line definition n s (token_taken token n s steps) (opens_found n s token name definition some))
+      rw (is, at) (object_falls name token.token.location.line definition n s (token_taken token n s steps) (opens_found n s token name definition (opens_apart m n r s token name definition steps some) some))
   turn_falls step q t (seeks token name definition c step1 m1 n p q1 r1 s t1 steps some function sought found) reported =
-      seek_falls token name definition c step n p q s t (token_taken token n s steps) (opens_found n s token name definition some) sought found
+      seek_falls token name definition c step n p q s t (token_taken token n s steps) (opens_found n s token name definition (opens_apart m n r s token name definition steps some) some) sought found
 
 -- the frame of a call that is pending opens, and less is left than before the turn that began the call
-pub pending_opens : (levels : ℕ) (m : Machine) (r : Reader) (c : PendingCall) (n : Machine) (s : Reader) (arguments : List (List Token))
+pub pending_opens : (levels : ℕ) (m : Machine) (r : Reader) (c : PendingCall) (n : Machine) (s : Reader) (arguments : List (List Read))
     → IsPending (suc levels) m r c n s
     → All (λ argument. length argument ≤ most_alone levels (definitions_of s) (length c.tokens)) arguments
     → IsLess (suc levels) m r (record { held = None; frames = layer c.name c.closing.line c.definition arguments ∷ n.frames }) s

@@ -2,22 +2,24 @@
 use Rattle.std.proofs.Common.{◌≡◌, ◌∙◌, ◌⊎◌, inl, inr, ℕ, suc, ◌+◌, ◌-◌, ◌<◌, ◌≤◌, Bool, true, false, if◌then◌else◌, List, [], ◌∷◌, length, arith, le_trans, lt_of_le_of_lt, lt_of_lt_of_le, ap, sym, refl, Option, Some, None, IfSome, IfOk, MatchBool, unwrap_or, Result, Ok, Err}
 use Rattle.std.specs.Fn.{iterate}
 use Rattle.pp_lexer.specs.declared.token.Token.{Token}
+use Rattle.pp_model.specs.declared.read.Read.{Read}
 use Rattle.pp_lexer.specs.declared.token.Location.{Location}
 use Rattle.pp_model.specs.Calls.{Fault, Gathered, before, closes}
-use Rattle.pp_model.specs.Names.{is_identifier, line_name}
+use Rattle.pp_model.specs.Names.{Name, is_identifier, line_name}
 use Rattle.pp_model.specs.Taking.{line_number}
-use Rattle.pp_model.specs.declared.outcome.Outcome.TheVariants as outcome
+use Rattle.pp_model.specs.declared.read.Taken.TheVariants as given
 use Rattle.pp_expansion.specs.inner.Frames.{Layer, Advance, advance, outermost_frame_line}
 use Rattle.pp_expansion.specs.Item.{Step, wants_memory}
 use Rattle.pp_model.specs.inner.Reading.{after_listed}
 use Rattle.pp_expansion.specs.inner.Defined.{body_tokens}
 use Rattle.pp_expansion.specs.inner.Left.{reads_left, most_open, most_bodies, one_more, holding_step, regions_of, regions}
-use Rattle.pp_expansion.specs.inner.Machine.{Machine, is_pause, step_of_outcome, taken_as, StepsTaking, held, moved, TakesNext, now, later, GathersNext, closed, inside, overfull, ended, failed}
+use Rattle.pp_expansion.specs.inner.Machine.{Machine, is_pause, step_of_outcome, taken_as, StepsFetching, StepsTaking, held, moved, TakesNext, now, later, GathersNext, closed, inside, overfull, ended, failed}
 use Rattle.pp_expansion.specs.inner.Reach.{grown, through, total}
 use Rattle.pp_expansion.specs.inner.Reader.{Reader, of_source, of_list, Listing, listed_step, Reads, shown_line}
 use Rattle.pp_expansion.specs.inner.Source.{Source, StepsSource, IsRefusedStep, Makes, HasEffect}
 use Rattle.pp_expansion.specs.inner.SourceMoves.{Effect, Note, move_of, gives, gives_item, fails, ends, passes, defines, undefines, opens_where, opens_if, opens_unread, parts, parts_if, closes, unfinished, renumbers}
-use Rattle.pp_expansion.specs.inner.Turns.{as_pause, frame_move, Moves}
+use Rattle.pp_expansion.specs.inner.Turns.{as_pause, frame_move, Moves, masks}
+use Rattle.pp_expansion.specs.inner.Reading.{unpainted_step, painted_step}
 use Rattle.pp_expansion.specs.inner.Work.{steps_left, is_end}
 use Rattle.pp_expansion.specs.declared.step.StepExit.TheVariants.{Error, Continue, Finished}
 use Rattle.pp_expansion.proofs.open_frames.AdvanceLemmas.{Advances, advance_lowers, some_steps_left}
@@ -43,7 +45,7 @@ pub record Falls (frame : ℕ → ℕ) (names : ℕ) (before after : List ℕ) :
   pub least : total after < total before
 
 -- a step is taken: a pause, or something for which there is room
-abbrev pub Spends : (ℕ → ℕ) → ℕ → Step Token → List ℕ → List ℕ → Type 0
+abbrev pub Spends : (ℕ → ℕ) → ℕ → Step Read → List ℕ → List ℕ → Type 0
 Spends frame names (Err Continue) before after = Falls frame names before after
 Spends frame names (Err Finished) before after = after ≡ before
 Spends frame names (Err (Error fault)) before after = IsNoMore frame names before (one_more after)
@@ -90,18 +92,18 @@ source_end_stays old new h = go old.spent h
         effect_stays move.effect move.taken move.note old new h
 
 -- what a step of a reader leaves: less, but at the end
-abbrev pub ReadSpends : Step Token → Reader → Reader → Type 0
+abbrev pub ReadSpends : Step Read → Reader → Reader → Type 0
 ReadSpends (Err Finished) r s = s ≡ r
 ReadSpends _ r s = reads_left s < reads_left r
 
 shrinks_tightens : (old new : Source) → Shrinks old new → Tightens (of_source old) (of_source new)
 shrinks_tightens old new h = record { names = omega (arith, h.names); bodies = omega (arith, h.steps) }
 
-pub record IsRead (step : Step Token) (r s : Reader) : Type 0 where
+pub record IsRead (step : Step Read) (r s : Reader) : Type 0 where
   pub spends : ReadSpends step r s
   pub tightens : Tightens r s
 
-source_read : (step : Step Token) (old new : Source) → StepsSource old step new → wants_memory step ≡ false → IsRead step (of_source old) (of_source new)
+source_read : (step : Step Token) (old new : Source) → StepsSource old step new → wants_memory step ≡ false → IsRead (unpainted_step step) (of_source old) (of_source new)
 source_read (Ok token) old new h reported = let k = source_shrinks old new (Ok token) h refl in record {
   spends = k.shorter;
   tightens = shrinks_tightens old new k;
@@ -114,18 +116,23 @@ source_read (Err Finished) old new h reported = rw (source_end_stays old new h) 
 source_read (Err (Error fault)) old new h reported = let k =
     source_shrinks old new (Err (Error fault)) h (rw reported refl) in record { spends = k.shorter; tightens = shrinks_tightens old new k }
 
-list_read : (tokens : List Token) (step : Step Token) (old new : Listing) → old.tokens ≡ tokens → step ≡ listed_step tokens
+list_read : (tokens : List Read) (step : Step Read) (old new : Listing) → old.tokens ≡ tokens → step ≡ listed_step tokens
     → new ≡ record old { tokens = after_listed tokens } → IsRead step (of_list old) (of_list new)
 list_read [] step old new e is at =
-    let same : new ≡ old = at ∙ ap (λ (t : List Token). record old { tokens = t }) (sym e) in
+    let same : new ≡ old = at ∙ ap (λ (t : List Read). record old { tokens = t }) (sym e) in
     rw (is, same) (record { spends = refl; tightens = tightens_not (of_list old) })
 list_read (token ∷ tokens) step old new e is at =
     let less : length new.tokens < length old.tokens = omega (arith, ap (λ (l : Listing). length l.tokens) at, ap length e) in
     let same : new.definitions ≡ old.definitions = ap (λ (l : Listing). l.definitions) at in
     rw is (record { spends = less; tightens = record { names = omega (arith, ap length same); bodies = omega (arith, ap body_tokens same) } })
 
-pub reader_read : (step : Step Token) (r s : Reader) → Reads r step s → wants_memory step ≡ false → IsRead step r s
-reader_read step (of_source old) (of_source new) h reported = source_read step old new h.0 reported
+pub reader_read : (step : Step Read) (r s : Reader) → Reads r step s → wants_memory step ≡ false → IsRead step r s
+reader_read step (of_source old) (of_source new) h reported =
+    rw h.is (source_read h.given old new h.steps (given_quiet h.given (rw h.is at reported)))
+  where
+    given_quiet : (given : Step Token) → wants_memory (unpainted_step given) ≡ false → wants_memory given ≡ false
+    given_quiet (Ok token) e = refl
+    given_quiet (Err exit) e = e
 reader_read step (of_list old) (of_list new) (inl h) reported = list_read old.tokens step old new refl h.0 h.1
 reader_read step (of_list old) (of_list new) (inr h) reported = absurd (let bad : true ≡ false = rw h at reported in cc)
 reader_read step (of_source old) (of_list new) h reported = absurd h
@@ -176,7 +183,7 @@ module _ (frame : ℕ → ℕ) (names : ℕ) (level : IsLevel frame) where
     least = omega arith;
   }
 
-  room_spends : (step : Step Token) (before after : List ℕ) → IsNoMore frame names before (one_more after) → is_end step ≡ false
+  room_spends : (step : Step Read) (before after : List ℕ) → IsNoMore frame names before (one_more after) → is_end step ≡ false
       → Spends frame names step before after
   room_spends (Ok token) before after h goes = h
   room_spends (Err Continue) before after h goes = no_more_falls before (one_more after) after h (one_more_falls after)
@@ -191,22 +198,22 @@ module _ (frame : ℕ → ℕ) (names : ℕ) (level : IsLevel frame) where
       room_spends (as_pause a.gives) (regions_of (f ∷ fs) reads) (regions_of (a.after ∷ fs) reads)
       (less_here (steps_left f) (steps_left a.after) (regions_of fs reads) h.lower) (pause_goes a.gives)
     where
-      pause_goes : (o : Option Token) → is_end (as_pause o) ≡ false
+      pause_goes : (o : Option Read) → is_end (as_pause o) ≡ false
       pause_goes None = refl
       pause_goes (Some token) = refl
 
-  read_spends : (step : Step Token) (r s : Reader) → ReadSpends step r s → Spends frame names step (reads_left r ∷ []) (reads_left s ∷ [])
+  read_spends : (step : Step Read) (r s : Reader) → ReadSpends step r s → Spends frame names step (reads_left r ∷ []) (reads_left s ∷ [])
   read_spends (Ok token) r s h = less_here (reads_left r) (reads_left s) [] h
   read_spends (Err Continue) r s h = room_spends (Err Continue) (reads_left r ∷ []) (reads_left s ∷ []) (less_here (reads_left r) (reads_left s) [] h) refl
   read_spends (Err Finished) r s h = ap (λ t. reads_left t ∷ []) h
   read_spends (Err (Error fault)) r s h = less_here (reads_left r) (reads_left s) [] h
 
   -- a step of the frames or the reader
-  record IsMoved (move : Step Token) (fs gs : List Layer) (r s : Reader) : Type 0 where
+  record IsMoved (move : Step Read) (fs gs : List Layer) (r s : Reader) : Type 0 where
     spends : Spends frame names move (regions_of fs (reads_left r)) (regions_of gs (reads_left s))
     tightens : Tightens r s
 
-  moves_spend : (move : Step Token) (fs gs : List Layer) (r s : Reader) → Moves fs r move gs s → wants_memory move ≡ false → IsMoved move fs gs r s
+  moves_spend : (move : Step Read) (fs gs : List Layer) (r s : Reader) → Moves fs r move gs s → wants_memory move ≡ false → IsMoved move fs gs r s
   moves_spend move [] gs r s h reported =
       let read = reader_read move r s h.1 reported in
       rw h.0 (record { spends = read_spends move r s read.spends; tightens = read.tightens })
@@ -214,55 +221,76 @@ module _ (frame : ℕ → ℕ) (names : ℕ) (level : IsLevel frame) where
       rw (same, h.0, h.1) (record { spends = frame_spends f fs (reads_left r) (advance f) (advance_lowers f); tightens = tightens_not r })
   moves_spend move (f ∷ fs) gs r s (same, inr h) reported = absurd (let bad : true ≡ false = rw h at reported in cc)
 
-  taken_spends : (move : Step Token) (fs : List Layer) (r : Reader) (before after : List ℕ) → Spends frame names move before after
+  taken_spends : (move : Step Read) (fs : List Layer) (r : Reader) (before after : List ℕ) → Spends frame names move before after
       → Spends frame names (taken_as move fs r) before after
-  taken_spends (Ok token) fs r before after h = go (is_identifier line_name token.value) (shown_line r
-      (unwrap_or (outermost_frame_line fs) token.location.line))
+  taken_spends (Ok token) fs r before after h = go (is_identifier line_name token.token.value) (shown_line r
+      (unwrap_or (outermost_frame_line fs) token.token.location.line))
     where
-      go : (b : Bool) (o : Option ℕ) → Spends frame names (step_of_outcome (if b then line_number token.location o else outcome.Token token)) before after
+      go : (b : Bool) (o : Option ℕ) → Spends frame names (step_of_outcome (if b then line_number token.token.location o else given.Token token)) before after
       go true (Some n) = h
       go true None = h
       go false o = h
   taken_spends (Err exit) fs r before after h = h
 
-  held_spends : (step : Step Token) (before : List ℕ) → Spends frame names step (holding_step (Some step) before) before
+  held_spends : (step : Step Read) (before : List ℕ) → Spends frame names step (holding_step (Some step) before) before
   held_spends (Ok token) before = no_more (one_more before)
   held_spends (Err Continue) before = one_more_falls before
   held_spends (Err Finished) before = refl
   held_spends (Err (Error fault)) before = no_more (one_more before)
 
-  pub record IsTaken (step : Step Token) (m n : Machine) (r s : Reader) : Type 0 where
+  pub record IsTaken (step : Step Read) (m n : Machine) (r s : Reader) : Type 0 where
     pub spends : Spends frame names step (regions m r) (regions n s)
     pub tightens : Tightens r s
     pub free : n.held ≡ None
 
-  pub step_spends : (step : Step Token) (m n : Machine) (r s : Reader) → StepsTaking m r step n s → wants_memory step ≡ false → IsTaken step m n r s
-  step_spends step m n r s (held step1 m1 n1 r1 s1 is at same) reported =
+  fetch_spends : (step : Step Read) (m n : Machine) (r s : Reader) → StepsFetching m r step n s → wants_memory step ≡ false → IsTaken step m n r s
+  fetch_spends step m n r s (held step1 m1 n1 r1 s1 is at same) reported =
       rw (is, at, same) (record { spends = held_spends step (regions_of m.frames (reads_left r)); tightens = tightens_not r; free = refl })
-  step_spends step m n r s (moved move step1 m1 n1 r1 s1 free moves is none) reported =
+  fetch_spends step m n r s (moved move step1 m1 n1 r1 s1 free moves is none) reported =
       let quiet : wants_memory move ≡ false = taken_quiet move n.frames s (rw is at reported) in
       let h = moves_spend move m.frames n.frames r s moves quiet in
       let spends = taken_spends move n.frames s (regions_of m.frames (reads_left r)) (regions_of n.frames (reads_left s)) h.spends in
       record { spends = rw (is, free, none) spends; tightens = h.tightens; free = none }
     where
-      taken_quiet : (move : Step Token) (fs : List Layer) (r : Reader) → wants_memory (taken_as move fs r) ≡ false → wants_memory move ≡ false
+      taken_quiet : (move : Step Read) (fs : List Layer) (r : Reader) → wants_memory (taken_as move fs r) ≡ false → wants_memory move ≡ false
       taken_quiet (Ok token) fs r h = refl
       taken_quiet (Err exit) fs r h = h
 
+  -- paint costs nothing
+  painted_spends : (names_open : List Name) (first : Step Read) (before after : List ℕ) → Spends frame names first before after
+      → Spends frame names (painted_step names_open first) before after
+  painted_spends names_open (Ok token) before after h = h
+  painted_spends names_open (Err Continue) before after h = h
+  painted_spends names_open (Err Finished) before after h = h
+  painted_spends names_open (Err (Error fault)) before after h = h
+
+  pub step_spends : (step : Step Read) (m n : Machine) (r s : Reader) → StepsTaking m r step n s → wants_memory step ≡ false → IsTaken step m n r s
+  step_spends step m n r s steps reported =
+      let h = fetch_spends steps.first m n r s steps.fetches (painted_quiet (masks n.frames s) steps.first (rw steps.paints at reported)) in
+      record {
+        spends = rw steps.paints (painted_spends (masks n.frames s) steps.first (regions m r) (regions n s) h.spends);
+        tightens = h.tightens;
+        free = h.free;
+      }
+    where
+      painted_quiet : (names_open : List Name) (first : Step Read) → wants_memory (painted_step names_open first) ≡ false → wants_memory first ≡ false
+      painted_quiet names_open (Ok token) h = refl
+      painted_quiet names_open (Err exit) h = h
+
   -- what was taken may be held
-  pub record IsTakenOn (step : Step Token) (m n : Machine) (r s : Reader) : Type 0 where
+  pub record IsTakenOn (step : Step Read) (m n : Machine) (r s : Reader) : Type 0 where
     pub spends : IsNoMore frame names (regions m r) (regions (record n { held = Some step }) s)
     pub tightens : Tightens r s
     pub free : n.held ≡ None
 
-  on_spends : (step : Step Token) (before after : List ℕ) → Spends frame names step before after → is_pause step ≡ false
+  on_spends : (step : Step Read) (before after : List ℕ) → Spends frame names step before after → is_pause step ≡ false
       → IsNoMore frame names before (holding_step (Some step) after)
   on_spends (Ok token) before after h goes = h
   on_spends (Err Continue) before after h goes = cc
   on_spends (Err Finished) before after h goes = rw h (no_more before)
   on_spends (Err (Error fault)) before after h goes = h
 
-  pub next_spends : (step : Step Token) (m n : Machine) (r s : Reader) → TakesNext m r step n s → wants_memory step ≡ false → IsTakenOn step m n r s
+  pub next_spends : (step : Step Read) (m n : Machine) (r s : Reader) → TakesNext m r step n s → wants_memory step ≡ false → IsTakenOn step m n r s
   next_spends step m n r s (now step1 m1 n1 r1 s1 steps goes) reported =
       let h = step_spends step m n r s steps reported in
       let same : regions n s ≡ regions_of n.frames (reads_left s) = ap (λ o. holding_step o (regions_of n.frames (reads_left s))) h.free in
@@ -284,8 +312,8 @@ module _ (frame : ℕ → ℕ) (names : ℕ) (level : IsLevel frame) where
     pub tightens : Tightens r s
     pub free : n.held ≡ None
 
-  token_leaves : (token : Token) (m n : Machine) (r s : Reader) → TakesNext m r (Ok token) n s
-      → IsGathered (record { tokens = []; closing = token.location }) m n r s
+  token_leaves : (token : Read) (m n : Machine) (r s : Reader) → TakesNext m r (Ok token) n s
+      → IsGathered (record { tokens = []; closing = token.token.location }) m n r s
   token_leaves token m n r s next =
       let h = next_spends (Ok token) m n r s next refl in
       let same : regions n s ≡ regions_of n.frames (reads_left s) = ap (λ o. holding_step o (regions_of n.frames (reads_left s))) h.free in
@@ -297,11 +325,11 @@ module _ (frame : ℕ → ℕ) (names : ℕ) (level : IsLevel frame) where
   gather_leaves l last m n r s o (closed l1 last1 token m1 n1 r1 s1 g next out is) = rw is (token_leaves token m n r s next)
   gather_leaves l last m n r s o (inside l1 k last1 token m1 between n1 r1 s1 t1 rest g next in_call more is) =
       let first = token_leaves token m between r s1 next in
-      let later = gather_leaves k token.location between n s1 s rest more in
+      let later = gather_leaves k token.token.location between n s1 s rest more in
       rw is (go rest later first)
     where
       go : (rest : Result Gathered Fault) → IfOk rest (λ g. IsGathered g between n s1 s)
-          → IsGathered (record { tokens = []; closing = token.location }) m between r s1 → IfOk (before token rest) (λ g. IsGathered g m n r s)
+          → IsGathered (record { tokens = []; closing = token.token.location }) m between r s1 → IfOk (before token rest) (λ g. IsGathered g m n r s)
       go (Err fault) h k = tt
       go (Ok g) h k = record {
         spends = no_more_then (regions m r) (regions between s1) (one_more (regions n s))
@@ -320,13 +348,13 @@ module _ (frame : ℕ → ℕ) (names : ℕ) (level : IsLevel frame) where
     pub spends : IsNoMore frame names (regions m r) (regions n s)
     pub tightens : Tightens r s
 
-  holding_no_more : (step : Step Token) (xs : List ℕ) → IsNoMore frame names (holding_step (Some step) xs) xs
+  holding_no_more : (step : Step Read) (xs : List ℕ) → IsNoMore frame names (holding_step (Some step) xs) xs
   holding_no_more (Ok token) xs = falls_at_most (one_more xs) xs (one_more_falls xs)
   holding_no_more (Err Continue) xs = falls_at_most (one_more xs) xs (one_more_falls xs)
   holding_no_more (Err Finished) xs = no_more xs
   holding_no_more (Err (Error fault)) xs = falls_at_most (one_more xs) xs (one_more_falls xs)
 
-  pub next_left : (step : Step Token) (m n : Machine) (r s : Reader) → TakesNext m r step n s → wants_memory step ≡ false → IsLeft m n r s
+  pub next_left : (step : Step Read) (m n : Machine) (r s : Reader) → TakesNext m r step n s → wants_memory step ≡ false → IsLeft m n r s
   next_left step m n r s next reported =
       let h = next_spends step m n r s next reported in
       let xs = regions_of n.frames (reads_left s) in
@@ -337,7 +365,7 @@ module _ (frame : ℕ → ℕ) (names : ℕ) (level : IsLevel frame) where
   gather_left l last m n r s o (closed l1 last1 token m1 n1 r1 s1 g next out is) = next_left (Ok token) m n r s next refl
   gather_left l last m n r s o (inside l1 k last1 token m1 between n1 r1 s1 t1 rest g next in_call more is) =
       let h = next_left (Ok token) m between r s1 next refl in
-      let j = gather_left k token.location between n s1 s rest more in
+      let j = gather_left k token.token.location between n s1 s rest more in
       record { spends = no_more_then (regions m r) (regions between s1) (regions n s) h.spends j.spends; tightens = tightens_then r s1 s h.tightens j.tightens }
   gather_left l last m n r s o (overfull l1 last1 token m1 n1 r1 s1 g next out is) = next_left (Ok token) m n r s next refl
   gather_left l last m n r s o (ended l1 last1 m1 n1 r1 s1 g next is) = next_left (Err Finished) m n r s next refl

@@ -5,6 +5,7 @@ use Rattle.std.proofs.lemmas.List.Elements.{All-get_or}
 use Rattle.std.specs.Prelude.{slice_get, get_or, unwrap_or}
 use Rattle.std.specs.Fn.{iterate}
 use Rattle.pp_lexer.specs.declared.token.Token.{Token}
+use Rattle.pp_model.specs.declared.read.Read.{Read}
 use Rattle.pp_model.specs.Names.{Name}
 use Rattle.pp_model.specs.Definitions.{Definition}
 use Rattle.pp_model.specs.SpliceList.{parameter_of}
@@ -63,12 +64,12 @@ opened_work levels m f (g ∷ gs) r s tight room low few =
     length_regions (f ∷ fs) reads = ap suc (length_regions fs reads)
 
 -- how many steps a frame has, where no argument has more tokens than this
-token_least : (arguments : List (List Token)) (most : ℕ) (p : Option ℕ) → ((k : ℕ) → length (argument_at arguments k) ≤ most)
+token_least : (arguments : List (List Read)) (most : ℕ) (p : Option ℕ) → ((k : ℕ) → length (argument_at arguments k) ≤ most)
     → token_steps arguments p ≤ most + 2
 token_least arguments most None low = omega arith
 token_least arguments most (Some k) low = omega (arith, low k)
 
-body_least : (parameters : List Name) (arguments : List (List Token)) (most : ℕ) (body : List Token)
+body_least : (parameters : List Name) (arguments : List (List Read)) (most : ℕ) (body : List Token)
     → ((k : ℕ) → length (argument_at arguments k) ≤ most) → body_steps parameters arguments body ≤ length body * (most + 2) + 1
 body_least parameters arguments most [] low = omega arith
 body_least parameters arguments most (token ∷ rest) low =
@@ -77,14 +78,14 @@ body_least parameters arguments most (token ∷ rest) low =
     let one : suc (length rest) * (most + 2) ≡ (most + 2) + length rest * (most + 2) = omega (arith, add-mul (length rest) 1 (most + 2), one-mul (most + 2)) in
     omega (arith, here, rests, one)
 
-argument_least : (arguments : List (List Token)) (most : ℕ) → All (λ argument. length argument ≤ most) arguments → (k : ℕ)
+argument_least : (arguments : List (List Read)) (most : ℕ) → All (λ argument. length argument ≤ most) arguments → (k : ℕ)
     → length (argument_at arguments k) ≤ most
 argument_least arguments most all k = go (slice_get arguments k) refl
   where
-    go : (o : Option (List Token)) → slice_get arguments k ≡ o → length (unwrap_or o []) ≤ most
+    go : (o : Option (List Read)) → slice_get arguments k ≡ o → length (unwrap_or o []) ≤ most
     go None e = omega arith
     go (Some argument) e =
-        let P = λ (a : List Token). length a ≤ most in
+        let P = λ (a : List Read). length a ≤ most in
         let is : get_or arguments k [] ≡ argument = get_or_from_slice_get arguments k argument [] e in
         subst P is (All-get_or P arguments k [] (slice_get_within arguments k argument e) all)
 
@@ -102,7 +103,7 @@ object_steps (suc levels) c bodies names name line definition low =
     omega arith
 
 -- the frame of a call, whose arguments came from so many tokens at most
-pub call_steps : (levels c bodies names : ℕ) (name : Name) (line : ℕ) (definition : Definition) (arguments : List (List Token))
+pub call_steps : (levels c bodies names : ℕ) (name : Name) (line : ℕ) (definition : Definition) (arguments : List (List Read))
     → length definition.body ≤ bodies
     → All (λ argument. length argument ≤ most_tokens (frame_steps bodies names levels) names c) arguments
     → steps_left (layer name line definition arguments) ≤ frame_steps bodies names (suc levels) c
@@ -139,14 +140,14 @@ start_work levels list =
 
 -- A call whose arguments were expanded opens its frame: less is left than before its name was taken.
 pub call_opens_falls : (levels n : ℕ) (m : Machine) (fs : List Layer)
-    (r s : Reader) (name : Name) (line : ℕ) (definition : Definition) (arguments : List (List Token)) → Tightens r s
+    (r s : Reader) (name : Name) (line : ℕ) (definition : Definition) (arguments : List (List Read)) → Tightens r s
     → IsNoMore (frame_of (suc levels) r) (most_open r) (regions m r) (one_more (regions_of fs (reads_left s))) → length definition.body ≤ most_bodies r
     → n ≤ total (regions m r) → All (λ argument. length argument ≤ most_alone_at levels s n) arguments
     → length (layer name line definition arguments ∷ fs) ≤ most_open s
     → work_of (suc levels) (record { held = None; frames = layer name line definition arguments ∷ fs }) s < work_of (suc levels) m r
 call_opens_falls levels n m fs r s name line definition arguments tight room body low all few =
     let c = total (regions m r) in
-    let fits : All (λ (argument : List Token). length argument ≤ most_alone_at levels r c) arguments =
+    let fits : All (λ (argument : List Read). length argument ≤ most_alone_at levels r c) arguments =
     (λ k d inside. le_trans (all k d inside) (alone_least levels n c r s tight low)) in
     opened_work (suc levels) m (layer name line definition arguments) fs r s tight room
     (call_steps levels c (most_bodies r) (most_open r) name line definition arguments body fits) few

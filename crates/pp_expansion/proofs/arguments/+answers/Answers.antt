@@ -10,7 +10,7 @@ use Rattle.pp_model.proofs.CollectLemmas.{after_lists-before, after_items-end}
 use Rattle.pp_expansion.specs.declared.step.StepExit.TheVariants.{Error}
 use Rattle.std.proofs.lemmas.List.{nil_from_length}
 use Rattle.std.proofs.lemmas.List.Elements.{All-push, All-nil, All-head, All-tail}
-use Rattle.pp_lexer.specs.declared.token.Token.{Token}
+use Rattle.pp_model.specs.declared.read.Read.{Read}
 use Rattle.pp_expansion.specs.Held.{HoldsOrdinary}
 use Rattle.pp_expansion.proofs.taking.AnswerLemmas.{satisfies_exit, satisfies_fault, fault_of, finish_fault, answers_each, of_call, satisfies_more, finishes_without, short_more, short_list}
 use Rattle.pp_expansion.proofs.taking.ListLeadsLemmas.{reached_start, reached_token, token_less, reached_pause, pause_less, reached_end, reached_fault, reached_call_fault, call_less, reached_call}
@@ -28,20 +28,20 @@ expand_argument-returns-then-are_plain t c = record {
 pub expand_list-items-init : goal.expand_list-items-init
 expand_list-items-init t c = record {
   reached = reached_start _ _ _ _ _ _ _ c.requires.idle c.requires.argument c.requires.empty;
-  holds = rw c.requires.empty (All-nil (λ (t : Token). HoldsOrdinary t.value));
+  holds = rw c.requires.empty (All-nil (λ (t : Read). HoldsOrdinary t.token.value));
 }
 
 pub expand_list-items-smaller-in-Continue-1 : goal.expand_list-items-smaller-in-Continue-1
-expand_list-items-smaller-in-Continue-1 t c = token_less _ _ _ _ _ _ _ c.items.invariant.reached _ _ c.in-Ok-Token.token (turned _ _ _ _ _
+expand_list-items-smaller-in-Continue-1 t c = token_less _ _ _ _ _ _ _ c.items.invariant.reached _ _ c.in-Ok-Token.read (turned _ _ _ _ _
     (rw c.in-Ok-Token.field-0-is at c.in-Ok-Token.ensures.turns) refl)
 
 pub expand_list-items-preserved-in-Continue-1 : goal.expand_list-items-preserved-in-Continue-1
 expand_list-items-preserved-in-Continue-1 t c = record {
   reached =
-      reached_token _ _ _ _ _ _ _ c.items.invariant.reached _ _ c.in-Ok-Token.token _
+      reached_token _ _ _ _ _ _ _ c.items.invariant.reached _ _ c.in-Ok-Token.read _
       (turned _ _ _ _ _ (rw c.in-Ok-Token.field-0-is at c.in-Ok-Token.ensures.turns) refl) c.in_ok-push-in-Ok-Token.ensures.items;
   holds =
-      rw c.in_ok-push-in-Ok-Token.ensures.items (All-push (λ (t : Token). HoldsOrdinary t.value) _ _ c.items.invariant.holds
+      rw c.in_ok-push-in-Ok-Token.ensures.items (All-push (λ (t : Read). HoldsOrdinary t.token.value) _ _ c.items.invariant.holds
       (rw c.in-Ok-Token.field-0-is at c.in-Ok-Token.ensures.holds));
 }
 
@@ -103,10 +103,10 @@ expand_arguments-loop-argument-preserved t c =
           rw (c.in_ok-push.ensures.items, ← after_lists-before c.loop-argument.expanded.items c.in_ok-list.list out)
           (c.loop-argument.invariant.goes_on (list_before c.in_ok-list.list out)
           (rw is (more c.in-Some.argument c.in_ok-list.list _ out (list_before c.in_ok-list.list out) c.in_ok-list.ensures.alone h refl)));
-      left = λ n all. All-tail (λ (a : List Token). length a ≤ n) c.in-Some.argument _ (rw is at c.loop-argument.invariant.left n all);
+      left = λ n all. All-tail (λ (a : List Read). length a ≤ n) c.in-Some.argument _ (rw is at c.loop-argument.invariant.left n all);
       short = λ n all. short_more _ c.loop-argument.expanded.items _ c.in_ok-list.list (c.loop-argument.invariant.short n all)
           (short_list c.args.levels c.args.definitions.now n c.in-Some.argument c.in_ok-list.list
-          (All-head (λ (a : List Token). length a ≤ n) c.in-Some.argument _
+          (All-head (λ (a : List Read). length a ≤ n) c.in-Some.argument _
           (rw is at c.loop-argument.invariant.left n all)) c.in_ok-list.ensures.least) c.in_ok-push.ensures.items;
     }
 

@@ -1,12 +1,12 @@
 use Rattle.std.proofs.Common.{◌+◌, ◌*◌, ◌≤◌, List, length, ℕ, All}
 use Rattle.std.specs.Prelude.{Result}
 use Rattle.std.specs.Vec.Iter.{into_iter_items}
-use Rattle.pp_lexer.specs.declared.token.Token.{Token}
+use Rattle.pp_model.specs.declared.read.Read.{Read}
 use Rattle.pp_model.specs.Calls.{Fault}
 use Rattle.pp_model.specs.Emitting.{Each, Alone}
 use Rattle.pp_model.proofs.CollectLemmas.{after_items}
 use Rattle.pp_expansion.specs.inner.Defined.{meaning_of}
-use Rattle.pp_expansion.specs.Held.{AllHoldOrdinary}
+use Rattle.pp_expansion.specs.inner.Reading.{AllReadOrdinary}
 use Rattle.pp_expansion.specs.inner.Left.{work_of, most_alone}
 use Rattle.pp_expansion.specs.inner.Reader.{of_list}
 use Rattle.pp_expansion.proofs.taking.ListLeadsLemmas.{Reached}
@@ -36,7 +36,7 @@ decreases-expand_within l = 7 * l.levels + 6
 abbrev pub invariant-expand_list-items : goal.invariant-expand_list-items
 invariant-expand_list-items l = record {
   reached : Reached l.levels l.definitions l.hidden l.fn.lexer.tokens l.caller l.lexer l.items.items;
-  holds : AllHoldOrdinary l.items.items;
+  holds : AllReadOrdinary l.items.items;
 }
 
 abbrev pub decreases-expand_list-items : goal.decreases-expand_list-items
@@ -44,9 +44,9 @@ decreases-expand_list-items l = work_of l.levels l.caller (of_list l.lexer)
 
 abbrev pub invariant-expand_arguments-loop-argument : goal.invariant-expand_arguments-loop-argument
 invariant-expand_arguments-loop-argument l = record {
-  goes_on : (out : Result (List (List Token)) Fault) → Each (Alone l.levels) (meaning_of l.definitions) l.hidden
+  goes_on : (out : Result (List (List Read)) Fault) → Each (Alone l.levels) (meaning_of l.definitions) l.hidden
       (into_iter_items l.argument-iterator) out → Each (Alone l.levels) (meaning_of l.definitions) l.hidden l.fn.arguments (after_items l.expanded.items out);
-  left : (n : ℕ) → All (λ (a : List Token). length a ≤ n) l.fn.arguments → All (λ (a : List Token). length a ≤ n) (into_iter_items l.argument-iterator);
-  short : (n : ℕ) → All (λ (a : List Token). length a ≤ n) l.fn.arguments
-      → All (λ (a : List Token). length a ≤ most_alone l.levels l.definitions n) l.expanded.items;
+  left : (n : ℕ) → All (λ (a : List Read). length a ≤ n) l.fn.arguments → All (λ (a : List Read). length a ≤ n) (into_iter_items l.argument-iterator);
+  short : (n : ℕ) → All (λ (a : List Read). length a ≤ n) l.fn.arguments
+      → All (λ (a : List Read). length a ≤ most_alone l.levels l.definitions n) l.expanded.items;
 }

@@ -10,7 +10,8 @@ returns-in_err-seek-clause-enters g c =
     enters_halt _ _ _ _ _ _ _ c.requires.function c.in_err-seek.field-0.0 _ c.in_err-seek.ensures.finds (e.1 ∙ ap Err e.2)
 
 pub returns-in-NoCall-clause-enters : goal.returns-in-NoCall-clause-enters
-returns-in-NoCall-clause-enters g c = inl (enters_nothing _ _ _ _ _ _ _ c.requires.function (rw c.in-NoCall.is at c.in_ok-seek.ensures.finds))
+returns-in-NoCall-clause-enters g c = inl (rw c.unpainted.ensures
+    (enters_nothing _ _ _ _ _ _ _ c.requires.function (rw c.in-NoCall.is at c.in_ok-seek.ensures.finds)))
 
 pub returns-in-Whole-clause-enters : goal.returns-in-Whole-clause-enters
 returns-in-Whole-clause-enters g c = inl (enters_whole _ _ _ _ _ _ _ c.requires.function c.in-Whole.paren c.in-Whole.gathered _

@@ -1,5 +1,5 @@
 use Rattle.std.proofs.lemmas.List.Elements.{All-push}
-use Rattle.pp_lexer.specs.declared.token.Token.{Token}
+use Rattle.pp_model.specs.declared.read.Read.{Read}
 use Rattle.pp_expansion.specs.Held.{HoldsOrdinary}
 use Rattle.pp_expansion.proofs.taking.AnswerLemmas.{satisfies_fault}
 use Rattle.pp_expansion.proofs.taking.MachineLemmas.{gathers_fault, gathers_end, gathers_never, gathers_closed, gathers_overfull, gathers_more, next_falls}
@@ -29,24 +29,24 @@ returns-in-Err-Continue g c = record {
 
 pub returns-in-Closes : goal.returns-in-Closes
 returns-in-Closes g c = record {
-  gathers = gathers_closed _ _ _ _ _ _ _ _ c.tokens.invariant.goes_on _ _ c.in-Ok.token c.in-Ok.ensures.takes c.in-Closes.ensures;
+  gathers = gathers_closed _ _ _ _ _ _ _ _ c.tokens.invariant.goes_on _ _ c.in-Ok.read c.in-Ok.ensures.takes c.in-Closes.ensures;
   holds = c.tokens.invariant.holds;
 }
 
 pub returns-in-TooMany : goal.returns-in-TooMany
 returns-in-TooMany g c = record {
-  gathers = gathers_overfull _ _ _ _ _ _ _ _ c.tokens.invariant.goes_on _ _ c.in-Ok.token c.in-Ok.ensures.takes c.in-TooMany.ensures;
+  gathers = gathers_overfull _ _ _ _ _ _ _ _ c.tokens.invariant.goes_on _ _ c.in-Ok.read c.in-Ok.ensures.takes c.in-TooMany.ensures;
   holds = tt;
 }
 
 pub tokens-smaller : goal.tokens-smaller
-tokens-smaller g c = next_falls _ _ _ _ c.in-Ok.token c.in-Ok.ensures.takes
+tokens-smaller g c = next_falls _ _ _ _ c.in-Ok.read c.in-Ok.ensures.takes
 
 pub tokens-preserved : goal.tokens-preserved
 tokens-preserved g c =
     record {
-      goes_on = gathers_more _ _ _ _ _ _ _ _ c.tokens.invariant.goes_on _ _ c.in-Ok.token _ _ c.in-Ok.ensures.takes c.in-Within.ensures
+      goes_on = gathers_more _ _ _ _ _ _ _ _ c.tokens.invariant.goes_on _ _ c.in-Ok.read _ _ c.in-Ok.ensures.takes c.in-Within.ensures
           (c.in_ok-push.ensures.items);
       holds = rw c.in_ok-push.ensures.items
-          (All-push (λ (t : Token). HoldsOrdinary t.value) _ _ c.tokens.invariant.holds c.in-Ok.ensures.holds);
+          (All-push (λ (t : Read). HoldsOrdinary t.token.value) _ _ c.tokens.invariant.holds c.in-Ok.ensures.holds);
     }

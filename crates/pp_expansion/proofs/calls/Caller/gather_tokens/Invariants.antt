@@ -1,4 +1,4 @@
-use Rattle.pp_expansion.specs.Held.{AllHoldOrdinary}
+use Rattle.pp_expansion.specs.inner.Reading.{AllReadOrdinary}
 use Rattle.pp_expansion.specs.inner.Left.{regions}
 use Rattle.pp_expansion.specs.inner.Reach.{total}
 use Rattle.pp_expansion.proofs.taking.MachineLemmas.{Gathering}
@@ -9,7 +9,7 @@ abbrev pub invariant-tokens : goal.invariant-tokens
 invariant-tokens o l = record {
   goes_on : Gathering l.fn.paren l.fn.self ((goal.MeLexer-dyn o l.fn.lexer.now).reader l.fn.lexer.now.1) l.tokens.items l.depth l.last l.self
       ((goal.MeLexer-dyn o l.lexer.now).reader l.lexer.now.1);
-  holds : AllHoldOrdinary l.tokens.items;
+  holds : AllReadOrdinary l.tokens.items;
 }
 
 abbrev pub decreases-tokens : goal.decreases-tokens

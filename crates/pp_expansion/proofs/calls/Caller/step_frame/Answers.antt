@@ -1,5 +1,7 @@
 use Rattle.std.proofs.Common.{◌∙◌, ap, sym}
 use Rattle.std.specs.Prelude.{is_some}
+use Rattle.pp_model.specs.Painting.{painted_among}
+use Rattle.pp_model.specs.declared.read.Read.{Read}
 use Rattle.pp_expansion.specs.inner.Ahead.{given_next}
 use Rattle.pp_expansion.specs.inner.Frames.{outermost_frame_line}
 use Rattle.pp_expansion.specs.inner.Machine.{Machine}
@@ -13,9 +15,9 @@ returns-in_default-clause-turns g c =
     (ap (λ (m : Machine). m.held) c.self.view_is ∙ c.requires.free)
     (ap (λ (m : Machine). is_some (outermost_frame_line m.frames)) c.self.view_is ∙ c.requires.open) (c.in_default.ensures.token))
 
-pub returns-in_default-copy_of-clause-turns : goal.returns-in_default-copy_of-clause-turns
-returns-in_default-copy_of-clause-turns g c =
-    frame_refuses c.args.self.now _ c.requires.free c.requires.open c.in-Some.token.now
+pub returns-in_default-copied-clause-turns : goal.returns-in_default-copied-clause-turns
+returns-in_default-copied-clause-turns g c =
+    frame_refuses c.args.self.now _ c.requires.free c.requires.open c.in-Some.ahead
     (c.in-Some.ensures.token ∙ ap (λ (m : Machine). given_next m.frames) c.self.view_is) (sym (c.if-is_line_name.ensures)) _ _ c.refused.ensures
 
 pub returns-clause-turns : goal.returns-clause-turns
@@ -23,5 +25,5 @@ returns-clause-turns g c =
     rw (← c.self.view_is)
     (frame_follows (record { held = c.self.inside.held; frames = c.self.inside.processor }) _
     (ap (λ (m : Machine). m.held) c.self.view_is ∙ c.requires.free)
-    (ap (λ (m : Machine). is_some (outermost_frame_line m.frames)) c.self.view_is ∙ c.requires.open) c.in-Some.token.now (c.in-Some.ensures.token)
-    (sym (c.if-is_line_name.ensures)) c.in-Ok.copy c.pass-2.new.self _ _ _ (c.in-Ok.ensures) c.pass-2.ensures c.follow.ensures.follows)
+    (ap (λ (m : Machine). is_some (outermost_frame_line m.frames)) c.self.view_is ∙ c.requires.open) c.in-Some.ahead (c.in-Some.ensures.token)
+    (sym (c.if-is_line_name.ensures)) c.paint.result c.pass-2.new.self _ _ _ (c.paint.ensures ∙ ap (λ (x : Read). painted_among _ x) c.in-Ok.ensures) c.pass-2.ensures c.follow.ensures.follows)

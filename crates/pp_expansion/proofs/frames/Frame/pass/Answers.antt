@@ -1,4 +1,5 @@
 use Rattle.std.proofs.Common.{◌≡◌, ◌∙◌, ◌+◌, [], ◌∷◌, Some, None, drop, ap, sym, refl}
+use Rattle.pp_model.specs.Painting.{unpainted}
 use Rattle.pp_model.specs.SpliceList.{parameter_of}
 use Rattle.pp_expansion.specs.inner.Frames.{argument_at, advance}
 use Rattle.pp_expansion.proofs.open_frames.FrameLemmas.{drop-some, drop-none, passes_to, stays}
@@ -7,11 +8,11 @@ use Rattle.pp_expansion.proofs.frames.Frame.pass.Goals as goal
 pub returns-in-Some-argument_token-clause-step : goal.returns-in-Some-argument_token-clause-step
 returns-in-Some-argument_token-clause-step c =
     let e : drop c.self.inside.argument_position
-    (argument_at c.self.inside.arguments.items c.in-Some.index) ≡ c.in-Some-argument_token.field-0.now ∷ drop (c.self.inside.argument_position + 1)
+    (argument_at c.self.inside.arguments.items c.in-Some.index) ≡ c.in-Some-argument_token.field-0 ∷ drop (c.self.inside.argument_position + 1)
     (argument_at c.self.inside.arguments.items c.in-Some.index)
-    = drop-some (argument_at c.self.inside.arguments.items c.in-Some.index) c.self.inside.argument_position c.in-Some-argument_token.field-0.now
+    = drop-some (argument_at c.self.inside.arguments.items c.in-Some.index) c.self.inside.argument_position c.in-Some-argument_token.field-0
     (rw c.deref.ensures.value at (sym c.in-Some-argument_token.ensures.token)) in
-    passes_to _ _ (Some c.in-Some-argument_token.field-0.now) _ (ap advance (sym c.self.view_is) ∙ (rw (c.in-Some.is, e) refl))
+    passes_to _ _ (Some c.in-Some-argument_token.field-0) _ (ap advance (sym c.self.view_is) ∙ (rw (c.in-Some.is, e) refl))
 
 pub returns-in-None-clause-step : goal.returns-in-None-clause-step
 returns-in-None-clause-step c =
@@ -45,4 +46,4 @@ returns-in_default-parameter_of-clause-step c =
     (rw (c.body.ensures.is, c.deref-2.ensures) at (sym c.in-Some-token_at.ensures.token)) in
     let p : parameter_of c.self.inside.define.value.parameters c.in-Some-token_at.token.now.value ≡ None
     = rw (c.parameters.ensures, c.deref-3.ensures) at (sym c.in_default-parameter_of.ensures) in
-    passes_to _ _ (Some c.in-Some-token_at.token.now) _ (ap advance (sym c.self.view_is) ∙ (rw (c.in_default.is, e, p) refl))
+    passes_to _ _ (Some (unpainted c.in-Some-token_at.token.now)) _ (ap advance (sym c.self.view_is) ∙ (rw (c.in_default.is, e, p) refl))

@@ -2,7 +2,7 @@ use Rattle.std.proofs.Common.{◌≡◌, ◌∙◌, [], refl, sym}
 use Rattle.std.proofs.lemmas.List.{nil_from_length}
 use Rattle.std.specs.Vec.Iter.{into_iter_items}
 use Rattle.std.proofs.lemmas.List.Elements.{All-head, All-tail}
-use Rattle.pp_lexer.specs.declared.token.Token.{Token}
+use Rattle.pp_model.specs.declared.read.Read.{Read}
 use Rattle.pp_expansion.specs.Held.{HoldsOrdinary}
 use Rattle.pp_expansion.proofs.taking.ListedLemmas.{lists_end, lists_token}
 use Rattle.pp_expansion.proofs.list_lexer.ListLexerMeLexer.step.Goals as goal
@@ -15,10 +15,10 @@ returns-in_default-clause-reads c =
     lists_end _ _ _ c.self.view_is none (rw still refl)
 
 pub returns-clause-reads : goal.returns-clause-reads
-returns-clause-reads c = lists_token _ _ _ c.in-Some.token _ c.self.view_is c.in-Some.ensures.items refl
+returns-clause-reads c = lists_token _ _ _ c.in-Some.read _ c.self.view_is c.in-Some.ensures.items refl
 
 pub returns-clause-holds : goal.returns-clause-holds
-returns-clause-holds c = All-head (λ (t : Token). HoldsOrdinary t.value) c.in-Some.token _ (rw c.in-Some.ensures.items at c.self.invariant)
+returns-clause-holds c = All-head (λ (t : Read). HoldsOrdinary t.token.value) c.in-Some.read _ (rw c.in-Some.ensures.items at c.self.invariant)
 
 pub invariant_of-self-2 : goal.invariant_of-self-2
-invariant_of-self-2 c = All-tail (λ (t : Token). HoldsOrdinary t.value) c.in-Some.token _ (rw c.in-Some.ensures.items at c.self.invariant)
+invariant_of-self-2 c = All-tail (λ (t : Read). HoldsOrdinary t.token.value) c.in-Some.read _ (rw c.in-Some.ensures.items at c.self.invariant)
