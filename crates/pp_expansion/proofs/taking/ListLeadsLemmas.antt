@@ -25,7 +25,7 @@ use Rattle.pp_expansion.specs.declared.step.StepExit.TheVariants.{Error, Continu
 use Rattle.pp_expansion.proofs.work.CallFallsLemmas.{IsLess, IsPending, turn_falls}
 use Rattle.pp_expansion.proofs.taking.TurnLeadsLemmas.{LeadsTo}
 use Rattle.pp_expansion.proofs.work.WorkFallsLemmas.{start_work}
-use Rattle.pp_expansion.proofs.taking.ListedLeadsLemmas.{IsListed, list_simulates, list_shows, list_sees, StandsListed, listed_leads, stands_listed, site_same, opened_less}
+use Rattle.pp_expansion.proofs.taking.ListedLeadsLemmas.{IsListed, list_simulates, list_shows, list_hides, list_sees, StandsListed, listed_leads, stands_listed, site_same, opened_less}
 
 -- What the loop over an argument has reached: the items so far, and a state from which the rest comes.
 pub record Reached (levels : ℕ) (definitions : List Defined) (hidden : List Name) (tokens : List Read)
@@ -131,7 +131,7 @@ module _ (levels : ℕ) (definitions : List Defined) (hidden : List Name) (token
   module _ (c : PendingCall) (turns : TurnsTo m (of_list l) (Ok (taken.Call c)) n (of_list k))
       (p : Machine) (opened : IsOpened levels definitions (names_of n.frames ++ hidden) c n p) where
     led : LeadsTo argument_reading (IsListed false definitions hidden) hidden (list_simulates false definitions hidden)
-        (list_shows false definitions hidden) (list_sees false definitions hidden) (answers_at levels) (Ok (taken.Call c)) r.state n (of_list k)
+        (list_shows false definitions hidden) (list_hides false definitions hidden) (list_sees false definitions hidden) (answers_at levels) (Ok (taken.Call c)) r.state n (of_list k)
     led = listed_leads false definitions hidden (answers_at levels) m n l k (Ok (taken.Call c)) r.state r.stands turns refl
 
     less : IsLess levels m (of_list l) p (of_list k)

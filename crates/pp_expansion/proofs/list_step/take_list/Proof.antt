@@ -3,15 +3,15 @@ use Rattle.pp_expansion.proofs.taking.Walk.{[], ◌∷◌, ◌++◌, ℕ, refl, 
 use Rattle.pp_expansion.specs.inner.Reader.{of_list}
 use Rattle.pp_expansion.specs.inner.Machine.{TakesNext}
 use Rattle.pp_expansion.specs.Held.{HoldsOrdinary}
-use Rattle.pp_lexer.specs.declared.token.Token.{Token}
+use Rattle.pp_model.specs.declared.read.Read.{Read}
 use Rattle.pp_expansion.specs.contracts.list_step.take_list as f
 use Rattle.pp_expansion.proofs.list_step.take_list.Statement.{statement}
 use Rattle.pp_expansion.proofs.list_step.take_list.Code as code
 use Rattle.pp_expansion.specs.contracts.list_lexer.ListLexer.{the_row as source_row}
 use Rattle.pp_expansion.specs.contracts.calls.Caller.{the_row as P}
-use Rattle.pp_lexer.specs.contracts.token.Token.{the_row as token_row}
+use Rattle.pp_model.specs.contracts.read.Read.{the_row as read_row}
 use Rattle.pp_expansion.specs.contracts.step.StepExit.{the_row as exit_row}
-use Rattle.pp_lexer.proofs.token.Token.TheLaws.{the_row_laws as token_laws}
+use Rattle.pp_model.proofs.read.Read.TheLaws.{the_row_laws as read_laws}
 use Rattle.pp_expansion.proofs.step.StepExit.TheLaws.{the_row_laws as exit_laws}
 use Rattle.std.specs.contracts.result.Result.{the_row as result_row}
 use Rattle.std.proofs.result.Result.TheLaws.{the_row_laws as result_laws}
@@ -35,7 +35,7 @@ take_list_spec 𝓤 𝓛 𝓜 𝓡 wired =
     )) (λ κs qs bounds a _ are.
     let κp = κs.0 in let κ = κs.1.0 in let κ₁ = κs.1.1.0 in let qp = qs.0 in let q = qs.1.0 in let q₁ = qs.1.1.0 in
     let p = a.0 in let r = a.1.0 in let b = r.ref_ptr.0 in let o = r.ref_ptr.1 in
-    let R = source_row (named_lft 3 2 tt κs) in let O = result_row token_row exit_row in
+    let R = source_row (named_lft 3 2 tt κs) in let O = result_row read_row exit_row in
     let T : object.Ghosts = (lists.own-1, lists.lawful-own-1) in let i = lists.at-1-1 (κ₁, tt) in
     let RefP = λ (κ' : Lft) (x : MutBor P.Denot). (MutRef (named 0) κ' P).own_val x (mut_vals p) in
     let Ref = λ (κ' : Lft) (x : MutBor R.Denot). (MutRef (named 0) κ' R).own_val x (mut_vals r) in
@@ -84,7 +84,7 @@ take_list_spec 𝓤 𝓛 𝓜 𝓡 wired =
     (and_then ! (get ! refl) (and_then ! (get ! refl) (no_more !))) (λ v.
     use1 𝓛 (later (some (λ (u : O.Denot). ((‵ (flft (β ∷ []) full_share) ⊛ ‵ (flft κ' share) ⊛ ‵ ftrue) ⊛ ‵ (O.own_val u (v ∷ []))) ⊛
     some (λ (ws : P.Denot × (R.Denot × Unit {0})). ‵ (lasts (g.ended T) z.0.0 z.0.3 ws) ⊛
-    (raw (fact 𝓤 (TakesNext p.now (of_list r.now) u ws.0 (of_list ws.1.0))) ⊛ raw (fact 𝓤 (IfOk u (λ (t : Token). HoldsOrdinary t.value)))))))) (id⊢ 𝓤 _) $
+    (raw (fact 𝓤 (TakesNext p.now (of_list r.now) u ws.0 (of_list ws.1.0))) ⊛ raw (fact 𝓤 (IfOk u (λ (t : Read). HoldsOrdinary t.token.value)))))))) (id⊢ 𝓤 _) $
     await ! tt $ pick ! (λ u. split ! $ split ! $ split ! $ move ! (1 ∷ []) $ split ! $
     -- [the token of κ'; nothing; the token of β; the result; the ensures; the way back; the source's lender; the processor's]
     move ! (0 ∷ 5 ∷ []) $ use2 𝓛 (‵ (flft κ₁ q₁) ⊛ ‵ (flft (α ∷ []) full_share)) (apply∗ 𝓤 (𝓛.A.lft κ' share) Both) $ split ! $
@@ -92,7 +92,7 @@ take_list_spec 𝓤 𝓛 𝓜 𝓡 wired =
     move ! (3 ∷ []) $ lft_end ! tt $
     -- [β is over; κ' is over; the token of the borrow; nothing; the result; the ensures; the source's lender; the processor's]
     move ! (4 ∷ []) $ peeks ! O (Is O) (shows 𝓛 O) u (v ∷ []) (λ is. lands_as ! refl refl
-    (((result_laws token_row exit_row token_laws exit_laws).lawful 𝓛).typed u _ is).0 $
+    (((result_laws read_row exit_row read_laws exit_laws).lawful 𝓛).typed u _ is).0 $
     move ! (5 ∷ []) $ pick ! (λ ws. split ! $ move ! (1 ∷ []) $ split ! $ heard ! _ (λ turns. heard ! _ (λ holds. fsplit ! $ fsplit ! $
     -- [the processor's last value; its loan; the source's; the result; β is over; κ' is over; the token of the borrow; nothing; the source's
     -- lender; the processor's]
@@ -108,5 +108,5 @@ take_list_spec 𝓤 𝓛 𝓜 𝓡 wired =
     nothing ! $ move ! (5 ∷ 0 ∷ []) $ join ! $ move ! (2 ∷ 0 ∷ []) $ join ! $ move ! (2 ∷ 0 ∷ []) $ join ! $
     group ! 3 $ frame ! $ use0 𝓛 (raw (fact 𝓤 (TakesNext p.now (of_list r.now) u ws.0 (of_list ws.1.0))))
     (fact_i 𝓤 (TakesNext p.now (of_list r.now) u ws.0 (of_list ws.1.0)) (emp 𝓤) turns) $ frame ! $
-    use0 𝓛 (raw (fact 𝓤 (IfOk u (λ (t : Token). HoldsOrdinary t.value))))
-    (fact_i 𝓤 (IfOk u (λ (t : Token). HoldsOrdinary t.value)) (emp 𝓤) holds) $ done !))))))))))))
+    use0 𝓛 (raw (fact 𝓤 (IfOk u (λ (t : Read). HoldsOrdinary t.token.value))))
+    (fact_i 𝓤 (IfOk u (λ (t : Read). HoldsOrdinary t.token.value)) (emp 𝓤) holds) $ done !))))))))))))

@@ -1,7 +1,6 @@
 use Rattle.std.proofs.Common.{◌∙◌, ap, sym}
 use Rattle.std.specs.Prelude.{is_some}
-use Rattle.pp_model.specs.Painting.{painted_among}
-use Rattle.pp_model.specs.declared.read.Read.{Read}
+use Rattle.pp_model.specs.Names.{is_identifier, line_name}
 use Rattle.pp_expansion.specs.inner.Ahead.{given_next}
 use Rattle.pp_expansion.specs.inner.Frames.{outermost_frame_line}
 use Rattle.pp_expansion.specs.inner.Machine.{Machine}
@@ -18,7 +17,8 @@ returns-in_default-clause-turns g c =
 pub returns-in_default-copied-clause-turns : goal.returns-in_default-copied-clause-turns
 returns-in_default-copied-clause-turns g c =
     frame_refuses c.args.self.now _ c.requires.free c.requires.open c.in-Some.ahead
-    (c.in-Some.ensures.token ∙ ap (λ (m : Machine). given_next m.frames) c.self.view_is) (sym (c.if-is_line_name.ensures)) _ _ c.refused.ensures
+    (c.in-Some.ensures.token ∙ ap (λ (m : Machine). given_next m.frames) c.self.view_is)
+    (ap (is_identifier line_name) (sym c.value.ensures) ∙ sym c.if-is_line_name.ensures) _ _ c.refused.ensures
 
 pub returns-clause-turns : goal.returns-clause-turns
 returns-clause-turns g c =
@@ -26,4 +26,5 @@ returns-clause-turns g c =
     (frame_follows (record { held = c.self.inside.held; frames = c.self.inside.processor }) _
     (ap (λ (m : Machine). m.held) c.self.view_is ∙ c.requires.free)
     (ap (λ (m : Machine). is_some (outermost_frame_line m.frames)) c.self.view_is ∙ c.requires.open) c.in-Some.ahead (c.in-Some.ensures.token)
-    (sym (c.if-is_line_name.ensures)) c.paint.result c.pass-2.new.self _ _ _ (c.paint.ensures ∙ ap (λ (x : Read). painted_among _ x) c.in-Ok.ensures) c.pass-2.ensures c.follow.ensures.follows)
+    (ap (is_identifier line_name) (sym c.value.ensures) ∙ sym c.if-is_line_name.ensures) c.paint-read.result c.pass-2.new.self _ _ _
+    (rw c.in-Ok.ensures at c.paint-read.ensures) c.pass-2.ensures c.follow.ensures.follows)

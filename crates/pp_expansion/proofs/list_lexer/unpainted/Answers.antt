@@ -1,0 +1,10 @@
+use Rattle.std.proofs.Common.{◌≡◌, List, [], ◌∷◌, ◌++◌, append_assoc}
+use Rattle.std.specs.Prelude.{map}
+use Rattle.std.specs.Vec.Iter.{into_iter_items}
+use Rattle.pp_model.specs.Painting.{unpainted}
+use Rattle.pp_expansion.proofs.list_lexer.unpainted.Goals as goal
+
+pub loop-token-preserved : goal.loop-token-preserved
+loop-token-preserved c =
+    let is : into_iter_items c.loop-token.token-iterator ≡ c.in-Some.token ∷ into_iter_items c.next.new.self = c.in-Some.ensures.steps.0 in
+    rw (c.in_ok-push.ensures.items, c.unpainted.ensures, append_assoc) (rw is at c.loop-token.invariant)
