@@ -6,4 +6,5 @@ pub mod OpenMacroLemmas
 pub mod OpenNamesLemmas
 pub mod OpenAroundLemmas
 pub mod OpenSoundLemmas
+pub mod ReportedLemmas
 pub mod PaintLemmas

@@ -46,7 +46,7 @@ token_lowers name line parameters token rest arguments (Some k) e =
 
 frame_lowers : (name : Name) (line : ℕ) (parameters : List Name) (body : List Token) (arguments : List (List Read)) (reading : Option (List Read))
     → IfSome (advance (frame name line parameters body arguments reading)) (Advances (frame name line parameters body arguments reading))
-frame_lowers name line parameters body arguments (Some (token ∷ rest)) = record { lower = omega arith; name = refl }
+frame_lowers name line parameters body arguments (Some (read ∷ rest)) = record { lower = omega arith; name = refl }
 frame_lowers name line parameters body arguments (Some []) = record { lower = omega arith; name = refl }
 frame_lowers name line parameters [] arguments None = tt
 frame_lowers name line parameters (token ∷ rest) arguments None =

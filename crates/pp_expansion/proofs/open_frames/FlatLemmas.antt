@@ -15,10 +15,10 @@ use Rattle.pp_expansion.specs.inner.Turns.{frame_move}
 use Rattle.pp_expansion.specs.declared.step.StepExit.TheVariants.{Error, Continue, Finished}
 
 -- a fact that tokens do not change sees through the tokens of a frame
-module _ {X : Type 0} (fact : List Entry → X) (blind : (token : Read) (entries : List Entry) → fact (Plain token ∷ entries) ≡ fact entries) where
+module _ {X : Type 0} (fact : List Entry → X) (blind : (read : Read) (entries : List Entry) → fact (Plain read ∷ entries) ≡ fact entries) where
   blind_followed : (tokens : List Read) (entries : List Entry) → fact (followed_by tokens entries) ≡ fact entries
   blind_followed [] entries = refl
-  blind_followed (token ∷ tokens) entries = blind token (followed_by tokens entries) ∙ blind_followed tokens entries
+  blind_followed (read ∷ tokens) entries = blind read (followed_by tokens entries) ∙ blind_followed tokens entries
 
   blind_replacement : (arguments : List (List Read)) (token : Token) (k : Option ℕ) (entries : List Entry)
       → fact (replacement arguments token k entries) ≡ fact entries
@@ -44,16 +44,16 @@ module _ {X : Type 0} (fact : List Entry → X) (blind : (token : Read) (entries
 -- the names that are open in the list are those of the frames
 pub open_flat : (frames : List Layer) → open_names (flat frames) ≡ names_of frames
 open_flat [] = refl
-open_flat (f ∷ fs) = blind_layer open_names (λ token entries. refl) f (flat fs) ∙ ap (λ names. f.name ∷ names) (open_flat fs)
+open_flat (f ∷ fs) = blind_layer open_names (λ read entries. refl) f (flat fs) ∙ ap (λ names. f.name ∷ names) (open_flat fs)
 
 -- the line of the list's last mark is that of the outermost frame
 pub outermost_flat : (frames : List Layer) → outermost_line (flat frames) ≡ outermost_frame_line frames
 outermost_flat [] = refl
-outermost_flat (f ∷ fs) = blind_layer outermost_line (λ token entries. refl) f (flat fs) ∙ ap (λ line. Some (unwrap_or line f.line)) (outermost_flat fs)
+outermost_flat (f ∷ fs) = blind_layer outermost_line (λ read entries. refl) f (flat fs) ∙ ap (λ line. Some (unwrap_or line f.line)) (outermost_flat fs)
 
 -- One step on the list: its first token is given, or a mark at its front is lost at the most.
 abbrev pub StepsList : Step Read → List Entry → List Entry → Type 0
-StepsList (Ok token) old new = after_marks old ≡ Plain token ∷ new
+StepsList (Ok read) old new = after_marks old ≡ Plain read ∷ new
 StepsList (Err Continue) old new = after_marks old ≡ after_marks new
 StepsList (Err Finished) old new = ⊥
 StepsList (Err (Error fault)) old new = ⊥
@@ -74,7 +74,7 @@ layer_steps : (name : Name) (line : ℕ) (parameters : List Name) (body : List T
       arguments = arguments;
       reading = reading;
     } in StepsList (frame_move fs (advance f)).gives (flat (f ∷ fs)) (flat (frame_move fs (advance f)).after)
-layer_steps name line parameters body arguments (Some (token ∷ tokens)) fs = refl
+layer_steps name line parameters body arguments (Some (read ∷ tokens)) fs = refl
 layer_steps name line parameters body arguments (Some []) fs = refl
 layer_steps name line parameters [] arguments None fs = refl
 layer_steps name line parameters (token ∷ rest) arguments None fs =

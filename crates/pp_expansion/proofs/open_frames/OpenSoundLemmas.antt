@@ -18,6 +18,7 @@ use Rattle.pp_expansion.specs.inner.Turns.{frame_move, Moves, masks}
 use Rattle.pp_expansion.specs.declared.step.StepExit.TheVariants.{Error, Continue, Finished}
 use Rattle.pp_expansion.proofs.open_frames.AdvanceLemmas.{Advances, advance_lowers}
 use Rattle.pp_expansion.proofs.open_frames.SoundLemmas.{IsDefined, apart_names_few}
+use Rattle.pp_expansion.proofs.open_frames.ReportedLemmas.{taken_reported, painted_reported}
 
 -- names of which all but the outermost are defined are at most one more than the definitions
 but_last : List Name → List Name
@@ -111,20 +112,11 @@ moves_sound pending move (f ∷ fs) gs r s (same, inl h) reported sound =
     rw (same, h.1) (frame_sound pending (definitions_of r) f fs (advance f) (advance_lowers f) sound)
 moves_sound pending move (f ∷ fs) gs r s (same, inr h) reported sound = absurd (let bad : true ≡ false = rw h at reported in cc)
 
-taken_reported : (move : Step Read) (fs : List Layer) (r : Reader) → wants_memory (taken_as move fs r) ≡ false → wants_memory move ≡ false
-taken_reported (Ok token) fs r h = refl
-taken_reported (Err exit) fs r h = h
-
 fetch_sound : (pending : Option Name) (step : Step Read) (m n : Machine) (r s : Reader) → StepsFetching m r step n s → wants_memory step ≡ false
     → IsSoundWith pending m r → IsSoundWith pending n s
 fetch_sound pending step m n r s (held step1 m1 n1 r1 s1 is at same) reported sound = rw (at, same) sound
 fetch_sound pending step m n r s (moved move step1 m1 n1 r1 s1 free moves is none) reported sound =
     moves_sound pending move m.frames n.frames r s moves (taken_reported move n.frames s (rw is at reported)) sound
-
--- paint is no matter of memory
-painted_reported : (names : List Name) (first : Step Read) → wants_memory (painted_step names first) ≡ false → wants_memory first ≡ false
-painted_reported names (Ok token) h = refl
-painted_reported names (Err exit) h = h
 
 pub step_sound : (pending : Option Name) (step : Step Read) (m n : Machine) (r s : Reader) → StepsTaking m r step n s → wants_memory step ≡ false
     → IsSoundWith pending m r → IsSoundWith pending n s
@@ -139,10 +131,10 @@ next_sound pending step m n r s (later step1 m1 between n1 r1 s1 t1 steps next) 
 
 pub gather_sound : (pending : Option Name) (k : ℕ) (last : Location) (m n : Machine) (r s : Reader) (g : Result Gathered Fault)
     → GathersNext k last m r g n s → IsSoundWith pending m r → IsSoundWith pending n s
-gather_sound pending k last m n r s g (closed k1 last1 token m1 n1 r1 s1 g1 next out is) sound = next_sound pending (Ok token) m n r s next refl sound
-gather_sound pending k last m n r s g (inside k1 l last1 token m1 between n1 r1 s1 t1 rest g1 next in_call more is) sound =
-    gather_sound pending l token.token.location between n s1 s rest more (next_sound pending (Ok token) m between r s1 next refl sound)
-gather_sound pending k last m n r s g (overfull k1 last1 token m1 n1 r1 s1 g1 next out is) sound = next_sound pending (Ok token) m n r s next refl sound
+gather_sound pending k last m n r s g (closed k1 last1 read m1 n1 r1 s1 g1 next out is) sound = next_sound pending (Ok read) m n r s next refl sound
+gather_sound pending k last m n r s g (inside k1 l last1 read m1 between n1 r1 s1 t1 rest g1 next in_call more is) sound =
+    gather_sound pending l read.token.location between n s1 s rest more (next_sound pending (Ok read) m between r s1 next refl sound)
+gather_sound pending k last m n r s g (overfull k1 last1 read m1 n1 r1 s1 g1 next out is) sound = next_sound pending (Ok read) m n r s next refl sound
 gather_sound pending k last m n r s g (ended k1 last1 m1 n1 r1 s1 g1 next is) sound = next_sound pending (Err Finished) m n r s next refl sound
 gather_sound pending k last m n r s g (failed k1 last1 fault m1 n1 r1 s1 g1 next reported is) sound =
     next_sound pending (Err (Error fault)) m n r s next reported sound

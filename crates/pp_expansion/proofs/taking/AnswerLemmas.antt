@@ -49,15 +49,15 @@ finish_fault levels definitions hidden call old new h fault e s =
 pub pieces_short : (n : ℕ) (tokens : List Read) → (length (pieces n tokens).first ≤ length tokens)
     × All (λ (a : List Read). length a ≤ length tokens) (pieces n tokens).others
 pieces_short n [] = (omega arith, All-nil (λ (a : List Read). length a ≤ 0))
-pieces_short n (token ∷ tokens) = cut (is_comma token.token.value && (n == 0)) (pieces (nesting_after n token.token.value) tokens)
-    (pieces_short (nesting_after n token.token.value) tokens)
+pieces_short n (read ∷ tokens) = cut (is_comma read.token.value && (n == 0)) (pieces (nesting_after n read.token.value) tokens)
+    (pieces_short (nesting_after n read.token.value) tokens)
   where
     cut : (b : Bool) (ps : Pieces) → (length ps.first ≤ length tokens) × All (λ (a : List Read). length a ≤ length tokens) ps.others
-        → (length (cut_before b token ps).first ≤ length (token ∷ tokens))
-        × All (λ (a : List Read). length a ≤ length (token ∷ tokens)) (cut_before b token ps).others
+        → (length (cut_before b read ps).first ≤ length (read ∷ tokens))
+        × All (λ (a : List Read). length a ≤ length (read ∷ tokens)) (cut_before b read ps).others
     cut true ps h = (
       omega arith,
-      All-cons (λ (a : List Read). length a ≤ length (token ∷ tokens)) ps.first ps.others (let k = h.0 in
+      All-cons (λ (a : List Read). length a ≤ length (read ∷ tokens)) ps.first ps.others (let k = h.0 in
           omega arith) (λ k d inside. let low = h.1 k d inside in omega arith),
     )
     cut false ps h = (let k = h.0 in omega arith, λ k d inside. let low = h.1 k d inside in omega arith)

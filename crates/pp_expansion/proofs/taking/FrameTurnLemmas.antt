@@ -46,19 +46,19 @@ module _ (m : Machine) (r : Reader) (free : m.held ≡ None) (some : is_some (ou
   pub frame_pauses : None ≡ given_next m.frames → TurnsOrRefuses m r (Err Continue) passed r
   frame_pauses is = turns_exit m passed r r Continue (frame_takes None (Err Continue) is refl)
 
-  module _ (token : Read) (is : Some token ≡ given_next m.frames) (apart : is_identifier line_name token.token.value ≡ false) where
+  module _ (read : Read) (is : Some read ≡ given_next m.frames) (apart : is_identifier line_name read.token.value ≡ false) where
     abbrev painted : Read
-    painted = painted_among (masks (frames_after m.frames) r) token
+    painted = painted_among (masks (frames_after m.frames) r) read
 
     token_taken : StepsTaking m r (Ok painted) passed r
-    token_taken = frame_takes (Some token) (Ok token) is (rw apart refl)
+    token_taken = frame_takes (Some read) (Ok read) is (rw apart refl)
 
     -- a token is followed
     pub frame_follows : (copy : Read) (after : List Layer) (step : Step Taken) (n : Machine) (t : Reader)
-        → copy ≡ painted_among (masks after r) token → after ≡ frames_after m.frames
+        → copy ≡ painted_among (masks after r) read → after ≡ frames_after m.frames
         → FollowsToken (opens r copy) copy (record m { frames = after }) r step n t ⊎ (step ≡ Err (Error out_of_memory)) → TurnsOrRefuses m r step n t
     frame_follows copy after step n t same passes follows =
-        let whole : copy ≡ painted = same ∙ ap (λ (fs : List Layer). painted_among (masks fs r) token) passes in
+        let whole : copy ≡ painted = same ∙ ap (λ (fs : List Layer). painted_among (masks fs r) read) passes in
         turns_token m passed n r r t painted step token_taken (opens r painted) refl
         (subst (λ (fs : List Layer). FollowsToken (opens r painted) painted (record m { frames = fs }) r step n t ⊎ (step ≡ Err (Error out_of_memory))) passes
         (subst (λ (x : Read). FollowsToken (opens r x) x (record m { frames = after }) r step n t ⊎ (step ≡ Err (Error out_of_memory))) whole follows))

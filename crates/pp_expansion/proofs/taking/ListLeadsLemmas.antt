@@ -57,30 +57,30 @@ reached_start levels definitions hidden tokens items m l e f g =
 module _ (levels : ℕ) (definitions : List Defined) (hidden : List Name) (tokens : List Read) (m : Machine) (l : Listing) (items : List Read)
     (r : Reached levels definitions hidden tokens m l items) (n : Machine) (k : Listing) where
   -- a token is one more item
-  pub reached_token : (token : Read) (more : List Read) → TurnsTo m (of_list l) (Ok (taken.Token token)) n (of_list k) → more ≡ items ++ token ∷ []
+  pub reached_token : (read : Read) (more : List Read) → TurnsTo m (of_list l) (Ok (taken.Token read)) n (of_list k) → more ≡ items ++ read ∷ []
       → Reached levels definitions hidden tokens n k more
-  reached_token token more turns is =
-      let h = listed_leads false definitions hidden (answers_at levels) m n l k (Ok (taken.Token token)) r.state r.stands turns refl in
-      let f : IsLess levels m (of_list l) n (of_list k) = turn_falls levels m (of_list l) r.sound (Ok (taken.Token token)) n (of_list k) turns refl in
+  reached_token read more turns is =
+      let h = listed_leads false definitions hidden (answers_at levels) m n l k (Ok (taken.Token read)) r.state r.stands turns refl in
+      let f : IsLess levels m (of_list l) n (of_list k) = turn_falls levels m (of_list l) r.sound (Ok (taken.Token read)) n (of_list k) turns refl in
       rw is (record {
         state = h.0;
         stands = h.2;
         sound = f.sound;
-        goes_on = λ out collects. rw (← after_items-before items token out)
-            (r.goes_on (read_before token out) (item token out (read_before token out) r.state h.0 h.1 collects refl));
-        least = omega (arith, r.least, f.falls, length-append items (token ∷ []));
+        goes_on = λ out collects. rw (← after_items-before items read out)
+            (r.goes_on (read_before read out) (item read out (read_before read out) r.state h.0 h.1 collects refl));
+        least = omega (arith, r.least, f.falls, length-append items (read ∷ []));
       })
 
-  pub token_less : (token : Read) → TurnsTo m (of_list l) (Ok (taken.Token token)) n (of_list k) → work_of levels n (of_list k) < work_of levels m (of_list l)
-  token_less token turns = let f : IsLess levels m (of_list l) n (of_list k) =
-      turn_falls levels m (of_list l) r.sound (Ok (taken.Token token)) n (of_list k) turns refl in f.falls
+  pub token_less : (read : Read) → TurnsTo m (of_list l) (Ok (taken.Token read)) n (of_list k) → work_of levels n (of_list k) < work_of levels m (of_list l)
+  token_less read turns = let f : IsLess levels m (of_list l) n (of_list k) =
+      turn_falls levels m (of_list l) r.sound (Ok (taken.Token read)) n (of_list k) turns refl in f.falls
 
   emits_keeps : (e f : Expander Listed) → ((o : Given) (g : Expander Listed) → Emits argument_reading (answers_at levels) f o g
       → Emits argument_reading (answers_at levels) e o g) → (out : Result (List Read) Fault) → Collects argument_reading (answers_at levels) f out
       → Collects argument_reading (answers_at levels) e out
   emits_keeps e f on out (done f1 g out1 emits is) = done e g out (on given.End g emits) is
   emits_keeps e f on out (failed fault f1 g out1 emits is) = failed fault e g out (on (given.Fault fault) g emits) is
-  emits_keeps e f on out (item token rest out1 f1 g emits collects is) = item token rest out e g (on (given.Token token) g emits) collects is
+  emits_keeps e f on out (item read rest out1 f1 g emits collects is) = item read rest out e g (on (given.Token read) g emits) collects is
 
   pub reached_pause : TurnsTo m (of_list l) (Err Continue) n (of_list k) → Reached levels definitions hidden tokens n k items
   reached_pause turns =
@@ -131,7 +131,8 @@ module _ (levels : ℕ) (definitions : List Defined) (hidden : List Name) (token
   module _ (c : PendingCall) (turns : TurnsTo m (of_list l) (Ok (taken.Call c)) n (of_list k))
       (p : Machine) (opened : IsOpened levels definitions (names_of n.frames ++ hidden) c n p) where
     led : LeadsTo argument_reading (IsListed false definitions hidden) hidden (list_simulates false definitions hidden)
-        (list_shows false definitions hidden) (list_hides false definitions hidden) (list_sees false definitions hidden) (answers_at levels) (Ok (taken.Call c)) r.state n (of_list k)
+        (list_shows false definitions hidden) (list_hides false definitions hidden) (list_sees false definitions hidden)
+        (answers_at levels) (Ok (taken.Call c)) r.state n (of_list k)
     led = listed_leads false definitions hidden (answers_at levels) m n l k (Ok (taken.Call c)) r.state r.stands turns refl
 
     less : IsLess levels m (of_list l) p (of_list k)

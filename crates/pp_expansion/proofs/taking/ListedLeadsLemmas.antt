@@ -21,7 +21,7 @@ use Rattle.pp_expansion.specs.inner.Reader.{Reader, hidden_of, of_source, of_lis
 use Rattle.pp_expansion.specs.declared.calls.Taken.{Taken}
 use Rattle.pp_expansion.proofs.work.CallFallsLemmas.{IsLess, IsPending, pending_opens}
 use Rattle.pp_expansion.proofs.open_frames.FlatLemmas.{open_flat}
-use Rattle.pp_expansion.proofs.taking.SearchSimulates.{ReadsTo, StandsIn, StandsHeld}
+use Rattle.pp_expansion.proofs.taking.SearchSimulates.{ReadsTo, StandsIn, StandsHeld, masked_flat}
 use Rattle.pp_expansion.proofs.taking.TurnLeadsLemmas.{LeadsTo, turn_leads, wants_taken}
 
 -- how a list is read: an argument, or a line, where `defined` is an operator
@@ -58,10 +58,10 @@ module _ (is_line : Bool) (definitions : List Defined) (hidden : List Name) wher
       let y : Listed = record x { tokens = after_listed x.tokens } in
       let tokens : x.tokens ≡ [] = ap (λ (z : Listed). z.tokens) is ∙ e in
       rw gives (y, (sym (ap first_listed tokens), refl), after old new x [] tokens is names plain same at)
-  listed_simulates (token ∷ rest) old new x step e (is, names, plain, same) gives at =
+  listed_simulates (read ∷ rest) old new x step e (is, names, plain, same) gives at =
       let y : Listed = record x { tokens = after_listed x.tokens } in
-      let tokens : x.tokens ≡ token ∷ rest = ap (λ (z : Listed). z.tokens) is ∙ e in
-      rw gives (y, (sym (ap first_listed tokens), refl), after old new x (token ∷ rest) tokens is names plain same at)
+      let tokens : x.tokens ≡ read ∷ rest = ap (λ (z : Listed). z.tokens) is ∙ e in
+      rw gives (y, (sym (ap first_listed tokens), refl), after old new x (read ∷ rest) tokens is names plain same at)
 
   pub list_simulates : (r s : Reader) (x : Listed) (step : Step Read) → IsListed r x → Reads r step s → wants_memory step ≡ false
       → ReadsTo (listed_reading is_line) IsListed hidden step x s
@@ -102,9 +102,7 @@ module _ (is_line : Bool) (definitions : List Defined) (hidden : List Name) wher
   site_same n k c f stands free =
       let listed = stands_listed n k f stands free in
       let seen : f.reader.visible ≡ meaning_of definitions = ap (λ (x : Listed). x.visible) listed.0 ∙ ap meaning_of listed.3 in
-      let around : masked f ≡ names_of n.frames ++ hidden =
-      ap (λ (es : List Entry). open_names es ++ f.hidden) stands.list ∙ ap (λ (hs : List Name). open_names (flat n.frames) ++ hs) stands.names
-      ∙ ap (λ (ns : List Name). ns ++ hidden) (open_flat n.frames) in
+      let around = masked_flat (listed_reading is_line) IsListed hidden n (of_list k) f stands in
       ap (λ (d : Definitions). record { paren = c.paren; arguments = arguments_of c.tokens; visible = d; open_around = masked f }) seen
       ∙ ap (λ (ns : List Name). record { paren = c.paren; arguments = arguments_of c.tokens; visible = meaning_of definitions; open_around = ns }) around
 

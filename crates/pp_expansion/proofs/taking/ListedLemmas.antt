@@ -14,10 +14,10 @@ lists_end old seen new is none at =
           ∙ ap (λ (ts : List Read). record old { tokens = ts }) (sym (ap after_listed e)),
     )
 
-pub lists_token : (old seen new : Listing) (token : Read) (rest : List Read) → seen ≡ old → seen.tokens ≡ token ∷ rest
-    → new ≡ record seen { tokens = rest } → StepsListed old (Ok token) new
-lists_token old seen new token rest is e at =
-    let found : old.tokens ≡ token ∷ rest = ap (λ (l : Listing). l.tokens) (sym is) ∙ e in
+pub lists_token : (old seen new : Listing) (read : Read) (rest : List Read) → seen ≡ old → seen.tokens ≡ read ∷ rest
+    → new ≡ record seen { tokens = rest } → StepsListed old (Ok read) new
+lists_token old seen new read rest is e at =
+    let found : old.tokens ≡ read ∷ rest = ap (λ (l : Listing). l.tokens) (sym is) ∙ e in
     inl (
       sym (ap listed_step found),
       at ∙ ap (λ (l : Listing). record l { tokens = rest }) is

@@ -45,7 +45,7 @@ fetches_step m old new frames after move r s e f g moves is =
     (subst (λ (fs : List Layer). Moves fs r move after s) (sym (ap (λ (k : Machine). k.frames) e)) moves) (same move is) g
   where
     same : (step : Step Read) → gives_line_name step ≡ false → step ≡ taken_as step after s
-    same (Ok token) apart = rw apart refl
+    same (Ok read) apart = rw apart refl
     same (Err exit) apart = refl
 
 -- what a step of the frames or the reader is once it comes first
@@ -62,12 +62,12 @@ pub takes_painted : (m n : Machine) (r s : Reader) (first step : Step Read) → 
 takes_painted m n r s first step fetches is = record { first = first; fetches = fetches; paints = is }
 
 -- a token that is taken
-pub shows_token : (frames : List Layer) (reader : Reader) (token : Read) (step : Step Read)
-    → MatchResult step (λ taken. taken_in frames reader token ≡ given.Token taken)
-    (λ exit. (exit ≡ Error (LineOverflow, token.token.location)) × (taken_in frames reader token ≡ given.Fault (LineOverflow, token.token.location)))
-    → step ≡ taken_as (Ok token) frames reader
-shows_token frames reader token (Ok t) h = ap step_of_outcome (sym h)
-shows_token frames reader token (Err exit) h = ap Err h.0 ∙ ap step_of_outcome (sym h.1)
+pub shows_token : (frames : List Layer) (reader : Reader) (read : Read) (step : Step Read)
+    → MatchResult step (λ taken. taken_in frames reader read ≡ given.Token taken)
+    (λ exit. (exit ≡ Error (LineOverflow, read.token.location)) × (taken_in frames reader read ≡ given.Fault (LineOverflow, read.token.location)))
+    → step ≡ taken_as (Ok read) frames reader
+shows_token frames reader read (Ok t) h = ap step_of_outcome (sym h)
+shows_token frames reader read (Err exit) h = ap Err h.0 ∙ ap step_of_outcome (sym h.1)
 
 -- what is taken next from here on is taken next from the beginning on
 abbrev pub LeadsToNext : Machine → Reader → Machine → Reader → Type 0
@@ -78,7 +78,7 @@ pub leads_more : (m n p : Machine) (r s t : Reader) (step : Step Read) → Leads
 leads_more m n p r s t (Err Continue) leads steps pause = λ step q u next. leads step q u (later step n p q s t u steps next)
 leads_more m n p r s t (Err Finished) leads steps pause = cc
 leads_more m n p r s t (Err (Error fault)) leads steps pause = cc
-leads_more m n p r s t (Ok token) leads steps pause = cc
+leads_more m n p r s t (Ok read) leads steps pause = cc
 
 pub leads_now : (m n p : Machine) (r s t : Reader) (step : Step Read) → LeadsToNext m r n s → StepsTaking n s step p t → is_pause step ≡ false
     → TakesNext m r step p t
@@ -90,7 +90,7 @@ pub pause_falls : (m n : Machine) (r s : Reader) (step : Step Read) → StepsTak
 pause_falls m n r s (Err Continue) steps pause = (step_spends (λ c. c) 0 (λ a b low. low) (Err Continue) m n r s steps refl).spends.least
 pause_falls m n r s (Err Finished) steps pause = cc
 pause_falls m n r s (Err (Error fault)) steps pause = cc
-pause_falls m n r s (Ok token) steps pause = cc
+pause_falls m n r s (Ok read) steps pause = cc
 
 -- what comes next is no pause
 pub next_no_pause : (m n : Machine) (r s : Reader) (step : Step Read) → TakesNext m r step n s → is_pause step ≡ false
@@ -98,9 +98,9 @@ next_no_pause m n r s step (now step1 m1 n1 r1 s1 steps goes) = goes
 next_no_pause m n r s step (later step1 m1 between n1 r1 s1 t1 steps next) = next_no_pause between n s1 s step next
 
 -- what comes next lowers what is left, but at the end
-pub next_falls : (m n : Machine) (r s : Reader) (token : Read) → TakesNext m r (Ok token) n s → total (regions n s) < total (regions m r)
-next_falls m n r s token next =
-    let h = next_spends (λ c. c) 0 (λ a b low. low) (Ok token) m n r s next refl in
+pub next_falls : (m n : Machine) (r s : Reader) (read : Read) → TakesNext m r (Ok read) n s → total (regions n s) < total (regions m r)
+next_falls m n r s read next =
+    let h = next_spends (λ c. c) 0 (λ a b low. low) (Ok read) m n r s next refl in
     let free : regions n s ≡ regions_of n.frames (reads_left s) = ap (λ o. holding_step o (regions_of n.frames (reads_left s))) h.free in
     omega (arith, h.spends.least, total_one_more (regions_of n.frames (reads_left s)), ap total free)
 
@@ -120,19 +120,19 @@ module _ (paren : Location) (m : Machine) (r : Reader) (tokens : List Read)
   pub gathers_never : (g : Result Gathered Fault) → TakesNext n s (Err Continue) p t → GathersNext 0 paren m r g p t
   gathers_never g next = absurd (let bad : true ≡ false = next_no_pause n p s t (Err Continue) next in cc)
 
-  pub gathers_closed : (token : Read) → TakesNext n s (Ok token) p t → nesting k token.token.value ≡ closes
-      → GathersNext 0 paren m r (Ok (record { tokens = tokens; closing = token.token.location })) p t
-  gathers_closed token next out = rw (← after_tokens-closed tokens token.token.location)
-      (so_far (Ok (record { tokens = []; closing = token.token.location })) p t
-      (closed k last token n p s t (Ok (record { tokens = []; closing = token.token.location })) next out refl))
+  pub gathers_closed : (read : Read) → TakesNext n s (Ok read) p t → nesting k read.token.value ≡ closes
+      → GathersNext 0 paren m r (Ok (record { tokens = tokens; closing = read.token.location })) p t
+  gathers_closed read next out = rw (← after_tokens-closed tokens read.token.location)
+      (so_far (Ok (record { tokens = []; closing = read.token.location })) p t
+      (closed k last read n p s t (Ok (record { tokens = []; closing = read.token.location })) next out refl))
 
-  pub gathers_overfull : (token : Read) → TakesNext n s (Ok token) p t → nesting k token.token.value ≡ too_many
-      → GathersNext 0 paren m r (Err (IntegerOverflow, token.token.location)) p t
-  gathers_overfull token next out = so_far (Err (IntegerOverflow, token.token.location)) p t (overfull k last token n p s t
-      (Err (IntegerOverflow, token.token.location)) next out refl)
+  pub gathers_overfull : (read : Read) → TakesNext n s (Ok read) p t → nesting k read.token.value ≡ too_many
+      → GathersNext 0 paren m r (Err (IntegerOverflow, read.token.location)) p t
+  gathers_overfull read next out = so_far (Err (IntegerOverflow, read.token.location)) p t (overfull k last read n p s t
+      (Err (IntegerOverflow, read.token.location)) next out refl)
 
-  pub gathers_more : (token : Read) (l : ℕ) (more : List Read) → TakesNext n s (Ok token) p t → nesting k token.token.value ≡ within l
-      → more ≡ tokens ++ token ∷ [] → Gathering paren m r more l token.token.location p t
-  gathers_more token l more next in_call is =
-      rw is (λ rest q u gathers. rw (← after_tokens-before tokens token rest)
-      (so_far (before token rest) q u (inside k l last token n p q s t u rest (before token rest) next in_call gathers refl)))
+  pub gathers_more : (read : Read) (l : ℕ) (more : List Read) → TakesNext n s (Ok read) p t → nesting k read.token.value ≡ within l
+      → more ≡ tokens ++ read ∷ [] → Gathering paren m r more l read.token.location p t
+  gathers_more read l more next in_call is =
+      rw is (λ rest q u gathers. rw (← after_tokens-before tokens read rest)
+      (so_far (before read rest) q u (inside k l last read n p q s t u rest (before read rest) next in_call gathers refl)))

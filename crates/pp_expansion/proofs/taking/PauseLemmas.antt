@@ -2,7 +2,8 @@
 use Rattle.std.proofs.Common.{◌≡◌, ◌∙◌, List, sym, Some, None}
 use Rattle.pp_model.specs.SpliceList.{after_marks}
 use Rattle.pp_model.specs.Reading.{Reading, Expander}
-use Rattle.pp_model.specs.Taking.{Fetches, Takes, held, listed, read}
+use Rattle.pp_model.specs.Taking as taking
+use Rattle.pp_model.specs.Taking.{Fetches, Takes}
 use Rattle.pp_model.specs.Calls.{Answers}
 use Rattle.pp_model.specs.Emitting.{Emits, itself, object, name_alone, call_refused, call}
 use Rattle.pp_model.specs.declared.read.Taken.{Taken as Given}
@@ -24,9 +25,9 @@ pause_emits I A e f takes o g (call x o1 arguments line m f1 h i g1 t n k calls 
 -- the end marks at the front of the list may be lost
 list_fetches : {R : Type 0} (I : Reading R) (e : Expander R) (entries : List Entry) → e.held ≡ None → after_marks e.list ≡ after_marks entries
     → (o : Given) (h : Expander R) → Fetches I (record e { list = entries }) o h → Fetches I e o h
-list_fetches I e entries free same o h (held o1 f1 h1 is at) = let bad : Some o ≡ None = sym is ∙ free in cc
-list_fetches I e entries free same o h (listed o1 token rest f1 h1 is front becomes at) = listed o token rest e h free (same ∙ front) becomes at
-list_fetches I e entries free same o h (read x o1 r f1 h1 is front reads becomes at) = read x o r e h free (same ∙ front) reads becomes at
+list_fetches I e entries free same o h (taking.held o1 f1 h1 is at) = let bad : Some o ≡ None = sym is ∙ free in cc
+list_fetches I e entries free same o h (taking.listed o1 read rest f1 h1 is front becomes at) = taking.listed o read rest e h free (same ∙ front) becomes at
+list_fetches I e entries free same o h (taking.read x o1 r f1 h1 is front reads becomes at) = taking.read x o r e h free (same ∙ front) reads becomes at
 
 pub list_pauses : {R : Type 0} (I : Reading R) (e : Expander R) (entries : List Entry) → e.held ≡ None → after_marks e.list ≡ after_marks entries
     → PausesTo I e (record e { list = entries })

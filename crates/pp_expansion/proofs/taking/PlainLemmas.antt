@@ -1,17 +1,20 @@
 -- A list of tokens that give themselves comes to itself.
 use Rattle.std.proofs.Common.{◌≡◌, sym, ap, ◌||◌, ◌+◌, ◌≤◌, ℕ, Bool, true, false, not, ◌&&◌, List, [], ◌∷◌, length, refl, Option, Some, None, Ok}
 use Rattle.std.specs.Prelude.{if◌then◌else◌, is_none}
+use Rattle.std.proofs.Math.Bool.{or-false}
+use Rattle.std.proofs.lemmas.Bool.{and_parts, not-true}
 use Rattle.std.specs.List.{list_all}
 use Rattle.pp_lexer.specs.declared.token.Token.{Token}
 use Rattle.pp_model.specs.declared.read.Read.{Read}
 use Rattle.pp_model.specs.Painting.{is_one_of}
 use Rattle.pp_lexer.specs.declared.token.TokenValue.{TokenValue}
-use Rattle.pp_lexer.specs.declared.token.TokenValue.TheVariants.{Ident, Integer, Float, Punct, Version, Extension, Pragma}
+use Rattle.pp_lexer.specs.declared.token.TokenValue.TheVariants.{Ident}
 use Rattle.pp_model.specs.Names.{Name, is_in, is_same_name, is_identifier, line_name}
 use Rattle.pp_model.specs.Definitions.{Definition}
 use Rattle.pp_model.specs.Reading.{Expander, Listed, opening_of, argument_reading, reading_of}
 use Rattle.pp_model.specs.inner.Reading.{opening_by}
-use Rattle.pp_model.specs.Taking.{Takes, read}
+use Rattle.pp_model.specs.Taking as taking
+use Rattle.pp_model.specs.Taking.{Takes}
 use Rattle.pp_model.specs.Calls.{Answers}
 use Rattle.pp_model.specs.Emitting.{itself, Collects, done, item, Alone, answers_at}
 use Rattle.pp_model.specs.declared.read.Taken.TheVariants as given
@@ -23,76 +26,48 @@ use Rattle.pp_expansion.specs.inner.Plain.{is_plain, is_plain_value}
 use Rattle.pp_expansion.proofs.work.IterateLemmas.{iterate_up}
 use Rattle.pp_expansion.proofs.work.ReachLemmas.{grown_up}
 
-both : (a b : Bool) → (a && b) ≡ true → (a ≡ true) × (b ≡ true)
-both true true e = (refl, refl)
-both true false e = cc
-both false b e = cc
-
 no_opening : (painted : Bool) (token : Token) (name : Name) (o : Option Definition) (masked : Bool) → (painted || (is_none o && not masked)) ≡ true
     → (if painted then None else opening_by token name o) ≡ None
 no_opening true token name o masked e = refl
 no_opening false token name None masked e = refl
 no_opening false token name (Some definition) masked e = cc
 
-apart : (b : Bool) → not b ≡ true → b ≡ false
-apart true e = cc
-apart false e = refl
-
-nothing_more : (b : Bool) → (b || false) ≡ b
-nothing_more true = refl
-nothing_more false = refl
-
 -- such a value is no `__LINE__`
 plain_apart : (definitions : List Defined) (hidden : List Name) (painted : Bool) (value : TokenValue) → is_plain_value definitions hidden painted value ≡ true
     → is_identifier line_name value ≡ false
-plain_apart definitions hidden painted (Ident name) e = apart (is_same_name name line_name) (both (not (is_same_name name line_name))
+plain_apart definitions hidden painted (Ident name) e = not-true (is_same_name name line_name) (and_parts (not (is_same_name name line_name))
     (painted || (is_none (meaning_of definitions name) && not (is_in name hidden))) e).0
-plain_apart definitions hidden painted (Integer n) e = refl
-plain_apart definitions hidden painted (Float f) e = refl
-plain_apart definitions hidden painted (Punct p) e = refl
-plain_apart definitions hidden painted (Version v) e = refl
-plain_apart definitions hidden painted (Extension x) e = refl
-plain_apart definitions hidden painted (Pragma p) e = refl
+plain_apart definitions hidden painted _ e = refl
 
 -- it keeps its paint
 plain_paint : (definitions : List Defined) (hidden : List Name) (painted : Bool) (value : TokenValue) → is_plain_value definitions hidden painted value ≡ true
     → (painted || is_one_of hidden value) ≡ painted
 plain_paint definitions hidden true (Ident name) e = refl
 plain_paint definitions hidden false (Ident name) e =
-    let h = both (not (is_same_name name line_name)) (is_none (meaning_of definitions name) && not (is_in name hidden)) e in
-    apart (is_in name hidden) (both (is_none (meaning_of definitions name)) (not (is_in name hidden)) h.1).1
-plain_paint definitions hidden painted (Integer n) e = nothing_more painted
-plain_paint definitions hidden painted (Float f) e = nothing_more painted
-plain_paint definitions hidden painted (Punct p) e = nothing_more painted
-plain_paint definitions hidden painted (Version v) e = nothing_more painted
-plain_paint definitions hidden painted (Extension x) e = nothing_more painted
-plain_paint definitions hidden painted (Pragma p) e = nothing_more painted
+    let h = and_parts (not (is_same_name name line_name)) (is_none (meaning_of definitions name) && not (is_in name hidden)) e in
+    not-true (is_in name hidden) (and_parts (is_none (meaning_of definitions name)) (not (is_in name hidden)) h.1).1
+plain_paint definitions hidden painted _ e = or-false painted
 
 -- and opens nothing
-plain_opens : (definitions : List Defined) (hidden : List Name) (rest : List Read) (token : Read) (value : TokenValue)
-    → is_plain_value definitions hidden token.painted value ≡ true
-    → opening_of argument_reading (reading_of rest (meaning_of definitions) hidden) token value ≡ None
-plain_opens definitions hidden rest token (Ident name) e =
-    no_opening token.painted token.token name (meaning_of definitions name) (is_in name hidden)
-    (both (not (is_same_name name line_name)) (token.painted || (is_none (meaning_of definitions name) && not (is_in name hidden))) e).1
-plain_opens definitions hidden rest token (Integer n) e = refl
-plain_opens definitions hidden rest token (Float f) e = refl
-plain_opens definitions hidden rest token (Punct p) e = refl
-plain_opens definitions hidden rest token (Version v) e = refl
-plain_opens definitions hidden rest token (Extension x) e = refl
-plain_opens definitions hidden rest token (Pragma p) e = refl
+plain_opens : (definitions : List Defined) (hidden : List Name) (rest : List Read) (read : Read) (value : TokenValue)
+    → is_plain_value definitions hidden read.painted value ≡ true
+    → opening_of argument_reading (reading_of rest (meaning_of definitions) hidden) read value ≡ None
+plain_opens definitions hidden rest read (Ident name) e =
+    no_opening read.painted read.token name (meaning_of definitions name) (is_in name hidden)
+    (and_parts (not (is_same_name name line_name)) (read.painted || (is_none (meaning_of definitions name) && not (is_in name hidden))) e).1
+plain_opens definitions hidden rest read _ e = refl
 
-plain_takes : (definitions : List Defined) (hidden : List Name) (token : Read) (rest : List Read) → is_plain definitions hidden token ≡ true
-    → Takes argument_reading (reading_of (token ∷ rest) (meaning_of definitions) hidden) (given.Token token) (reading_of rest (meaning_of definitions) hidden)
-plain_takes definitions hidden token rest e =
-    let e0 : Expander Listed = reading_of (token ∷ rest) (meaning_of definitions) hidden in
+plain_takes : (definitions : List Defined) (hidden : List Name) (read : Read) (rest : List Read) → is_plain definitions hidden read ≡ true
+    → Takes argument_reading (reading_of (read ∷ rest) (meaning_of definitions) hidden) (given.Token read) (reading_of rest (meaning_of definitions) hidden)
+plain_takes definitions hidden read rest e =
+    let e0 : Expander Listed = reading_of (read ∷ rest) (meaning_of definitions) hidden in
     let e1 : Expander Listed = reading_of rest (meaning_of definitions) hidden in
     record {
-      first = given.Token token;
-      fetches = read (given.Token token) (given.Token token) e1.reader e0 e1 refl refl (refl, refl)
-          (rw (plain_apart definitions hidden token.painted token.token.value e) refl) refl;
-      paints = ap (λ (b : Bool). given.Token (record { token = token.token; painted = b }))
-          (sym (plain_paint definitions hidden token.painted token.token.value e));
+      first = given.Token read;
+      fetches = taking.read (given.Token read) (given.Token read) e1.reader e0 e1 refl refl (refl, refl)
+          (rw (plain_apart definitions hidden read.painted read.token.value e) refl) refl;
+      paints = ap (λ (b : Bool). given.Token (record { token = read.token; painted = b }))
+          (sym (plain_paint definitions hidden read.painted read.token.value e));
     }
 
 plain_collects : (A : Answers) (definitions : List Defined) (hidden : List Name) (tokens : List Read)
@@ -102,15 +77,15 @@ plain_collects A definitions hidden [] e =
     let e0 : Expander Listed = reading_of [] (meaning_of definitions) hidden in
     done e0 e0 (Ok []) (itself given.End e0 e0 (record {
       first = given.End;
-      fetches = read given.End given.End e0.reader e0 e0 refl refl (refl, refl) refl refl;
+      fetches = taking.read given.End given.End e0.reader e0 e0 refl refl (refl, refl) refl refl;
       paints = refl;
     }) refl) refl
-plain_collects A definitions hidden (token ∷ rest) e =
-    let e0 : Expander Listed = reading_of (token ∷ rest) (meaning_of definitions) hidden in
+plain_collects A definitions hidden (read ∷ rest) e =
+    let e0 : Expander Listed = reading_of (read ∷ rest) (meaning_of definitions) hidden in
     let e1 : Expander Listed = reading_of rest (meaning_of definitions) hidden in
-    let h = both (is_plain definitions hidden token) (list_all (is_plain definitions hidden) rest) e in
-    item token (Ok rest) (Ok (token ∷ rest)) e0 e1
-    (itself (given.Token token) e0 e1 (plain_takes definitions hidden token rest h.0) (plain_opens definitions hidden rest token token.token.value h.0))
+    let h = and_parts (is_plain definitions hidden read) (list_all (is_plain definitions hidden) rest) e in
+    item read (Ok rest) (Ok (read ∷ rest)) e0 e1
+    (itself (given.Token read) e0 e1 (plain_takes definitions hidden read rest h.0) (plain_opens definitions hidden rest read read.token.value h.0))
     (plain_collects A definitions hidden rest h.1) refl
 
 -- tokens that give themselves, alone

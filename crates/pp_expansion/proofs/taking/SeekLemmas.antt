@@ -55,36 +55,36 @@ abbrev Refused : Step Taken → Type 0
 Refused step = step ≡ Err (Error out_of_memory)
 
 -- after a name: no call, a call, or its fault
-module _ (token : Read) (name : Name) (definition : Definition) (m n : Machine) (r s : Reader) (function : definition.function_like ≡ true) where
-  pub enters_nothing : FindsNothing m r n s → Enters token name definition m r (Ok (taken.Token token)) n s
-  enters_nothing h = e.called (no_call h.next) (Ok (taken.Token token)) m h.before n r s function h.seeks (refl, h.holds)
+module _ (read : Read) (name : Name) (definition : Definition) (m n : Machine) (r s : Reader) (function : definition.function_like ≡ true) where
+  pub enters_nothing : FindsNothing m r n s → Enters read name definition m r (Ok (taken.Token read)) n s
+  enters_nothing h = e.called (no_call h.next) (Ok (taken.Token read)) m h.before n r s function h.seeks (refl, h.holds)
 
   pub enters_whole : (paren : Location) (g : Gathered) (c : PendingCall) → Seeks m r (gathered paren g) n s
       → c ≡ record { name = name; definition = definition; paren = paren; closing = g.closing; tokens = g.tokens }
-      → Enters token name definition m r (Ok (taken.Call c)) n s
+      → Enters read name definition m r (Ok (taken.Call c)) n s
   enters_whole paren g c h is = e.called (gathered paren g) (Ok (taken.Call c)) m n n r s function h (ap (λ (x : PendingCall). Ok (taken.Call x)) is, refl)
 
-  pub enters_halt : (h : Halt) (step : Step Taken) → FindsBy m r (Err h) n s → step ≡ Err (exit_of h) → Enters token name definition m r step n s ⊎ Refused step
+  pub enters_halt : (h : Halt) (step : Step Taken) → FindsBy m r (Err h) n s → step ≡ Err (exit_of h) → Enters read name definition m r step n s ⊎ Refused step
   enters_halt (halt.Fault fault) step h is = inl (e.called (refused fault) step m n n r s function h (is, refl))
   enters_halt halt.OutOfMemory step h is = inr is
 
 pub follows_plain : (o : Option (Name
-    × Definition)) (token : Read) (name : Name) (definition : Definition) (m n : Machine) (r : Reader) (step : Step Taken)
+    × Definition)) (read : Read) (name : Name) (definition : Definition) (m n : Machine) (r : Reader) (step : Step Taken)
     → o ≡ Some (name, definition) → definition.function_like ≡ false
-    → ((step ≡ Err Continue) × (n ≡ record m { frames = layer name token.token.location.line definition [] ∷ m.frames })) ⊎ Refused step
-    → FollowsToken o token m r step n r ⊎ Refused step
-follows_plain o token name definition m n r step is plain (inl h) = inl (rw is (e.plain step m n r r plain h.0 h.1 refl))
-follows_plain o token name definition m n r step is plain (inr h) = inr h
+    → ((step ≡ Err Continue) × (n ≡ record m { frames = layer name read.token.location.line definition [] ∷ m.frames })) ⊎ Refused step
+    → FollowsToken o read m r step n r ⊎ Refused step
+follows_plain o read name definition m n r step is plain (inl h) = inl (rw is (e.plain step m n r r plain h.0 h.1 refl))
+follows_plain o read name definition m n r step is plain (inr h) = inr h
 
 -- an unpainted token whose value is a name
-pub follows_named : (m n : Machine) (r s : Reader) (token : Read) (given name : Name) (step : Step Taken) → token.painted ≡ false
-    → token.token.value ≡ Ident name → given ≡ name
-    → FollowsToken (opens_value r (Ident given)) (unpainted (record { value = Ident given; location = token.token.location })) m r step n s ⊎ Refused step
-    → FollowsToken (opens r token) token m r step n s ⊎ Refused step
-follows_named m n r s token given name step bare is same h =
-    let whole : ◌≡◌ {A = Read} (unpainted (record { value = Ident given; location = token.token.location })) token =
-    ap (λ (v : TokenValue). unpainted (record { value = v; location = token.token.location })) (ap (λ (x : Name). Ident x) same ∙ sym is)
-    ∙ ap (λ (b : Bool). record { token = token.token; painted = b }) (sym bare) in
+pub follows_named : (m n : Machine) (r s : Reader) (read : Read) (given name : Name) (step : Step Taken) → read.painted ≡ false
+    → read.token.value ≡ Ident name → given ≡ name
+    → FollowsToken (opens_value r (Ident given)) (unpainted (record { value = Ident given; location = read.token.location })) m r step n s ⊎ Refused step
+    → FollowsToken (opens r read) read m r step n s ⊎ Refused step
+follows_named m n r s read given name step bare is same h =
+    let whole : ◌≡◌ {A = Read} (unpainted (record { value = Ident given; location = read.token.location })) read =
+    ap (λ (v : TokenValue). unpainted (record { value = v; location = read.token.location })) (ap (λ (x : Name). Ident x) same ∙ sym is)
+    ∙ ap (λ (b : Bool). record { token = read.token; painted = b }) (sym bare) in
     subst (λ (x : Read). FollowsToken (opens r x) x m r step n s ⊎ Refused step) whole h
 
 -- what a value stands for as a name
@@ -116,34 +116,34 @@ opening_bare true o definition e = cc
 opening_bare false o definition e = refl
 
 -- the name of an object-like macro that opens
-module _ (m n : Machine) (r : Reader) (token : Read) (given name : Name) (definition : Definition) (step : Step Taken)
-    (is : token.token.value ≡ Ident name) (same : given ≡ name) (opening : meant (opens r token) ≡ Some definition) where
-  bare : token.painted ≡ false
-  bare = opening_bare token.painted (opens_value r token.token.value) definition opening
+module _ (m n : Machine) (r : Reader) (read : Read) (given name : Name) (definition : Definition) (step : Step Taken)
+    (is : read.token.value ≡ Ident name) (same : given ≡ name) (opening : meant (opens r read) ≡ Some definition) where
+  bare : read.painted ≡ false
+  bare = opening_bare read.painted (opens_value r read.token.value) definition opening
 
-  opening_value : meant (opens_value r token.token.value) ≡ Some definition
-  opening_value = subst (λ (b : Bool). meant (if b then None else opens_value r token.token.value) ≡ Some definition) bare opening
+  opening_value : meant (opens_value r read.token.value) ≡ Some definition
+  opening_value = subst (λ (b : Bool). meant (if b then None else opens_value r read.token.value) ≡ Some definition) bare opening
 
   named : opens_value r (Ident given) ≡ Some (given, definition)
   named = opens_named r given definition (subst (λ (v : TokenValue). meant (opens_value r v) ≡ Some definition)
       (is ∙ ap (λ (x : Name). Ident x) (sym same)) opening_value)
 
   pub follows_object : definition.function_like ≡ false → ((step ≡ Err Continue)
-      × (n ≡ record m { frames = layer given token.token.location.line definition [] ∷ m.frames })) ⊎ Refused step
-      → FollowsToken (opens r token) token m r step n r ⊎ Refused step
-  follows_object plain h = follows_named m n r r token given name step bare is same (follows_plain (opens_value r (Ident given))
-      (unpainted (record { value = Ident given; location = token.token.location })) given definition m n r step named plain h)
+      × (n ≡ record m { frames = layer given read.token.location.line definition [] ∷ m.frames })) ⊎ Refused step
+      → FollowsToken (opens r read) read m r step n r ⊎ Refused step
+  follows_object plain h = follows_named m n r r read given name step bare is same (follows_plain (opens_value r (Ident given))
+      (unpainted (record { value = Ident given; location = read.token.location })) given definition m n r step named plain h)
 
 -- a turn, by what is taken
-pub turns_token : (m n p : Machine) (r s t : Reader) (token : Read) (step : Step Taken) → StepsTaking m r (Ok token) n s
-    → (o : Option (Name × Definition)) → opens s token ≡ o → FollowsToken o token n s step p t ⊎ Refused step → TurnsOrRefuses m r step p t
-turns_token m n p r s t token step steps o is (inr h) =
-    inr (record { some = record { step = Ok token; after = n; reader = s; takes = steps; goes = refl }; fault = h })
-turns_token m n p r s t token step steps None is (inl (gives, same, stays)) = inl (rw (same, stays) (turn.gives token step m n r s steps is gives))
-turns_token m n p r s t token step steps (Some (name, definition)) is (inl (e.plain step1 m1 n1 r1 s1 plain pauses at stays)) =
-    inl (rw stays (turn.object token name definition step m n p r s steps is plain pauses at))
-turns_token m n p r s t token step steps (Some (name, definition)) is (inl (e.called c step1 m1 q n1 r1 s1 function seeks finds)) =
-    inl (turn.seeks token name definition c step m n q p r s t steps is function seeks finds)
+pub turns_token : (m n p : Machine) (r s t : Reader) (read : Read) (step : Step Taken) → StepsTaking m r (Ok read) n s
+    → (o : Option (Name × Definition)) → opens s read ≡ o → FollowsToken o read n s step p t ⊎ Refused step → TurnsOrRefuses m r step p t
+turns_token m n p r s t read step steps o is (inr h) =
+    inr (record { some = record { step = Ok read; after = n; reader = s; takes = steps; goes = refl }; fault = h })
+turns_token m n p r s t read step steps None is (inl (gives, same, stays)) = inl (rw (same, stays) (turn.gives read step m n r s steps is gives))
+turns_token m n p r s t read step steps (Some (name, definition)) is (inl (e.plain step1 m1 n1 r1 s1 plain pauses at stays)) =
+    inl (rw stays (turn.object read name definition step m n p r s steps is plain pauses at))
+turns_token m n p r s t read step steps (Some (name, definition)) is (inl (e.called c step1 m1 q n1 r1 s1 function seeks finds)) =
+    inl (turn.seeks read name definition c step m n q p r s t steps is function seeks finds)
 
 pub turns_exit : (m n : Machine) (r s : Reader) (exit : StepExit) → StepsTaking m r (Err exit) n s → TurnsOrRefuses m r (Err exit) n s
 turns_exit m n r s exit steps = inl (turn.passes exit (Err exit) m n r s steps refl)

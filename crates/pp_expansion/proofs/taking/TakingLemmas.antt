@@ -15,13 +15,13 @@ use Rattle.pp_expansion.specs.inner.Turns.{taken_in}
 use Rattle.pp_expansion.proofs.open_frames.FlatLemmas.{outermost_flat}
 
 -- what a token becomes that is taken, whether from the list or from the reader
-pub taken_flat : (shown : ℕ → Option ℕ) (frames : List Layer) (reader : Reader) (token : Read) → ((line : ℕ) → shown line ≡ shown_line reader line)
-    → shown_token shown (flat frames) token ≡ taken_in frames reader token
-taken_flat shown frames reader token same =
-    let place = λ (line : Option ℕ). unwrap_or line token.token.location.line in
+pub taken_flat : (shown : ℕ → Option ℕ) (frames : List Layer) (reader : Reader) (read : Read) → ((line : ℕ) → shown line ≡ shown_line reader line)
+    → shown_token shown (flat frames) read ≡ taken_in frames reader read
+taken_flat shown frames reader read same =
+    let place = λ (line : Option ℕ). unwrap_or line read.token.location.line in
     let number : shown (place (outermost_line (flat frames))) ≡ shown_line reader (place (outermost_frame_line frames)) =
     ap (λ line. shown (place line)) (outermost_flat frames) ∙ same (place (outermost_frame_line frames)) in
-    ap (λ n. if is_identifier line_name token.token.value then line_number token.token.location n else given.Token token) number
+    ap (λ n. if is_identifier line_name read.token.value then line_number read.token.location n else given.Token read) number
 
 -- a macro that a token opens
 abbrev pub as_opening : Token → Option (Name × Definition) → Option Opening

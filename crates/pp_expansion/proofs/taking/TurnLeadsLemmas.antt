@@ -49,7 +49,7 @@ module _ {R : Type 0} (I : Reading R) (StandsR : Reader → R → Type 0) (hidde
     (A : Answers) where
   -- what one turn is to the expander
   abbrev pub LeadsTo : Step Taken → Expander R → Machine → Reader → Type 0
-  LeadsTo (Ok (taken.Token token)) e n s = (f : Expander R) × Emits I A e (given.Token token) f × StandsIn I StandsR hidden n s f
+  LeadsTo (Ok (taken.Token read)) e n s = (f : Expander R) × Emits I A e (given.Token read) f × StandsIn I StandsR hidden n s f
   LeadsTo (Ok (taken.Call c)) e n s =
       (f : Expander R) × StandsIn I StandsR hidden n s f
       × ((fault : Fault) → A c.definition (site_of I f c.paren c.tokens) (Err fault) → Emits I A e (given.Fault fault) f)
@@ -60,37 +60,37 @@ module _ {R : Type 0} (I : Reading R) (StandsR : Reader → R → Type 0) (hidde
   LeadsTo (Err (Error fault)) e n s = (f : Expander R) × Emits I A e (given.Fault fault) f
 
   -- the macro that a token opens over frames is the one that it opens over their list
-  opens_same : (n : Machine) (s : Reader) (f : Expander R) (token : Read) → f.list ≡ flat n.frames → f.hidden ≡ hidden → StandsR s f.reader
-      → opening I f (given.Token token) ≡ as_opening token.token (opens s token)
-  opens_same n s f token list names reader = go token.token.value
+  opens_same : (s : Reader) (f : Expander R) (read : Read) → StandsR s f.reader
+      → opening I f (given.Token read) ≡ as_opening read.token (opens s read)
+  opens_same s f read reader = go read.token.value
     where
-      paint : (reserved painted : Bool) (name : Name) (d : Option Definition) → (if reserved || painted then None else opening_by token.token name d)
-          ≡ as_opening token.token (if painted then None else opened_by name (if reserved then None else d))
+      paint : (reserved painted : Bool) (name : Name) (d : Option Definition) → (if reserved || painted then None else opening_by read.token name d)
+          ≡ as_opening read.token (if painted then None else opened_by name (if reserved then None else d))
       paint true true name d = refl
       paint true false name d = refl
       paint false true name d = refl
       paint false false name None = refl
       paint false false name (Some d) = refl
 
-      unopened : (painted : Bool) → None ≡ as_opening token.token (if painted then None else None)
+      unopened : (painted : Bool) → None ≡ as_opening read.token (if painted then None else None)
       unopened true = refl
       unopened false = refl
 
-      go : (value : TokenValue) → opening_of I f token value ≡ as_opening token.token (if token.painted then None else opens_value s value)
-      go (Ident name) = paint (I.is_reserved name) token.painted name (I.visible f.reader name)
-          ∙ ap (λ d. as_opening token.token (if token.painted then None else opened_by name d)) (sym (sees s f.reader name reader))
-      go _ = unopened token.painted
+      go : (value : TokenValue) → opening_of I f read value ≡ as_opening read.token (if read.painted then None else opens_value s value)
+      go (Ident name) = paint (I.is_reserved name) read.painted name (I.visible f.reader name)
+          ∙ ap (λ d. as_opening read.token (if read.painted then None else opened_by name d)) (sym (sees s f.reader name reader))
+      go _ = unopened read.painted
 
   -- after a token the reader stands
-  token_stands : (m n : Machine) (r s : Reader) (token : Read) (e : Expander R) → StandsIn I StandsR hidden m r e → StepsTaking m r (Ok token) n s
-      → (f : Expander R) × Takes I e (given.Token token) f × StandsIn I StandsR hidden n s f × StandsR s f.reader
-  token_stands m n r s token e stands steps =
-      let h = step_simulates I StandsR hidden simulates shows hides m n r s (Ok token) e stands steps refl in (
+  token_stands : (m n : Machine) (r s : Reader) (read : Read) (e : Expander R) → StandsIn I StandsR hidden m r e → StepsTaking m r (Ok read) n s
+      → (f : Expander R) × Takes I e (given.Token read) f × StandsIn I StandsR hidden n s f × StandsR s f.reader
+  token_stands m n r s read e stands steps =
+      let h = step_simulates I StandsR hidden simulates shows hides m n r s (Ok read) e stands steps refl in (
         h.0,
         h.1,
         h.2,
         subst (λ (o : Option (Step Read)). StandsHeld I StandsR hidden o s h.0.reader)
-            (step_frees I StandsR hidden simulates shows hides m n r s (Ok token) steps) h.2.reader,
+            (step_frees I StandsR hidden simulates shows hides m n r s (Ok read) steps) h.2.reader,
       )
 
   exit_leads : (exit : StepExit) (m n : Machine) (r s : Reader) (e : Expander R) → StandsIn I StandsR hidden m r e → StepsTaking m r (Err exit) n s
@@ -106,86 +106,91 @@ module _ {R : Type 0} (I : Reading R) (StandsR : Reader → R → Type 0) (hidde
       (h.0, emitting.itself (given.Fault fault) e h.0 h.1 refl)
 
   no_paren : (next : Step Read) → paren_of next ≡ None → paren_at (outcome_of_step next) ≡ None
-  no_paren (Ok token) h = h
+  no_paren (Ok read) h = h
   no_paren (Err Continue) h = refl
   no_paren (Err Finished) h = refl
   no_paren (Err (Error fault)) h = refl
 
-  some_paren : (next : Step Read) (paren : Location) → paren_of next ≡ Some paren → (token : Read) × (next ≡ Ok token)
-      × (paren_at (given.Token token) ≡ Some paren)
-  some_paren (Ok token) paren h = (token, refl, h)
+  some_paren : (next : Step Read) (paren : Location) → paren_of next ≡ Some paren → (read : Read) × (next ≡ Ok read)
+      × (paren_at (given.Token read) ≡ Some paren)
+  some_paren (Ok read) paren h = (read, refl, h)
   some_paren (Err exit) paren h = cc
 
   not_refused : (next : Step Read) → is_refusal next ≡ false → wants_memory next ≡ false
-  not_refused (Ok token) h = refl
+  not_refused (Ok read) h = refl
   not_refused (Err Continue) h = refl
   not_refused (Err Finished) h = refl
   not_refused (Err (Error fault)) h = h
 
   -- a call that was gathered, or its fault
-  call_leads : (token : Read) (name : Name) (definition : Definition) (first : Read) (paren : Location) (step : Step Taken)
-      (p q : Machine) (t : Reader) (e f h : Expander R) (g : Result Gathered Fault) → Takes I e (given.Token token) f
-      → opening I f (given.Token token) ≡ Some (record { token = token.token; name = name; definition = definition }) → definition.function_like ≡ true
+  call_leads : (read : Read) (name : Name) (definition : Definition) (first : Read) (paren : Location) (step : Step Taken)
+      (p q : Machine) (t : Reader) (e f h : Expander R) (g : Result Gathered Fault) → Takes I e (given.Token read) f
+      → opening I f (given.Token read) ≡ Some (record { token = read.token; name = name; definition = definition }) → definition.function_like ≡ true
       → Takes I f (given.Token first) h → paren_at (given.Token first) ≡ Some paren
-      → GathersTo I StandsR hidden simulates shows hides 0 paren h g p t → Finds token name definition (sought_by paren g) step p q → LeadsTo step e q t
-  call_leads token name definition first paren step p q t e f h (Err fault) takes opens function takes_paren at (k, gathers) (is, becomes) =
-      let m : Opening = record { token = token.token; name = name; definition = definition } in
+      → GathersTo I StandsR hidden simulates shows hides 0 paren h g p t → Finds read name definition (sought_by paren g) step p q → LeadsTo step e q t
+  call_leads read name definition first paren step p q t e f h (Err fault) takes opens function takes_paren at (k, gathers) (is, becomes) =
+      let m : Opening = record { token = read.token; name = name; definition = definition } in
       rw is (
         k,
-        emitting.call_refused (given.Token token) (given.Fault fault) fault m e f k takes opens function
+        emitting.call_refused (given.Token read) (given.Fault fault) fault m e f k takes opens function
             (calls.broken (given.Token first) paren fault f h k (calls.refused fault) takes_paren at gathers refl) refl,
       )
-  call_leads token name definition first paren step p q t e f h (Ok g) takes opens function takes_paren at (k, gathers, stands) (is, becomes) =
-      let m : Opening = record { token = token.token; name = name; definition = definition } in
+  call_leads read name definition first paren step p q t e f h (Ok g) takes opens function takes_paren at (k, gathers, stands) (is, becomes) =
+      let m : Opening = record { token = read.token; name = name; definition = definition } in
       rw (is, becomes) (
         k,
         stands,
-        (λ fault answers. emitting.call_refused (given.Token token) (given.Fault fault) fault m e f k takes opens function
+        (λ fault answers. emitting.call_refused (given.Token read) (given.Fault fault) fault m e f k takes opens function
             (calls.whole (given.Token first) paren g (Err fault) f h k (calls.refused fault) takes_paren at gathers answers refl) refl),
-        (λ arguments answers o l emits. emitting.call (given.Token token) o arguments g.closing.line m e f k l takes opens function
+        (λ arguments answers o l emits. emitting.call (given.Token read) o arguments g.closing.line m e f k l takes opens function
             (calls.whole (given.Token first) paren g (Ok arguments) f h k (calls.fits arguments g.closing.line) takes_paren at gathers answers refl) emits),
       )
 
   -- what is sought after a name
-  seek_leads : (token : Read) (name : Name) (definition : Definition) (c : Sought) (step : Step Taken)
-      (n p q : Machine) (s t : Reader) (e f : Expander R) → Takes I e (given.Token token) f → StandsIn I StandsR hidden n s f
-      → opening I f (given.Token token) ≡ Some (record { token = token.token; name = name; definition = definition }) → definition.function_like ≡ true
-      → Seeks n s c p t → Finds token name definition c step p q → LeadsTo step e q t
-  seek_leads token name definition c step n p q s t e f takes stands opens function (alone next n1 p1 s1 t1 c1 taken_next none reported is) found =
-      let m : Opening = record { token = token.token; name = name; definition = definition } in
+  seek_leads : (read : Read) (name : Name) (definition : Definition) (c : Sought) (step : Step Taken)
+      (n p q : Machine) (s t : Reader) (e f : Expander R) → Takes I e (given.Token read) f → StandsIn I StandsR hidden n s f
+      → opening I f (given.Token read) ≡ Some (record { token = read.token; name = name; definition = definition }) → definition.function_like ≡ true
+      → Seeks n s c p t → Finds read name definition c step p q → LeadsTo step e q t
+  seek_leads read name definition c step n p q s t e f takes stands opens function (alone next n1 p1 s1 t1 c1 taken_next none reported is) found =
+      let m : Opening = record { token = read.token; name = name; definition = definition } in
       let h = next_simulates I StandsR hidden simulates shows hides n p s t next f stands taken_next (not_refused next reported) in
-      let found' : Finds token name definition (no_call next) step p q = subst (λ (x : Sought). Finds token name definition x step p q) is found in
+      let found' : Finds read name definition (no_call next) step p q = subst (λ (x : Sought). Finds read name definition x step p q) is found in
       rw (found'.0, found'.1) (
         holding (outcome_of_step next) h.0,
-        emitting.name_alone (given.Token token) (outcome_of_step next) (given.Token token) m e f h.0
+        emitting.name_alone (given.Token read) (outcome_of_step next) (given.Token read) m e f h.0
             (holding (outcome_of_step next) h.0) takes opens function
             (calls.alone (outcome_of_step next) f h.0 (calls.no_call (outcome_of_step next)) h.1 (no_paren next none) refl) refl refl,
         h.2,
       )
-  seek_leads token name definition c step n p q s t e f takes stands opens function
+  seek_leads read name definition c step n p q s t e f takes stands opens function
       (called next paren n1 between p1 s1 u t1 g c1 taken_next at gathers is) found =
       let first = some_paren next paren at in
       let h = SearchSimulates.token_stands I StandsR hidden simulates shows hides first.0 n between s u f stands
       (subst (λ (x : Step Read). TakesNext n s x between u) first.1 taken_next) in
-      call_leads token name definition first.0 paren step p q t e f h.0 g takes opens function h.1 first.2
+      call_leads read name definition first.0 paren step p q t e f h.0 g takes opens function h.1 first.2
       (gather_simulates I StandsR hidden simulates shows hides 0 paren between p u t g h.0 h.2 gathers)
-      (subst (λ (x : Sought). Finds token name definition x step p q) is found)
+      (subst (λ (x : Sought). Finds read name definition x step p q) is found)
 
-  object_leads : (token : Read) (name : Name) (definition : Definition) (n p : Machine) (s : Reader) (e f : Expander R)
-      → Takes I e (given.Token token) f → StandsIn I StandsR hidden n s f → n.held ≡ None
-      → opening I f (given.Token token) ≡ Some (record { token = token.token; name = name; definition = definition }) → definition.function_like ≡ false
-      → p ≡ record n { frames = layer name token.token.location.line definition [] ∷ n.frames } → LeadsTo (Err Continue) e p s
-  object_leads token name definition n p s e f takes stands free opens plain is =
-      let m : Opening = record { token = token.token; name = name; definition = definition } in
+  object_leads : (read : Read) (name : Name) (definition : Definition) (n p : Machine) (s : Reader) (e f : Expander R)
+      → Takes I e (given.Token read) f → StandsIn I StandsR hidden n s f → n.held ≡ None
+      → opening I f (given.Token read) ≡ Some (record { token = read.token; name = name; definition = definition }) → definition.function_like ≡ false
+      → p ≡ record n { frames = layer name read.token.location.line definition [] ∷ n.frames } → LeadsTo (Err Continue) e p s
+  object_leads read name definition n p s e f takes stands free opens plain is =
+      let m : Opening = record { token = read.token; name = name; definition = definition } in
       rw is (
-        opened m token.token.location.line [] f,
-        record { holds = stands.holds; list = ap (spliced name definition token.token.location.line []) stands.list; reader = stands.reader; names = stands.names },
-        λ o g emits. emitting.object (given.Token token) o m e f g takes opens plain emits,
+        opened m read.token.location.line [] f,
+        record {
+          holds = stands.holds;
+          list = ap (spliced name definition read.token.location.line []) stands.list;
+          reader = stands.reader;
+          names = stands.names;
+        },
+        λ o g emits. emitting.object (given.Token read) o m e f g takes opens plain emits,
       )
 
-  as_opens : (n : Machine) (s : Reader) (f : Expander R) (token : Read) (m : Option (Name × Definition)) → StandsIn I StandsR hidden n s f
-      → StandsR s f.reader → opens s token ≡ m → opening I f (given.Token token) ≡ as_opening token.token m
-  as_opens n s f token m stands reader is = opens_same n s f token stands.list stands.names reader ∙ ap (as_opening token.token) is
+  as_opens : (s : Reader) (f : Expander R) (read : Read) (m : Option (Name × Definition)) → StandsR s f.reader → opens s read ≡ m
+      → opening I f (given.Token read) ≡ as_opening read.token m
+  as_opens s f read m reader is = opens_same s f read reader ∙ ap (as_opening read.token) is
 
   exit_reported : (exit : StepExit) → wants_taken (Err exit) ≡ false → wants_memory {T = Read} (Err exit) ≡ false
   exit_reported (Error fault) h = h
@@ -197,13 +202,13 @@ module _ {R : Type 0} (I : Reading R) (StandsR : Reader → R → Type 0) (hidde
       → wants_taken step ≡ false → LeadsTo step e n s
   turn_leads m n r s step e stands (passes exit step1 m1 n1 r1 s1 steps is) reported =
       rw is (exit_leads exit m n r s e stands steps (exit_reported exit (rw is at reported)))
-  turn_leads m n r s step e stands (gives token step1 m1 n1 r1 s1 steps none is) reported =
-      let h = token_stands m n r s token e stands steps in
-      rw is (h.0, emitting.itself (given.Token token) e h.0 h.1 (as_opens n s h.0 token None h.2 h.3 none), h.2)
-  turn_leads m p r s step e stands (object token name definition step1 m1 n p1 r1 s1 steps some plain is at) reported =
-      let h = token_stands m n r s token e stands steps in
-      rw is (object_leads token name definition n p s e h.0 h.1 h.2 (step_frees I StandsR hidden simulates shows hides m n r s (Ok token) steps)
-      (as_opens n s h.0 token (Some (name, definition)) h.2 h.3 some) plain at)
-  turn_leads m q r t step e stands (seeks token name definition c step1 m1 n p q1 r1 s t1 steps some function sought found) reported =
-      let h = token_stands m n r s token e stands steps in
-      seek_leads token name definition c step n p q s t e h.0 h.1 h.2 (as_opens n s h.0 token (Some (name, definition)) h.2 h.3 some) function sought found
+  turn_leads m n r s step e stands (gives read step1 m1 n1 r1 s1 steps none is) reported =
+      let h = token_stands m n r s read e stands steps in
+      rw is (h.0, emitting.itself (given.Token read) e h.0 h.1 (as_opens s h.0 read None h.3 none), h.2)
+  turn_leads m p r s step e stands (object read name definition step1 m1 n p1 r1 s1 steps some plain is at) reported =
+      let h = token_stands m n r s read e stands steps in
+      rw is (object_leads read name definition n p s e h.0 h.1 h.2 (step_frees I StandsR hidden simulates shows hides m n r s (Ok read) steps)
+      (as_opens s h.0 read (Some (name, definition)) h.3 some) plain at)
+  turn_leads m q r t step e stands (seeks read name definition c step1 m1 n p q1 r1 s t1 steps some function sought found) reported =
+      let h = token_stands m n r s read e stands steps in
+      seek_leads read name definition c step n p q s t e h.0 h.1 h.2 (as_opens s h.0 read (Some (name, definition)) h.3 some) function sought found

@@ -56,17 +56,17 @@ found_named n s x name definition (Some k) apart f is =
     let meaning : k ≡ definition = ap (λ (p : Name × Definition). p.1) pair in
     record { apart = apart; defined = visible_defined s name definition (rw (same, meaning) at f) }
 
-pub opens_found : (n : Machine) (s : Reader) (token : Read) (name : Name) (definition : Definition) → is_in name (names_of n.frames) ≡ false
-    → opens s token ≡ Some (name, definition) → IsFound n s (name, definition)
-opens_found n s token name definition apart is = by_paint token.painted is
+opens_found : (n : Machine) (s : Reader) (read : Read) (name : Name) (definition : Definition) → is_in name (names_of n.frames) ≡ false
+    → opens s read ≡ Some (name, definition) → IsFound n s (name, definition)
+opens_found n s read name definition apart is = by_paint read.painted is
   where
     go : (value : TokenValue) → opens_value s value ≡ Some (name, definition) → IsFound n s (name, definition)
     go (Ident x) e = found_named n s x name definition (visible s x) apart refl e
     go _ e = cc
 
-    by_paint : (painted : Bool) → (if painted then None else opens_value s token.token.value) ≡ Some (name, definition) → IsFound n s (name, definition)
+    by_paint : (painted : Bool) → (if painted then None else opens_value s read.token.value) ≡ Some (name, definition) → IsFound n s (name, definition)
     by_paint true e = cc
-    by_paint false e = go token.token.value e
+    by_paint false e = go read.token.value e
 
 bodies_least : (s : Reader) → body_tokens (definitions_of s) ≤ most_bodies s
 bodies_least (of_source source) = omega arith
@@ -137,10 +137,10 @@ module _ (levels : ℕ) (m : Machine) (r : Reader) (sound : IsSound m r) where
     free : n.held ≡ None
     kept : IsSound n s
 
-  token_taken : (token : Read) (n : Machine) (s : Reader) → StepsTaking m r (Ok token) n s → IsTokenTaken n s
-  token_taken token n s steps =
-      let h = step_spends (frame_of levels r) (most_open r) rises (Ok token) m n r s steps refl in
-      record { room = h.spends; tight = h.tightens; free = h.free; kept = step_sound None (Ok token) m n r s steps refl sound }
+  token_taken : (read : Read) (n : Machine) (s : Reader) → StepsTaking m r (Ok read) n s → IsTokenTaken n s
+  token_taken read n s steps =
+      let h = step_spends (frame_of levels r) (most_open r) rises (Ok read) m n r s steps refl in
+      record { room = h.spends; tight = h.tightens; free = h.free; kept = step_sound None (Ok read) m n r s steps refl sound }
 
   token_falls : (n : Machine) (s : Reader) → IsTokenTaken n s → Falls (frame_of levels r) (most_open r) (regions m r) (regions n s)
   token_falls n s h = no_more_falls (frame_of levels r) (most_open r) rises (regions m r) (one_more (regions n s)) (regions n s) h.room
@@ -161,30 +161,30 @@ module _ (levels : ℕ) (m : Machine) (r : Reader) (sound : IsSound m r) where
       }
 
   -- what is sought after a name
-  seek_falls : (token : Read) (name : Name) (definition : Definition) (c : Sought) (step : Step Taken) (n p q : Machine) (s t : Reader)
-      → IsTokenTaken n s → IsFound n s (name, definition) → Seeks n s c p t → Finds token name definition c step p q → FallsBy levels m r step q t
-  seek_falls token name definition c step n p q s t h found (alone next n1 p1 s1 t1 c1 taken_next none reported is) finds =
+  seek_falls : (read : Read) (name : Name) (definition : Definition) (c : Sought) (step : Step Taken) (n p q : Machine) (s t : Reader)
+      → IsTokenTaken n s → IsFound n s (name, definition) → Seeks n s c p t → Finds read name definition c step p q → FallsBy levels m r step q t
+  seek_falls read name definition c step n p q s t h found (alone next n1 p1 s1 t1 c1 taken_next none reported is) finds =
       let quiet : wants_memory next ≡ false = not_refused next reported in
       let k = next_spends (frame_of levels r) (most_open r) rises next n p s t taken_next quiet in
-      let found' : Finds token name definition (no_call next) step p q = subst (λ (x : Sought). Finds token name definition x step p q) is finds in
+      let found' : Finds read name definition (no_call next) step p q = subst (λ (x : Sought). Finds read name definition x step p q) is finds in
       let kept : IsSound p t = next_sound None next n p s t taken_next quiet h.kept in
       rw (found'.0, found'.1) (less_by (record p { held = Some next }) t (tightens_then r s t h.tight k.tightens)
       (falls_no_more (frame_of levels r) (most_open r) rises (regions m r) (regions n s) (regions (record p { held = Some next }) t)
       (token_falls n s h) k.spends) kept)
     where
       not_refused : (next : Step Read) → is_refusal next ≡ false → wants_memory next ≡ false
-      not_refused (Ok token) h = refl
+      not_refused (Ok read) h = refl
       not_refused (Err Continue) h = refl
       not_refused (Err Finished) h = refl
       not_refused (Err (Error fault)) h = h
-  seek_falls token name definition c step n p q s t h found (called next paren n1 between p1 s1 u t1 g c1 taken_next at gathers is) finds =
-      go g gathers (subst (λ (x : Sought). Finds token name definition x step p q) is finds)
+  seek_falls read name definition c step n p q s t h found (called next paren n1 between p1 s1 u t1 g c1 taken_next at gathers is) finds =
+      go g gathers (subst (λ (x : Sought). Finds read name definition x step p q) is finds)
     where
       first : (next : Step Read) → paren_of next ≡ Some paren → wants_memory next ≡ false
-      first (Ok token) e = refl
+      first (Ok read) e = refl
       first (Err exit) e = cc
 
-      go : (g : Result Gathered Fault) → GathersNext 0 paren between u g p t → Finds token name definition (sought_by paren g) step p q
+      go : (g : Result Gathered Fault) → GathersNext 0 paren between u g p t → Finds read name definition (sought_by paren g) step p q
           → FallsBy levels m r step q t
       go (Err fault) gathers finds =
           let k = next_left (frame_of levels r) (most_open r) rises next n between s u taken_next (first next at) in
@@ -219,16 +219,22 @@ module _ (levels : ℕ) (m : Machine) (r : Reader) (sound : IsSound m r) where
   exit_reported Continue h = refl
   exit_reported Finished h = refl
 
+  taken_found : (read : Read) (name : Name) (definition : Definition) (n : Machine) (s : Reader) → StepsTaking m r (Ok read) n s
+      → opens s read ≡ Some (name, definition) → IsFound n s (name, definition)
+  taken_found read name definition n s steps some = opens_found n s read name definition (opens_apart m n r s read name definition steps some) some
+
   -- each turn lowers what is left; after a call there is room for its frame
   pub turn_falls : (step : Step Taken) (n : Machine) (s : Reader) → TurnsTo m r step n s → wants_taken step ≡ false → FallsBy levels m r step n s
   turn_falls step n s (passes exit step1 m1 n1 r1 s1 steps is) reported = rw is (exit_falls exit n s steps (exit_reported exit (rw is at reported)))
-  turn_falls step n s (gives token step1 m1 n1 r1 s1 steps none is) reported =
-      let h = token_taken token n s steps in
+  turn_falls step n s (gives read step1 m1 n1 r1 s1 steps none is) reported =
+      let h = token_taken read n s steps in
       rw is (less_by n s h.tight (token_falls n s h) h.kept)
-  turn_falls step p s (object token name definition step1 m1 n p1 r1 s1 steps some plain is at) reported =
-      rw (is, at) (object_falls name token.token.location.line definition n s (token_taken token n s steps) (opens_found n s token name definition (opens_apart m n r s token name definition steps some) some))
-  turn_falls step q t (seeks token name definition c step1 m1 n p q1 r1 s t1 steps some function sought found) reported =
-      seek_falls token name definition c step n p q s t (token_taken token n s steps) (opens_found n s token name definition (opens_apart m n r s token name definition steps some) some) sought found
+  turn_falls step p s (object read name definition step1 m1 n p1 r1 s1 steps some plain is at) reported =
+      rw (is, at) (object_falls name read.token.location.line definition n s (token_taken read n s steps)
+      (taken_found read name definition n s steps some))
+  turn_falls step q t (seeks read name definition c step1 m1 n p q1 r1 s t1 steps some function sought found) reported =
+      seek_falls read name definition c step n p q s t (token_taken read n s steps) (taken_found read name definition n s steps some)
+      sought found
 
 -- the frame of a call that is pending opens, and less is left than before the turn that began the call
 pub pending_opens : (levels : ℕ) (m : Machine) (r : Reader) (c : PendingCall) (n : Machine) (s : Reader) (arguments : List (List Read))

@@ -28,6 +28,7 @@ use Rattle.pp_expansion.proofs.work.IterateLemmas.{IsLevel, iterate_more, iterat
 use Rattle.pp_expansion.proofs.work.ReachLemmas.{grown_up, grown_some, grown_steep, through_steep}
 use Rattle.pp_expansion.proofs.work.IterateLemmas.{steep_is_level}
 use Rattle.pp_expansion.proofs.work.ShrinkLemmas.{Shrinks, source_shrinks}
+use Rattle.pp_expansion.proofs.open_frames.ReportedLemmas.{taken_reported, painted_reported}
 
 -- one step more is one more of all
 pub total_one_more : (regions : List ℕ) → total (one_more regions) ≡ suc (total regions)
@@ -49,7 +50,7 @@ abbrev pub Spends : (ℕ → ℕ) → ℕ → Step Read → List ℕ → List �
 Spends frame names (Err Continue) before after = Falls frame names before after
 Spends frame names (Err Finished) before after = after ≡ before
 Spends frame names (Err (Error fault)) before after = IsNoMore frame names before (one_more after)
-Spends frame names (Ok token) before after = IsNoMore frame names before (one_more after)
+Spends frame names (Ok read) before after = IsNoMore frame names before (one_more after)
 
 -- the reader's limits become no wider
 pub record Tightens (r s : Reader) : Type 0 where
@@ -103,7 +104,8 @@ pub record IsRead (step : Step Read) (r s : Reader) : Type 0 where
   pub spends : ReadSpends step r s
   pub tightens : Tightens r s
 
-source_read : (step : Step Token) (old new : Source) → StepsSource old step new → wants_memory step ≡ false → IsRead (unpainted_step step) (of_source old) (of_source new)
+source_read : (step : Step Token) (old new : Source) → StepsSource old step new → wants_memory step ≡ false
+    → IsRead (unpainted_step step) (of_source old) (of_source new)
 source_read (Ok token) old new h reported = let k = source_shrinks old new (Ok token) h refl in record {
   spends = k.shorter;
   tightens = shrinks_tightens old new k;
@@ -121,7 +123,7 @@ list_read : (tokens : List Read) (step : Step Read) (old new : Listing) → old.
 list_read [] step old new e is at =
     let same : new ≡ old = at ∙ ap (λ (t : List Read). record old { tokens = t }) (sym e) in
     rw (is, same) (record { spends = refl; tightens = tightens_not (of_list old) })
-list_read (token ∷ tokens) step old new e is at =
+list_read (read ∷ tokens) step old new e is at =
     let less : length new.tokens < length old.tokens = omega (arith, ap (λ (l : Listing). length l.tokens) at, ap length e) in
     let same : new.definitions ≡ old.definitions = ap (λ (l : Listing). l.definitions) at in
     rw is (record { spends = less; tightens = record { names = omega (arith, ap length same); bodies = omega (arith, ap body_tokens same) } })
@@ -185,7 +187,7 @@ module _ (frame : ℕ → ℕ) (names : ℕ) (level : IsLevel frame) where
 
   room_spends : (step : Step Read) (before after : List ℕ) → IsNoMore frame names before (one_more after) → is_end step ≡ false
       → Spends frame names step before after
-  room_spends (Ok token) before after h goes = h
+  room_spends (Ok read) before after h goes = h
   room_spends (Err Continue) before after h goes = no_more_falls before (one_more after) after h (one_more_falls after)
   room_spends (Err Finished) before after h goes = cc
   room_spends (Err (Error fault)) before after h goes = h
@@ -200,10 +202,10 @@ module _ (frame : ℕ → ℕ) (names : ℕ) (level : IsLevel frame) where
     where
       pause_goes : (o : Option Read) → is_end (as_pause o) ≡ false
       pause_goes None = refl
-      pause_goes (Some token) = refl
+      pause_goes (Some read) = refl
 
   read_spends : (step : Step Read) (r s : Reader) → ReadSpends step r s → Spends frame names step (reads_left r ∷ []) (reads_left s ∷ [])
-  read_spends (Ok token) r s h = less_here (reads_left r) (reads_left s) [] h
+  read_spends (Ok read) r s h = less_here (reads_left r) (reads_left s) [] h
   read_spends (Err Continue) r s h = room_spends (Err Continue) (reads_left r ∷ []) (reads_left s ∷ []) (less_here (reads_left r) (reads_left s) [] h) refl
   read_spends (Err Finished) r s h = ap (λ t. reads_left t ∷ []) h
   read_spends (Err (Error fault)) r s h = less_here (reads_left r) (reads_left s) [] h
@@ -223,17 +225,17 @@ module _ (frame : ℕ → ℕ) (names : ℕ) (level : IsLevel frame) where
 
   taken_spends : (move : Step Read) (fs : List Layer) (r : Reader) (before after : List ℕ) → Spends frame names move before after
       → Spends frame names (taken_as move fs r) before after
-  taken_spends (Ok token) fs r before after h = go (is_identifier line_name token.token.value) (shown_line r
-      (unwrap_or (outermost_frame_line fs) token.token.location.line))
+  taken_spends (Ok read) fs r before after h = go (is_identifier line_name read.token.value) (shown_line r
+      (unwrap_or (outermost_frame_line fs) read.token.location.line))
     where
-      go : (b : Bool) (o : Option ℕ) → Spends frame names (step_of_outcome (if b then line_number token.token.location o else given.Token token)) before after
+      go : (b : Bool) (o : Option ℕ) → Spends frame names (step_of_outcome (if b then line_number read.token.location o else given.Token read)) before after
       go true (Some n) = h
       go true None = h
       go false o = h
   taken_spends (Err exit) fs r before after h = h
 
   held_spends : (step : Step Read) (before : List ℕ) → Spends frame names step (holding_step (Some step) before) before
-  held_spends (Ok token) before = no_more (one_more before)
+  held_spends (Ok read) before = no_more (one_more before)
   held_spends (Err Continue) before = one_more_falls before
   held_spends (Err Finished) before = refl
   held_spends (Err (Error fault)) before = no_more (one_more before)
@@ -247,35 +249,27 @@ module _ (frame : ℕ → ℕ) (names : ℕ) (level : IsLevel frame) where
   fetch_spends step m n r s (held step1 m1 n1 r1 s1 is at same) reported =
       rw (is, at, same) (record { spends = held_spends step (regions_of m.frames (reads_left r)); tightens = tightens_not r; free = refl })
   fetch_spends step m n r s (moved move step1 m1 n1 r1 s1 free moves is none) reported =
-      let quiet : wants_memory move ≡ false = taken_quiet move n.frames s (rw is at reported) in
+      let quiet : wants_memory move ≡ false = taken_reported move n.frames s (rw is at reported) in
       let h = moves_spend move m.frames n.frames r s moves quiet in
       let spends = taken_spends move n.frames s (regions_of m.frames (reads_left r)) (regions_of n.frames (reads_left s)) h.spends in
       record { spends = rw (is, free, none) spends; tightens = h.tightens; free = none }
-    where
-      taken_quiet : (move : Step Read) (fs : List Layer) (r : Reader) → wants_memory (taken_as move fs r) ≡ false → wants_memory move ≡ false
-      taken_quiet (Ok token) fs r h = refl
-      taken_quiet (Err exit) fs r h = h
 
   -- paint costs nothing
   painted_spends : (names_open : List Name) (first : Step Read) (before after : List ℕ) → Spends frame names first before after
       → Spends frame names (painted_step names_open first) before after
-  painted_spends names_open (Ok token) before after h = h
+  painted_spends names_open (Ok read) before after h = h
   painted_spends names_open (Err Continue) before after h = h
   painted_spends names_open (Err Finished) before after h = h
   painted_spends names_open (Err (Error fault)) before after h = h
 
   pub step_spends : (step : Step Read) (m n : Machine) (r s : Reader) → StepsTaking m r step n s → wants_memory step ≡ false → IsTaken step m n r s
   step_spends step m n r s steps reported =
-      let h = fetch_spends steps.first m n r s steps.fetches (painted_quiet (masks n.frames s) steps.first (rw steps.paints at reported)) in
+      let h = fetch_spends steps.first m n r s steps.fetches (painted_reported (masks n.frames s) steps.first (rw steps.paints at reported)) in
       record {
         spends = rw steps.paints (painted_spends (masks n.frames s) steps.first (regions m r) (regions n s) h.spends);
         tightens = h.tightens;
         free = h.free;
       }
-    where
-      painted_quiet : (names_open : List Name) (first : Step Read) → wants_memory (painted_step names_open first) ≡ false → wants_memory first ≡ false
-      painted_quiet names_open (Ok token) h = refl
-      painted_quiet names_open (Err exit) h = h
 
   -- what was taken may be held
   pub record IsTakenOn (step : Step Read) (m n : Machine) (r s : Reader) : Type 0 where
@@ -285,7 +279,7 @@ module _ (frame : ℕ → ℕ) (names : ℕ) (level : IsLevel frame) where
 
   on_spends : (step : Step Read) (before after : List ℕ) → Spends frame names step before after → is_pause step ≡ false
       → IsNoMore frame names before (holding_step (Some step) after)
-  on_spends (Ok token) before after h goes = h
+  on_spends (Ok read) before after h goes = h
   on_spends (Err Continue) before after h goes = cc
   on_spends (Err Finished) before after h goes = rw h (no_more before)
   on_spends (Err (Error fault)) before after h goes = h
@@ -312,24 +306,24 @@ module _ (frame : ℕ → ℕ) (names : ℕ) (level : IsLevel frame) where
     pub tightens : Tightens r s
     pub free : n.held ≡ None
 
-  token_leaves : (token : Read) (m n : Machine) (r s : Reader) → TakesNext m r (Ok token) n s
-      → IsGathered (record { tokens = []; closing = token.token.location }) m n r s
-  token_leaves token m n r s next =
-      let h = next_spends (Ok token) m n r s next refl in
+  token_leaves : (read : Read) (m n : Machine) (r s : Reader) → TakesNext m r (Ok read) n s
+      → IsGathered (record { tokens = []; closing = read.token.location }) m n r s
+  token_leaves read m n r s next =
+      let h = next_spends (Ok read) m n r s next refl in
       let same : regions n s ≡ regions_of n.frames (reads_left s) = ap (λ o. holding_step o (regions_of n.frames (reads_left s))) h.free in
       let least : total (one_more (regions n s)) ≤ total (regions m r) = rw same (h.spends.least) in
       record { spends = rw same h.spends; least = omega (arith, least); tightens = h.tightens; free = h.free }
 
   pub gather_leaves : (l : ℕ) (last : Location) (m n : Machine) (r s : Reader) (o : Result Gathered Fault) → GathersNext l last m r o n s
       → IfOk o (λ g. IsGathered g m n r s)
-  gather_leaves l last m n r s o (closed l1 last1 token m1 n1 r1 s1 g next out is) = rw is (token_leaves token m n r s next)
-  gather_leaves l last m n r s o (inside l1 k last1 token m1 between n1 r1 s1 t1 rest g next in_call more is) =
-      let first = token_leaves token m between r s1 next in
-      let later = gather_leaves k token.token.location between n s1 s rest more in
+  gather_leaves l last m n r s o (closed l1 last1 read m1 n1 r1 s1 g next out is) = rw is (token_leaves read m n r s next)
+  gather_leaves l last m n r s o (inside l1 k last1 read m1 between n1 r1 s1 t1 rest g next in_call more is) =
+      let first = token_leaves read m between r s1 next in
+      let later = gather_leaves k read.token.location between n s1 s rest more in
       rw is (go rest later first)
     where
       go : (rest : Result Gathered Fault) → IfOk rest (λ g. IsGathered g between n s1 s)
-          → IsGathered (record { tokens = []; closing = token.token.location }) m between r s1 → IfOk (before token rest) (λ g. IsGathered g m n r s)
+          → IsGathered (record { tokens = []; closing = read.token.location }) m between r s1 → IfOk (before read rest) (λ g. IsGathered g m n r s)
       go (Err fault) h k = tt
       go (Ok g) h k = record {
         spends = no_more_then (regions m r) (regions between s1) (one_more (regions n s))
@@ -339,7 +333,7 @@ module _ (frame : ℕ → ℕ) (names : ℕ) (level : IsLevel frame) where
         tightens = tightens_then r s1 s k.tightens h.tightens;
         free = h.free;
       }
-  gather_leaves l last m n r s o (overfull l1 last1 token m1 n1 r1 s1 g next out is) = rw is tt
+  gather_leaves l last m n r s o (overfull l1 last1 read m1 n1 r1 s1 g next out is) = rw is tt
   gather_leaves l last m n r s o (ended l1 last1 m1 n1 r1 s1 g next is) = rw is tt
   gather_leaves l last m n r s o (failed l1 last1 fault m1 n1 r1 s1 g next reported is) = rw is tt
 
@@ -349,7 +343,7 @@ module _ (frame : ℕ → ℕ) (names : ℕ) (level : IsLevel frame) where
     pub tightens : Tightens r s
 
   holding_no_more : (step : Step Read) (xs : List ℕ) → IsNoMore frame names (holding_step (Some step) xs) xs
-  holding_no_more (Ok token) xs = falls_at_most (one_more xs) xs (one_more_falls xs)
+  holding_no_more (Ok read) xs = falls_at_most (one_more xs) xs (one_more_falls xs)
   holding_no_more (Err Continue) xs = falls_at_most (one_more xs) xs (one_more_falls xs)
   holding_no_more (Err Finished) xs = no_more xs
   holding_no_more (Err (Error fault)) xs = falls_at_most (one_more xs) xs (one_more_falls xs)
@@ -362,11 +356,11 @@ module _ (frame : ℕ → ℕ) (names : ℕ) (level : IsLevel frame) where
       record { spends = rw same (no_more_then (regions m r) (holding_step (Some step) xs) xs h.spends (holding_no_more step xs)); tightens = h.tightens }
 
   pub gather_left : (l : ℕ) (last : Location) (m n : Machine) (r s : Reader) (o : Result Gathered Fault) → GathersNext l last m r o n s → IsLeft m n r s
-  gather_left l last m n r s o (closed l1 last1 token m1 n1 r1 s1 g next out is) = next_left (Ok token) m n r s next refl
-  gather_left l last m n r s o (inside l1 k last1 token m1 between n1 r1 s1 t1 rest g next in_call more is) =
-      let h = next_left (Ok token) m between r s1 next refl in
-      let j = gather_left k token.token.location between n s1 s rest more in
+  gather_left l last m n r s o (closed l1 last1 read m1 n1 r1 s1 g next out is) = next_left (Ok read) m n r s next refl
+  gather_left l last m n r s o (inside l1 k last1 read m1 between n1 r1 s1 t1 rest g next in_call more is) =
+      let h = next_left (Ok read) m between r s1 next refl in
+      let j = gather_left k read.token.location between n s1 s rest more in
       record { spends = no_more_then (regions m r) (regions between s1) (regions n s) h.spends j.spends; tightens = tightens_then r s1 s h.tightens j.tightens }
-  gather_left l last m n r s o (overfull l1 last1 token m1 n1 r1 s1 g next out is) = next_left (Ok token) m n r s next refl
+  gather_left l last m n r s o (overfull l1 last1 read m1 n1 r1 s1 g next out is) = next_left (Ok read) m n r s next refl
   gather_left l last m n r s o (ended l1 last1 m1 n1 r1 s1 g next is) = next_left (Err Finished) m n r s next refl
   gather_left l last m n r s o (failed l1 last1 fault m1 n1 r1 s1 g next reported is) = next_left (Err (Error fault)) m n r s next reported

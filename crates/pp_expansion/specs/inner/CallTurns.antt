@@ -42,30 +42,33 @@ sought_by paren (Err fault) = refused fault
 pub data Seeks : Machine → Reader → Sought → Machine → Reader → Type 0 where
   alone : (next : Step Read) (m n : Machine) (r s : Reader) (c : Sought) → TakesNext m r next n s → paren_of next ≡ None
       → is_refusal next ≡ false → c ≡ no_call next → Seeks m r c n s
-  called : (next : Step Read) (paren : Location) (m n p : Machine) (r s t : Reader) (g : Result Gathered Fault) (c : Sought)
-      → TakesNext m r next n s → paren_of next ≡ Some paren → GathersNext 0 paren n s g p t → c ≡ sought_by paren g → Seeks m r c p t
+  called : (next : Step Read) (paren : Location) (m n p : Machine) (r s t : Reader) (g : Result Gathered Fault)
+      (c : Sought) → TakesNext m r next n s → paren_of next ≡ Some paren → GathersNext 0 paren n s g p t
+      → c ≡ sought_by paren g → Seeks m r c p t
 
 -- what is sought after a name that was taken
 abbrev pub Finds : Read → Name → Definition → Sought → Step Taken → Machine → Machine → Type 0
-Finds token name definition (no_call next) step n p = (step ≡ Ok (taken.Token token)) × (p ≡ record n { held = Some next })
-Finds token name definition (refused fault) step n p = (step ≡ Err (Error fault)) × (p ≡ n)
-Finds token name definition (gathered paren g) step n p =
+Finds read name definition (no_call next) step n p =
+    (step ≡ Ok (taken.Token read)) × (p ≡ record n { held = Some next })
+Finds read name definition (refused fault) step n p = (step ≡ Err (Error fault)) × (p ≡ n)
+Finds read name definition (gathered paren g) step n p =
     (step ≡ Ok (taken.Call (record { name = name; definition = definition; paren = paren; closing = g.closing; tokens = g.tokens }))) × (p ≡ n)
 
 pub data TurnsTo : Machine → Reader → Step Taken → Machine → Reader → Type 0 where
   -- a pause, a fault or the end
   passes : (exit : StepExit) (step : Step Taken) (m n : Machine) (r s : Reader) → StepsTaking m r (Err exit) n s → step ≡ Err exit → TurnsTo m r step n s
   -- a token that opens no macro
-  gives : (token : Read) (step : Step Taken) (m n : Machine) (r s : Reader) → StepsTaking m r (Ok token) n s
-      → opens s token ≡ None → step ≡ Ok (taken.Token token) → TurnsTo m r step n s
+  gives : (read : Read) (step : Step Taken) (m n : Machine) (r s : Reader) → StepsTaking m r (Ok read) n s
+      → opens s read ≡ None → step ≡ Ok (taken.Token read) → TurnsTo m r step n s
   -- the name of an object-like macro
-  object : (token : Read) (name : Name) (definition : Definition) (step : Step Taken) (m n p : Machine) (r s : Reader)
-      → StepsTaking m r (Ok token) n s → opens s token ≡ Some (name, definition) → definition.function_like ≡ false
-      → step ≡ Err Continue → p ≡ record n { frames = layer name token.token.location.line definition [] ∷ n.frames } → TurnsTo m r step p s
+  object : (read : Read) (name : Name) (definition : Definition) (step : Step Taken) (m n p : Machine) (r s : Reader)
+      → StepsTaking m r (Ok read) n s → opens s read ≡ Some (name, definition) → definition.function_like ≡ false
+      → step ≡ Err Continue → p ≡ record n { frames = layer name read.token.location.line definition [] ∷ n.frames }
+      → TurnsTo m r step p s
   -- the name of a function-like macro
-  seeks : (token : Read) (name : Name) (definition : Definition) (c : Sought) (step : Step Taken) (m n p q : Machine) (r s t : Reader)
-      → StepsTaking m r (Ok token) n s → opens s token ≡ Some (name, definition) → definition.function_like ≡ true
-      → Seeks n s c p t → Finds token name definition c step p q → TurnsTo m r step q t
+  seeks : (read : Read) (name : Name) (definition : Definition) (c : Sought) (step : Step Taken) (m n p q : Machine)
+      (r s t : Reader) → StepsTaking m r (Ok read) n s → opens s read ≡ Some (name, definition)
+      → definition.function_like ≡ true → Seeks n s c p t → Finds read name definition c step p q → TurnsTo m r step q t
 
 -- a token that is given holds ordinary tokens; the tokens of a call are its own matter
 abbrev pub TakenHoldsOrdinary : Taken → Type 0

@@ -45,7 +45,8 @@ AreShort levels definitions arguments outs = (n : ℕ) → All (λ argument. len
     → All (λ out. length out ≤ most_alone levels definitions n) outs
 
 -- nothing is open or held, the list is an argument where these definitions and names stand, and it gave no item yet
-pub record IsAtStart (definitions : List Defined) (hidden : List Name) (m : Machine) (l : Listing) (items : List Read) : Type 0 where
+pub record IsAtStart (definitions : List Defined) (hidden : List Name) (m : Machine) (l : Listing) (items : List Read)
+    : Type 0 where
   pub idle : m ≡ record { held = None; frames = [] }
   pub argument : l ≡ record { tokens = l.tokens; definitions = definitions; hidden = hidden; is_line = false }
   pub empty : items ≡ []

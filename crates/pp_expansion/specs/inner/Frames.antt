@@ -52,7 +52,7 @@ advance_body f (token ∷ rest) = Some (body_token f token rest (parameter_of f.
 
 -- the next token of the argument that is being read is given; its end pauses
 abbrev pub advance_reading : Layer → Option (List Read) → Option Advance
-advance_reading f (Some (token ∷ rest)) = Some (record { gives = Some token; after = record f { reading = Some rest } })
+advance_reading f (Some (read ∷ rest)) = Some (record { gives = Some read; after = record f { reading = Some rest } })
 advance_reading f (Some []) = Some (record { gives = None; after = record f { reading = None } })
 advance_reading f None = advance_body f f.body
 

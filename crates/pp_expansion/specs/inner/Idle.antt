@@ -33,4 +33,5 @@ pub record IsHeld (word : Token) (source : Source) (old new : Machine) : Type 0 
 abbrev pub HoldsWord : Token → Source → Machine → Step (Unit {0}) → Machine → Type 0
 HoldsWord word source old (Ok done) new = IsHeld word source old new
 HoldsWord word source old (Err exit) new =
-    (exit ≡ Error (LineOverflow, word.location)) × (taken_in [] (of_source source) (unpainted word) ≡ given.Fault (LineOverflow, word.location)) × (new ≡ old)
+    (exit ≡ Error (LineOverflow, word.location))
+    × (taken_in [] (of_source source) (unpainted word) ≡ given.Fault (LineOverflow, word.location)) × (new ≡ old)

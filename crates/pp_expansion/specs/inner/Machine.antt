@@ -34,18 +34,19 @@ outcome_of_step (Err Continue) = given.End
 
 -- what a step of the frames or the reader is once it is taken
 abbrev pub taken_as : Step Read → List Layer → Reader → Step Read
-taken_as (Ok token) frames reader = step_of_outcome (taken_in frames reader token)
+taken_as (Ok read) frames reader = step_of_outcome (taken_in frames reader read)
 taken_as (Err exit) frames reader = Err exit
 
 abbrev pub is_pause : {T : Type 0} → Step T → Bool
 is_pause (Err Continue) = true
 is_pause (Err Finished) = false
 is_pause (Err (Error fault)) = false
-is_pause (Ok token) = false
+is_pause (Ok value) = false
 
 -- what comes first: what is held, or a step of the frames or the reader
 pub data StepsFetching : Machine → Reader → Step Read → Machine → Reader → Type 0 where
-  held : (step : Step Read) (m n : Machine) (r s : Reader) → m.held ≡ Some step → n ≡ record m { held = None } → s ≡ r → StepsFetching m r step n s
+  held : (step : Step Read) (m n : Machine) (r s : Reader) → m.held ≡ Some step → n ≡ record m { held = None } → s ≡ r
+      → StepsFetching m r step n s
   moved : (move step : Step Read) (m n : Machine) (r s : Reader) → m.held ≡ None → Moves m.frames r move n.frames s
       → step ≡ taken_as move n.frames s → n.held ≡ None → StepsFetching m r step n s
 
@@ -57,19 +58,24 @@ pub record StepsTaking (m : Machine) (r : Reader) (step : Step Read) (n : Machin
 
 -- what is taken next: the first step that is no pause
 pub data TakesNext : Machine → Reader → Step Read → Machine → Reader → Type 0 where
-  now : (step : Step Read) (m n : Machine) (r s : Reader) → StepsTaking m r step n s → is_pause step ≡ false → TakesNext m r step n s
-  later : (step : Step Read) (m n p : Machine) (r s t : Reader) → StepsTaking m r (Err Continue) n s → TakesNext n s step p t → TakesNext m r step p t
+  now : (step : Step Read) (m n : Machine) (r s : Reader) → StepsTaking m r step n s → is_pause step ≡ false
+      → TakesNext m r step n s
+  later : (step : Step Read) (m n p : Machine) (r s t : Reader) → StepsTaking m r (Err Continue) n s
+      → TakesNext n s step p t → TakesNext m r step p t
 
 -- the tokens that are taken up to the matching `)`, or the fault that is met before it
 pub data GathersNext : ℕ → Location → Machine → Reader → Result Gathered Fault → Machine → Reader → Type 0 where
-  closed : (k : ℕ) (last : Location) (token : Read) (m n : Machine) (r s : Reader) (g : Result Gathered Fault)
-      → TakesNext m r (Ok token) n s → nesting k token.token.value ≡ closes → g ≡ Ok (record { tokens = []; closing = token.token.location })
+  closed : (k : ℕ) (last : Location) (read : Read) (m n : Machine) (r s : Reader) (g : Result Gathered Fault)
+      → TakesNext m r (Ok read) n s → nesting k read.token.value ≡ closes
+      → g ≡ Ok (record { tokens = []; closing = read.token.location })
       → GathersNext k last m r g n s
-  inside : (k l : ℕ) (last : Location) (token : Read) (m n p : Machine) (r s t : Reader) (rest g : Result Gathered Fault)
-      → TakesNext m r (Ok token) n s → nesting k token.token.value ≡ within l → GathersNext l token.token.location n s rest p t → g ≡ before token rest
+  inside : (k l : ℕ) (last : Location) (read : Read) (m n p : Machine) (r s t : Reader) (rest g : Result Gathered Fault)
+      → TakesNext m r (Ok read) n s → nesting k read.token.value ≡ within l
+      → GathersNext l read.token.location n s rest p t → g ≡ before read rest
       → GathersNext k last m r g p t
-  overfull : (k : ℕ) (last : Location) (token : Read) (m n : Machine) (r s : Reader) (g : Result Gathered Fault)
-      → TakesNext m r (Ok token) n s → nesting k token.token.value ≡ too_many → g ≡ Err (IntegerOverflow, token.token.location) → GathersNext k last m r g n s
+  overfull : (k : ℕ) (last : Location) (read : Read) (m n : Machine) (r s : Reader) (g : Result Gathered Fault)
+      → TakesNext m r (Ok read) n s → nesting k read.token.value ≡ too_many
+      → g ≡ Err (IntegerOverflow, read.token.location) → GathersNext k last m r g n s
   ended : (k : ℕ) (last : Location) (m n : Machine) (r s : Reader) (g : Result Gathered Fault) → TakesNext m r (Err Finished) n s
       → g ≡ Err (UnexpectedEndOfInput, last) → GathersNext k last m r g n s
   failed : (k : ℕ) (last : Location) (fault : Fault) (m n : Machine) (r s : Reader) (g : Result Gathered Fault)

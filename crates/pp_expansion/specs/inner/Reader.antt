@@ -28,7 +28,7 @@ pub data Reader : Type 0 where
 
 abbrev pub listed_step : List Read → Step Read
 listed_step [] = Err Finished
-listed_step (token ∷ tokens) = Ok token
+listed_step (read ∷ tokens) = Ok read
 
 -- the next token, or the end, unless memory is refused
 abbrev pub StepsListed : Listing → Step Read → Listing → Type 0
@@ -65,7 +65,7 @@ abbrev pub shown_line : Reader → ℕ → Option ℕ
 shown_line (of_source source) line = as_line_number (pos line +ℤ source.line_offset)
 shown_line (of_list list) line = Some line
 
--- what is defined there, the hidden names too
+-- what is defined there, where a line is read `defined` too
 abbrev pub definitions_of : Reader → List Defined
 definitions_of (of_source source) = source.definitions
 definitions_of (of_list list) = list.definitions

@@ -30,12 +30,14 @@ FindsBy m r (Err (halt.Fault fault)) n s = Seeks m r (refused fault) n s
 FindsBy m r (Err halt.OutOfMemory) n s = ⊤
 
 -- a token opens its macro or begins its call, or is given
-pub data Enters (token : Read) (name : Name) (definition : Definition) : Machine → Reader → Step Taken → Machine → Reader → Type 0 where
+pub data Enters (read : Read) (name : Name) (definition : Definition) : Machine → Reader → Step Taken → Machine → Reader
+    → Type 0 where
   plain : (step : Step Taken) (m n : Machine) (r s : Reader) → definition.function_like ≡ false → step ≡ Err Continue
-      → n ≡ record m { frames = layer name token.token.location.line definition [] ∷ m.frames } → s ≡ r → Enters token name definition m r step n s
+      → n ≡ record m { frames = layer name read.token.location.line definition [] ∷ m.frames } → s ≡ r
+      → Enters read name definition m r step n s
   called : (c : Sought) (step : Step Taken) (m p n : Machine) (r s : Reader) → definition.function_like ≡ true → Seeks m r c p s
-      → Finds token name definition c step p n → Enters token name definition m r step n s
+      → Finds read name definition c step p n → Enters read name definition m r step n s
 
 abbrev pub FollowsToken : Option (Name × Definition) → Read → Machine → Reader → Step Taken → Machine → Reader → Type 0
-FollowsToken None token m r step n s = (step ≡ Ok (taken.Token token)) × (n ≡ m) × (s ≡ r)
-FollowsToken (Some (name, definition)) token m r step n s = Enters token name definition m r step n s
+FollowsToken None read m r step n s = (step ≡ Ok (taken.Token read)) × (n ≡ m) × (s ≡ r)
+FollowsToken (Some (name, definition)) read m r step n s = Enters read name definition m r step n s

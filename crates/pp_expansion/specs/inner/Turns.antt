@@ -17,7 +17,7 @@ use Rattle.pp_expansion.specs.inner.Reader.{Reader, Reads, visible, hidden_of, s
 use Rattle.pp_expansion.specs.declared.step.StepExit.TheVariants.{Error, Continue}
 
 abbrev pub as_pause : {T : Type 0} → Option T → Step T
-as_pause (Some token) = Ok token
+as_pause (Some value) = Ok value
 as_pause None = Err Continue
 
 -- the innermost frame steps; a frame at its end is closed, which frees its name, and pauses
@@ -39,7 +39,8 @@ Moves (f ∷ fs) old step after new = (new ≡ old)
 abbrev pub taken_in : List Layer → Reader → Read → Given
 taken_in frames reader read =
     if is_identifier line_name read.token.value
-    then line_number read.token.location (shown_line reader (unwrap_or (outermost_frame_line frames) read.token.location.line))
+    then line_number read.token.location
+        (shown_line reader (unwrap_or (outermost_frame_line frames) read.token.location.line))
     else given.Token read
 
 -- the names that are open here or around

@@ -28,7 +28,7 @@ expand_argument-returns-then-are_plain t c = record {
 pub expand_list-items-init : goal.expand_list-items-init
 expand_list-items-init t c = record {
   reached = reached_start _ _ _ _ _ _ _ c.requires.idle c.requires.argument c.requires.empty;
-  holds = rw c.requires.empty (All-nil (λ (t : Read). HoldsOrdinary t.token.value));
+  holds = rw c.requires.empty (All-nil (λ (read : Read). HoldsOrdinary read.token.value));
 }
 
 pub expand_list-items-smaller-in-Continue-1 : goal.expand_list-items-smaller-in-Continue-1
@@ -41,7 +41,7 @@ expand_list-items-preserved-in-Continue-1 t c = record {
       reached_token _ _ _ _ _ _ _ c.items.invariant.reached _ _ c.in-Ok-Token.read _
       (turned _ _ _ _ _ (rw c.in-Ok-Token.field-0-is at c.in-Ok-Token.ensures.turns) refl) c.in_ok-push-in-Ok-Token.ensures.items;
   holds =
-      rw c.in_ok-push-in-Ok-Token.ensures.items (All-push (λ (t : Read). HoldsOrdinary t.token.value) _ _ c.items.invariant.holds
+      rw c.in_ok-push-in-Ok-Token.ensures.items (All-push (λ (read : Read). HoldsOrdinary read.token.value) _ _ c.items.invariant.holds
       (rw c.in-Ok-Token.field-0-is at c.in-Ok-Token.ensures.holds));
 }
 

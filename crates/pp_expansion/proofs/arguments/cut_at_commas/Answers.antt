@@ -16,8 +16,8 @@ loop-read-preserved-then-ends_argument c =
           ∙ ap (λ (piece : List Read). c.loop-read.pieces.items ++ piece ∷ []) (rw c.replace.ensures.value at c.new-then-ends_argument.ensures))
           (rw c.replace.ensures.after c.new.ensures.items);
       few = piece_ended _ _ c.in-Some.read c.loop-read.depth _ c.loop-read.invariant.few is;
-      holds = rw (c.replace.ensures.after, c.new.ensures.items) (All-nil (λ (t : Read). HoldsOrdinary t.token.value));
-      left = All-tail (λ (t : Read). HoldsOrdinary t.token.value) c.in-Some.read _ (rw is at c.loop-read.invariant.left);
+      holds = rw (c.replace.ensures.after, c.new.ensures.items) (All-nil (λ (read : Read). HoldsOrdinary read.token.value));
+      left = All-tail (λ (read : Read). HoldsOrdinary read.token.value) c.in-Some.read _ (rw is at c.loop-read.invariant.left);
     }
 
 pub loop-read-preserved : goal.loop-read-preserved
@@ -28,7 +28,7 @@ loop-read-preserved c =
       cut = grows_piece _ _ _ c.in-Some.read c.loop-read.depth c.nesting_after-depth.result _ _ _ c.loop-read.invariant.cut is
           (sym c.ends_argument.ensures ∙ c.if-ends_argument.false) c.nesting_after-depth.ensures c.in_ok-push-2.ensures.items;
       few = piece_within _ _ c.in-Some.read c.loop-read.depth c.nesting_after-depth.result _ c.loop-read.invariant.few is c.nesting_after-depth.ensures;
-      holds = rw c.in_ok-push-2.ensures.items (All-push (λ (t : Read). HoldsOrdinary t.token.value) _ _ c.loop-read.invariant.holds
-          (All-head (λ (t : Read). HoldsOrdinary t.token.value) c.in-Some.read _ all));
-      left = All-tail (λ (t : Read). HoldsOrdinary t.token.value) c.in-Some.read _ all;
+      holds = rw c.in_ok-push-2.ensures.items (All-push (λ (read : Read). HoldsOrdinary read.token.value) _ _ c.loop-read.invariant.holds
+          (All-head (λ (read : Read). HoldsOrdinary read.token.value) c.in-Some.read _ all));
+      left = All-tail (λ (read : Read). HoldsOrdinary read.token.value) c.in-Some.read _ all;
     }

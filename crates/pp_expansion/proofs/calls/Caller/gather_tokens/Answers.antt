@@ -48,5 +48,5 @@ tokens-preserved g c =
       goes_on = gathers_more _ _ _ _ _ _ _ _ c.tokens.invariant.goes_on _ _ c.in-Ok.read _ _ c.in-Ok.ensures.takes c.in-Within.ensures
           (c.in_ok-push.ensures.items);
       holds = rw c.in_ok-push.ensures.items
-          (All-push (λ (t : Read). HoldsOrdinary t.token.value) _ _ c.tokens.invariant.holds c.in-Ok.ensures.holds);
+          (All-push (λ (read : Read). HoldsOrdinary read.token.value) _ _ c.tokens.invariant.holds c.in-Ok.ensures.holds);
     }

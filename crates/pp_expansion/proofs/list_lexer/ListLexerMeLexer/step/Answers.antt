@@ -18,7 +18,7 @@ pub returns-clause-reads : goal.returns-clause-reads
 returns-clause-reads c = lists_token _ _ _ c.in-Some.read _ c.self.view_is c.in-Some.ensures.items refl
 
 pub returns-clause-holds : goal.returns-clause-holds
-returns-clause-holds c = All-head (λ (t : Read). HoldsOrdinary t.token.value) c.in-Some.read _ (rw c.in-Some.ensures.items at c.self.invariant)
+returns-clause-holds c = All-head (λ (read : Read). HoldsOrdinary read.token.value) c.in-Some.read _ (rw c.in-Some.ensures.items at c.self.invariant)
 
 pub invariant_of-self-2 : goal.invariant_of-self-2
-invariant_of-self-2 c = All-tail (λ (t : Read). HoldsOrdinary t.token.value) c.in-Some.read _ (rw c.in-Some.ensures.items at c.self.invariant)
+invariant_of-self-2 c = All-tail (λ (read : Read). HoldsOrdinary read.token.value) c.in-Some.read _ (rw c.in-Some.ensures.items at c.self.invariant)
