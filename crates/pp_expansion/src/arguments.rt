@@ -203,8 +203,8 @@ fn expand_arguments(
     Ok(ExpandedArguments::new(expanded))
 }
 
-// Whether the token gives itself, with its paint: it isn't `__LINE__`, and is painted or a name that
-// is neither defined nor open around.
+// Whether the token gives itself, with its paint: it isn't `__LINE__`, and is painted, or no name
+// that is defined or open around.
 fn is_plain(read: &Read, definitions: &Definitions, hidden: &OpenAround<'_>) -> bool
     ensures { result ≡ is_plain definitions.now hidden.now read.now }
 {

@@ -3,6 +3,7 @@
 ghost use Rattle.std.specs.Prelude.{◌≡◌, ◌⊎◌, ◌∷◌, ◌++◌, [], OnOk, true, false, IfOk, IfSome, Ok, Err, Some, None, IsSome, is_some, option_map};
 ghost use Rattle.pp_lexer.specs.PreprocessorError.{out_of_memory};
 ghost use Rattle.pp_model.specs.Calls.{is_left_paren, is_right_paren, nesting};
+ghost use Rattle.pp_model.specs.Painting.{unpainted};
 ghost use Rattle.pp_expansion.specs.inner.CallNesting.{nesting_named};
 ghost use Rattle.pp_expansion.specs.inner.Seeking.{FindsBy, Enters, FollowsToken};
 ghost use Rattle.pp_expansion.specs.inner.Frames.{layer, names_of, outermost_frame_line};
@@ -12,7 +13,6 @@ ghost use Rattle.pp_expansion.specs.inner.Idle.{is_idle};
 ghost use Rattle.pp_expansion.specs.inner.CallTurns.{TurnsOrRefuses, is_refusal, paren_of, TakenHoldsOrdinary};
 ghost use Rattle.pp_expansion.specs.inner.Machine.{StepsFetching, StepsTaking, TakesNext, GathersNext, Satisfies, gathered_to, taken_as, is_pause};
 ghost use Rattle.pp_expansion.specs.inner.Turns.{opens};
-ghost use Rattle.pp_model.specs.Painting.{unpainted};
 ghost use Rattle.pp_lexer.specs.declared.token.TokenValue.TheVariants as value;
 ghost use Rattle.pp_expansion.specs.declared.step.StepExit.TheVariants.{Error, Continue};
 

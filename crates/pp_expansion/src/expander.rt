@@ -6,7 +6,7 @@ ghost use Rattle.pp_lexer.specs.declared.token.PreprocessorError.TheVariants.{Li
 ghost use Rattle.pp_lexer.specs.declared.token.TokenValue.TheVariants as value;
 ghost use Rattle.pp_model.specs.Names.{is_in, is_identifier, line_name};
 ghost use Rattle.pp_model.specs.Painting.{is_one_of, painted_among};
-ghost use Rattle.pp_model.specs.declared.read.Taken.TheVariants as model;
+ghost use Rattle.pp_model.specs.declared.read.Taken.TheVariants as given;
 ghost use Rattle.pp_expansion.specs.inner.Frames.{layer, names_of, outermost_frame_line};
 ghost use Rattle.pp_expansion.specs.Held.{HoldsOrdinary};
 ghost use Rattle.pp_expansion.specs.inner.Ahead.{given_next, frames_after};
@@ -184,10 +184,10 @@ impl MacroProcessor {
     pub fn take_in(&self, lexer: &dyn MeLexer, read: Read) -> Step<Read>
         requires { HoldsOrdinary read.token.value }
         ensures taken { MatchResult result
-            (λ taken. taken_in self.now (reader lexer.now) read ≡ model.Token taken)
+            (λ taken. taken_in self.now (reader lexer.now) read ≡ given.Token taken)
             (λ exit. (exit ≡ Error (LineOverflow, read.token.location))
             × (taken_in self.now (reader lexer.now) read
-            ≡ model.Fault (LineOverflow, read.token.location))) }
+            ≡ given.Fault (LineOverflow, read.token.location))) }
         ensures holds { IfOk result (λ read. HoldsOrdinary read.token.value) }
     {
         if !is_line_name(&read.token.value) {

@@ -169,8 +169,8 @@ fn argument_token(arguments: &[ReadList], index: usize, position: usize) -> Opti
     })
 }
 
-/// A copy of a token.
-pub fn copy_of(alloc: Global, token: &Token) -> Result<Token, AllocError>
+// A copy of a token.
+fn copy_of(alloc: Global, token: &Token) -> Result<Token, AllocError>
     ensures { IfOk result (λ copy. copy ≡ token.now) }
 {
     Ok(Token {

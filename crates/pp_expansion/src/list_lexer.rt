@@ -3,9 +3,9 @@
 ghost use Rattle.std.specs.Prelude.{◌≡◌, ◌&&◌, false, true, map, IfOk};
 ghost use Rattle.std.specs.Str.{chars};
 ghost use Rattle.pp_model.specs.Names.{is_same_name, defined_name};
+ghost use Rattle.pp_model.specs.Painting.{unpainted};
 ghost use Rattle.pp_expansion.specs.inner.Reading.{AllReadOrdinary};
 ghost use Rattle.pp_expansion.specs.inner.Reader.{of_list};
-ghost use Rattle.pp_model.specs.Painting.{unpainted};
 
 use crate::define::Define;
 use crate::definitions::Definitions;

@@ -3,10 +3,10 @@
 ghost use Rattle.std.specs.Prelude.{◌≡◌, IfOk, option_map, ok_or};
 ghost use Rattle.std.specs.Str.{chars};
 ghost use Rattle.pp_lexer.specs.declared.token.PreprocessorError.TheVariants.{LineOverflow};
+ghost use Rattle.pp_model.specs.Names.{is_in};
 ghost use Rattle.pp_expansion.specs.Held.{HoldsOrdinary};
 ghost use Rattle.pp_expansion.specs.Item.{as_step};
 ghost use Rattle.pp_expansion.specs.inner.Reader.{Reader, Reads, visible, hidden_of, shown_line};
-ghost use Rattle.pp_model.specs.Names.{is_in};
 
 use crate::define::Define;
 use crate::step::Step;

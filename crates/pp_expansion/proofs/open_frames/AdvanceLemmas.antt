@@ -81,9 +81,3 @@ body_within (d ∷ ds) name definition e = go (is_same_name name d.name) refl (b
     go false other below =
         let there : meaning_of ds name ≡ Some definition = rw other at e in
         omega (arith, below there)
-
--- the steps of a macro as it opens
-pub opened_steps_least : (definitions : List Defined) (name : Name) (line : ℕ) (definition : Definition) → meaning_of definitions name ≡ Some definition
-    → steps_left (layer name line definition []) ≤ 2 * body_tokens definitions + 1
-opened_steps_least definitions name line definition e =
-    omega (arith, body_steps_least definition.parameters definition.body, body_within definitions name definition e)

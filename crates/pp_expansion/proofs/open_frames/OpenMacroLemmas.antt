@@ -94,13 +94,6 @@ names_kept fs f v n e some last named =
 names_number : (fs : List Layer) → length (names_of (reverse fs)) ≡ length fs
 names_number fs = length-map (reverse fs) (λ (f : Layer). f.name) ∙ length-reverse fs
 
--- a frame opens within them
-pub names_opened : (fs after : List Layer) (f : Layer) (name : Name) (n : ℕ) (old new : List Position) → after ≡ fs ++ f ∷ [] → name ≡ f.name → n ≡ length fs
-    → AreNamesOf old (names_of (reverse fs)) → IsOpenedAt name n old new → AreNamesOf new (names_of (reverse after))
-names_opened fs after f name n old new e named number are opens =
-    let counted : n ≡ length (names_of (reverse fs)) = number ∙ sym (names_number fs) in
-    rw (e, reverse-append fs (f ∷ []), ← named) (names_open name (names_of (reverse fs)) old new are (rw counted at opens))
-
 -- the last of them closes
 pub names_closed : (fs rest : List Layer) (f : Layer) (name : Name) (n : ℕ) (old new : List Position) → fs ≡ rest ++ f ∷ [] → name ≡ f.name → n ≡ length rest
     → AreNamesOf old (names_of (reverse fs)) → IsClosedAt name n old new → AreNamesOf new (names_of (reverse rest))

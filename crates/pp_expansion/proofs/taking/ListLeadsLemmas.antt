@@ -104,9 +104,6 @@ module _ (levels : ℕ) (definitions : List Defined) (hidden : List Name) (token
       let h = listed_leads false definitions hidden (answers_at levels) m n l k (Err Finished) r.state r.stands turns refl in
       rw (← after_items-end items) (r.goes_on (Ok []) (done r.state h.0 (Ok []) h.1 refl))
 
-  pub reached_short : length items ≤ most_alone levels definitions (length tokens)
-  reached_short = omega (arith, r.least)
-
   -- a fault
   pub reached_fault : (fault : Fault) → TurnsTo m (of_list l) (Err (Error fault)) n (of_list k) → is_out_of_memory fault.0 ≡ false
       → Alone levels tokens (meaning_of definitions) hidden (Err fault)

@@ -27,15 +27,6 @@ pub none_held : (o : Option (Step Read)) → is_some o ≡ false → o ≡ None
 none_held None e = refl
 none_held (Some step) e = cc
 
--- a step of the frames or the reader that gives no token
-pub fetches_exit : (m : Machine) (old new : Option (Step Read)) (frames after : List Layer) (move step : Step Read) (exit : StepExit) (r s : Reader)
-    → m ≡ record { held = old; frames = frames } → old ≡ None → new ≡ None
-    → Moves frames r move after s → move ≡ Err exit → step ≡ Err exit → StepsFetching m r step (record { held = new; frames = after }) s
-fetches_exit m old new frames after move step exit r s e f g moves is same =
-    moved (Err exit) step m (record { held = new; frames = after }) r s (ap (λ (k : Machine). k.held) e ∙ f)
-    (subst (λ (x : Step Read). Moves m.frames r x after s) is
-    (subst (λ (fs : List Layer). Moves fs r move after s) (sym (ap (λ (k : Machine). k.frames) e)) moves)) same g
-
 -- a step of the frames or the reader that gives no `__LINE__`
 pub fetches_step : (m : Machine) (old new : Option (Step Read)) (frames after : List Layer) (move : Step Read) (r s : Reader)
     → m ≡ record { held = old; frames = frames } → old ≡ None → new ≡ None
@@ -55,11 +46,6 @@ pub fetches_shown : (m : Machine) (old new : Option (Step Read)) (frames after :
 fetches_shown m old new frames after move step r s e f g moves is =
     moved move step m (record { held = new; frames = after }) r s (ap (λ (k : Machine). k.held) e ∙ f)
     (subst (λ (fs : List Layer). Moves fs r move after s) (sym (ap (λ (k : Machine). k.frames) e)) moves) is g
-
--- what comes first is painted, or gives no token
-pub takes_painted : (m n : Machine) (r s : Reader) (first step : Step Read) → StepsFetching m r first n s → step ≡ painted_step (masks n.frames s) first
-    → StepsTaking m r step n s
-takes_painted m n r s first step fetches is = record { first = first; fetches = fetches; paints = is }
 
 -- a token that is taken
 pub shows_token : (frames : List Layer) (reader : Reader) (read : Read) (step : Step Read)

@@ -1,13 +1,9 @@
--- Steps after which reading goes on, and those that want memory.
+-- Steps after which reading goes on.
 use Rattle.std.proofs.Common.{◌≡◌, ◌≢◌, Bool, true, false, not, ◌&&◌, refl, ap, Err}
 use Rattle.pp_lexer.specs.PreprocessorError.{out_of_memory}
 use Rattle.pp_expansion.specs.Item.{Step, wants_memory}
 use Rattle.pp_expansion.specs.inner.Work.{is_end, goes_on}
 use Rattle.pp_expansion.specs.declared.step.StepExit.TheVariants.{Error, Finished}
-
--- a refusal of memory asked for memory
-pub refused_wants : {T : Type 0} (step : Step T) → step ≡ Err (Error out_of_memory) → wants_memory step ≡ true
-refused_wants step e = ap wants_memory e
 
 -- a step after which reading goes on is not the end
 pub goes_on_not_end : {T : Type 0} (step : Step T) → goes_on step ≡ true → step ≢ Err Finished
@@ -16,13 +12,3 @@ goes_on_not_end step on end = let bad : goes_on step ≡ false = ap goes_on end 
 -- nor a refusal of memory
 pub goes_on_not_want : {T : Type 0} (step : Step T) → goes_on step ≡ true → step ≢ Err (Error out_of_memory)
 goes_on_not_want step on want = let bad : goes_on step ≡ false = ap goes_on want in absurd (cc)
-
--- and wants no memory
-pub goes_on_wants_nothing : {T : Type 0} (step : Step T) → goes_on step ≡ true → wants_memory step ≡ false
-goes_on_wants_nothing step on = go (is_end step) (wants_memory step) on
-  where
-    go : (a b : Bool) → (not a && not b) ≡ true → b ≡ false
-    go true true e = absurd (cc)
-    go true false e = refl
-    go false true e = absurd (cc)
-    go false false e = refl

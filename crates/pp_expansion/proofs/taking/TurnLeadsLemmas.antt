@@ -30,16 +30,12 @@ use Rattle.pp_expansion.specs.declared.calls.Taken.{Taken}
 use Rattle.pp_expansion.specs.declared.calls.Taken.TheVariants as taken
 use Rattle.pp_expansion.specs.declared.step.StepExit.{StepExit}
 use Rattle.pp_expansion.specs.declared.step.StepExit.TheVariants.{Error, Continue, Finished}
-use Rattle.pp_expansion.proofs.open_frames.FlatLemmas.{open_flat}
+pub use Rattle.pp_expansion.proofs.open_frames.ReportedLemmas.{wants_taken}
+use Rattle.pp_expansion.proofs.open_frames.ReportedLemmas.{exit_reported, not_refused}
 use Rattle.pp_expansion.proofs.taking.PauseLemmas.{pause_emits}
 use Rattle.pp_expansion.proofs.taking.TakingLemmas.{as_opening}
 use Rattle.pp_expansion.proofs.taking.SearchSimulates
 use Rattle.pp_expansion.proofs.taking.SearchSimulates.{step_frees, GathersTo, ReadsTo, StandsIn, StandsHeld, step_simulates, next_simulates, gather_simulates}
-
--- a turn that was refused memory
-abbrev pub wants_taken : Step Taken → Bool
-wants_taken (Err (Error fault)) = is_out_of_memory fault.0
-wants_taken _ = false
 
 module _ {R : Type 0} (I : Reading R) (StandsR : Reader → R → Type 0) (hidden : List Name)
     (simulates : (r s : Reader) (x : R) (step : Step Read) → StandsR r x → Reads r step s → wants_memory step ≡ false → ReadsTo I StandsR hidden step x s)
@@ -116,12 +112,6 @@ module _ {R : Type 0} (I : Reading R) (StandsR : Reader → R → Type 0) (hidde
   some_paren (Ok read) paren h = (read, refl, h)
   some_paren (Err exit) paren h = cc
 
-  not_refused : (next : Step Read) → is_refusal next ≡ false → wants_memory next ≡ false
-  not_refused (Ok read) h = refl
-  not_refused (Err Continue) h = refl
-  not_refused (Err Finished) h = refl
-  not_refused (Err (Error fault)) h = h
-
   -- a call that was gathered, or its fault
   call_leads : (read : Read) (name : Name) (definition : Definition) (first : Read) (paren : Location) (step : Step Taken)
       (p q : Machine) (t : Reader) (e f h : Expander R) (g : Result Gathered Fault) → Takes I e (given.Token read) f
@@ -191,11 +181,6 @@ module _ {R : Type 0} (I : Reading R) (StandsR : Reader → R → Type 0) (hidde
   as_opens : (s : Reader) (f : Expander R) (read : Read) (m : Option (Name × Definition)) → StandsR s f.reader → opens s read ≡ m
       → opening I f (given.Token read) ≡ as_opening read.token m
   as_opens s f read m reader is = opens_same s f read reader ∙ ap (as_opening read.token) is
-
-  exit_reported : (exit : StepExit) → wants_taken (Err exit) ≡ false → wants_memory {T = Read} (Err exit) ≡ false
-  exit_reported (Error fault) h = h
-  exit_reported Continue h = refl
-  exit_reported Finished h = refl
 
   -- One turn: a token, a fault or the end is the next item, a pause keeps it, and a call goes on by its answer.
   pub turn_leads : (m n : Machine) (r s : Reader) (step : Step Taken) (e : Expander R) → StandsIn I StandsR hidden m r e → TurnsTo m r step n s

@@ -23,16 +23,12 @@ use Rattle.pp_expansion.specs.declared.step.StepExit.{StepExit}
 use Rattle.pp_expansion.specs.declared.step.StepExit.TheVariants.{Error, Continue, Finished}
 use Rattle.pp_expansion.proofs.open_frames.AdvanceLemmas.{body_within}
 use Rattle.pp_expansion.proofs.open_frames.PaintLemmas.{opens_apart}
+use Rattle.pp_expansion.proofs.open_frames.ReportedLemmas.{wants_taken, exit_reported, not_refused}
 use Rattle.pp_expansion.proofs.open_frames.OpenSoundLemmas.{open_names_few, IsSoundWith, step_sound, next_sound, gather_sound, opened_sound}
 use Rattle.pp_expansion.proofs.work.ReachLemmas.{frame_steps_level}
 use Rattle.pp_expansion.proofs.open_frames.SoundLemmas.{length_names}
 use Rattle.pp_expansion.proofs.work.SpendLemmas.{IsNoMore, Falls, Tightens, tightens_then, step_spends, next_spends, gather_leaves, IsGathered, next_left, gather_left, one_more_falls, no_more_falls, no_more_then, falls_no_more, falls_at_most}
 use Rattle.pp_expansion.proofs.work.WorkFallsLemmas.{frame_of, falls_work, opened_work, object_steps, call_opens_falls, alone_under}
-
--- a turn that was refused memory
-abbrev pub wants_taken : Step Taken → Bool
-wants_taken (Err (Error fault)) = is_out_of_memory fault.0
-wants_taken _ = false
 
 -- a macro that may open, where it is found
 pub record IsFound (n : Machine) (s : Reader) (macro : Name × Definition) : Type 0 where
@@ -171,12 +167,6 @@ module _ (levels : ℕ) (m : Machine) (r : Reader) (sound : IsSound m r) where
       rw (found'.0, found'.1) (less_by (record p { held = Some next }) t (tightens_then r s t h.tight k.tightens)
       (falls_no_more (frame_of levels r) (most_open r) rises (regions m r) (regions n s) (regions (record p { held = Some next }) t)
       (token_falls n s h) k.spends) kept)
-    where
-      not_refused : (next : Step Read) → is_refusal next ≡ false → wants_memory next ≡ false
-      not_refused (Ok read) h = refl
-      not_refused (Err Continue) h = refl
-      not_refused (Err Finished) h = refl
-      not_refused (Err (Error fault)) h = h
   seek_falls read name definition c step n p q s t h found (called next paren n1 between p1 s1 u t1 g c1 taken_next at gathers is) finds =
       go g gathers (subst (λ (x : Sought). Finds read name definition x step p q) is finds)
     where
@@ -213,11 +203,6 @@ module _ (levels : ℕ) (m : Machine) (r : Reader) (sound : IsSound m r) where
             sound = gather_sound (Some name) 0 paren between p u t (Ok g) gathers
                 (next_sound (Some name) next n between s u taken_next (first next at) (found_sound n s name definition found h.kept));
           })
-
-  exit_reported : (exit : StepExit) → wants_taken (Err exit) ≡ false → wants_memory {T = Read} (Err exit) ≡ false
-  exit_reported (Error fault) h = h
-  exit_reported Continue h = refl
-  exit_reported Finished h = refl
 
   taken_found : (read : Read) (name : Name) (definition : Definition) (n : Machine) (s : Reader) → StepsTaking m r (Ok read) n s
       → opens s read ≡ Some (name, definition) → IsFound n s (name, definition)

@@ -6,7 +6,7 @@ use Rattle.pp_model.specs.Names.{Name, is_same_name, is_in, line_name}
 use Rattle.pp_model.specs.declared.read.Read.{Read}
 use Rattle.pp_expansion.specs.inner.Defined.{Defined, meaning_of}
 
--- a value that gives itself: no `__LINE__`, and painted, or no identifier that is defined or open around
+-- a value that gives itself, with its paint: no `__LINE__`, and painted or no identifier that is defined or open around
 abbrev pub is_plain_value : List Defined → List Name → Bool → TokenValue → Bool
 is_plain_value definitions hidden painted (Ident name) =
     not (is_same_name name line_name) && (painted || (is_none (meaning_of definitions name) && not (is_in name hidden)))

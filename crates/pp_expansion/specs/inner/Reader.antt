@@ -34,13 +34,14 @@ listed_step (read ∷ tokens) = Ok read
 abbrev pub StepsListed : Listing → Step Read → Listing → Type 0
 StepsListed old step new = ((step ≡ listed_step old.tokens) × (new ≡ record old { tokens = after_listed old.tokens })) ⊎ (step ≡ Err (Error out_of_memory))
 
--- one step of a reader, which stays of its kind; of a source it reports the errors of the lexer too
+-- one step of a source: what it gives is unpainted, and it reports the errors of the lexer too
 pub record ReadsSource (old : Source) (step : Step Read) (new : Source) : Type 0 where
   pub given : Step Token
   pub steps : StepsSource old given new
   pub reports : StepReports given (unreported_of old) (unreported_of new)
   pub is : step ≡ unpainted_step given
 
+-- one step of a reader, which stays of its kind
 abbrev pub Reads : Reader → Step Read → Reader → Type 0
 Reads (of_source old) step (of_source new) = ReadsSource old step new
 Reads (of_list old) step (of_list new) = StepsListed old step new

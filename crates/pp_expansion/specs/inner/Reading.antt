@@ -8,7 +8,7 @@ use Rattle.pp_expansion.specs.Held.{HoldsOrdinary}
 use Rattle.pp_expansion.specs.Item.{Step}
 
 abbrev pub AllReadOrdinary : List Read → Type 0
-AllReadOrdinary tokens = All (λ read. HoldsOrdinary read.token.value) tokens
+AllReadOrdinary reads = All (λ read. HoldsOrdinary read.token.value) reads
 
 -- what a source gives, unpainted
 abbrev pub unpainted_step : Step Token → Step Read
