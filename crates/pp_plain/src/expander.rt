@@ -249,7 +249,7 @@ impl<R: Reader> Expander<R> {
 
     /// What comes first, before it is painted.
     fn fetch(&mut self, budget: &mut Budget) -> Result<Taken, Stop>
-        ensures takes { IfOk result (λ taken. Fetches R.reading (seen R.state self.old) taken
+        ensures fetches { IfOk result (λ taken. Fetches R.reading (seen R.state self.old) taken
             (seen R.state self.new)) }
         ensures budget { budget.new.steps ≤ budget.old.steps }
     {

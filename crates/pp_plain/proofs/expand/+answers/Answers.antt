@@ -3,12 +3,12 @@ use Rattle.std.specs.Prelude.{Ok, Err}
 use Rattle.std.proofs.lemmas.Result.{IfOk-weaker}
 use Rattle.pp_plain.specs.inner.Changes.{meaning_of}
 use Rattle.pp_model.specs.Emitting.{Collects, done, failed, item, Alone, answers_at}
-use Rattle.pp_model.specs.inner.Emitting.{token_before, list_before}
+use Rattle.pp_model.specs.inner.Emitting.{read_before, list_before}
 use Rattle.pp_model.specs.Reading.{Expander, Listed, argument_reading}
 use Rattle.pp_plain.specs.inner.Seen.{seen}
 use Rattle.pp_plain.specs.inner.SeenList.{list_state}
 use Rattle.pp_plain.specs.declared.expander.Turn.TheVariants.{Item, Replaced, Called}
-use Rattle.pp_model.specs.declared.outcome.Outcome.TheVariants as outcome
+use Rattle.pp_model.specs.declared.read.Taken.TheVariants as taken
 use Rattle.pp_model.proofs.CollectLemmas.{after_items-before, after_lists-before, after_items-end, Alone-collects, each_at-failed, each_at-more, each_at-end}
 use Rattle.pp_plain.proofs.TurnLemmas.{turns_mean, answer_known, resolves_fault, resolves_next}
 use Rattle.pp_plain.proofs.expand.+answers.Goals as goal
@@ -21,24 +21,24 @@ answer_alone-returns-clause-answers t c =
 
 pub emit_alone-returns-in-Item-clause-emits : goal.emit_alone-returns-in-Item-clause-emits
 emit_alone-returns-in-Item-clause-emits t c =
-    c.turns.invariant.goes_on c.in-Item.outcome (seen list_state c.turn.new.self)
-    (turns_mean argument_reading (answers_at c.args.levels) (Item c.in-Item.outcome) (seen list_state c.turns.expander)
-    (seen list_state c.turn.new.self) (rw c.in-Item.is at c.in_ok-outcome.ensures.turns))
+    c.turns.invariant.goes_on c.in-Item.taken (seen list_state c.turn.new.self)
+    (turns_mean argument_reading (answers_at c.args.levels) (Item c.in-Item.taken) (seen list_state c.turns.expander)
+    (seen list_state c.turn.new.self) (rw c.in-Item.is at c.in_ok-taken.ensures.turns))
 
 pub emit_alone-turns-preserved-in-Replaced : goal.emit_alone-turns-preserved-in-Replaced
 emit_alone-turns-preserved-in-Replaced t c = record {
   goes_on = λ o end h. c.turns.invariant.goes_on o end (turns_mean argument_reading (answers_at c.args.levels) Replaced
-      (seen list_state c.turns.expander) (seen list_state c.turn.new.self) (rw c.in-Replaced.is at c.in_ok-outcome.ensures.turns) o end h);
+      (seen list_state c.turns.expander) (seen list_state c.turn.new.self) (rw c.in-Replaced.is at c.in_ok-taken.ensures.turns) o end h);
   spent = omega arith;
 }
 
 pub emit_alone-returns-in-Some-clause-emits : goal.emit_alone-returns-in-Some-clause-emits
 emit_alone-returns-in-Some-clause-emits t c =
-    c.turns.invariant.goes_on (outcome.Fault c.in-Some.fault) (seen list_state c.resolve.new.self)
+    c.turns.invariant.goes_on (taken.Fault c.in-Some.fault) (seen list_state c.resolve.new.self)
     (resolves_fault argument_reading (answers_at c.args.levels) (seen list_state c.turns.expander) (seen list_state c.turn.new.self)
     (seen list_state c.resolve.new.self) c.in-Called.call c.in-Ok.answer c.in-Some.fault
     (turns_mean argument_reading (answers_at c.args.levels) (Called c.in-Called.call) (seen list_state c.turns.expander)
-    (seen list_state c.turn.new.self) (rw c.in-Called.is at c.in_ok-outcome.ensures.turns))
+    (seen list_state c.turn.new.self) (rw c.in-Called.is at c.in_ok-taken.ensures.turns))
     c.in-Ok.ensures.answers
     (rw c.in-Some.is at c.in_ok-fault-in-Ok.ensures))
 
@@ -49,7 +49,7 @@ emit_alone-turns-preserved t c = record {
       (resolves_next argument_reading (answers_at c.args.levels) (seen list_state c.turns.expander) (seen list_state c.turn.new.self)
       (seen list_state c.resolve.new.self) c.in-Called.call c.in-Ok.answer
       (turns_mean argument_reading (answers_at c.args.levels) (Called c.in-Called.call) (seen list_state c.turns.expander)
-      (seen list_state c.turn.new.self) (rw c.in-Called.is at c.in_ok-outcome.ensures.turns))
+      (seen list_state c.turn.new.self) (rw c.in-Called.is at c.in_ok-taken.ensures.turns))
       c.in-Ok.ensures.answers
       (rw c.in_default.is at c.in_ok-fault-in-Ok.ensures) o end h);
   spent = omega arith;
@@ -58,20 +58,20 @@ emit_alone-turns-preserved t c = record {
 pub collect-items-preserved : goal.collect-items-preserved
 collect-items-preserved t c = record {
   goes_on = λ out h.
-      rw (c.in_ok-push-in-Token.ensures.items, ← after_items-before c.items.items.items c.in-Token.token out)
-      (c.items.invariant.goes_on (token_before c.in-Token.token out)
-      (item c.in-Token.token out _ _ _ (rw c.in-Token.is at c.in_ok-token.ensures.emits) h refl));
+      rw (c.in_ok-push-in-Token.ensures.items, ← after_items-before c.items.items.items c.in-Token.read out)
+      (c.items.invariant.goes_on (read_before c.in-Token.read out)
+      (item c.in-Token.read out _ _ _ (rw c.in-Token.is at c.in_ok-read.ensures.emits) h refl));
   spent = omega arith;
 }
 
 pub collect-returns-in-Fault-clause-collects : goal.collect-returns-in-Fault-clause-collects
 collect-returns-in-Fault-clause-collects t c =
-    c.items.invariant.goes_on (Err c.in-Fault.fault) (failed c.in-Fault.fault _ _ _ (rw c.in-Fault.is at c.in_ok-token.ensures.emits) refl)
+    c.items.invariant.goes_on (Err c.in-Fault.fault) (failed c.in-Fault.fault _ _ _ (rw c.in-Fault.is at c.in_ok-read.ensures.emits) refl)
 
 pub collect-returns-in-End-clause-collects : goal.collect-returns-in-End-clause-collects
 collect-returns-in-End-clause-collects t c =
     rw (← after_items-end c.items.items.items)
-    (c.items.invariant.goes_on (Ok []) (done _ _ _ (rw c.in-End.is at c.in_ok-token.ensures.emits) refl))
+    (c.items.invariant.goes_on (Ok []) (done _ _ _ (rw c.in-End.is at c.in_ok-read.ensures.emits) refl))
 
 pub expand_argument-returns-clause-alone : goal.expand_argument-returns-clause-alone
 expand_argument-returns-clause-alone t c =

@@ -1,13 +1,13 @@
 use Rattle.std.proofs.Common.{◌≤◌, ◌+◌, ◌*◌, List, drop}
 use Rattle.std.specs.Prelude.{Result}
-use Rattle.pp_lexer.specs.declared.token.Token.{Token}
 use Rattle.pp_model.specs.Calls.{Fault}
 use Rattle.pp_plain.specs.inner.Changes.{meaning_of}
 use Rattle.pp_model.specs.Emitting.{Emits, Each, Alone, Collects, answers_at}
 use Rattle.pp_model.specs.Reading.{Expander, Listed, argument_reading}
 use Rattle.pp_plain.specs.inner.Seen.{seen}
 use Rattle.pp_plain.specs.inner.SeenList.{list_state}
-use Rattle.pp_model.specs.declared.outcome.Outcome.{Outcome}
+use Rattle.pp_model.specs.declared.read.Read.{Read}
+use Rattle.pp_model.specs.declared.read.Taken.{Taken}
 use Rattle.pp_model.proofs.CollectLemmas.{after_items}
 use Rattle.pp_plain.proofs.expand.+answers.Given as goal
 
@@ -31,7 +31,7 @@ decreases-expand_arguments l = 6 * l.levels + 5
 
 abbrev pub invariant-emit_alone-turns : goal.invariant-emit_alone-turns
 invariant-emit_alone-turns l = record {
-  goes_on : (o : Outcome) (end : Expander Listed) → Emits argument_reading (answers_at l.levels) (seen list_state l.expander) o end
+  goes_on : (o : Taken) (end : Expander Listed) → Emits argument_reading (answers_at l.levels) (seen list_state l.expander) o end
       → Emits argument_reading (answers_at l.levels) (seen list_state l.initial.expander) o end;
   spent : l.budget.steps ≤ l.initial.budget.steps;
 }
@@ -41,7 +41,7 @@ decreases-emit_alone-turns l = l.budget.steps
 
 abbrev pub invariant-collect-items : goal.invariant-collect-items
 invariant-collect-items l = record {
-  goes_on : (out : Result (List Token) Fault) → Collects argument_reading (answers_at l.levels) (seen list_state l.expander) out
+  goes_on : (out : Result (List Read) Fault) → Collects argument_reading (answers_at l.levels) (seen list_state l.expander) out
       → Collects argument_reading (answers_at l.levels) (seen list_state l.initial.expander) (after_items l.items.items out);
   spent : l.budget.steps ≤ l.initial.budget.steps;
 }
@@ -51,7 +51,7 @@ decreases-collect-items l = l.budget.steps
 
 abbrev pub invariant-expand_arguments-loop-argument : goal.invariant-expand_arguments-loop-argument
 invariant-expand_arguments-loop-argument l = record {
-  goes_on : (out : Result (List (List Token)) Fault) → Each (Alone l.levels) (meaning_of l.visible) l.hidden (drop l.argument-index l.arguments) out
+  goes_on : (out : Result (List (List Read)) Fault) → Each (Alone l.levels) (meaning_of l.visible) l.hidden (drop l.argument-index l.arguments) out
       → Each (Alone l.levels) (meaning_of l.visible) l.hidden l.arguments (after_items l.expanded.items out);
   spent : l.budget.steps ≤ l.initial.budget.steps;
 }
