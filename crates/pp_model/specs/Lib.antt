@@ -19,6 +19,7 @@ pub mod LineValues
 pub mod Reads
 pub mod Run
 pub mod ExpansionLaws
+pub mod ExistenceLaws
 pub mod ApartMarks
 pub mod NoLineName
 pub mod RunLaws

@@ -1,0 +1,67 @@
+-- Laws of expansion, of reading and of runs: something comes of each step. Where they are asked of any definitions, finitely
+-- many names have one: a name for each number, whose definition is the name for the next, would open macros without end.
+use Rattle.std.specs.Prelude.{◌≡◌, ℕ, true, Bool, List, Option, Some, Result}
+use Rattle.pp_lexer.specs.Lexed.{Seen}
+use Rattle.pp_lexer.specs.declared.token.Location.{Location}
+use Rattle.pp_lexer.specs.declared.token.Token.{Token}
+use Rattle.pp_model.specs.Names.{Name, is_in}
+use Rattle.pp_model.specs.Definitions.{Definition, Definitions}
+use Rattle.pp_model.specs.Reading.{Reading, Expander, Listed}
+use Rattle.pp_model.specs.Calls.{Fault, Answers, Site}
+use Rattle.pp_model.specs.Emitting.{Emits, Alones, Collects}
+use Rattle.pp_model.specs.LineWords.{Words, LineWords}
+use Rattle.pp_model.specs.LineValues.{IsCondition, IsLineNumber}
+use Rattle.pp_model.specs.SourceReader.{SourceReader}
+use Rattle.pp_model.specs.Reads.{Steps, Reads}
+use Rattle.pp_model.specs.Run.{Call, IsRun}
+use Rattle.pp_model.specs.declared.call.Reply.{Reply}
+use Rattle.pp_model.specs.declared.outcome.Outcome.{Outcome}
+use Rattle.pp_model.specs.declared.read.Read.{Read}
+use Rattle.pp_model.specs.declared.read.Taken.{Taken}
+use Rattle.pp_model.specs.declared.word.LineKind.{LineKind}
+
+-- Finitely many names are defined: each of them is among these.
+pub record IsFinite (definitions : Definitions) : Type 0 where
+  pub names : List Name
+  pub among : (name : Name) (definition : Definition) → definitions name ≡ Some definition → is_in name names ≡ true
+
+-- A call at a site comes to a list of arguments, or to a fault.
+abbrev pub AnAnswer : Answers → Type 0
+AnAnswer A = (definition : Definition) (site : Site) → IsFinite site.visible
+    → (x : Result (List (List Read)) Fault) × A definition site x
+
+-- An argument alone comes to a list of tokens, or to a fault.
+abbrev pub AnArgument : Alones → Type 0
+AnArgument deeper = (tokens : List Read) (visible : Definitions) (hidden : List Name) → IsFinite visible
+    → (x : Result (List Read) Fault) × deeper tokens visible hidden x
+
+-- Over a list of tokens an expander has a list of items, or a first fault.
+abbrev pub AList : Reading Listed → Answers → Type 0
+AList I A = (e : Expander Listed) → IsFinite e.reader.visible → (x : Result (List Read) Fault) × Collects I A e x
+
+-- A line whose value is wanted comes to a list of words, with an ending.
+abbrev pub ALine : Answers → Type 0
+ALine A = (kind : LineKind) (directive : Location) (e : Expander Listed) → IsFinite e.reader.visible
+    → (words : Words) × LineWords kind directive A e words
+
+-- The condition of an `#if` or `#elif` holds or not, or has a fault.
+abbrev pub ACondition : Answers → Type 0
+ACondition A = (directive : Location) (tokens : List Token) (definitions : Definitions) → IsFinite definitions
+    → (x : Result Bool Fault) × IsCondition A directive tokens definitions x
+
+-- A `#line` gives a number, or a fault.
+abbrev pub ALineNumber : Answers → Type 0
+ALineNumber A = (directive : Location) (tokens : List Token) (definitions : Definitions) → IsFinite definitions
+    → (x : Result ℕ Fault) × IsLineNumber A directive tokens definitions x
+
+-- One token or line of a source passes an outcome, or nothing.
+abbrev pub AStep : Answers → Type 0
+AStep A = (r : SourceReader) → IsFinite r.definitions → (x : Option Outcome) × (t : SourceReader) × Steps A r x t
+
+-- Reading a source gives something next.
+abbrev pub AReading : Answers → Type 0
+AReading A = (r : SourceReader) → IsFinite r.definitions → (x : Taken) × (t : SourceReader) × Reads A r x t
+
+-- Every text and list of calls has replies.
+abbrev pub ARun : Type 0
+ARun = (text : List ℕ) (calls : List Call) → (replies : List Reply) × IsRun text calls replies
