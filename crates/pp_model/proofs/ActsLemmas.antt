@@ -22,7 +22,8 @@ use Rattle.pp_model.specs.declared.sight.Sight.{Sight}
 use Rattle.pp_model.specs.declared.sight.Sight.TheVariants as sight
 use Rattle.pp_model.specs.declared.step.Step.TheVariants as step
 
--- It holds of what may come of dead text before the end: a fault, nothing, or a line whose condition is wanted.
+-- It holds of what may come of dead text before the end: a fault, nothing, where an item or more is passed, or a line whose
+-- condition is wanted.
 pub record HoldsOfDead (P : Acted → Type 0) (r : SourceReader) : Type 0 where
   pub fault : (found : Fault) → P (failed found r)
   pub nothing : (count : ℕ) → 1 ≤ count → P (passed (moved count r))
@@ -68,7 +69,8 @@ module _ (P : Acted → Type 0) (r : SourceReader) (all : HoldsOfDead P r) where
 
   else_holds : (block : Option Block) (word : Location) → P (else_in block word r (after_line r))
   else_holds None word = all.fault _
-  else_holds (Some block) word = either_holds P (has_else block) (failed (MoreThanOneElse, word) r) (passed (after_line r)) (all.fault _) (all.nothing _ (omega arith))
+  else_holds (Some block) word =
+      either_holds P (has_else block) (failed (MoreThanOneElse, word) r) (passed (after_line r)) (all.fault _) (all.nothing _ (omega arith))
 
   pub else_line_holds : (word : Location) → P (else_line word r)
   else_line_holds word = word_holds word (else_in (block_here r) word r) (else_holds (block_here r) word)
@@ -76,7 +78,8 @@ module _ (P : Acted → Type 0) (r : SourceReader) (all : HoldsOfDead P r) where
   pub endif_holds : (block : Option Block) (word : Location) → P (endif_in block word r)
   endif_holds None word = all.fault _
   endif_holds (Some block) word =
-      either_holds P (are_surroundings_live r.items r.truths block) (only_word word r passed) (skipped r) (word_holds word passed (all.nothing _ (omega arith))) skipped_holds
+      either_holds P (are_surroundings_live r.items r.truths block) (only_word word r passed) (skipped r)
+      (word_holds word passed (all.nothing _ (omega arith))) skipped_holds
 
   pub dead_directive_holds : (directive : Directive) (word : Location) → P (dead_directive directive word r)
   dead_directive_holds d.Elif word = elif_holds (block_here r) word

@@ -14,3 +14,4 @@ pub mod DefinitionLemmas
 pub mod MoveLemmas
 pub mod SourceLemmas
 pub mod RunLemmas
+pub mod EndLemmas

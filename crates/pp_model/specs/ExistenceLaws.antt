@@ -1,6 +1,7 @@
--- Laws of expansion, of reading and of runs: something comes of each step. Where they are asked of any definitions, finitely
--- many names have one: a name for each number, whose definition is the name for the next, would open macros without end.
-use Rattle.std.specs.Prelude.{◌≡◌, ℕ, true, Bool, List, Option, Some, Result}
+-- Laws of expansion, of reading and of runs: something comes of each step. Laws of any definitions ask that finitely many
+-- names have one, as in each state of a run. Else a macro could open for ever: the first name stands for the second, that
+-- for the third, and so on without end.
+use Rattle.std.specs.Prelude.{◌≡◌, ℕ, Bool, true, false, List, [], ◌∷◌, Option, Some, Result}
 use Rattle.pp_lexer.specs.Lexed.{Seen}
 use Rattle.pp_lexer.specs.declared.token.Location.{Location}
 use Rattle.pp_lexer.specs.declared.token.Token.{Token}
@@ -9,16 +10,23 @@ use Rattle.pp_model.specs.Definitions.{Definition, Definitions}
 use Rattle.pp_model.specs.Reading.{Reading, Expander, Listed}
 use Rattle.pp_model.specs.Calls.{Fault, Answers, Site}
 use Rattle.pp_model.specs.Emitting.{Emits, Alones, Collects}
-use Rattle.pp_model.specs.LineWords.{Words, LineWords}
+use Rattle.pp_model.specs.LineWords.{Operand, Words, LineWords}
 use Rattle.pp_model.specs.LineValues.{IsCondition, IsLineNumber}
 use Rattle.pp_model.specs.SourceReader.{SourceReader}
 use Rattle.pp_model.specs.Reads.{Steps, Reads}
-use Rattle.pp_model.specs.Run.{Call, IsRun}
+use Rattle.pp_model.specs.Run.{Gives, Call, IsRun}
+use Rattle.pp_model.specs.RunStates.{IsReached}
 use Rattle.pp_model.specs.declared.call.Reply.{Reply}
 use Rattle.pp_model.specs.declared.outcome.Outcome.{Outcome}
+use Rattle.pp_model.specs.declared.outcome.Outcome.TheVariants as outcome
 use Rattle.pp_model.specs.declared.read.Read.{Read}
 use Rattle.pp_model.specs.declared.read.Taken.{Taken}
 use Rattle.pp_model.specs.declared.word.LineKind.{LineKind}
+
+abbrev pub is_given_token : Outcome → Bool
+is_given_token (outcome.Token token) = true
+is_given_token (outcome.Fault fault) = false
+is_given_token outcome.End = false
 
 -- Finitely many names are defined: each of them is among these.
 pub record IsFinite (definitions : Definitions) : Type 0 where
@@ -35,9 +43,18 @@ abbrev pub AnArgument : Alones → Type 0
 AnArgument deeper = (tokens : List Read) (visible : Definitions) (hidden : List Name) → IsFinite visible
     → (x : Result (List Read) Fault) × deeper tokens visible hidden x
 
+-- An expander has a next item.
+abbrev pub AnItem : {R : Type 0} → Reading R → Answers → Type 0
+AnItem {R} I A = (e : Expander R) → IsFinite (I.visible e.reader) → (x : Taken) × (f : Expander R) × Emits I A e x f
+
 -- Over a list of tokens an expander has a list of items, or a first fault.
 abbrev pub AList : Reading Listed → Answers → Type 0
 AList I A = (e : Expander Listed) → IsFinite e.reader.visible → (x : Result (List Read) Fault) × Collects I A e x
+
+-- The operand of a `defined` has an answer, or a fault.
+abbrev pub AnOperand : Answers → Type 0
+AnOperand A = (kind : LineKind) (directive : Location) (e : Expander Listed) → IsFinite e.reader.visible
+    → (x : Result Bool Fault) × (f : Expander Listed) × Operand kind directive A e x f
 
 -- A line whose value is wanted comes to a list of words, with an ending.
 abbrev pub ALine : Answers → Type 0
@@ -61,6 +78,23 @@ AStep A = (r : SourceReader) → IsFinite r.definitions → (x : Option Outcome)
 -- Reading a source gives something next.
 abbrev pub AReading : Answers → Type 0
 AReading A = (r : SourceReader) → IsFinite r.definitions → (x : Taken) × (t : SourceReader) × Reads A r x t
+
+-- In each state of a run finitely many names are defined.
+abbrev pub RunDefinesFinitelyMany : Answers → Type 0
+RunDefinesFinitelyMany A = (source : List Seen) (e : Expander SourceReader) → IsReached A source e
+    → IsFinite e.reader.definitions
+
+-- In this state these tokens come, one after another, and then this, which is an error or the end.
+pub data Ends (A : Answers) : Expander SourceReader → List Token → Outcome → Type 0 where
+  last : (o : Outcome) (tokens : List Token) (e f : Expander SourceReader) → Gives A e o f → is_given_token o ≡ false
+      → tokens ≡ [] → Ends A e tokens o
+  first : (token : Token) (o : Outcome) (rest tokens : List Token) (e f : Expander SourceReader)
+      → Gives A e (outcome.Token token) f → Ends A f rest o → tokens ≡ token ∷ rest → Ends A e tokens o
+
+-- A source comes to an error or to the end, with finitely many tokens before it.
+abbrev pub AnEnd : Answers → Type 0
+AnEnd A = (e : Expander SourceReader) → IsFinite e.reader.definitions
+    → (tokens : List Token) × (last : Outcome) × Ends A e tokens last
 
 -- Every text and list of calls has replies.
 abbrev pub ARun : Type 0

@@ -19,11 +19,11 @@ pub mod LineValues
 pub mod Reads
 pub mod Run
 pub mod ExpansionLaws
-pub mod ExistenceLaws
 pub mod ApartMarks
 pub mod NoLineName
 pub mod RunLaws
 pub mod RunStates
+pub mod ExistenceLaws
 pub mod BlockLaws
 pub use Rattle.pp_lexer.specs.Spelling
 pub mod RespellLaws

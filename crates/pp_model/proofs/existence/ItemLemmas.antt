@@ -50,8 +50,8 @@ module _ {R : Type 0} (I : Reading R) (A : Answers) (Fine : R → Type 0) where
     holding = λ y p. held_fine e t.after t.takes.first y t.takes.fetches t.fine p;
   }
 
--- An expander has a next item.
-pub an_item : {R : Type 0} (I : Reading R) (A : Answers) (Fine : R → Type 0) (left : R → ℕ) → ((r : R) → Fine r → Given I Fine left r)
+-- An expander has a next item, after which its reader is fine.
+pub fine_item : {R : Type 0} (I : Reading R) (A : Answers) (Fine : R → Type 0) (left : R → ℕ) → ((r : R) → Fine r → Given I Fine left r)
     → ((r : R) → Fine r → IsFinite (I.visible r)) → AnAnswer A → (e : Expander R) → Fine e.reader → Item I A Fine e
-an_item I A Fine left gives finite answered e fine =
+fine_item I A Fine left gives finite answered e fine =
     (every (record { gives = gives; finite = finite; answered = answered; shown = has_item I A Fine }) e fine).next

@@ -9,7 +9,7 @@ use Rattle.pp_model.specs.Taking.{Takes}
 use Rattle.pp_model.specs.Calls.{Fault, Answers, is_left_paren, is_right_paren}
 use Rattle.pp_model.specs.Emitting.{opened, Emits, itself, object, name_alone, call_refused, call}
 use Rattle.pp_model.specs.LineWords.{Reading, operator, word, fault, reading, unwanted, unwanted_word, name_in, has_value, is_defined, Operand, name, neither, no_name, unclosed, in_parentheses, Words, word_before, LineWords, ended, failed, refused, plain, answered, faulty}
-use Rattle.pp_model.specs.ExistenceLaws.{AnAnswer, ALine}
+use Rattle.pp_model.specs.ExistenceLaws.{AnAnswer, AnOperand, ALine}
 use Rattle.pp_model.specs.declared.read.Read.{Read}
 use Rattle.pp_model.specs.declared.read.Taken.{Taken}
 use Rattle.pp_model.specs.declared.read.Taken.TheVariants as taken
@@ -208,13 +208,12 @@ module _ (kind : LineKind) (directive : Location) (A : Answers) where
   every_line : AnAnswer A → (e : Expander Listed) → HasFinite e.reader → Lined e
   every_line calls = every (listed_premises (λ name. is_same_name name defined_name) A Lined calls lined)
 
-  -- The operand of a `defined` comes to an answer, or to a fault.
-  pub an_operand : AnAnswer A → (e : Expander Listed) → HasFinite e.reader
-      → (x : Result Bool Fault) × (f : Expander Listed) × Operand kind directive A e x f
-  an_operand calls e finite =
-      let asking = (every_line calls e finite).asking in
-      let o = asked e asking (name_in asking.given) refl in
-      (o.result, o.after, o.operand)
+-- The operand of a `defined` comes to an answer, or to a fault.
+pub an_operand : (A : Answers) → AnAnswer A → AnOperand A
+an_operand A calls kind directive e finite =
+    let asking = (every_line kind directive A calls e finite).asking in
+    let o = asked kind directive A e asking (name_in asking.given) refl in
+    (o.result, o.after, o.operand)
 
 -- A line comes to words.
 pub a_line : (A : Answers) → AnAnswer A → ALine A

@@ -4,19 +4,12 @@ use Rattle.std.proofs.lemmas.List.{length-drop}
 use Rattle.pp_model.specs.Blocks.{Block, is_live}
 use Rattle.pp_model.specs.SourceReader.{SourceReader}
 use Rattle.pp_model.specs.Acts.{Acted, ended_by, live_act, dead_act, act}
-use Rattle.pp_model.specs.ExistenceLaws.{IsFinite}
-use Rattle.pp_model.specs.declared.outcome.Outcome.{Outcome}
-use Rattle.pp_model.specs.declared.outcome.Outcome.TheVariants as outcome
+use Rattle.pp_model.specs.ExistenceLaws.{is_given_token, IsFinite}
 use Rattle.pp_model.specs.declared.sight.Sight.TheVariants as sight
 use Rattle.pp_model.specs.declared.step.Step.{Step}
 use Rattle.pp_model.specs.declared.step.Step.TheVariants as step
 use Rattle.pp_model.proofs.ActsLemmas.{HoldsOfDead, HoldsOfLive, either_holds, act_holds}
 use Rattle.pp_model.proofs.existence.DefinitionLemmas.{without_one}
-
-abbrev pub is_given_token : Outcome → Bool
-is_given_token (outcome.Token token) = true
-is_given_token (outcome.Fault fault) = false
-is_given_token outcome.End = false
 
 -- an error or the end is given, after which nothing is read
 abbrev pub stops : Step → Bool

@@ -11,7 +11,7 @@ use Rattle.pp_model.specs.LineValues.{IsCondition, IsLineNumber}
 use Rattle.pp_model.specs.SourceReader.{SourceReader}
 use Rattle.pp_model.specs.Acts.{after_line, decided, act}
 use Rattle.pp_model.specs.Reads.{Steps, passes, gives, defines, repeats, redefines, decides, undecided, renumbers, unnumbered, Reads, here, later, source_reading}
-use Rattle.pp_model.specs.ExistenceLaws.{IsFinite, AnAnswer, AStep, AReading}
+use Rattle.pp_model.specs.ExistenceLaws.{is_given_token, IsFinite, AnAnswer, AStep, AReading}
 use Rattle.pp_model.specs.declared.definition.Named.{Named}
 use Rattle.pp_model.specs.declared.outcome.Outcome.{Outcome}
 use Rattle.pp_model.specs.declared.outcome.Outcome.TheVariants as outcome
@@ -20,7 +20,7 @@ use Rattle.pp_model.specs.declared.step.Step.TheVariants as step
 use Rattle.pp_model.proofs.existence.Turns.{is_token, Given}
 use Rattle.pp_model.proofs.existence.DefinitionLemmas.{with_one, same_definition}
 use Rattle.pp_model.proofs.existence.LineValueLemmas.{a_condition, a_line_number}
-use Rattle.pp_model.proofs.existence.MoveLemmas.{is_given_token, moves, left, less_left, act_less_left}
+use Rattle.pp_model.proofs.existence.MoveLemmas.{moves, left, less_left, act_less_left}
 
 -- reading goes on after a step with this outcome, or a token was given
 abbrev goes : Option Outcome → Bool
