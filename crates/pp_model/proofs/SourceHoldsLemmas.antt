@@ -1,5 +1,5 @@
 -- What holds of each token among a source's items holds of each token that reading it gives, and of the bodies that it defines.
-use Rattle.std.proofs.Common.{arith, ◌≡◌, ℕ, ℤ, pos, ◌+◌, ◌+ℤ◌, Bool, true, false, if◌then◌else◌, List, [], ◌∷◌, drop, zero, suc, refl, sym, subst, Option, Some, None}
+use Rattle.std.proofs.Common.{◌≡◌, ℕ, ℤ, pos, ◌+◌, ◌+ℤ◌, Bool, true, false, if◌then◌else◌, List, [], ◌∷◌, drop, zero, suc, refl, sym, subst, Option, Some, None, arith}
 use Rattle.std.specs.Prelude.{⊤, IfOk, IfSome, Result, Ok, Err, not}
 use Rattle.std.specs.List.{AllByRecursion as Each}
 use Rattle.pp_lexer.specs.Items.{Lexeme}

@@ -1,6 +1,5 @@
--- Laws of expansion, of reading and of runs: something comes of each step. Laws of any definitions ask that finitely many
--- names have one, as in each state of a run. Else a macro could open for ever: the first name stands for the second, that
--- for the third, and so on without end.
+-- Laws of expansion, of reading and of runs: each step has an outcome. They ask that finitely many names are defined, as in
+-- each state of a run. If there were endless names, each defined as the next one, macros would open for ever.
 use Rattle.std.specs.Prelude.{◌≡◌, ℕ, Bool, true, false, List, [], ◌∷◌, Option, Some, Result}
 use Rattle.pp_lexer.specs.Lexed.{Seen}
 use Rattle.pp_lexer.specs.declared.token.Location.{Location}
@@ -33,12 +32,12 @@ pub record IsFinite (definitions : Definitions) : Type 0 where
   pub names : List Name
   pub among : (name : Name) (definition : Definition) → definitions name ≡ Some definition → is_in name names ≡ true
 
--- A call at a site comes to a list of arguments, or to a fault.
+-- A call at a site gives a list of arguments, or a fault.
 abbrev pub AnAnswer : Answers → Type 0
 AnAnswer A = (definition : Definition) (site : Site) → IsFinite site.visible
     → (x : Result (List (List Read)) Fault) × A definition site x
 
--- An argument alone comes to a list of tokens, or to a fault.
+-- An argument alone gives a list of tokens, or a fault.
 abbrev pub AnArgument : Alones → Type 0
 AnArgument deeper = (tokens : List Read) (visible : Definitions) (hidden : List Name) → IsFinite visible
     → (x : Result (List Read) Fault) × deeper tokens visible hidden x
@@ -56,7 +55,7 @@ abbrev pub AnOperand : Answers → Type 0
 AnOperand A = (kind : LineKind) (directive : Location) (e : Expander Listed) → IsFinite e.reader.visible
     → (x : Result Bool Fault) × (f : Expander Listed) × Operand kind directive A e x f
 
--- A line whose value is wanted comes to a list of words, with an ending.
+-- A line whose value is wanted has a list of words, with an ending.
 abbrev pub ALine : Answers → Type 0
 ALine A = (kind : LineKind) (directive : Location) (e : Expander Listed) → IsFinite e.reader.visible
     → (words : Words) × LineWords kind directive A e words
@@ -71,7 +70,7 @@ abbrev pub ALineNumber : Answers → Type 0
 ALineNumber A = (directive : Location) (tokens : List Token) (definitions : Definitions) → IsFinite definitions
     → (x : Result ℕ Fault) × IsLineNumber A directive tokens definitions x
 
--- One token or line of a source passes an outcome, or nothing.
+-- One token or line of a source has an outcome, or gives nothing.
 abbrev pub AStep : Answers → Type 0
 AStep A = (r : SourceReader) → IsFinite r.definitions → (x : Option Outcome) × (t : SourceReader) × Steps A r x t
 
@@ -91,7 +90,7 @@ pub data Ends (A : Answers) : Expander SourceReader → List Token → Outcome �
   first : (token : Token) (o : Outcome) (rest tokens : List Token) (e f : Expander SourceReader)
       → Gives A e (outcome.Token token) f → Ends A f rest o → tokens ≡ token ∷ rest → Ends A e tokens o
 
--- A source comes to an error or to the end, with finitely many tokens before it.
+-- A source gives finitely many tokens, and then an error or the end.
 abbrev pub AnEnd : Answers → Type 0
 AnEnd A = (e : Expander SourceReader) → IsFinite e.reader.definitions
     → (tokens : List Token) × (last : Outcome) × Ends A e tokens last

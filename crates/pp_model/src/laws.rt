@@ -4,9 +4,8 @@
 ghost use Rattle.pp_model.specs.ApartMarks.{OnlyTakesEntries, OpensNew, KeepsMarksApart, StartsApart};
 ghost use Rattle.pp_model.specs.BlockLaws.{OneBranch, NoneAfterTaken, DeadTextGivesNothing};
 ghost use Rattle.pp_model.specs.Emitting.{Alone, answers_at};
-ghost use Rattle.pp_model.specs.ExistenceLaws.{
-    AnItem, AnArgument, AList, AnOperand, ALine, ACondition, ALineNumber, AStep, AReading, RunDefinesFinitelyMany, AnEnd, ARun,
-};
+ghost use Rattle.pp_model.specs.ExistenceLaws.{AnItem, AnArgument, AList, AnOperand, ALine, ACondition, ALineNumber};
+ghost use Rattle.pp_model.specs.ExistenceLaws.{AStep, AReading, RunDefinesFinitelyMany, AnEnd, ARun};
 ghost use Rattle.pp_model.specs.ExpansionLaws.{OneReads, OneTaking, OneGathering, OneCall, OneItem, OneArgument, OneOperand, OneLine};
 ghost use Rattle.pp_model.specs.NoLineName.{ShowsNoLineName, AloneShowsNoLineName};
 ghost use Rattle.pp_model.specs.Reading.{argument_reading, line_reading};
@@ -161,12 +160,12 @@ pub fn a_list()
     ensures line { (level : ℕ) → AList line_reading (answers_at level) }
 {}
 
-/// An argument that is read alone comes to a list of tokens, or to a fault.
+/// An argument that is read alone gives a list of tokens, or a fault.
 pub fn an_argument()
     ensures { (level : ℕ) → AnArgument (Alone level) }
 {}
 
-/// A line whose value is wanted comes to words, with an ending, and the operand of a `defined` to an answer, or to a fault.
+/// A line whose value is wanted has words and an ending, and the operand of a `defined` an answer, or a fault.
 pub fn a_line()
     ensures operand { (level : ℕ) → AnOperand (answers_at level) }
     ensures words { (level : ℕ) → ALine (answers_at level) }
@@ -178,7 +177,7 @@ pub fn a_line_value()
     ensures line_number { (level : ℕ) → ALineNumber (answers_at level) }
 {}
 
-/// One token or line of a source comes to an outcome, or to nothing, and reading the source gives something next.
+/// One token or line of a source has an outcome, or gives nothing, and reading the source gives something next.
 pub fn a_source_reading()
     ensures step { (level : ℕ) → AStep (answers_at level) }
     ensures reading { (level : ℕ) → AReading (answers_at level) }
@@ -189,7 +188,7 @@ pub fn run_definitions()
     ensures { (level : ℕ) → RunDefinesFinitelyMany (answers_at level) }
 {}
 
-/// A source comes to an error or to the end, with finitely many tokens before it.
+/// A source gives finitely many tokens, and then an error or the end.
 pub fn an_end()
     ensures { (level : ℕ) → AnEnd (answers_at level) }
 {}

@@ -1,4 +1,4 @@
--- At every level an argument that is read alone comes to a list of tokens or a fault, and so does each call.
+-- At every level an argument that is read alone gives a list of tokens, or a fault, and each call has an answer.
 use Rattle.std.proofs.Common.{ℕ, zero, suc, false, List, [], ◌∷◌, refl, Option, Some, None}
 use Rattle.std.specs.Prelude.{Result, Ok, Err, unwrap_or}
 use Rattle.pp_lexer.specs.declared.token.PreprocessorError.{PreprocessorError}
@@ -40,13 +40,13 @@ module _ (deeper : Alones) (argument_alone : AnArgument deeper) where
 an_answer_at_limit : AnAnswer answers_at_limit
 an_answer_at_limit definition site finite = (Err (unwrap_or (misfit definition.parameters site.arguments) RecursionLimitReached, site.paren), refl)
 
--- An argument that is read alone comes to a list of tokens, or to a fault.
+-- An argument that is read alone gives a list of tokens, or a fault.
 pub an_argument : (level : ℕ) → AnArgument (Alone level)
 an_argument zero tokens visible hidden finite = a_list (λ name. false) answers_at_limit an_answer_at_limit (reading_of tokens visible hidden) finite
 an_argument (suc level) tokens visible hidden finite =
     a_list (λ name. false) (answers_below (Alone level)) (an_answer_below (Alone level) (an_argument level)) (reading_of tokens visible hidden) finite
 
--- A call comes to a list of expanded arguments, or to a fault.
+-- A call gives a list of expanded arguments, or a fault.
 pub an_answer : (level : ℕ) → AnAnswer (answers_at level)
 an_answer zero = an_answer_at_limit
 an_answer (suc level) = an_answer_below (Alone level) (an_argument level)

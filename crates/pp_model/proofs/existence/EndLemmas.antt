@@ -1,4 +1,4 @@
--- A source comes to an error or to the end, with finitely many tokens before it.
+-- A source gives finitely many tokens, and then an error or the end.
 use Rattle.std.proofs.Common.{◌≡◌, true, List, [], ◌∷◌, refl, Some}
 use Rattle.pp_lexer.specs.declared.token.Token.{Token}
 use Rattle.pp_model.specs.Painting.{item_of}
@@ -17,7 +17,6 @@ use Rattle.pp_model.specs.declared.read.Taken.TheVariants as taken
 use Rattle.pp_model.proofs.existence.Turns.{is_token, Leads, Turn}
 use Rattle.pp_model.proofs.existence.Turns as turn
 use Rattle.pp_model.proofs.existence.EveryExpander.{every}
-use Rattle.pp_model.proofs.existence.MoveLemmas.{left}
 use Rattle.pp_model.proofs.existence.SourceLemmas.{HasFinite, source_gives}
 
 module _ (A : Answers) where
@@ -27,7 +26,7 @@ module _ (A : Answers) where
   given : (e f : Expander SourceReader) (x : Taken) → Emits (source_reading A) A e x f → Gives A e (item_of x) f
   given e f x i = record { taken = x; emits = i; is = refl }
 
-  -- what comes of an expander comes of one that leads to it
+  -- what an expander gives, one that leads to it gives too
   ends_through : (e f : Expander SourceReader)
       → ((o : Taken) (h : Expander SourceReader) → Emits (source_reading A) A f o h → Emits (source_reading A) A e o h)
       → (tokens : List Token) (o : Outcome) → Ends A f tokens o → Ends A e tokens o
@@ -63,6 +62,6 @@ module _ (A : Answers) where
   ending : (e : Expander SourceReader) → Turn (source_reading A) A HasFinite Ending e → Ending e
   ending e t = ending_by e t.after t.given t.takes t.goes t.leads
 
-  -- A source comes to an error or to the end.
+  -- A source gives tokens, and then an error or the end.
   pub an_end : AnAnswer A → AnEnd A
   an_end answered = every (record { gives = source_gives A answered; finite = λ r finite. finite; answered = answered; shown = ending })

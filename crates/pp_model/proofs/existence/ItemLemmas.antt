@@ -1,5 +1,5 @@
--- An expander has a next item, wherever something comes of its reader.
-use Rattle.std.proofs.Common.{◌≡◌, ℕ, List, [], refl, Some}
+-- An expander has a next item, if its reader gives something.
+use Rattle.std.proofs.Common.{◌≡◌, ℕ, [], refl, Some}
 use Rattle.pp_model.specs.Reading.{Reading, Expander}
 use Rattle.pp_model.specs.Taking.{Takes, Fetches, held, listed, read}
 use Rattle.pp_model.specs.Calls.{Answers}

@@ -1,4 +1,4 @@
--- A line whose value is wanted comes to words, whatever stands on it.
+-- A line whose value is wanted has a list of words, whatever is on it.
 use Rattle.std.proofs.Common.{◌≡◌, Bool, true, false, [], ◌∷◌, refl, Option, Some, None}
 use Rattle.std.specs.Prelude.{Result, Ok, Err, is_ok}
 use Rattle.pp_lexer.specs.declared.token.Location.{Location}
@@ -208,13 +208,13 @@ module _ (kind : LineKind) (directive : Location) (A : Answers) where
   every_line : AnAnswer A → (e : Expander Listed) → HasFinite e.reader → Lined e
   every_line calls = every (listed_premises (λ name. is_same_name name defined_name) A Lined calls lined)
 
--- The operand of a `defined` comes to an answer, or to a fault.
+-- The operand of a `defined` has an answer, or a fault.
 pub an_operand : (A : Answers) → AnAnswer A → AnOperand A
 an_operand A calls kind directive e finite =
     let asking = (every_line kind directive A calls e finite).asking in
     let o = asked kind directive A e asking (name_in asking.given) refl in
     (o.result, o.after, o.operand)
 
--- A line comes to words.
+-- A line has a list of words.
 pub a_line : (A : Answers) → AnAnswer A → ALine A
 a_line A calls kind directive e finite = (every_line kind directive A calls e finite).worded

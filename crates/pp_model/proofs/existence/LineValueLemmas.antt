@@ -1,16 +1,14 @@
--- The line of an `#if`, `#elif` or `#line` comes to a value, or to a fault.
-use Rattle.std.proofs.Common.{◌≡◌, ℕ, zero, suc, List, [], map, refl, Option, Some, None}
-use Rattle.std.specs.Prelude.{Result, Ok, Err, Bool, not}
+-- The line of an `#if`, `#elif` or `#line` has a value, or a fault.
+use Rattle.std.proofs.Common.{◌≡◌, ℕ, zero, suc, [], map, refl, Option, Some, None}
+use Rattle.std.specs.Prelude.{Result, Ok, Err, not}
 use Rattle.pp_lexer.specs.declared.token.Location.{Location}
 use Rattle.pp_lexer.specs.declared.token.PreprocessorError.TheVariants.{LineOverflow}
-use Rattle.pp_lexer.specs.declared.token.Token.{Token}
 use Rattle.pp_expression.specs.declared.symbol.Value.{Value}
 use Rattle.pp_expression.specs.declared.symbol.Found.{Found}
 use Rattle.pp_expression.specs.Arithmetic.{is_zero}
 use Rattle.pp_expression.specs.FirstFault.{Evaluates}
 use Rattle.pp_expression.proofs.AnOutcome.{an_outcome}
 use Rattle.pp_model.specs.Painting.{unpainted}
-use Rattle.pp_model.specs.Definitions.{Definitions}
 use Rattle.pp_model.specs.Reading.{reading_of}
 use Rattle.pp_model.specs.Calls.{Fault, Answers}
 use Rattle.pp_model.specs.LineWords.{Words}

@@ -48,7 +48,7 @@ listed_premises is_reserved A G answered shown =
 -- ---- its items
 
 module _ {R : Type 0} (I : Reading R) (A : Answers) (Fine : R → Type 0) where
-  -- what comes of an expander comes of one that leads to it
+  -- what an expander gives, one that leads to it gives too
   collects_through : (e f : Expander R) → ((o : Taken) (h : Expander R) → Emits I A f o h → Emits I A e o h) → (out : Result (List Read) Fault)
       → Collects I A f out → Collects I A e out
   collects_through e f leads out (done f1 h out1 i p) = done e h out (leads taken.End h i) p
@@ -82,7 +82,7 @@ module _ {R : Type 0} (I : Reading R) (A : Answers) (Fine : R → Type 0) where
   listing : (e : Expander R) → Turn I A Fine Listing e → Listing e
   listing e t = listing_by e t.after t.given t.takes t.goes t.leads
 
--- Over a list of tokens the items come to an end, or to a fault.
+-- Over a list of tokens an expander has items up to the end, or up to a fault.
 pub a_list : (is_reserved : Name → Bool) (A : Answers) → AnAnswer A → AList (listed_reading is_reserved) A
 a_list is_reserved A answered e finite =
     let I = listed_reading is_reserved in

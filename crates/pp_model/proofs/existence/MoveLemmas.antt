@@ -50,7 +50,7 @@ end_moves : (r : SourceReader) (block : Option Block) → Moves r (ended_by bloc
 end_moves r (Some block) = record { items = refl; finite = λ f. f; further = λ h. cc }
 end_moves r None = record { items = refl; finite = λ f. f; further = λ h. cc }
 
--- What holds of each act.
+-- Each act of a source moves so.
 pub moves : (r : SourceReader) → Moves r (act r)
 moves r = act_holds (Moves r) r (live_moves r) (end_moves r)
 

@@ -1,5 +1,5 @@
--- The search after the name of a function-like macro comes to no call, to a call or to a fault.
-use Rattle.std.proofs.Common.{◌≡◌, ℕ, zero, suc, ◌+◌, ◌≤◌, ◌<◌, true, List, [], ◌∷◌, refl, arith, Option, Some, None}
+-- The search after the name of a function-like macro finds no call, a call or a fault.
+use Rattle.std.proofs.Common.{◌≡◌, ℕ, zero, suc, ◌≤◌, ◌<◌, true, List, [], refl, arith, Option, Some, None}
 use Rattle.std.specs.Prelude.{Result, Ok, Err, is_ok}
 use Rattle.pp_lexer.specs.declared.token.Location.{Location}
 use Rattle.pp_lexer.specs.declared.token.PreprocessorError.TheVariants.{IntegerOverflow, UnexpectedEndOfInput}

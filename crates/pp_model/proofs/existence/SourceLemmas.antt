@@ -1,4 +1,4 @@
--- Each token or line of a source comes to something, and reading the source gives something next.
+-- Each token or line of a source has an outcome, and reading the source gives something next.
 use Rattle.std.proofs.Common.{◌≡◌, ℕ, zero, suc, ◌<◌, Bool, true, List, refl, arith, Option, Some, None, ◌⊎◌, inl, inr}
 use Rattle.std.specs.Prelude.{Result, Ok, Err, pos, ◌-ℤ◌}
 use Rattle.pp_lexer.specs.declared.token.Location.{Location}
@@ -10,7 +10,7 @@ use Rattle.pp_model.specs.Calls.{Fault, Answers}
 use Rattle.pp_model.specs.LineValues.{IsCondition, IsLineNumber}
 use Rattle.pp_model.specs.SourceReader.{SourceReader}
 use Rattle.pp_model.specs.Acts.{after_line, decided, act}
-use Rattle.pp_model.specs.Reads.{Steps, passes, gives, defines, repeats, redefines, decides, undecided, renumbers, unnumbered, Reads, here, later, source_reading}
+use Rattle.pp_model.specs.Reads.{Steps, passes, gives, defines, repeats, redefines, decides, undecided, renumbers, unnumbered, here, later, source_reading}
 use Rattle.pp_model.specs.ExistenceLaws.{is_given_token, IsFinite, AnAnswer, AStep, AReading}
 use Rattle.pp_model.specs.declared.definition.Named.{Named}
 use Rattle.pp_model.specs.declared.outcome.Outcome.{Outcome}

@@ -1,5 +1,5 @@
 -- Something is taken from an expander, and what is left is shorter.
-use Rattle.std.proofs.Common.{◌≡◌, ℕ, ◌+◌, ◌≤◌, ◌<◌, Bool, true, false, List, [], ◌∷◌, length, refl, ap, arith, None}
+use Rattle.std.proofs.Common.{◌≡◌, ℕ, ◌≤◌, ◌<◌, Bool, true, false, List, [], ◌∷◌, length, refl, ap, arith, None}
 use Rattle.pp_model.specs.SpliceList.{after_marks}
 use Rattle.pp_model.specs.Painting.{taken_among}
 use Rattle.pp_model.specs.Reading.{Reading, Expander, masked}
@@ -10,7 +10,7 @@ use Rattle.pp_model.specs.declared.read.Taken.{Taken}
 use Rattle.pp_model.specs.declared.splice.Entry.{Entry}
 use Rattle.pp_model.specs.declared.splice.Entry.TheVariants.{Plain, End}
 use Rattle.pp_model.proofs.existence.Turns.{is_token, Here, token_painted, token_shown}
-use Rattle.pp_model.proofs.existence.CoveredLists.{over, Opens, Covered, covered_after_marks, Front, moved, here, size}
+use Rattle.pp_model.proofs.existence.CoveredLists.{over, Covered, covered_after_marks, Front, moved, here, size}
 
 abbrev is_mark : Entry → Bool
 is_mark (End mark) = true

@@ -1,7 +1,6 @@
 -- One turn of an expander whose taking has come somewhere: what is taken opens no macro, or it leads to where the property is known.
-use Rattle.std.proofs.Common.{◌≡◌, ℕ, zero, suc, ◌+◌, ◌≤◌, ◌<◌, Bool, true, false, List, [], refl, arith, Option, Some, None}
+use Rattle.std.proofs.Common.{◌≡◌, ℕ, zero, suc, ◌≤◌, ◌<◌, Bool, true, false, List, [], refl, arith, Option, Some, None}
 use Rattle.pp_model.specs.Names.{is_in}
-use Rattle.pp_model.specs.SpliceList.{open_names}
 use Rattle.pp_model.specs.Painting.{taken_among}
 use Rattle.pp_model.specs.Reading.{Reading, Expander, masked, Opening, opening}
 use Rattle.pp_model.specs.Taking.{Takes, held}

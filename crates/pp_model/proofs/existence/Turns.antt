@@ -1,5 +1,5 @@
--- Turns of an expander: something is taken, and it leads to an item or to another expander. A property that holds of an
--- expander where it holds of those that its turn leads to holds of each (EveryExpander), if what is said here is known of its reader.
+-- Turns of an expander: something is taken, and it leads to an item or to another expander. A property that follows from a
+-- turn holds of every expander (EveryExpander), if its reader gives something next and finitely many names are defined.
 use Rattle.std.proofs.Common.{◌≡◌, ℕ, ◌<◌, Bool, true, false, List, [], refl, Option, Some, None}
 use Rattle.pp_model.specs.Names.{Name}
 use Rattle.pp_model.specs.Painting.{taken_among}
@@ -45,8 +45,8 @@ pub record Turn {R : Type 0} (I : Reading R) (A : Answers) (Fine : R → Type 0)
   pub goes : is_token given ≡ true → G after
   pub leads : Leads I A Fine G given after
 
--- What is asked of a kind of reader, and of the property: a reader that is fine gives something and sees finitely many
--- definitions, calls have answers, and what follows from a turn is the property.
+-- What is asked of a kind of reader, and of a property: a fine reader gives something and sees finitely many definitions,
+-- calls have answers, and the property follows from a turn.
 pub record Premises {R : Type 0} (I : Reading R) (A : Answers) (Fine : R → Type 0) (left : R → ℕ) (G : Expander R → Type 0) : Type 0 where
   pub gives : (r : R) → Fine r → Given I Fine left r
   pub finite : (r : R) → Fine r → IsFinite (I.visible r)
@@ -61,7 +61,7 @@ pub record Here {R : Type 0} (I : Reading R) (A : Answers) (Fine : R → Type 0)
   pub ready : Fine reader
   pub below : (e : Expander R) → Fine e.reader → left e.reader < left reader → G e
 
--- what is painted, and what is shown of a line's number, is a token only if it was one
+-- paint, and a line's number in place of `__LINE__`, make no token of what was none
 pub token_painted : (names : List Name) (x : Taken) → is_token (taken_among names x) ≡ true → is_token x ≡ true
 token_painted names (taken.Token read) h = h
 token_painted names (taken.Fault fault) h = h
