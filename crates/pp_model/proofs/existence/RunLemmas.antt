@@ -73,7 +73,7 @@ module _ (A : Answers) (answered : AnAnswer A) where
 -- ---- states
 
 -- At the start of a source no name is defined.
-start_finite : (source : List Seen) → HasFinite (start source).reader
+pub start_finite : (source : List Seen) → HasFinite (start source).reader
 start_finite source = record { names = []; among = λ name definition h. cc }
 
 module _ (level : ℕ) where
