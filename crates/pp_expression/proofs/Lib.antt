@@ -10,3 +10,4 @@ pub mod First
 pub mod PossibleFaults
 pub mod Sound
 pub mod OneOutcome
+pub mod AnOutcome

@@ -24,7 +24,7 @@ use Rattle.pp_expression.proofs.Steps.{no_fault_after}
 use Rattle.pp_expression.proofs.Run.{Halt, Outcome, Turn, Operand, Level, Loop, at, atom_by, operand_by, loop_by, step, read, low, Settles}
 
 -- a tree of the level with its value, a fault of the line, or too few turns
-abbrev Sees : ℕ → Line → Outcome → Type 0
+abbrev pub Sees : ℕ → Line → Outcome → Type 0
 Sees level line out = MatchResult out (λ x. Reads level level line x.1 x.0) (λ h. (h.order ≡ 0) ⊎ Possible HasValue level line h.left h.order h.kind)
 
 record IsSound (turn : Turn) : Type 0 where
@@ -155,7 +155,12 @@ sound (suc n) = record {
   loop = λ level x start line h reads. loop_read (read n) (sound n) level x start line (operator_at level line) h refl reads;
 }
 
-fault_seen : (level : ℕ) (line : Line) (h : Halt) → 1 ≤ h.order → (h.order ≡ 0) ⊎ Possible HasValue level line h.left h.order h.kind
+-- What the run gives of a whole line, with any number of turns.
+pub seen : (n : ℕ) (line : Line) → Sees 0 line (read n (Level 0) line)
+seen n line = (sound n).level 0 line (omega arith)
+
+-- A fault that was found before the turns ran out is one that the line may have.
+pub fault_seen : (level : ℕ) (line : Line) (h : Halt) → 1 ≤ h.order → (h.order ≡ 0) ⊎ Possible HasValue level line h.left h.order h.kind
     → Possible HasValue level line h.left h.order h.kind
 fault_seen level line h ordered (inl none) = absurd (omega (arith, none))
 fault_seen level line h ordered (inr possible) = possible

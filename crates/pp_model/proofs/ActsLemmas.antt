@@ -1,12 +1,12 @@
 -- What a token or a directive comes to: what holds of each kind of step holds of all that stand in a source.
-use Rattle.std.proofs.Common.{Bool, true, false, not, ◌||◌, if◌then◌else◌, List, drop, ℕ, Option, Some, None}
+use Rattle.std.proofs.Common.{Bool, true, false, not, ◌||◌, if◌then◌else◌, List, drop, ℕ, ◌≤◌, Option, Some, None, arith}
 use Rattle.std.specs.Prelude.{Result, Ok, Err}
 use Rattle.pp_lexer.specs.declared.token.Location.{Location}
 use Rattle.pp_lexer.specs.declared.token.PreprocessorError.TheVariants.{ElifAfterElse, MoreThanOneElse}
 use Rattle.pp_lexer.specs.declared.token.Token.{Token}
 use Rattle.pp_lexer.specs.declared.token.TokenValue.{TokenValue}
 use Rattle.pp_model.specs.Names.{Name}
-use Rattle.pp_model.specs.Definitions.{Definitions, changed}
+use Rattle.pp_model.specs.Definitions.{changed}
 use Rattle.pp_model.specs.Calls.{Fault}
 use Rattle.pp_model.specs.Lines.{line_fault, line_tokens, ended_line, only_name}
 use Rattle.pp_model.specs.DefineLines.{defined_on}
@@ -22,10 +22,11 @@ use Rattle.pp_model.specs.declared.sight.Sight.{Sight}
 use Rattle.pp_model.specs.declared.sight.Sight.TheVariants as sight
 use Rattle.pp_model.specs.declared.step.Step.TheVariants as step
 
--- It holds of what may come of dead text before the end: a fault, nothing, or a line whose condition is wanted.
+-- It holds of what may come of dead text before the end: a fault, nothing, where an item or more is passed, or a line whose
+-- condition is wanted.
 pub record HoldsOfDead (P : Acted → Type 0) (r : SourceReader) : Type 0 where
   pub fault : (found : Fault) → P (failed found r)
-  pub nothing : (count : ℕ) → P (passed (moved count r))
+  pub nothing : (count : ℕ) → 1 ≤ count → P (passed (moved count r))
   pub wanted : (word : Location) (tokens : List Token) → P (record { step = step.Condition word tokens; after = r })
 
 -- It holds of what more may come of live text.
@@ -33,9 +34,9 @@ pub record HoldsOfLive (P : Acted → Type 0) (r : SourceReader) : Type 0 where
   pub dead : HoldsOfDead P r
   pub numbered : (word : Location) (tokens : List Token) → P (record { step = step.LineNumber word tokens; after = r })
   pub defined : (named : Named) → P (record { step = step.Defines named; after = after_line r })
-  pub changed : (definitions : Definitions) → P (passed (record (after_line r) { definitions = definitions }))
+  pub changed : (name : Name) → P (passed (record (after_line r) { definitions = changed r.definitions name None }))
   pub decision : (holds : Bool) → P (passed (decided r holds))
-  pub token : (shown : Token) (count : ℕ) → P (given shown (moved count r))
+  pub token : (shown : Token) (count : ℕ) → 1 ≤ count → P (given shown (moved count r))
 
 pub either_holds : (P : Acted → Type 0) (b : Bool) (x y : Acted) → P x → P y → P (if b then x else y)
 either_holds P true x y h k = h
@@ -48,7 +49,7 @@ module _ (P : Acted → Type 0) (r : SourceReader) (all : HoldsOfDead P r) where
 
   skipped_by_holds : (found : Option Fault) → P (skipped_by found r)
   skipped_by_holds (Some fault) = all.fault fault
-  skipped_by_holds None = all.nothing _
+  skipped_by_holds None = all.nothing _ (omega arith)
 
   skipped_holds : P (skipped r)
   skipped_holds = skipped_by_holds (line_fault (after_word r))
@@ -68,7 +69,8 @@ module _ (P : Acted → Type 0) (r : SourceReader) (all : HoldsOfDead P r) where
 
   else_holds : (block : Option Block) (word : Location) → P (else_in block word r (after_line r))
   else_holds None word = all.fault _
-  else_holds (Some block) word = either_holds P (has_else block) (failed (MoreThanOneElse, word) r) (passed (after_line r)) (all.fault _) (all.nothing _)
+  else_holds (Some block) word =
+      either_holds P (has_else block) (failed (MoreThanOneElse, word) r) (passed (after_line r)) (all.fault _) (all.nothing _ (omega arith))
 
   pub else_line_holds : (word : Location) → P (else_line word r)
   else_line_holds word = word_holds word (else_in (block_here r) word r) (else_holds (block_here r) word)
@@ -76,24 +78,25 @@ module _ (P : Acted → Type 0) (r : SourceReader) (all : HoldsOfDead P r) where
   pub endif_holds : (block : Option Block) (word : Location) → P (endif_in block word r)
   endif_holds None word = all.fault _
   endif_holds (Some block) word =
-      either_holds P (are_surroundings_live r.items r.truths block) (only_word word r passed) (skipped r) (word_holds word passed (all.nothing _)) skipped_holds
+      either_holds P (are_surroundings_live r.items r.truths block) (only_word word r passed) (skipped r)
+      (word_holds word passed (all.nothing _ (omega arith))) skipped_holds
 
   pub dead_directive_holds : (directive : Directive) (word : Location) → P (dead_directive directive word r)
   dead_directive_holds d.Elif word = elif_holds (block_here r) word
   dead_directive_holds d.Else word = else_line_holds word
   dead_directive_holds d.Endif word = endif_holds (block_here r) word
-  dead_directive_holds d.Unknown word = all.nothing 2
+  dead_directive_holds d.Unknown word = all.nothing 2 (omega arith)
   dead_directive_holds _ word = skipped_holds
 
   -- and so of dead text, if it holds at the end
   pub dead_text_holds : ((block : Option Block) → P (ended_by block r)) → (s : Sight) → P (dead_act s r)
   dead_text_holds end sight.End = end _
-  dead_text_holds end sight.NewLine = all.nothing 1
+  dead_text_holds end sight.NewLine = all.nothing 1 (omega arith)
   dead_text_holds end (sight.Fault fault) = all.fault fault
-  dead_text_holds end (sight.Token token) = all.nothing 1
-  dead_text_holds end (sight.Hash location) = all.nothing 1
-  dead_text_holds end sight.Lone = all.nothing 2
-  dead_text_holds end (sight.NoWord fault) = all.nothing 2
+  dead_text_holds end (sight.Token token) = all.nothing 1 (omega arith)
+  dead_text_holds end (sight.Hash location) = all.nothing 1 (omega arith)
+  dead_text_holds end sight.Lone = all.nothing 2 (omega arith)
+  dead_text_holds end (sight.NoWord fault) = all.nothing 2 (omega arith)
   dead_text_holds end (sight.Directive directive word) = dead_directive_holds directive word
 
 module _ (P : Acted → Type 0) (r : SourceReader) (all : HoldsOfLive P r) where
@@ -105,12 +108,12 @@ module _ (P : Acted → Type 0) (r : SourceReader) (all : HoldsOfLive P r) where
   item_holds : (value : List Token → TokenValue) (word : Location) → P (line_item value word r)
   item_holds value word =
       value_holds P r all.dead (line_tokens (after_word r)) (λ tokens. given (record { value = value tokens; location = word }) (after_line r))
-      (λ tokens. all.token _ _)
+      (λ tokens. all.token _ _ (omega arith))
 
   pub live_directive_holds : (directive : Directive) (word : Location) → P (live_directive directive word r)
   live_directive_holds d.Define word = value_holds P r all.dead (defined_on word (after_word r))
       (λ named. record { step = step.Defines named; after = after_line r }) all.defined
-  live_directive_holds d.Undef word = name_holds word (λ name. record (after_line r) { definitions = changed r.definitions name None }) (λ name. all.changed _)
+  live_directive_holds d.Undef word = name_holds word (λ name. record (after_line r) { definitions = changed r.definitions name None }) all.changed
   live_directive_holds d.If word = condition_holds P r all.dead word
   live_directive_holds d.Ifdef word = name_holds word (λ name. decided r (is_defined_now r name)) (λ name. all.decision _)
   live_directive_holds d.Ifndef word = name_holds word (λ name. decided r (not (is_defined_now r name))) (λ name. all.decision _)
@@ -127,11 +130,11 @@ module _ (P : Acted → Type 0) (r : SourceReader) (all : HoldsOfLive P r) where
 
   live_text_holds : ((block : Option Block) → P (ended_by block r)) → (s : Sight) → P (live_act s r)
   live_text_holds end sight.End = end _
-  live_text_holds end sight.NewLine = all.dead.nothing 1
+  live_text_holds end sight.NewLine = all.dead.nothing 1 (omega arith)
   live_text_holds end (sight.Fault fault) = all.dead.fault fault
-  live_text_holds end (sight.Token token) = all.token token 1
+  live_text_holds end (sight.Token token) = all.token token 1 (omega arith)
   live_text_holds end (sight.Hash location) = all.dead.fault _
-  live_text_holds end sight.Lone = all.dead.nothing 2
+  live_text_holds end sight.Lone = all.dead.nothing 2 (omega arith)
   live_text_holds end (sight.NoWord fault) = all.dead.fault fault
   live_text_holds end (sight.Directive directive word) = live_directive_holds directive word
 

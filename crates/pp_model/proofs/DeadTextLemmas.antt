@@ -33,7 +33,7 @@ gives_nothing r a h definitions lines = record {
 directives_give_nothing : (r : SourceReader) → HoldsOfDead (GivesNothing r) r
 directives_give_nothing r = record {
   fault = λ found. gives_nothing r _ refl refl refl;
-  nothing = λ count. gives_nothing r _ refl refl refl;
+  nothing = λ count least. gives_nothing r _ refl refl refl;
   wanted = λ word tokens. gives_nothing r _ refl refl refl;
 }
 

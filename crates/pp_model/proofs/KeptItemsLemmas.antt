@@ -13,7 +13,7 @@ abbrev KeepsItems : SourceReader → Acted → Type 0
 KeepsItems r a = a.after.items ≡ r.items
 
 dead_keeps : (r : SourceReader) → HoldsOfDead (KeepsItems r) r
-dead_keeps r = record { fault = λ found. refl; nothing = λ count. refl; wanted = λ word tokens. refl }
+dead_keeps r = record { fault = λ found. refl; nothing = λ count least. refl; wanted = λ word tokens. refl }
 
 live_keeps : (r : SourceReader) → HoldsOfLive (KeepsItems r) r
 live_keeps r = record {
@@ -22,7 +22,7 @@ live_keeps r = record {
   defined = λ named. refl;
   changed = λ definitions. refl;
   decision = λ holds. refl;
-  token = λ shown count. refl;
+  token = λ shown count least. refl;
 }
 
 end_keeps : (r : SourceReader) (block : Option Block) → KeepsItems r (ended_by block r)

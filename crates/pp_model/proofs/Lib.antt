@@ -1,3 +1,4 @@
+pub mod existence
 pub mod ListLemmas
 pub mod TextLemmas
 pub mod GatherLemmas

@@ -39,7 +39,7 @@ not_in_tail name other names h = go (is_same_name name other) refl
     go true e = let bad : true ≡ false = rw e at h in cc
     go false e = rw e at h
 
-not_in_front : (name : Name) (names others : List Name) → is_in name (names ++ others) ≡ false → is_in name names ≡ false
+pub not_in_front : (name : Name) (names others : List Name) → is_in name (names ++ others) ≡ false → is_in name names ≡ false
 not_in_front name [] others h = refl
 not_in_front name (other ∷ names) others h = go (is_same_name name other) refl (λ t. not_in_front name names others t)
   where

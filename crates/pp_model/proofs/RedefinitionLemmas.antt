@@ -17,7 +17,7 @@ abbrev pub LeavesDefinitions : SourceReader → Acted → Type 0
 LeavesDefinitions r a = (named : Named) → a.step ≡ step.Defines named → a.after.definitions ≡ r.definitions
 
 dead_leaves : (r : SourceReader) → HoldsOfDead (LeavesDefinitions r) r
-dead_leaves r = record { fault = λ found named h. refl; nothing = λ count named h. refl; wanted = λ word tokens named h. refl }
+dead_leaves r = record { fault = λ found named h. refl; nothing = λ count least named h. refl; wanted = λ word tokens named h. refl }
 
 live_leaves : (r : SourceReader) → HoldsOfLive (LeavesDefinitions r) r
 live_leaves r = record {
@@ -26,7 +26,7 @@ live_leaves r = record {
   defined = λ defined named h. refl;
   changed = λ definitions named h. cc;
   decision = λ holds named h. refl;
-  token = λ shown count named h. refl;
+  token = λ shown count least named h. refl;
 }
 
 end_leaves : (r : SourceReader) (block : Option Block) → LeavesDefinitions r (ended_by block r)

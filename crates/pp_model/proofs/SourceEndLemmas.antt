@@ -44,7 +44,7 @@ GoesOn a = is_end a.step ≡ false
 
 -- no directive comes to the end
 dead_goes_on : (r : SourceReader) → HoldsOfDead GoesOn r
-dead_goes_on r = record { fault = λ found. refl; nothing = λ count. refl; wanted = λ word tokens. refl }
+dead_goes_on r = record { fault = λ found. refl; nothing = λ count least. refl; wanted = λ word tokens. refl }
 
 live_goes_on : (r : SourceReader) → HoldsOfLive GoesOn r
 live_goes_on r = record {
@@ -53,7 +53,7 @@ live_goes_on r = record {
   defined = λ named. refl;
   changed = λ definitions. refl;
   decision = λ holds. refl;
-  token = λ shown count. refl;
+  token = λ shown count least. refl;
 }
 
 no_end : (a : Acted) → GoesOn a → a.step ≡ step.Given outcome.End → ⊥

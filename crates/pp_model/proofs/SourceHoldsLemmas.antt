@@ -1,5 +1,5 @@
 -- What holds of each token among a source's items holds of each token that reading it gives, and of the bodies that it defines.
-use Rattle.std.proofs.Common.{◌≡◌, ℕ, ℤ, pos, ◌+◌, ◌+ℤ◌, Bool, true, false, if◌then◌else◌, List, [], ◌∷◌, drop, zero, suc, refl, sym, subst, Option, Some, None}
+use Rattle.std.proofs.Common.{◌≡◌, ℕ, ℤ, pos, ◌+◌, ◌+ℤ◌, Bool, true, false, if◌then◌else◌, List, [], ◌∷◌, drop, zero, suc, refl, sym, subst, Option, Some, None, arith}
 use Rattle.std.specs.Prelude.{⊤, IfOk, IfSome, Result, Ok, Err, not}
 use Rattle.std.specs.List.{AllByRecursion as Each}
 use Rattle.pp_lexer.specs.Items.{Lexeme}
@@ -140,7 +140,7 @@ module _ (Q : Token → Type 0) (L : ℕ → Type 0) (closed : AreClosed Q L) wh
     dead : HoldsOfDead HoldsOfAct r
     dead = record {
       fault = λ found. record { token = λ token e. cc; body = λ named e. cc; bodies = bodies };
-      nothing = λ count. record { token = λ token e. cc; body = λ named e. cc; bodies = bodies };
+      nothing = λ count least. record { token = λ token e. cc; body = λ named e. cc; bodies = bodies };
       wanted = λ word tokens. record { token = λ token e. cc; body = λ named e. cc; bodies = bodies };
     }
 
@@ -199,11 +199,11 @@ module _ (Q : Token → Type 0) (L : ℕ → Type 0) (closed : AreClosed Q L) wh
 
     live_holds : (s : Sight) → HoldsOfSight s → HoldsOfAct (live_act s r)
     live_holds sight.End h = end _
-    live_holds sight.NewLine h = dead.nothing 1
+    live_holds sight.NewLine h = dead.nothing 1 (omega arith)
     live_holds (sight.Fault fault) h = dead.fault fault
     live_holds (sight.Token token) h = given_holds token (moved 1 r) h refl
     live_holds (sight.Hash location) h = dead.fault _
-    live_holds sight.Lone h = dead.nothing 2
+    live_holds sight.Lone h = dead.nothing 2 (omega arith)
     live_holds (sight.NoWord fault) h = dead.fault fault
     live_holds (sight.Directive directive word) h = live_directive_holds directive word h
 

@@ -4,6 +4,8 @@
 ghost use Rattle.pp_model.specs.ApartMarks.{OnlyTakesEntries, OpensNew, KeepsMarksApart, StartsApart};
 ghost use Rattle.pp_model.specs.BlockLaws.{OneBranch, NoneAfterTaken, DeadTextGivesNothing};
 ghost use Rattle.pp_model.specs.Emitting.{Alone, answers_at};
+ghost use Rattle.pp_model.specs.ExistenceLaws.{AnItem, AnArgument, AList, AnOperand, ALine, ACondition, ALineNumber};
+ghost use Rattle.pp_model.specs.ExistenceLaws.{AStep, AReading, RunDefinesFinitelyMany, AnEnd, ARun};
 ghost use Rattle.pp_model.specs.ExpansionLaws.{OneReads, OneTaking, OneGathering, OneCall, OneItem, OneArgument, OneOperand, OneLine};
 ghost use Rattle.pp_model.specs.NoLineName.{ShowsNoLineName, AloneShowsNoLineName};
 ghost use Rattle.pp_model.specs.Reading.{argument_reading, line_reading};
@@ -143,4 +145,55 @@ pub fn redefinition()
 /// the end.
 pub fn respell()
     ensures { (level : ℕ) → RunsAreReadAfresh (answers_at level) }
+{}
+
+/// An expander has a next item, over a list of tokens and over a source.
+pub fn an_item()
+    ensures argument { (level : ℕ) → AnItem argument_reading (answers_at level) }
+    ensures line { (level : ℕ) → AnItem line_reading (answers_at level) }
+    ensures source { (level : ℕ) → AnItem (source_reading (answers_at level)) (answers_at level) }
+{}
+
+/// Over a list of tokens an expander has items up to the end, or up to a first fault.
+pub fn a_list()
+    ensures argument { (level : ℕ) → AList argument_reading (answers_at level) }
+    ensures line { (level : ℕ) → AList line_reading (answers_at level) }
+{}
+
+/// An argument that is read alone gives a list of tokens, or a fault.
+pub fn an_argument()
+    ensures { (level : ℕ) → AnArgument (Alone level) }
+{}
+
+/// A line whose value is wanted has words and an ending, and the operand of a `defined` an answer, or a fault.
+pub fn a_line()
+    ensures operand { (level : ℕ) → AnOperand (answers_at level) }
+    ensures words { (level : ℕ) → ALine (answers_at level) }
+{}
+
+/// The line of an `#if`, `#elif` or `#line` has a value, or a first fault.
+pub fn a_line_value()
+    ensures condition { (level : ℕ) → ACondition (answers_at level) }
+    ensures line_number { (level : ℕ) → ALineNumber (answers_at level) }
+{}
+
+/// One token or line of a source has an outcome, or gives nothing, and reading the source gives something next.
+pub fn a_source_reading()
+    ensures step { (level : ℕ) → AStep (answers_at level) }
+    ensures reading { (level : ℕ) → AReading (answers_at level) }
+{}
+
+/// In each state of a run finitely many names are defined.
+pub fn run_definitions()
+    ensures { (level : ℕ) → RunDefinesFinitelyMany (answers_at level) }
+{}
+
+/// A source gives finitely many tokens, and then an error or the end.
+pub fn an_end()
+    ensures { (level : ℕ) → AnEnd (answers_at level) }
+{}
+
+/// Every source has a run, whatever is called.
+pub fn a_run()
+    ensures { ARun }
 {}

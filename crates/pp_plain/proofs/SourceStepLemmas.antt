@@ -26,7 +26,7 @@ record Waits (r : SourceReader) (a : Acted) : Type 0 where
 dead_waits : (r : SourceReader) → HoldsOfDead (Waits r) r
 dead_waits r = record {
   fault = λ found. record { condition = λ word tokens h. refl; number = λ word tokens h. refl };
-  nothing = λ count. record { condition = λ word tokens h. cc; number = λ word tokens h. cc };
+  nothing = λ count least. record { condition = λ word tokens h. cc; number = λ word tokens h. cc };
   wanted = λ w ts. record { condition = λ word tokens h. refl; number = λ word tokens h. refl };
 }
 
@@ -37,7 +37,7 @@ live_waits r = record {
   defined = λ named. record { condition = λ word tokens h. cc; number = λ word tokens h. cc };
   changed = λ definitions. record { condition = λ word tokens h. cc; number = λ word tokens h. cc };
   decision = λ holds. record { condition = λ word tokens h. cc; number = λ word tokens h. cc };
-  token = λ shown count. record { condition = λ word tokens h. cc; number = λ word tokens h. cc };
+  token = λ shown count least. record { condition = λ word tokens h. cc; number = λ word tokens h. cc };
 }
 
 end_waits : (r : SourceReader) (block : Option Block) → Waits r (ended_by block r)

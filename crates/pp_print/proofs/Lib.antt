@@ -10,4 +10,5 @@ pub mod AddsLemmas
 pub mod NextLemmas
 pub mod RunLemmas
 pub mod SourceRunLemmas
+pub mod ARunLemmas
 pub mod CutLemmas

@@ -1,8 +1,13 @@
--- That a source and definitions have at most one run, which the tokens that come first begin
-use Rattle.std.specs.Prelude.{◌≡◌, ℕ, List, ◌++◌}
+-- That a source and definitions have a run, and only one, which the tokens that come first begin
+use Rattle.std.specs.Prelude.{◌≡◌, ℕ, List, ◌++◌, All, IsOk}
 use Rattle.pp_rs.specs.declared.token.Token.{Token}
-use Rattle.pp_print.specs.SourceRuns.{Definition, AreFirstOf, IsRunOf}
+use Rattle.pp_print.specs.SourceRuns.{Definition, tokens_of, AreFirstOf, IsRunOf}
 use Rattle.pp_print.specs.declared.ends.RunEnd.{RunEnd}
+
+-- a source has a run, where definitions are added whose contents hold no error and no number sign
+abbrev pub ARun : Type 0
+ARun = (source : List ℕ) (definitions : List Definition) → All (λ definition. IsOk (tokens_of definition)) definitions
+    → (tokens : List Token) × (end : RunEnd) × IsRunOf source definitions tokens end
 
 -- a source and definitions have no other run than one
 abbrev pub OneRun : Type 0

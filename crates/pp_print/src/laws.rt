@@ -2,7 +2,7 @@
 //! list of tokens, and for every source and its definitions. The bodies do nothing.
 
 ghost use Rattle.pp_print.specs.OutputLaws.{LinesAreTheCut, HeldTokensAreSpelledAlike};
-ghost use Rattle.pp_print.specs.RunLaws.{OneRun, FirstTokens};
+ghost use Rattle.pp_print.specs.RunLaws.{ARun, OneRun, FirstTokens};
 
 /// The printed lines are the tokens in a row, cut into lines of ordinary tokens, each as long as it can
 /// be, and lines of one directive item. There is no other such cut.
@@ -15,9 +15,10 @@ pub fn held_tokens()
     ensures { HeldTokensAreSpelledAlike }
 {}
 
-/// A source, where definitions were added, has no other run than one, and so no other output. The tokens that come
-/// first of it are the first tokens of its run.
+/// A source, where definitions were added, has a run, up to the end or to the first error item. It has no other run than
+/// one, and so no other output. The tokens that come first of it are the first tokens of its run.
 pub fn runs()
+    ensures some { ARun }
     ensures one { OneRun }
     ensures first { FirstTokens }
 {}

@@ -6,6 +6,7 @@ ghost use Rattle.pp_lexer.specs.ItemLaws.{TokensLieWithin, TokensHaveLines, Item
 ghost use Rattle.pp_lexer.specs.PhaseLaws.{PairsCountOnce, LinesCountNewlines, SourcesNeverFall};
 ghost use Rattle.pp_model.specs.BlockLaws.{OneBranch, NoneAfterTaken, DeadTextGivesNothing};
 ghost use Rattle.pp_model.specs.Emitting.{answers_at};
+ghost use Rattle.pp_model.specs.ExistenceLaws.{ARun};
 ghost use Rattle.pp_model.specs.ExpansionLaws.{OneReads};
 ghost use Rattle.pp_model.specs.Reads.{source_reading};
 ghost use Rattle.pp_model.specs.RespellLaws.{RunsAreReadAfresh};
@@ -99,13 +100,15 @@ pub fn one_reading()
     pp_model::laws::one_source_reading()
 }
 
-/// Calls that follow one another from the start of a source, each in the state after the one before, are a run. Equal sources
-/// and calls have equal replies, up to and with the first error item.
+/// Calls that follow one another from the start of a source, each in the state after the one before, are a run. Every source
+/// has a run, whatever is called, and equal sources and calls have equal replies, up to and with the first error item.
 pub fn runs()
     ensures chains { (level : ℕ) → ChainsAreRuns (answers_at level) }
+    ensures some { ARun }
     ensures replies { (level : ℕ) → OneReplies (answers_at level) }
     ensures run { OneRun }
 {
     pp_model::laws::chains();
+    pp_model::laws::a_run();
     pp_model::laws::one_run()
 }

@@ -1,0 +1,17 @@
+pub mod RoomLemmas
+pub mod Turns
+pub mod CoveredLists
+pub mod TakingLemmas
+pub mod SearchLemmas
+pub mod TurnLemmas
+pub mod EveryExpander
+pub mod ItemLemmas
+pub mod ListLemmas
+pub mod ArgumentLemmas
+pub mod LineLemmas
+pub mod LineValueLemmas
+pub mod DefinitionLemmas
+pub mod MoveLemmas
+pub mod SourceLemmas
+pub mod RunLemmas
+pub mod EndLemmas

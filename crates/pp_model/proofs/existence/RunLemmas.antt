@@ -1,0 +1,98 @@
+-- Every source has an item in each state of a run, and a run of each list of calls.
+use Rattle.std.proofs.Common.{◌≡◌, ℕ, false, List, [], ◌∷◌, refl}
+use Rattle.std.specs.Prelude.{Result, Ok, Err}
+use Rattle.std.specs.Str.{chars}
+use Rattle.pp_lexer.specs.Lexed.{Seen}
+use Rattle.pp_lexer.specs.declared.token.Token.{Token}
+use Rattle.pp_model.specs.Painting.{item_of}
+use Rattle.pp_model.specs.Reading.{Expander}
+use Rattle.pp_model.specs.Calls.{Fault, Answers}
+use Rattle.pp_model.specs.Definitions.{object_like}
+use Rattle.pp_model.specs.Emitting.{answers_at, expansion_limit}
+use Rattle.pp_model.specs.SourceReader.{SourceReader}
+use Rattle.pp_model.specs.Reads.{source_reading}
+use Rattle.pp_model.specs.Run.{Call, add_define, next, items_of, content_tokens, start, with_added, is_fault, Gives, by_rules, Runs, done, added, refused, given, failed}
+use Rattle.pp_model.specs.ExistenceLaws.{AnAnswer, AnItem, RunDefinesFinitelyMany, ARun}
+use Rattle.pp_model.specs.RunStates.{LeadsTo, nowhere, adding, giving}
+use Rattle.pp_model.specs.declared.call.Reply.{Reply}
+use Rattle.pp_model.specs.declared.call.Reply.TheVariants as reply
+use Rattle.pp_model.specs.declared.outcome.Outcome.{Outcome}
+use Rattle.pp_model.specs.declared.outcome.Outcome.TheVariants as outcome
+use Rattle.pp_model.proofs.LevelLemmas.{one_answer, one_item_at}
+use Rattle.pp_model.proofs.ReadsLemmas.{source_reads_one}
+use Rattle.pp_model.proofs.existence.ItemLemmas.{Item, fine_item}
+use Rattle.pp_model.proofs.existence.ArgumentLemmas.{an_answer}
+use Rattle.pp_model.proofs.existence.DefinitionLemmas.{with_one}
+use Rattle.pp_model.proofs.existence.MoveLemmas.{left}
+use Rattle.pp_model.proofs.existence.SourceLemmas.{HasFinite, source_gives}
+
+module _ (A : Answers) (answered : AnAnswer A) where
+  -- ---- the next item
+
+  pub next_item : (e : Expander SourceReader) → HasFinite e.reader → Item (source_reading A) A HasFinite e
+  next_item = fine_item (source_reading A) A HasFinite left (source_gives A answered) (λ r finite. finite) answered
+
+  -- A source has a next item.
+  pub source_item : AnItem (source_reading A) A
+  source_item e finite = let i = next_item e finite in (i.item, i.after, i.emits)
+
+  -- ---- replies
+
+  abbrev Running : Expander SourceReader → List Call → Type 0
+  Running e calls = (replies : List Reply) × Runs (by_rules A) e calls replies
+
+  adds : (name content : List ℕ) (e : Expander SourceReader) (calls : List Call) → (x : Result (List Token) Fault) → content_tokens (items_of content) ≡ x
+      → ((tokens : List Token) → Running (with_added (chars name) tokens e) calls) → Running e calls → Running e (add_define name content ∷ calls)
+  adds name content e calls (Ok tokens) p more same =
+      let replies = reply.Added ∷ (more tokens).0 in
+      (replies, added name content tokens e calls (more tokens).0 replies p (more tokens).1 refl)
+  adds name content e calls (Err fault) p more same =
+      let replies = reply.Refused fault ∷ same.0 in
+      (replies, refused name content fault e calls same.0 replies p same.1 refl)
+
+  goes_on : (e f : Expander SourceReader) (calls : List Call) (o : Outcome) → Gives A e o f → is_fault o ≡ false → Running f calls → Running e (next ∷ calls)
+  goes_on e f calls o g on rest = (reply.Given o ∷ rest.0, given o e f calls rest.0 (reply.Given o ∷ rest.0) g on rest.1 refl)
+
+  gives_next : (e f : Expander SourceReader) (calls : List Call) (o : Outcome) → Gives A e o f → Running f calls → Running e (next ∷ calls)
+  gives_next e f calls (outcome.Token token) g rest = goes_on e f calls (outcome.Token token) g refl rest
+  gives_next e f calls outcome.End g rest = goes_on e f calls outcome.End g refl rest
+  gives_next e f calls (outcome.Fault fault) g rest =
+      let replies = reply.Given (outcome.Fault fault) ∷ [] in
+      (replies, failed fault e f calls replies g refl)
+
+  replies_to : (calls : List Call) (e : Expander SourceReader) → HasFinite e.reader → Running e calls
+  replies_to [] e finite = ([], done e [] refl)
+  replies_to (add_define name content ∷ calls) e finite =
+      adds name content e calls (content_tokens (items_of content)) refl
+      (λ tokens. replies_to calls (with_added (chars name) tokens e) (with_one e.reader.definitions (chars name) finite (object_like tokens)))
+      (replies_to calls e finite)
+  replies_to (next ∷ calls) e finite =
+      let i = next_item e finite in
+      gives_next e i.after calls (item_of i.item) (record { taken = i.item; emits = i.emits; is = refl }) (replies_to calls i.after i.fine)
+
+-- ---- states
+
+-- At the start of a source no name is defined.
+pub start_finite : (source : List Seen) → HasFinite (start source).reader
+start_finite source = record { names = []; among = λ name definition h. cc }
+
+module _ (level : ℕ) where
+  leads_to_finite : (e f : Expander SourceReader) → LeadsTo (answers_at level) e f → HasFinite e.reader → HasFinite f.reader
+  leads_to_finite e f (nowhere e1 f1 p) finite = rw p finite
+  leads_to_finite e f (adding name tokens e1 f1 more) finite =
+      leads_to_finite (with_added name tokens e) f more (with_one e.reader.definitions name finite (object_like tokens))
+  leads_to_finite e f (giving x e1 g f1 item more) finite =
+      let i = next_item (answers_at level) (an_answer level) e finite in
+      let one = one_item_at (source_reading (answers_at level)) (source_reads_one (answers_at level) (one_answer level)) level in
+      let same : g ≡ i.after = (one x i.item e g i.after item i.emits).1 in
+      leads_to_finite g f more (rw same i.fine)
+
+  -- In each state of a run finitely many names are defined.
+  pub run_defines_finitely_many : RunDefinesFinitelyMany (answers_at level)
+  run_defines_finitely_many source e reached = leads_to_finite (start source) e reached (start_finite source)
+
+-- ---- runs
+
+-- Every source has a run, whatever is called.
+pub a_run : ARun
+a_run text calls = replies_to (answers_at expansion_limit) (an_answer expansion_limit) calls (start (items_of text)) (start_finite (items_of text))

@@ -1,0 +1,14 @@
+use Rattle.std.proofs.Common.{false}
+use Rattle.pp_model.specs.Names.{is_same_name, defined_name}
+use Rattle.pp_model.specs.Emitting.{answers_at}
+use Rattle.pp_model.proofs.existence.ListLemmas.{list_item}
+use Rattle.pp_model.proofs.existence.ArgumentLemmas.{an_answer}
+use Rattle.pp_model.proofs.existence.RunLemmas.{source_item}
+use Rattle.pp_model.proofs.laws.an_item.Goals as goal
+
+pub returns : goal.returns
+returns c = record {
+  argument = λ level. list_item (λ name. false) (answers_at level) (an_answer level);
+  line = λ level. list_item (λ name. is_same_name name defined_name) (answers_at level) (an_answer level);
+  source = λ level. source_item (answers_at level) (an_answer level);
+}

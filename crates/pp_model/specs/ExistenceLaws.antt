@@ -1,0 +1,100 @@
+-- Laws of expansion, of reading and of runs: each step has an outcome. They ask that finitely many names are defined, as in
+-- each state of a run. If there were endless names, each defined as the next one, macros would open for ever.
+use Rattle.std.specs.Prelude.{◌≡◌, ℕ, Bool, true, false, List, [], ◌∷◌, Option, Some, Result}
+use Rattle.pp_lexer.specs.Lexed.{Seen}
+use Rattle.pp_lexer.specs.declared.token.Location.{Location}
+use Rattle.pp_lexer.specs.declared.token.Token.{Token}
+use Rattle.pp_model.specs.Names.{Name, is_in}
+use Rattle.pp_model.specs.Definitions.{Definition, Definitions}
+use Rattle.pp_model.specs.Reading.{Reading, Expander, Listed}
+use Rattle.pp_model.specs.Calls.{Fault, Answers, Site}
+use Rattle.pp_model.specs.Emitting.{Emits, Alones, Collects}
+use Rattle.pp_model.specs.LineWords.{Operand, Words, LineWords}
+use Rattle.pp_model.specs.LineValues.{IsCondition, IsLineNumber}
+use Rattle.pp_model.specs.SourceReader.{SourceReader}
+use Rattle.pp_model.specs.Reads.{Steps, Reads}
+use Rattle.pp_model.specs.Run.{Gives, Call, IsRun}
+use Rattle.pp_model.specs.RunStates.{IsReached}
+use Rattle.pp_model.specs.declared.call.Reply.{Reply}
+use Rattle.pp_model.specs.declared.outcome.Outcome.{Outcome}
+use Rattle.pp_model.specs.declared.outcome.Outcome.TheVariants as outcome
+use Rattle.pp_model.specs.declared.read.Read.{Read}
+use Rattle.pp_model.specs.declared.read.Taken.{Taken}
+use Rattle.pp_model.specs.declared.word.LineKind.{LineKind}
+
+abbrev pub is_given_token : Outcome → Bool
+is_given_token (outcome.Token token) = true
+is_given_token (outcome.Fault fault) = false
+is_given_token outcome.End = false
+
+-- Finitely many names are defined: each of them is among these.
+pub record IsFinite (definitions : Definitions) : Type 0 where
+  pub names : List Name
+  pub among : (name : Name) (definition : Definition) → definitions name ≡ Some definition → is_in name names ≡ true
+
+-- A call at a site gives a list of arguments, or a fault.
+abbrev pub AnAnswer : Answers → Type 0
+AnAnswer A = (definition : Definition) (site : Site) → IsFinite site.visible
+    → (x : Result (List (List Read)) Fault) × A definition site x
+
+-- An argument alone gives a list of tokens, or a fault.
+abbrev pub AnArgument : Alones → Type 0
+AnArgument deeper = (tokens : List Read) (visible : Definitions) (hidden : List Name) → IsFinite visible
+    → (x : Result (List Read) Fault) × deeper tokens visible hidden x
+
+-- An expander has a next item.
+abbrev pub AnItem : {R : Type 0} → Reading R → Answers → Type 0
+AnItem {R} I A = (e : Expander R) → IsFinite (I.visible e.reader) → (x : Taken) × (f : Expander R) × Emits I A e x f
+
+-- Over a list of tokens an expander has a list of items, or a first fault.
+abbrev pub AList : Reading Listed → Answers → Type 0
+AList I A = (e : Expander Listed) → IsFinite e.reader.visible → (x : Result (List Read) Fault) × Collects I A e x
+
+-- The operand of a `defined` has an answer, or a fault.
+abbrev pub AnOperand : Answers → Type 0
+AnOperand A = (kind : LineKind) (directive : Location) (e : Expander Listed) → IsFinite e.reader.visible
+    → (x : Result Bool Fault) × (f : Expander Listed) × Operand kind directive A e x f
+
+-- A line whose value is wanted has a list of words, with an ending.
+abbrev pub ALine : Answers → Type 0
+ALine A = (kind : LineKind) (directive : Location) (e : Expander Listed) → IsFinite e.reader.visible
+    → (words : Words) × LineWords kind directive A e words
+
+-- The condition of an `#if` or `#elif` holds or not, or has a fault.
+abbrev pub ACondition : Answers → Type 0
+ACondition A = (directive : Location) (tokens : List Token) (definitions : Definitions) → IsFinite definitions
+    → (x : Result Bool Fault) × IsCondition A directive tokens definitions x
+
+-- A `#line` gives a number, or a fault.
+abbrev pub ALineNumber : Answers → Type 0
+ALineNumber A = (directive : Location) (tokens : List Token) (definitions : Definitions) → IsFinite definitions
+    → (x : Result ℕ Fault) × IsLineNumber A directive tokens definitions x
+
+-- One token or line of a source has an outcome, or gives nothing.
+abbrev pub AStep : Answers → Type 0
+AStep A = (r : SourceReader) → IsFinite r.definitions → (x : Option Outcome) × (t : SourceReader) × Steps A r x t
+
+-- Reading a source gives something next.
+abbrev pub AReading : Answers → Type 0
+AReading A = (r : SourceReader) → IsFinite r.definitions → (x : Taken) × (t : SourceReader) × Reads A r x t
+
+-- In each state of a run finitely many names are defined.
+abbrev pub RunDefinesFinitelyMany : Answers → Type 0
+RunDefinesFinitelyMany A = (source : List Seen) (e : Expander SourceReader) → IsReached A source e
+    → IsFinite e.reader.definitions
+
+-- In this state these tokens come, one after another, and then this, which is an error or the end.
+pub data Ends (A : Answers) : Expander SourceReader → List Token → Outcome → Type 0 where
+  last : (o : Outcome) (tokens : List Token) (e f : Expander SourceReader) → Gives A e o f → is_given_token o ≡ false
+      → tokens ≡ [] → Ends A e tokens o
+  first : (token : Token) (o : Outcome) (rest tokens : List Token) (e f : Expander SourceReader)
+      → Gives A e (outcome.Token token) f → Ends A f rest o → tokens ≡ token ∷ rest → Ends A e tokens o
+
+-- A source gives finitely many tokens, and then an error or the end.
+abbrev pub AnEnd : Answers → Type 0
+AnEnd A = (e : Expander SourceReader) → IsFinite e.reader.definitions
+    → (tokens : List Token) × (last : Outcome) × Ends A e tokens last
+
+-- Every text and list of calls has replies.
+abbrev pub ARun : Type 0
+ARun = (text : List ℕ) (calls : List Call) → (replies : List Reply) × IsRun text calls replies
