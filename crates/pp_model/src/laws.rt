@@ -5,6 +5,7 @@ ghost use Rattle.pp_model.specs.ApartMarks.{OnlyTakesEntries, OpensNew, KeepsMar
 ghost use Rattle.pp_model.specs.BlockLaws.{OneBranch, NoneAfterTaken, DeadTextGivesNothing};
 ghost use Rattle.pp_model.specs.Emitting.{Alone, answers_at};
 ghost use Rattle.pp_model.specs.ExpansionLaws.{OneReads, OneTaking, OneGathering, OneCall, OneItem, OneArgument, OneOperand, OneLine};
+ghost use Rattle.pp_model.specs.LiveRuns.{RunsAreLive};
 ghost use Rattle.pp_model.specs.NoLineName.{ShowsNoLineName, AloneShowsNoLineName};
 ghost use Rattle.pp_model.specs.Reading.{argument_reading, line_reading};
 ghost use Rattle.pp_model.specs.Reads.{source_reading};
@@ -128,9 +129,11 @@ pub fn live_branch()
     ensures none_after { NoneAfterTaken }
 {}
 
-/// What stands in dead text comes to no token, no definition and no line number, and leaves the definitions as they are.
+/// A token or line of dead text gives no token, defines nothing and numbers no line, and leaves the definitions as they are;
+/// and so in the whole of a run: no step of it takes anything from dead text, but for errors and the end.
 pub fn dead_text()
-    ensures { DeadTextGivesNothing }
+    ensures step { DeadTextGivesNothing }
+    ensures run { (level : ℕ) → RunsAreLive (answers_at level) }
 {}
 
 /// A `#define` of a name that is defined gives nothing where it says the same, and an error where it says something else.
