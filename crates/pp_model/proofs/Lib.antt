@@ -23,6 +23,7 @@ pub mod RunEndLemmas
 pub mod BlockLemmas
 pub mod KeptItemsLemmas
 pub mod DeadTextLemmas
+pub mod LiveRunLemmas
 pub mod RedefinitionLemmas
 pub mod HoldingLemmas
 pub mod KeptTokensLemmas

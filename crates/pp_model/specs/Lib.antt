@@ -25,6 +25,7 @@ pub mod RunLaws
 pub mod RunStates
 pub mod ExistenceLaws
 pub mod BlockLaws
+pub mod LiveRuns
 pub use Rattle.pp_lexer.specs.Spelling
 pub mod RespellLaws
 pub mod RunChains

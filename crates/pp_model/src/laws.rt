@@ -7,6 +7,7 @@ ghost use Rattle.pp_model.specs.Emitting.{Alone, answers_at};
 ghost use Rattle.pp_model.specs.ExistenceLaws.{AnItem, AnArgument, AList, AnOperand, ALine, ACondition, ALineNumber};
 ghost use Rattle.pp_model.specs.ExistenceLaws.{AStep, AReading, RunDefinesFinitelyMany, AnEnd, ARun};
 ghost use Rattle.pp_model.specs.ExpansionLaws.{OneReads, OneTaking, OneGathering, OneCall, OneItem, OneArgument, OneOperand, OneLine};
+ghost use Rattle.pp_model.specs.LiveRuns.{RunsAreLive};
 ghost use Rattle.pp_model.specs.NoLineName.{ShowsNoLineName, AloneShowsNoLineName};
 ghost use Rattle.pp_model.specs.Reading.{argument_reading, line_reading};
 ghost use Rattle.pp_model.specs.Reads.{source_reading};
@@ -130,9 +131,11 @@ pub fn live_branch()
     ensures none_after { NoneAfterTaken }
 {}
 
-/// What stands in dead text comes to no token, no definition and no line number, and leaves the definitions as they are.
+/// A token or line of dead text gives no token, defines nothing and numbers no line, and leaves the definitions as they are;
+/// and so in the whole of a run: no step of it takes anything from dead text, but for errors and the end.
 pub fn dead_text()
-    ensures { DeadTextGivesNothing }
+    ensures step { DeadTextGivesNothing }
+    ensures run { (level : ℕ) → RunsAreLive (answers_at level) }
 {}
 
 /// A `#define` of a name that is defined gives nothing where it says the same, and an error where it says something else.

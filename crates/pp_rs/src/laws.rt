@@ -8,6 +8,7 @@ ghost use Rattle.pp_model.specs.BlockLaws.{OneBranch, NoneAfterTaken, DeadTextGi
 ghost use Rattle.pp_model.specs.Emitting.{answers_at};
 ghost use Rattle.pp_model.specs.ExistenceLaws.{ARun};
 ghost use Rattle.pp_model.specs.ExpansionLaws.{OneReads};
+ghost use Rattle.pp_model.specs.LiveRuns.{RunsAreLive};
 ghost use Rattle.pp_model.specs.Reads.{source_reading};
 ghost use Rattle.pp_model.specs.RespellLaws.{RunsAreReadAfresh};
 ghost use Rattle.pp_model.specs.RunChains.{ChainsAreRuns};
@@ -77,9 +78,11 @@ pub fn live_branch()
     pp_model::laws::live_branch()
 }
 
-/// What stands in dead text comes to no token, no definition and no line number, and leaves the definitions as they are.
+/// A token or line of dead text gives no token, defines nothing and numbers no line, and leaves the definitions as they are;
+/// and so in the whole of a run: no step of it takes anything from dead text, but for errors and the end.
 pub fn dead_text()
-    ensures { DeadTextGivesNothing }
+    ensures step { DeadTextGivesNothing }
+    ensures run { (level : ℕ) → RunsAreLive (answers_at level) }
 {
     pp_model::laws::dead_text()
 }

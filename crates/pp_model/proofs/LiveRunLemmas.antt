@@ -1,0 +1,121 @@
+-- What a reader gives more widely, an expander over it does too; and reading a source takes nothing from dead text.
+use Rattle.std.proofs.Common.{◌≡◌, ◌∙◌, ℕ, false, List, refl, sym, ap, Option, Some, None, Result}
+use Rattle.pp_lexer.specs.declared.token.Location.{Location}
+use Rattle.pp_model.specs.Blocks.{is_live}
+use Rattle.pp_model.specs.Reading.{Reading, Expander}
+use Rattle.pp_model.specs.Taking.{Fetches, held, listed, read, Takes}
+use Rattle.pp_model.specs.Calls.{Fault, Answers, Gathered, Gathers, closed, inside, overfull, ended, failed, Called, Calls, alone, broken, whole}
+use Rattle.pp_model.specs.Definitions.{Definition}
+use Rattle.pp_model.specs.Emitting.{Emits, itself, object, name_alone, call_refused, call}
+use Rattle.pp_model.specs.SourceReader.{SourceReader}
+use Rattle.pp_model.specs.Acts.{act}
+use Rattle.pp_model.specs.Reads as reads
+use Rattle.pp_model.specs.Reads.{Steps, passes, gives, defines, repeats, redefines, decides, undecided, renumbers, unnumbered, Reads, source_reading}
+use Rattle.pp_model.specs.Run as run
+use Rattle.pp_model.specs.Run.{by_rules, Call, Comings, Gives, Runs}
+use Rattle.pp_model.specs.BlockLaws.{GivesNothing}
+use Rattle.pp_model.specs.LiveRuns as live
+use Rattle.pp_model.specs.LiveRuns.{IsWithoutEffect, LiveSteps, LiveReads, live_reading, GivesLive, RunsAreLive}
+use Rattle.pp_model.specs.declared.call.Reply.{Reply}
+use Rattle.pp_model.specs.declared.outcome.Outcome.{Outcome}
+use Rattle.pp_model.specs.declared.outcome.Outcome.TheVariants as outcome
+use Rattle.pp_model.specs.declared.step.Step.TheVariants as step
+use Rattle.pp_model.specs.declared.read.Taken.{Taken}
+use Rattle.pp_model.proofs.DeadTextLemmas.{dead_text_gives_nothing}
+
+-- An expander over a reader that gives what `I` does, and may give more.
+module _ {R : Type 0} (I : Reading R) (Wider : R → Taken → R → Type 0) (wider : (r : R) (x : Taken) (t : R) → I.Reads r x t → Wider r x t) where
+  abbrev J : Reading R
+  J = record I { Reads = Wider }
+
+  fetches : (x : Taken) (e f : Expander R) → Fetches I e x f → Fetches J e x f
+  fetches x e f (held o e1 f1 h p) = held o e1 f1 h p
+  fetches x e f (listed o t rest e1 f1 h l s p) = listed o t rest e1 f1 h l s p
+  fetches x e f (read y o r e1 f1 h l m s p) = read y o r e1 f1 h l (wider e1.reader y r m) s p
+
+  takes : (x : Taken) (e f : Expander R) → Takes I e x f → Takes J e x f
+  takes x e f t = record { first = t.first; fetches = fetches t.first e f t.fetches; paints = t.paints }
+
+  gathers : (n : ℕ) (last : Location) (e : Expander R) (g : Result Gathered Fault) (f : Expander R) → Gathers I n last e g f → Gathers J n last e g f
+  gathers n last e g f (closed n1 last1 t e1 f1 g1 h c s) = closed n1 last1 t e1 f1 g1 (takes _ _ _ h) c s
+  gathers n last e g f (inside n1 k last1 t e1 f1 h1 rest g1 h c more s) =
+      inside n1 k last1 t e1 f1 h1 rest g1 (takes _ _ _ h) c (gathers k t.token.location f1 rest h1 more) s
+  gathers n last e g f (overfull n1 last1 t e1 f1 g1 h c s) = overfull n1 last1 t e1 f1 g1 (takes _ _ _ h) c s
+  gathers n last e g f (ended n1 last1 e1 f1 g1 h s) = ended n1 last1 e1 f1 g1 (takes _ _ _ h) s
+  gathers n last e g f (failed n1 last1 fault e1 f1 g1 h s) = failed n1 last1 fault e1 f1 g1 (takes _ _ _ h) s
+
+  module _ (A : Answers) where
+    calls : (d : Definition) (e : Expander R) (c : Called) (f : Expander R) → Calls I A d e c f → Calls J A d e c f
+    calls d e c f (alone o e1 f1 c1 h p s) = alone o e1 f1 c1 (takes _ _ _ h) p s
+    calls d e c f (broken o paren fault e1 f1 g1 c1 h p more s) = broken o paren fault e1 f1 g1 c1 (takes _ _ _ h) p (gathers _ _ _ _ _ more) s
+    calls d e c f (whole o paren gathered answer e1 f1 g1 c1 h p more a s) =
+        whole o paren gathered answer e1 f1 g1 c1 (takes _ _ _ h) p (gathers _ _ _ _ _ more) a s
+
+    pub emits : (e : Expander R) (o : Taken) (f : Expander R) → Emits I A e o f → Emits J A e o f
+    emits e o f (itself o1 e1 f1 h n) = itself o1 e1 f1 (takes _ _ _ h) n
+    emits e o f (object x o1 m e1 f1 h1 h n k more) = object x o1 m e1 f1 h1 (takes _ _ _ h) n k (emits _ _ _ more)
+    emits e o f (name_alone x y o1 m e1 f1 g1 h1 h n k c s p) = name_alone x y o1 m e1 f1 g1 h1 (takes _ _ _ h) n k (calls _ _ _ _ c) s p
+    emits e o f (call_refused x o1 fault m e1 f1 g1 h n k c s) = call_refused x o1 fault m e1 f1 g1 (takes _ _ _ h) n k (calls _ _ _ _ c) s
+    emits e o f (call x o1 arguments line m e1 f1 g1 h1 h n k c more) =
+        call x o1 arguments line m e1 f1 g1 h1 (takes _ _ _ h) n k (calls _ _ _ _ c) (emits _ _ _ more)
+
+no_outcome : (o : Option Outcome) → o ≡ None → (x : Outcome) → o ≡ Some x → ⊥
+no_outcome o e x k = let bad : None ≡ Some x = sym e ∙ k in cc
+
+-- A step in dead text is without effect.
+module _ (A : Answers) (r : SourceReader) (nothing : GivesNothing r (act r)) where
+  without_effect : (o : Option Outcome) (t : SourceReader) → Steps A r o t → IsWithoutEffect r o t
+  without_effect o t (passes o1 r1 t1 s n p) = record {
+    no_token = λ token. no_outcome o n (outcome.Token token);
+    same_definitions = ap (λ t. t.definitions) p ∙ nothing.same_definitions;
+    same_lines = ap (λ t. t.line_offset) p ∙ nothing.same_lines;
+  }
+  without_effect o t (gives x o1 r1 t1 s n p) = record {
+    no_token = λ token e. let same : x ≡ outcome.Token token = cc in nothing.no_token token (s ∙ ap step.Given same);
+    same_definitions = ap (λ t. t.definitions) p ∙ nothing.same_definitions;
+    same_lines = ap (λ t. t.line_offset) p ∙ nothing.same_lines;
+  }
+  without_effect o t (defines named o1 r1 t1 s d n p) = absurd (nothing.no_define named s)
+  without_effect o t (repeats named old o1 r1 t1 s d same n p) = absurd (nothing.no_define named s)
+  without_effect o t (redefines named old o1 r1 t1 s d other n p) = absurd (nothing.no_define named s)
+  without_effect o t (decides word tokens holds o1 r1 t1 s c n p) = record {
+    no_token = λ token. no_outcome o n (outcome.Token token);
+    same_definitions = ap (λ t. t.definitions) p;
+    same_lines = ap (λ t. t.line_offset) p;
+  }
+  without_effect o t (undecided word tokens fault o1 r1 t1 s c n p) = record {
+    no_token = λ token e. let bad : Some (outcome.Fault fault) ≡ Some (outcome.Token token) = sym n ∙ e in cc;
+    same_definitions = ap (λ t. t.definitions) p;
+    same_lines = ap (λ t. t.line_offset) p;
+  }
+  without_effect o t (renumbers word tokens n1 o1 r1 t1 s c n p) = absurd (nothing.no_line_number word tokens s)
+  without_effect o t (unnumbered word tokens fault o1 r1 t1 s c n p) = absurd (nothing.no_line_number word tokens s)
+
+live_step : (A : Answers) (r : SourceReader) (o : Option Outcome) (t : SourceReader) → Steps A r o t → LiveSteps A r o t
+live_step A r o t s = record { steps = s; in_dead_text = λ dead. without_effect A r (dead_text_gives_nothing r dead) o t s }
+
+live_reads : (A : Answers) (r : SourceReader) (x : Taken) (t : SourceReader) → Reads A r x t → LiveReads A r x t
+live_reads A r x t (reads.here o x1 r1 t1 s e) = live.here o x1 r1 t1 (live_step A r1 (Some o) t1 s) e
+live_reads A r x t (reads.later x1 r1 s1 t1 s more) = live.later x1 r1 s1 t1 (live_step A r1 None s1 s) (live_reads A s1 x1 t1 more)
+
+gives_live : (A : Answers) (e : Expander SourceReader) (o : Outcome) (f : Expander SourceReader) → Gives A e o f → GivesLive A e o f
+gives_live A e o f g = record {
+  taken = g.taken;
+  emits = emits (source_reading A) (LiveReads A) (live_reads A) A e g.taken f g.emits;
+  is = g.is;
+}
+
+-- a run where what comes next comes so too
+run_of : (C D : Comings) → ((e : Expander SourceReader) (o : Outcome) (f : Expander SourceReader) → C e o f → D e o f)
+    → (e : Expander SourceReader) (calls : List Call) (replies : List Reply) → Runs C e calls replies → Runs D e calls replies
+run_of C D comes e asked replies (run.done e1 r n) = run.done e1 r n
+run_of C D comes e asked replies (run.added name content tokens e1 later rest r t more n) =
+    run.added name content tokens e1 later rest r t (run_of C D comes _ later rest more) n
+run_of C D comes e asked replies (run.refused name content fault e1 later rest r t more n) =
+    run.refused name content fault e1 later rest r t (run_of C D comes e1 later rest more) n
+run_of C D comes e asked replies (run.given o e1 f later rest r c n more s) =
+    run.given o e1 f later rest r (comes e1 o f c) n (run_of C D comes f later rest more) s
+run_of C D comes e asked replies (run.failed fault e1 f later r c n) = run.failed fault e1 f later r (comes e1 (outcome.Fault fault) f c) n
+
+pub runs_are_live : (A : Answers) → RunsAreLive A
+runs_are_live A = run_of (by_rules A) (GivesLive A) (gives_live A)
