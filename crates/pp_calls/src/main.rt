@@ -8,7 +8,7 @@
 //! | `NAME=CONTENT` | `add_define` |
 //! | `next` | `next`, once |
 //! | `rest` | `next` up to the first `None`, and then twice more |
-//! | `all` | `preprocess_all` |
+//! | `all`, `append` | `preprocess_all`, and `append_all` to an empty list |
 //! | `drain` | `drain` |
 //! | `errors` | `next` up to the first `None`, and `place` after each error: errors alone are printed, with that place |
 //! | `spell`, `afresh` | `spell_tokens` and `are_read_afresh`, of the tokens that were given so far |
@@ -95,6 +95,7 @@ fn act<'a>(
         }
         "rest" => session.rest(rt),
         "all" => session.all(rt),
+        "append" => session.append(rt),
         "drain" => {
             session.drain();
             Ok(())

@@ -8,7 +8,8 @@ use crate::shown::{
 };
 use pp_plain::run::run;
 use pp_rs::pp::{
-    self, Call, Preprocessor, PreprocessorItem, Reply, are_read_afresh, drain, preprocess_all,
+    self, Call, Preprocessor, PreprocessorItem, Reply, append_all, are_read_afresh, drain,
+    preprocess_all,
     spell_tokens,
 };
 use pp_rs::token::{Location, PreprocessorError, Token};
@@ -132,6 +133,19 @@ impl<'a> Session<'a> {
                 }
                 Ok(())
             }
+            Err(fault) => refused(rt, self.alloc, fault),
+        }
+    }
+
+    /// Puts all items that are left at the end of a list: those that came before a refusal are shown too.
+    pub(crate) fn append(&mut self, rt: &impl Print) -> io::Result<()> {
+        let mut items = Vec::new(self.alloc);
+        let ended = append_all(&mut self.pp, &mut items);
+        for given in items {
+            self.keep(rt, given)?;
+        }
+        match ended {
+            Ok(()) => Ok(()),
             Err(fault) => refused(rt, self.alloc, fault),
         }
     }

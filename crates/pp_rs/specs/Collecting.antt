@@ -1,11 +1,14 @@
--- One call of `preprocess_all` (docs/RULES.md, "Calls").
-use Rattle.std.specs.Prelude.{◌≡◌, ◌⊎◌, true, false, List, [], ◌∷◌, Option, Some, None, Ok, Err, MatchBool}
+-- One call of `append_all` or `preprocess_all` (docs/RULES.md, "Calls").
+use Rattle.std.specs.Prelude.{◌≡◌, true, false, List, [], ◌∷◌, ◌++◌, Option, Some, None, Ok, Err, MatchBool, All}
 use Rattle.pp_lexer.specs.declared.token.Token.{Token}
 use Rattle.pp_model.specs.declared.outcome.Outcome.{Outcome}
 use Rattle.pp_model.specs.declared.outcome.Outcome.TheVariants as outcome
 use Rattle.pp_rs.specs.Comes.{State, Gives, IsRunFrom}
 use Rattle.pp_expansion.specs.Item.{Fault, Item}
-use Rattle.pp_rs.specs.Kept.{Preprocessing, Stands, is_spent}
+use Rattle.pp_rs.specs.Kept.{Preprocessing, Stands, is_spent, most_items, errors_left, error_place}
+use Rattle.pp_expansion.specs.Held.{ItemHoldsOrdinary}
+use Rattle.pp_expansion.specs.LexerErrors.{ErrorAt}
+use Rattle.pp_lexer.specs.declared.token.Location.{Location}
 
 -- the tokens before the first error item
 abbrev pub tokens_before_error : List Item → List Token
@@ -33,23 +36,57 @@ AreItemsFrom state items = IsRunFrom state (tokens_before_error items) (error_or
 abbrev pub AreItemsOf : Preprocessing → List Item → Type 0
 AreItemsOf old items = MatchBool (is_spent old) (items ≡ []) ((state : State) → Stands old state → AreItemsFrom state items)
 
--- these tokens come from the state, and the preprocessor stands for the state after them
-pub record StandsAfter (state : State) (tokens : List Token) (new : Preprocessing) : Type 0 where
-  pub after : State
-  pub gives : Gives state tokens after
-  pub stands : Stands new after
+-- What items report of the lexer's errors: one of the lexer is the first that was not reported yet, and stands where that
+-- says; any other stands at its own place. Before them so many were unreported, and the last error stood there; after them so.
+pub data Reports : List Item → List ErrorAt → Location → List ErrorAt → Location → Type 0 where
+  none : (items : List Item) (left after : List ErrorAt) (place last : Location) → items ≡ [] → after ≡ left → last ≡ place → Reports items left place after last
+  token : (first : Token) (rest items : List Item) (left after : List ErrorAt) (place last : Location)
+      → Reports rest left place after last → items ≡ Ok first ∷ rest → Reports items left place after last
+  of_lexer : (first : Fault) (there : Location) (rest items : List Item) (others left after : List ErrorAt) (place last : Location)
+      → left ≡ record { item = first; place = there } ∷ others → Reports rest others there after last → items ≡ Err first ∷ rest → Reports items left place after last
+  of_its_own : (first : Fault) (rest items : List Item) (left after : List ErrorAt) (place last : Location)
+      → Reports rest left first.1 after last → items ≡ Err first ∷ rest → Reports items left place after last
 
--- the same of items, where none of them is an error: after an error nothing is said
-abbrev pub StandsAfterItems : State → List Item → Option Fault → Preprocessing → Type 0
-StandsAfterItems state items None new = StandsAfter state (tokens_before_error items) new
-StandsAfterItems state items (Some fault) new = IsRunFrom state (tokens_before_error items) (outcome.Fault fault)
+-- the same of a preprocessor before them and after them
+abbrev pub AreReported : Preprocessing → List Item → Preprocessing → Type 0
+AreReported old items new = Reports items (errors_left old) (error_place old) (errors_left new) (error_place new)
 
--- these items were given up, and the preprocessor goes on after them
-pub record GoesOnAfter (old new : Preprocessing) : Type 0 where
+-- Up to and with their first error item these items came from the state; if none of them is an error, the preprocessor stands
+-- for the state after them, unless memory was refused for the next one. After an error nothing is said.
+abbrev pub HaveComeFrom : State → List Item → Option Fault → Preprocessing → Type 0
+HaveComeFrom state items None new = (after : State) × Gives state (tokens_before_error items) after × (is_spent new ≡ false → Stands new after)
+HaveComeFrom state items (Some fault) new = IsRunFrom state (tokens_before_error items) (outcome.Fault fault)
+
+-- These items came, one after another, and the preprocessor goes on after them, unless memory was refused: for the next one, or
+-- before the first, and then there are none.
+pub record HaveCome (old : Preprocessing) (items : List Item) (new : Preprocessing) : Type 0 where
+  pub none : is_spent old ≡ true → items ≡ []
+  pub came : is_spent old ≡ false → (state : State) → Stands old state → HaveComeFrom state items (first_error items) new
+  pub holds : All ItemHoldsOrdinary items
+  pub reports : is_spent new ≡ false → AreReported old items new
+
+-- these items came and were put at the list's end
+pub record AreAppended (old : Preprocessing) (before items : List Item) (new : Preprocessing) : Type 0 where
+  pub more : List Item
+  pub are_last : items ≡ before ++ more
+  pub came : HaveCome old more new
+
+-- All items that were left, and what they reported: nothing is left after them, and memory was not refused for one of them.
+pub record AreAll (old : Preprocessing) (items : List Item) (new : Preprocessing) : Type 0 where
+  pub items_of : AreItemsOf old items
+  pub holds : All ItemHoldsOrdinary items
+  pub ended : most_items new ≡ 0
+  pub spent : is_spent new ≡ is_spent old
+  pub reports : AreReported old items new
+  pub reports_all : is_spent old ≡ false → errors_left new ≡ []
+
+-- all items that were left were put at the list's end
+pub record AreAllAppended (old : Preprocessing) (before items : List Item) (new : Preprocessing) : Type 0 where
+  pub more : List Item
+  pub are_last : items ≡ before ++ more
+  pub all : AreAll old more new
+
+-- These items came and were given up, and the preprocessor goes on after them.
+pub record IsGivenUp (old new : Preprocessing) : Type 0 where
   pub items : List Item
-  pub stands : (state : State) → Stands old state → StandsAfterItems state items (first_error items) new
-  pub spent : is_spent new ≡ false
-
--- memory was refused: for an item, now or before, and then nothing comes for good; or for the list of them
-abbrev pub IsGivenUp : Preprocessing → Preprocessing → Type 0
-IsGivenUp old new = (is_spent new ≡ true) ⊎ GoesOnAfter old new
+  pub came : HaveCome old items new

@@ -9,7 +9,7 @@ mod source_turn;
 mod spelling;
 
 pub use afresh::are_read_afresh;
-pub use all_items::{drain, preprocess_all};
+pub use all_items::{append_all, drain, preprocess_all};
 pub use call_list::replies;
 pub use pp_expansion::step::{Step, StepExit};
 pub use pp_model::call::{Call, Reply};

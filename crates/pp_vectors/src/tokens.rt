@@ -72,15 +72,12 @@ fn is_exit_copied(alloc: Global, exit: StepExit) -> bool {
     }
 }
 
-// Whether the tokens are ordinary, and their text gives them again.
-fn is_output(alloc: Global, tokens: &[Token]) -> bool {
+// Whether the text of the tokens gives them again; `None` if they aren't ordinary, or memory is refused.
+fn is_output(alloc: Global, tokens: &[Token]) -> Option<bool> {
     if !tokens.iter().all(|token| token.is_ordinary()) {
-        return false;
+        return None;
     }
-    match are_read_afresh(alloc, tokens) {
-        Ok(answer) => answer,
-        Err(_) => false,
-    }
+    are_read_afresh(alloc, tokens).ok()
 }
 
 #[test]
@@ -107,7 +104,7 @@ fn exits_are_copied(rt: HostRuntime) -> Result<(), Fail> {
 fn what_is_no_output_is_not_read_afresh(rt: HostRuntime) -> Result<(), Fail> {
     let mut tokens = Vec::new(rt.alloc());
     tokens.push(placed(name(rt.alloc(), "a b")?))?;
-    assert!(rt; !is_output(rt.alloc(), &tokens));
+    assert!(rt; is_output(rt.alloc(), &tokens) == Some(false));
     Ok(())
 }
 

@@ -1,15 +1,20 @@
 -- The items of a preprocessor, gathered one after another.
-use Rattle.std.proofs.Common.{◌≡◌, ◌∙◌, ◌⊎◌, inl, inr, Bool, true, false, List, [], ◌∷◌, ◌++◌, refl, ap, sym, subst, Option, Some, None, All}
+use Rattle.std.proofs.Common.{◌≡◌, ◌∙◌, ◌⊎◌, append_assoc, inl, inr, Bool, true, false, List, [], ◌∷◌, ◌++◌, refl, ap, sym, subst, Option, Some, None, All}
 use Rattle.std.specs.Prelude.{Ok, Err, MatchBool}
+use Rattle.std.proofs.lemmas.List.{append-nil}
 use Rattle.std.proofs.lemmas.List.Elements.{All-nil, All-push}
 use Rattle.pp_lexer.specs.declared.token.Token.{Token}
 use Rattle.pp_model.specs.declared.outcome.Outcome.TheVariants as outcome
-use Rattle.pp_rs.specs.Collecting.{tokens_before_error, first_error, error_or_end, AreItemsFrom, AreItemsOf, StandsAfterItems, IsGivenUp}
+use Rattle.pp_rs.specs.Collecting.{tokens_before_error, first_error, error_or_end, AreItemsFrom, AreItemsOf, Reports, AreReported, HaveComeFrom, HaveCome, AreAll, AreAppended, AreAllAppended}
 use Rattle.pp_rs.specs.Comes.{State, IsRunFrom}
 use Rattle.pp_expansion.specs.Held.{ItemHoldsOrdinary}
 use Rattle.pp_expansion.specs.Item.{Fault, Item}
-use Rattle.pp_rs.specs.Kept.{Preprocessing, Stands, is_spent}
-use Rattle.pp_rs.specs.Preprocessing.{is_refusal, IsRefusedItem, IsGivenItem, IsNextItem}
+use Rattle.pp_rs.specs.Kept.{Preprocessing, Stands, is_spent, errors_left, error_place}
+use Rattle.pp_rs.specs.Preprocessing.{is_refusal, IsErrorAt, ReportsError, IsRefusedItem, IsGivenItem, IsNextItem}
+use Rattle.pp_rs.specs.Preprocessing as error
+use Rattle.pp_rs.specs.Collecting as report
+use Rattle.pp_expansion.specs.LexerErrors.{ErrorAt}
+use Rattle.pp_lexer.specs.declared.token.Location.{Location}
 use Rattle.pp_rs.proofs.runs.ComesLemmas.{gives_nothing, gives_more}
 
 -- after an error nothing changes
@@ -44,55 +49,88 @@ run_as : (state : State) (tokens others : List Token) (fault : Fault) → others
     → IsRunFrom state others (outcome.Fault fault)
 run_as state tokens others fault e h = subst (λ ts. IsRunFrom state ts (outcome.Fault fault)) (sym e) h
 
-stands_as : (state : State) (items : List Item) (new : Preprocessing) (error other : Option Fault) → other ≡ error
-    → StandsAfterItems state items error new → StandsAfterItems state items other new
-stands_as state items new error other e h = subst (λ x. StandsAfterItems state items x new) (sym e) h
+have_as : (state : State) (items : List Item) (new : Preprocessing) (error other : Option Fault) → other ≡ error
+    → HaveComeFrom state items error new → HaveComeFrom state items other new
+have_as state items new error other e h = subst (λ x. HaveComeFrom state items x new) (sym e) h
 
 module _ (state : State) (items : List Item) (now new : Preprocessing) where
   -- one item more
-  item_more : (item : Item) (error : Option Fault) → first_error items ≡ error → StandsAfterItems state items error now → IsGivenItem now (Some item) new
-      → StandsAfterItems state (items ++ item ∷ []) (first_error (items ++ item ∷ [])) new
-  item_more item (Some fault) e h given =
-      stands_as state (items ++ item ∷ []) new (Some fault) _ (error_stays items (item ∷ []) fault e)
+  item_more : (item : Item) (error : Option Fault) → is_spent now ≡ false → first_error items ≡ error → HaveComeFrom state items error now
+      → IsGivenItem now (Some item) new → HaveComeFrom state (items ++ item ∷ []) (first_error (items ++ item ∷ [])) new
+  item_more item (Some fault) ready e h given =
+      have_as state (items ++ item ∷ []) new (Some fault) _ (error_stays items (item ∷ []) fault e)
       (run_as state _ _ fault (tokens_stay items (item ∷ []) fault e) h)
-  item_more (Ok token) None e h given =
-      let next = given.item h.after h.stands in
-      stands_as state (items ++ Ok token ∷ []) new None _ (error_of_more items (Ok token ∷ []) e) (record {
-        after = next.after;
-        gives = rw (tokens_of_more items (Ok token ∷ []) e) (gives_more (tokens_before_error items) token state h.after next.after h.gives next.emits);
-        stands = next.goes_on;
-      })
-  item_more (Err fault) None e h given =
-      let next = given.item h.after h.stands in
-      stands_as state (items ++ Err fault ∷ []) new (Some fault) _ (error_of_more items (Err fault ∷ []) e)
+  item_more (Ok token) None ready e h given =
+      let next = given.item h.0 (h.2 ready) in
+      have_as state (items ++ Ok token ∷ []) new None _ (error_of_more items (Ok token ∷ []) e) (
+        next.after,
+        rw (tokens_of_more items (Ok token ∷ []) e) (gives_more (tokens_before_error items) token state h.0 next.after h.1 next.emits),
+        λ unspent. next.goes_on,
+      )
+  item_more (Err fault) None ready e h given =
+      let next = given.item h.0 (h.2 ready) in
+      have_as state (items ++ Err fault ∷ []) new (Some fault) _ (error_of_more items (Err fault ∷ []) e)
       (run_as state (tokens_before_error items) _ fault (tokens_of_more items (Err fault ∷ []) e ∙ no_tokens_more (tokens_before_error items)) (record {
-        before = h.after;
-        gives = h.gives;
+        before = h.0;
+        gives = h.1;
         after = next.after;
         ends = next.emits;
       }))
 
+  -- memory for the next one was refused
+  item_refused : (error : Option Fault) → is_spent new ≡ true → HaveComeFrom state items error now → HaveComeFrom state items error new
+  item_refused (Some fault) spent h = h
+  item_refused None spent h = (h.0, h.1, λ unspent. let bad : true ≡ false = sym spent ∙ unspent in cc)
+
   -- after the last one
-  items_end : (error : Option Fault) → first_error items ≡ error → StandsAfterItems state items error now → IsGivenItem now None new
-      → IsRunFrom state (tokens_before_error items) (error_or_end error)
-  items_end (Some fault) e h given = h
-  items_end None e h given =
-      let next = given.item h.after h.stands in
-      record { before = h.after; gives = h.gives; after = next.after; ends = next.emits }
+  items_end : (error : Option Fault) → is_spent now ≡ false → first_error items ≡ error → HaveComeFrom state items error now
+      → IsGivenItem now None new → IsRunFrom state (tokens_before_error items) (error_or_end error)
+  items_end (Some fault) ready e h given = h
+  items_end None ready e h given =
+      let next = given.item h.0 (h.2 ready) in
+      record { before = h.0; gives = h.1; after = next.after; ends = next.emits }
+
+-- what items report, and then what others do
+reports_then : (items others : List Item) (left after more : List ErrorAt) (place there last : Location)
+    → Reports items left place after there → Reports others after there more last → Reports (items ++ others) left place more last
+reports_then items others left after more place there last (report.none items1 left1 after1 place1 last1 e l p) h =
+    rw (e, ← l, ← p) h
+reports_then items others left after more place there last (report.token first rest items1 left1 after1 place1 last1 r e) h =
+    report.token first (rest ++ others) _ left more place last (reports_then rest others left after more place there last r h) (ap (λ i. i ++ others) e)
+reports_then items others left after more place there last (report.of_lexer first at rest items1 ones left1 after1 place1 last1 l r e) h =
+    report.of_lexer first at (rest ++ others) _ ones left more place last l (reports_then rest others ones after more at there last r h) (ap (λ i. i ++ others) e)
+reports_then items others left after more place there last (report.of_its_own first rest items1 left1 after1 place1 last1 r e) h =
+    report.of_its_own first (rest ++ others) _ left more place last (reports_then rest others left after more first.1 there last r h) (ap (λ i. i ++ others) e)
+
+-- what one item reports
+module _ (now new : Preprocessing) where
+  reports_error : (fault : Fault) → IsErrorAt fault now new → AreReported now (Err fault ∷ []) new
+  reports_error fault (error.of_lexer h) =
+      report.of_lexer fault (error_place new) [] _ (errors_left new) _ _ _ _ h (report.none [] _ _ _ _ refl refl refl) refl
+  reports_error fault (error.of_its_own p l) = report.of_its_own fault [] _ _ _ _ _ (report.none [] _ _ _ _ refl l p) refl
+
+  reports_item : (item : Item) → ReportsError (Some item) now new → AreReported now (item ∷ []) new
+  reports_item (Ok first) h = report.token first [] _ _ _ _ _ (report.none [] _ _ _ _ refl h.0 h.1) refl
+  reports_item (Err fault) h = reports_error fault h
 
 -- the items that were gathered, and the preprocessor after them
 pub record Gathered (old : Preprocessing) (items : List Item) (now : Preprocessing) : Type 0 where
   pub spent : is_spent now ≡ is_spent old
-  pub none : is_spent old ≡ true → items ≡ []
-  pub stands : is_spent old ≡ false → (state : State) → Stands old state → StandsAfterItems state items (first_error items) now
-  pub holds : All ItemHoldsOrdinary items
+  pub come : HaveCome old items now
+  pub reported : AreReported old items now
+  pub same : is_spent old ≡ true → now ≡ old
 
 pub gathered_none : (old : Preprocessing) (items : List Item) → items ≡ [] → Gathered old items old
 gathered_none old items e = record {
   spent = refl;
-  none = λ spent. e;
-  stands = λ ready state stands. rw e (record { after = state; gives = gives_nothing state; stands = stands });
-  holds = rw e (All-nil ItemHoldsOrdinary);
+  come = record {
+    none = λ spent. e;
+    came = λ ready state stands. rw e (state, gives_nothing state, λ unspent. stands);
+    holds = rw e (All-nil ItemHoldsOrdinary);
+    reports = λ unspent. report.none items _ _ _ _ e refl refl;
+  };
+  reported = report.none items _ _ _ _ e refl refl;
+  same = λ spent. refl;
 }
 
 -- an item comes only where memory was not refused before
@@ -113,41 +151,104 @@ module _ (now new : Preprocessing) (item : Item) (next : IsNextItem now (Some it
   gathered_more old items more g reported e =
       let given = given_by ready.1 reported in
       let fresh : is_spent old ≡ false = sym g.spent ∙ ready.0 in
+      let all : AreReported old more new = rw e (reports_then items (item ∷ []) _ _ _ _ _ _ g.reported (reports_item now new item given.reports)) in
       record {
         spent = given.spent ∙ sym fresh;
-        none = λ spent. let bad : true ≡ false = sym spent ∙ fresh in cc;
-        stands = λ start state stands. rw e (item_more state items now new item (first_error items) refl (g.stands start state stands) given);
-        holds = rw e (All-push ItemHoldsOrdinary items item g.holds given.holds);
+        come = record {
+          none = λ spent. let bad : true ≡ false = sym spent ∙ fresh in cc;
+          came = λ start state stands. rw e (item_more state items now new item (first_error items) ready.0 refl (g.come.came start state stands) given);
+          holds = rw e (All-push ItemHoldsOrdinary items item g.come.holds given.holds);
+          reports = λ unspent. all;
+        };
+        reported = all;
+        same = λ spent. let bad : true ≡ false = sym spent ∙ fresh in cc;
       }
 
   spent_by : IsRefusedItem (Some item) new ⊎ IsGivenItem now (Some item) new → is_refusal (Some item) ≡ true → is_spent new ≡ true
   spent_by (inl refused) reported = refused.spent
   spent_by (inr given) reported = let bad : true ≡ false = sym reported ∙ given.no_refusal in cc
 
-  -- memory for an item was refused
-  pub refused_now : (old : Preprocessing) → is_refusal (Some item) ≡ true → IsGivenUp old new
-  refused_now old reported = inl (spent_by ready.1 reported)
-
--- memory for the list was refused
-given_up_by : (spent : Bool) (old : Preprocessing) (items : List Item) (now : Preprocessing) → Gathered old items now → is_spent now ≡ spent → IsGivenUp old now
-given_up_by true old items now g e = inl e
-given_up_by false old items now g e = inr (record { items = items; stands = g.stands (sym g.spent ∙ e); spent = e })
-
-pub given_up_now : (old : Preprocessing) (items : List Item) (now : Preprocessing) → Gathered old items now → IsGivenUp old now
-given_up_now old items now g = given_up_by (is_spent now) old items now g refl
+  -- memory for an item was refused: those before it came
+  pub come_before_refusal : (old : Preprocessing) (items : List Item) → Gathered old items now → is_refusal (Some item) ≡ true → HaveCome old items new
+  come_before_refusal old items g reported =
+      let spent : is_spent new ≡ true = spent_by ready.1 reported in
+      record {
+        none = g.come.none;
+        came = λ start state stands. item_refused state items now new (first_error items) spent (g.come.came start state stands);
+        holds = g.come.holds;
+        reports = λ unspent. let bad : true ≡ false = sym spent ∙ unspent in cc;
+      }
 
 module _ (old : Preprocessing) (items : List Item) (now new : Preprocessing) (g : Gathered old items now) (next : IsNextItem now None new) where
-  end_given : (spent : Bool) → MatchBool spent (◌≡◌ {A = Option Item} None None × (new ≡ now)) (IsRefusedItem None new ⊎ IsGivenItem now None new)
-      → spent ≡ false → IsGivenItem now None new
-  end_given true h ready = cc
-  end_given false (inl refused) ready = let bad = refused.item in cc
-  end_given false (inr given) ready = given
+  -- after the end memory was refused before, and nothing has changed, or what was left came
+  pub data Ends : Type 0 where
+    spent_before : is_spent now ≡ true → new ≡ now → Ends
+    ended : is_spent now ≡ false → IsGivenItem now None new → Ends
 
-  items_by : (spent : Bool) → is_spent old ≡ spent → MatchBool spent (items ≡ []) ((state : State) → Stands old state → AreItemsFrom state items)
-  items_by true e = g.none e
-  items_by false e = λ state stands. items_end state items now new (first_error items) refl (g.stands e state stands)
-      (end_given (is_spent now) next.gives (g.spent ∙ e))
+  ends_by : (spent : Bool) → is_spent now ≡ spent
+      → MatchBool spent (◌≡◌ {A = Option Item} None None × (new ≡ now)) (IsRefusedItem None new ⊎ IsGivenItem now None new) → Ends
+  ends_by true e h = spent_before e h.1
+  ends_by false e (inl refused) = let bad = refused.item in cc
+  ends_by false e (inr given) = ended e given
+
+  items_by : (spent : Bool) → is_spent old ≡ spent → Ends → MatchBool spent (items ≡ []) ((state : State) → Stands old state → AreItemsFrom state items)
+  items_by true e h = g.come.none e
+  items_by false e (spent_before spent same) = let bad : true ≡ false = sym spent ∙ g.spent ∙ e in cc
+  items_by false e (ended ready given) = λ state stands. items_end state items now new (first_error items) ready refl (g.come.came e state stands) given
+
+  all_by : Ends → AreAll old items new
+  all_by (spent_before spent same) = record {
+    items_of = items_by (is_spent old) refl (spent_before spent same);
+    holds = g.come.holds;
+    ended = next.less_left;
+    spent = ap is_spent same ∙ g.spent;
+    reports = rw same g.reported;
+    reports_all = λ fresh. let bad : true ≡ false = sym spent ∙ g.spent ∙ fresh in cc;
+  }
+  all_by (ended ready given) = record {
+    items_of = items_by (is_spent old) refl (ended ready given);
+    holds = g.come.holds;
+    ended = next.less_left;
+    spent = given.spent ∙ sym ready ∙ g.spent;
+    reports = rw (given.reports.1 ∙ sym given.reports.0, given.reports.2) g.reported;
+    reports_all = λ fresh. given.reports.1;
+  }
 
   -- all items were gathered
-  pub gathered_all : AreItemsOf old items
-  gathered_all = items_by (is_spent old) refl
+  pub gathered_all : AreAll old items new
+  gathered_all = all_by (ends_by (is_spent now) refl next.gives)
+
+-- items that were gathered, and put at the list's end
+pub record Appended (old : Preprocessing) (before items : List Item) (now : Preprocessing) : Type 0 where
+  pub more : List Item
+  pub are_last : items ≡ before ++ more
+  pub gathered : Gathered old more now
+
+pub appended_none : (old : Preprocessing) (items : List Item) → Appended old items items old
+appended_none old items = record { more = []; are_last = sym (append-nil items); gathered = gathered_none old [] refl }
+
+pub appended_more : (old : Preprocessing) (before items all : List Item) (now new : Preprocessing) (item : Item) → IsNextItem now (Some item) new
+    → Appended old before items now → is_refusal (Some item) ≡ false → all ≡ items ++ item ∷ [] → Appended old before all new
+appended_more old before items all now new item next a reported e = record {
+  more = a.more ++ item ∷ [];
+  are_last = e ∙ ap (λ i. i ++ item ∷ []) a.are_last ∙ append_assoc before a.more (item ∷ []);
+  gathered = gathered_more now new item next old a.more (a.more ++ item ∷ []) a.gathered reported refl;
+}
+
+-- memory for the list was refused
+pub appended_now : (old : Preprocessing) (before items : List Item) (now : Preprocessing) → Appended old before items now → AreAppended old before items now
+appended_now old before items now a = record { more = a.more; are_last = a.are_last; came = a.gathered.come }
+
+-- memory for an item was refused
+pub appended_before : (old : Preprocessing) (before items : List Item) (now new : Preprocessing) (item : Item) → IsNextItem now (Some item) new
+    → Appended old before items now → is_refusal (Some item) ≡ true → AreAppended old before items new
+appended_before old before items now new item next a reported = record {
+  more = a.more;
+  are_last = a.are_last;
+  came = come_before_refusal now new item next old a.more a.gathered reported;
+}
+
+-- the end was given
+pub appended_all : (old : Preprocessing) (before items : List Item) (now new : Preprocessing) → IsNextItem now None new
+    → Appended old before items now → AreAllAppended old before items new
+appended_all old before items now new next a = record { more = a.more; are_last = a.are_last; all = gathered_all old a.more now new a.gathered next }
