@@ -492,11 +492,7 @@ impl Caller {
     }
 
     // What a token that is taken stands for as a name, unless it is painted.
-    fn find_macro(
-        &self,
-        lexer: &dyn MeLexer,
-        read: &Read,
-    ) -> Result<Option<Rc<Define>>, AllocError>
+    fn find_macro(&self, lexer: &dyn MeLexer, read: &Read) -> Result<Option<Rc<Define>>, AllocError>
         ensures { IfOk result (λ found. option_map (λ define. define.value) found
             ≡ option_map (λ opening. opening.1) (opens (reader lexer.now) read.now)) }
     {

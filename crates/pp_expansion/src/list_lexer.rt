@@ -82,11 +82,7 @@ impl<'a> ListLexer<'a> {
     }
 
     /// The line of an `#if`, `#elif` or `#line`, where `defined` is reserved.
-    pub fn line(
-        tokens: Vec<Read>,
-        definitions: &'a Definitions,
-        hidden: &'a OpenAround<'a>,
-    ) -> Self
+    pub fn line(tokens: Vec<Read>, definitions: &'a Definitions, hidden: &'a OpenAround<'a>) -> Self
         requires { AllReadOrdinary tokens.items }
         ensures { result ≡ record {
           tokens = tokens.items;

@@ -6,7 +6,7 @@ use Rattle.pp_model.specs.Names.{Name, is_same_name}
 use Rattle.pp_model.specs.Definitions.{Definition}
 use Rattle.pp_model.specs.SpliceList.{parameter_of}
 use Rattle.pp_expansion.specs.inner.Defined.{Defined, meaning_of, body_tokens}
-use Rattle.pp_expansion.specs.inner.Frames.{Layer, layer, Advance, advance, body_token, argument_at}
+use Rattle.pp_expansion.specs.inner.Frames.{Layer, Advance, advance, body_token, argument_at}
 use Rattle.pp_expansion.specs.inner.Work.{token_steps, body_steps, steps_left}
 
 -- a frame after a step: fewer steps are left, and its name stays

@@ -8,8 +8,8 @@ use Rattle.pp_model.specs.Names.{Name, is_in, is_same_name}
 use Rattle.pp_expansion.specs.inner.Frames.{Layer, Advance, advance, names_of, outermost_frame_line}
 use Rattle.pp_expansion.specs.inner.Ahead.{frame_after, frames_after}
 use Rattle.pp_expansion.specs.inner.Turns.{frame_move}
-use Rattle.pp_expansion.specs.inner.OpenNames.{Position, AreNamesOf, IsOpenedAt, IsClosedAt}
-use Rattle.pp_expansion.proofs.open_frames.OpenNamesLemmas.{names_open, names_close}
+use Rattle.pp_expansion.specs.inner.OpenNames.{Position, AreNamesOf, IsClosedAt}
+use Rattle.pp_expansion.proofs.open_frames.OpenNamesLemmas.{names_close}
 
 or_left_comm : (a b c : Bool) → (a || (b || c)) ≡ (b || (a || c))
 or_left_comm true true c = refl

@@ -11,9 +11,8 @@ use Rattle.pp_expansion.specs.inner.Defined.{Defined, meaning_of}
 use Rattle.pp_expansion.specs.inner.Frames.{Layer, Advance, advance, names_of}
 use Rattle.pp_expansion.specs.Item.{Step, wants_memory}
 use Rattle.pp_expansion.specs.inner.Left.{AreDefinedAbove, AreOpenSoundly}
-use Rattle.pp_expansion.specs.inner.Machine.{Machine, taken_as, StepsFetching, StepsTaking, held, moved, TakesNext, now, later, GathersNext, closed, inside, overfull, ended, failed}
+use Rattle.pp_expansion.specs.inner.Machine.{Machine, StepsFetching, StepsTaking, held, moved, TakesNext, now, later, GathersNext, closed, inside, overfull, ended, failed}
 use Rattle.pp_expansion.specs.inner.Reader.{Reader, definitions_of}
-use Rattle.pp_expansion.specs.inner.Reading.{painted_step}
 use Rattle.pp_expansion.specs.inner.Turns.{frame_move, Moves, masks}
 use Rattle.pp_expansion.specs.declared.step.StepExit.TheVariants.{Error, Continue, Finished}
 use Rattle.pp_expansion.proofs.open_frames.AdvanceLemmas.{Advances, advance_lowers}

@@ -1,26 +1,23 @@
 -- The expander over a list of tokens, an argument or a line, is the definitions' expander of it.
 use Rattle.std.proofs.Common.{◌≡◌, ◌∙◌, inl, inr, true, false, ℕ, zero, suc, ◌-◌, All, ◌≤◌, arith, List, [], ◌∷◌, ◌++◌, length, refl, sym, ap, subst, Option, Some, None, Bool}
-use Rattle.std.specs.Prelude.{if◌then◌else◌, ◌||◌, ◌&&◌, Ok, Err}
+use Rattle.std.specs.Prelude.{if◌then◌else◌, ◌&&◌, Ok, Err}
 use Rattle.pp_model.specs.declared.read.Read.{Read}
-use Rattle.pp_model.specs.Names.{Name, is_in, is_same_name, defined_name}
+use Rattle.pp_model.specs.Names.{Name, is_same_name, defined_name}
 use Rattle.pp_model.specs.Reading.{Reading, Expander, Listed, masked}
 use Rattle.pp_model.specs.inner.Reading.{first_listed, after_listed, ReadsListed}
 use Rattle.pp_model.specs.Calls.{Answers, arguments_of, site_of}
 use Rattle.pp_model.specs.Definitions.{Definitions}
-use Rattle.pp_model.specs.declared.splice.Entry.{Entry}
-use Rattle.pp_model.specs.SpliceList.{open_names}
 use Rattle.pp_expansion.specs.inner.Calling.{PendingCall}
 use Rattle.pp_expansion.specs.inner.CallTurns.{TurnsTo, TurnsOrRefuses}
 use Rattle.pp_expansion.specs.inner.Defined.{Defined, meaning_of}
 use Rattle.pp_expansion.specs.inner.Finishing.{site_at, IsOpened}
-use Rattle.pp_expansion.specs.inner.Frames.{layer, flat, names_of}
+use Rattle.pp_expansion.specs.inner.Frames.{layer, names_of}
 use Rattle.pp_expansion.specs.Item.{Step, wants_memory}
 use Rattle.pp_expansion.specs.inner.Left.{most_alone}
 use Rattle.pp_expansion.specs.inner.Machine.{Machine}
 use Rattle.pp_expansion.specs.inner.Reader.{Reader, hidden_of, of_source, of_list, Listing, listed_step, Reads, shown_line, visible}
 use Rattle.pp_expansion.specs.declared.calls.Taken.{Taken}
 use Rattle.pp_expansion.proofs.work.CallFallsLemmas.{IsLess, IsPending, pending_opens}
-use Rattle.pp_expansion.proofs.open_frames.FlatLemmas.{open_flat}
 use Rattle.pp_expansion.proofs.taking.SearchSimulates.{ReadsTo, StandsIn, StandsHeld, masked_flat}
 use Rattle.pp_expansion.proofs.taking.TurnLeadsLemmas.{LeadsTo, turn_leads, wants_taken}
 

@@ -14,9 +14,7 @@ use Rattle.pp_model.proofs.GatherLemmas.{after_tokens, after_tokens-before, afte
 use Rattle.pp_expansion.specs.inner.Reach.{total}
 use Rattle.pp_expansion.specs.inner.Reader.{Reader}
 use Rattle.pp_expansion.proofs.work.SpendLemmas.{step_spends, next_spends, total_one_more}
-use Rattle.pp_expansion.specs.inner.Reading.{painted_step}
-use Rattle.pp_expansion.specs.inner.Turns.{Moves, masks, taken_in, gives_line_name}
-use Rattle.pp_expansion.specs.declared.step.StepExit.{StepExit}
+use Rattle.pp_expansion.specs.inner.Turns.{Moves, taken_in, gives_line_name}
 use Rattle.pp_expansion.specs.declared.step.StepExit.TheVariants.{Error, Continue, Finished}
 
 -- what is held comes first

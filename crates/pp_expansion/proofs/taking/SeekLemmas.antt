@@ -1,6 +1,6 @@
 -- The search after a name, as the code makes it.
 use Rattle.std.proofs.Common.{◌≡◌, ◌∙◌, ◌⊎◌, inl, inr, refl, sym, ap, subst, Option, Some, None, true, false, [], ◌∷◌}
-use Rattle.std.specs.Prelude.{List, Bool, Result, Ok, Err, option_map, if◌then◌else◌}
+use Rattle.std.specs.Prelude.{Bool, Result, Ok, Err, option_map, if◌then◌else◌}
 use Rattle.pp_lexer.specs.declared.token.Location.{Location}
 use Rattle.pp_model.specs.declared.read.Read.{Read}
 use Rattle.pp_model.specs.Painting.{unpainted}

@@ -1,8 +1,8 @@
 -- Steps after which reading goes on.
-use Rattle.std.proofs.Common.{◌≡◌, ◌≢◌, Bool, true, false, not, ◌&&◌, refl, ap, Err}
+use Rattle.std.proofs.Common.{◌≡◌, ◌≢◌, true, false, ap, Err}
 use Rattle.pp_lexer.specs.PreprocessorError.{out_of_memory}
-use Rattle.pp_expansion.specs.Item.{Step, wants_memory}
-use Rattle.pp_expansion.specs.inner.Work.{is_end, goes_on}
+use Rattle.pp_expansion.specs.Item.{Step}
+use Rattle.pp_expansion.specs.inner.Work.{goes_on}
 use Rattle.pp_expansion.specs.declared.step.StepExit.TheVariants.{Error, Finished}
 
 -- a step after which reading goes on is not the end

@@ -1,14 +1,13 @@
 -- Each turn of an expander with calls leads the definitions' expander to the same item, for every kind of reader.
-use Rattle.std.proofs.Common.{◌≡◌, ◌∙◌, true, false, ℕ, Bool, List, [], ◌∷◌, ◌++◌, refl, sym, ap, subst, Option, Some, None}
+use Rattle.std.proofs.Common.{◌≡◌, ◌∙◌, true, false, ℕ, Bool, List, [], ◌∷◌, refl, sym, ap, subst, Option, Some, None}
 use Rattle.std.specs.Prelude.{if◌then◌else◌, ◌||◌, Result, Ok, Err}
-use Rattle.std.proofs.lemmas.List.Folds.{list_any-append}
 use Rattle.pp_lexer.specs.declared.token.Location.{Location}
 use Rattle.pp_model.specs.declared.read.Read.{Read}
 use Rattle.pp_lexer.specs.declared.token.TokenValue.{TokenValue}
 use Rattle.pp_lexer.specs.declared.token.TokenValue.TheVariants.{Ident}
-use Rattle.pp_model.specs.Names.{Name, is_in, is_same_name}
+use Rattle.pp_model.specs.Names.{Name}
 use Rattle.pp_model.specs.Definitions.{Definition}
-use Rattle.pp_model.specs.Reading.{Reading, Expander, Opening, opening, opening_of, masked}
+use Rattle.pp_model.specs.Reading.{Reading, Expander, Opening, opening, opening_of}
 use Rattle.pp_model.specs.inner.Reading.{opening_by}
 use Rattle.pp_model.specs.Taking.{Takes}
 use Rattle.pp_model.specs.Calls as calls
@@ -16,13 +15,12 @@ use Rattle.pp_model.specs.Calls.{Fault, Gathered, Answers, paren_at, is_left_par
 use Rattle.pp_model.specs.Emitting as emitting
 use Rattle.pp_model.specs.Emitting.{Emits, opened}
 use Rattle.pp_model.specs.inner.Emitting.{holding}
-use Rattle.pp_model.specs.SpliceList.{open_names, spliced}
-use Rattle.pp_model.specs.declared.splice.Entry.{Entry}
+use Rattle.pp_model.specs.SpliceList.{spliced}
 use Rattle.pp_model.specs.declared.read.Taken.{Taken as Given}
 use Rattle.pp_model.specs.declared.read.Taken.TheVariants as given
-use Rattle.pp_expansion.specs.inner.CallTurns.{Sought, no_call, Seeks, alone, called, Finds, TurnsTo, passes, gives, object, seeks, paren_of, is_refusal, sought_by}
-use Rattle.pp_expansion.specs.Item.{Step, wants_memory, is_out_of_memory}
-use Rattle.pp_expansion.specs.inner.Frames.{layer, flat, names_of}
+use Rattle.pp_expansion.specs.inner.CallTurns.{Sought, no_call, Seeks, alone, called, Finds, TurnsTo, passes, gives, object, seeks, paren_of, sought_by}
+use Rattle.pp_expansion.specs.Item.{Step, wants_memory}
+use Rattle.pp_expansion.specs.inner.Frames.{layer}
 use Rattle.pp_expansion.specs.inner.Machine.{Machine, outcome_of_step, StepsTaking, TakesNext}
 use Rattle.pp_expansion.specs.inner.Reader.{Reader, Reads, hidden_of, shown_line, visible}
 use Rattle.pp_expansion.specs.inner.Turns.{opens, opens_value, opened_by}

@@ -8,10 +8,10 @@ use Rattle.pp_model.specs.Calls.{Fault, Gathered}
 use Rattle.pp_model.specs.Definitions.{Definition}
 use Rattle.pp_model.specs.Names.{Name, is_in}
 use Rattle.pp_expansion.specs.inner.Calling.{PendingCall}
-use Rattle.pp_expansion.specs.inner.CallTurns.{Sought, no_call, sought_by, Seeks, alone, called, Finds, TurnsTo, passes, gives, object, seeks, paren_of, is_refusal}
+use Rattle.pp_expansion.specs.inner.CallTurns.{Sought, no_call, sought_by, Seeks, alone, called, Finds, TurnsTo, passes, gives, object, seeks, paren_of}
 use Rattle.pp_expansion.specs.inner.Defined.{meaning_of, body_tokens}
 use Rattle.pp_expansion.specs.inner.Frames.{layer, names_of}
-use Rattle.pp_expansion.specs.Item.{Step, wants_memory, is_out_of_memory}
+use Rattle.pp_expansion.specs.Item.{Step, wants_memory}
 use Rattle.pp_expansion.specs.inner.Left.{reads_left, most_open, most_bodies, one_more, regions_of, regions, work_of, IsSound, most_alone}
 use Rattle.pp_expansion.specs.inner.Machine.{Machine, StepsTaking, GathersNext}
 use Rattle.pp_expansion.specs.inner.Reach.{total}

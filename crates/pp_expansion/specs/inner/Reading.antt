@@ -1,5 +1,5 @@
 -- Tokens with their paint, as the code keeps them.
-use Rattle.std.specs.Prelude.{List, All, Result, Ok, Err}
+use Rattle.std.specs.Prelude.{List, All, Ok, Err}
 use Rattle.pp_lexer.specs.declared.token.Token.{Token}
 use Rattle.pp_model.specs.Names.{Name}
 use Rattle.pp_model.specs.Painting.{unpainted, painted_among}

@@ -2,7 +2,6 @@
 -- Expansion 1 to 4 and 10).
 use Rattle.std.specs.Prelude.{◌≡◌, Bool, false, if◌then◌else◌, List, [], ◌∷◌, ◌++◌, Option, Some, None, Ok, Err, ◌⊎◌, unwrap_or}
 use Rattle.pp_lexer.specs.PreprocessorError.{out_of_memory}
-use Rattle.pp_lexer.specs.declared.token.Token.{Token}
 use Rattle.pp_lexer.specs.declared.token.TokenValue.{TokenValue}
 use Rattle.pp_lexer.specs.declared.token.TokenValue.TheVariants.{Ident}
 use Rattle.pp_model.specs.Names.{Name, is_identifier, line_name}
@@ -40,7 +39,7 @@ abbrev pub taken_in : List Layer → Reader → Read → Given
 taken_in frames reader read =
     if is_identifier line_name read.token.value
     then line_number read.token.location
-        (shown_line reader (unwrap_or (outermost_frame_line frames) read.token.location.line))
+    (shown_line reader (unwrap_or (outermost_frame_line frames) read.token.location.line))
     else given.Token read
 
 -- the names that are open here or around

@@ -2,7 +2,6 @@
 use Rattle.std.specs.Prelude.{◌≡◌, false, List, ◌∷◌, Option, Some, None, Result, Ok, Err, ⊤}
 use Rattle.pp_lexer.specs.Lexed.{Seen}
 use Rattle.pp_lexer.specs.declared.token.Location.{Location}
-use Rattle.pp_lexer.specs.declared.token.Token.{Token}
 use Rattle.pp_expansion.specs.Item.{Fault, Step, is_out_of_memory}
 use Rattle.pp_expansion.specs.LexerErrors.{ErrorAt, errors_among}
 use Rattle.pp_expansion.specs.declared.halt.Halt.{Halt}

@@ -1,7 +1,5 @@
-use Rattle.std.proofs.Common.{◌≡◌, List, [], ◌∷◌, ◌++◌, append_assoc}
-use Rattle.std.specs.Prelude.{map}
+use Rattle.std.proofs.Common.{◌≡◌, ◌∷◌, append_assoc}
 use Rattle.std.specs.Vec.Iter.{into_iter_items}
-use Rattle.pp_model.specs.Painting.{unpainted}
 use Rattle.pp_expansion.proofs.list_lexer.unpainted.Goals as goal
 
 pub loop-token-preserved : goal.loop-token-preserved
