@@ -1,4 +1,4 @@
-pub mod TakeLemmas
+pub mod FetchLemmas
 pub mod TurnLemmas
 pub mod SourceTextLemmas
 pub mod SourceStepLemmas

@@ -151,7 +151,7 @@ fn line_number(location: Location, shown: Option<u32>) -> Taken
     }
 }
 
-/// A taken token, with `__LINE__` as a number.
+/// A token, with `__LINE__` as a number.
 fn shown_token<R: Reader>(reader: &R, after: &[Entry], read: Read) -> Taken
     ensures { result ≡ shown_token (R.reading.shown_line (R.state reader.now)) after.now read }
 {
@@ -185,7 +185,7 @@ fn is_one_of(names: &[Text], value: &TokenValue) -> bool
     }
 }
 
-/// A taken token where these names are open.
+/// A token that is taken where these names are open, painted if it is one of them.
 fn painted_among(names: &[Text], read: Read) -> Read
     ensures { result ≡ painted_among names.now read }
 {
@@ -458,12 +458,7 @@ impl<R: Reader> Expander<R> {
     }
 
     /// The turn at a token that opens a macro.
-    fn turn_at(
-        &mut self,
-        taken: Taken,
-        opening: Opening,
-        budget: &mut Budget,
-    ) -> Result<Turn, Stop>
+    fn turn_at(&mut self, taken: Taken, opening: Opening, budget: &mut Budget) -> Result<Turn, Stop>
         ensures turns { IfOk result (λ turn. TurnsAt R.reading taken opening
             (seen R.state self.old) turn (seen R.state self.new)) }
         ensures budget { budget.new.steps ≤ budget.old.steps }

@@ -1,4 +1,4 @@
-//! Lists of lists.
+//! Lists of tokens with their paint, of such lists, and of names.
 
 use pp_lexer::token::Text;
 use pp_model::read::Read;

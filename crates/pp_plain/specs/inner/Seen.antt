@@ -23,9 +23,10 @@ seen state e = record { held = e.held; list = e.list.items; reader = state e.rea
 
 -- a `(` is taken, or what stands in its place is held
 pub data TakesParen {S : Type 0} (I : Reading S) : Expander S → Option Location → Expander S → Type 0 where
-  none : (o : Taken) (p : Option Location) (e f g : Expander S) → Takes I e o f → paren_at o ≡ None → p ≡ None → g ≡ holding o f → TakesParen I e p g
-  some : (o : Taken) (paren : Location) (p : Option Location) (e f : Expander S) → Takes I e o f → paren_at o ≡ Some paren
-      → p ≡ Some paren → TakesParen I e p f
+  none : (o : Taken) (p : Option Location) (e f g : Expander S) → Takes I e o f → paren_at o ≡ None → p ≡ None
+      → g ≡ holding o f → TakesParen I e p g
+  some : (o : Taken) (paren : Location) (p : Option Location) (e f : Expander S) → Takes I e o f
+      → paren_at o ≡ Some paren → p ≡ Some paren → TakesParen I e p f
 
 -- what stands after the name of a macro with parameters, before its arguments are expanded
 pub data Finds {S : Type 0} (I : Reading S) : Expander S → Found → Expander S → Type 0 where
@@ -43,16 +44,21 @@ turned given m (Broken fault) = Item (taken.Fault fault)
 turned given m (Whole site) = Called (record { opening = m; site = site })
 
 -- the turn at a token that opens a macro
-pub data TurnsAt {S : Type 0} (I : Reading S) (given : Taken) (m : Opening) : Expander S → Turn → Expander S → Type 0 where
-  object : (t : Turn) (e f : Expander S) → m.definition.function_like ≡ false → t ≡ Replaced → f ≡ opened m m.token.location.line [] e → TurnsAt I given m e t f
-  function : (c : Found) (t : Turn) (e f : Expander S) → m.definition.function_like ≡ true → Finds I e c f → t ≡ turned given m c → TurnsAt I given m e t f
+pub data TurnsAt {S : Type 0} (I : Reading S) (given : Taken) (m : Opening)
+    : Expander S → Turn → Expander S → Type 0 where
+  object : (t : Turn) (e f : Expander S) → m.definition.function_like ≡ false → t ≡ Replaced
+      → f ≡ opened m m.token.location.line [] e → TurnsAt I given m e t f
+  function : (c : Found) (t : Turn) (e f : Expander S) → m.definition.function_like ≡ true → Finds I e c f
+      → t ≡ turned given m c → TurnsAt I given m e t f
 
 -- One turn: an item, a macro without parameters that was replaced, or a call that was gathered and is yet to be replaced.
 pub data Turns {S : Type 0} (I : Reading S) : Expander S → Turn → Expander S → Type 0 where
   itself : (o : Taken) (t : Turn) (e f : Expander S) → Takes I e o f → opening I f o ≡ None → t ≡ Item o → Turns I e t f
-  opens : (x : Taken) (m : Opening) (t : Turn) (e f g : Expander S) → Takes I e x f → opening I f x ≡ Some m → TurnsAt I x m f t g → Turns I e t g
+  opens : (x : Taken) (m : Opening) (t : Turn) (e f g : Expander S) → Takes I e x f → opening I f x ≡ Some m
+      → TurnsAt I x m f t g → Turns I e t g
 
 -- a call is replaced by its answer, or the answer's fault is given
-abbrev pub Resolves : {S : Type 0} → Call → Result (List (List Read)) Fault → Expander S → Option Fault → Expander S → Type 0
+abbrev pub Resolves : {S : Type 0} → Call → Result (List (List Read)) Fault → Expander S → Option Fault → Expander S
+    → Type 0
 Resolves call (Ok arguments) e fault f = (fault ≡ None) × (f ≡ opened call.opening call.site.line arguments e)
 Resolves call (Err found) e fault f = (fault ≡ Some found) × (f ≡ e)

@@ -36,7 +36,8 @@ pub data Replying (A : Answers) : Expander SourceReader → Call → Reply → E
       → Replying A e (add_define name content) r f
   refused : (name content : List ℕ) (fault : Fault) (e f : Expander SourceReader) (r : Reply)
       → content_tokens (items_of content) ≡ Err fault → r ≡ reply.Refused fault → f ≡ e → Replying A e (add_define name content) r f
-  given : (o : Outcome) (e f : Expander SourceReader) (r : Reply) → by_rules A e o f → r ≡ reply.Given o → Replying A e next r f
+  given : (o : Outcome) (e f : Expander SourceReader) (r : Reply) → by_rules A e o f → r ≡ reply.Given o
+      → Replying A e next r f
 
 -- what is refused of a content, or nothing is said
 abbrev pub RefusedBy : Halt → Reply → Type 0

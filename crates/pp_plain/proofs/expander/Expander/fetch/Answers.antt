@@ -1,6 +1,6 @@
 use Rattle.std.proofs.Common.{sym, ap, ◌∙◌}
 use Rattle.pp_model.specs.Taking.{shown_token}
-use Rattle.pp_plain.proofs.TakeLemmas.{fetches_held, fetches_listed, fetches_read}
+use Rattle.pp_plain.proofs.FetchLemmas.{fetches_held, fetches_listed, fetches_read}
 use Rattle.pp_plain.proofs.expander.Expander.fetch.Goals as goal
 
 pub returns-in-Some-clause-fetches : goal.returns-in-Some-clause-fetches

@@ -6,8 +6,8 @@ use Rattle.pp_plain.proofs.source.SourceReaderImpl.read.Goals as goal
 pub returns-in-Some-clause-reads : goal.returns-in-Some-clause-reads
 returns-in-Some-clause-reads c =
     c.lines.invariant.goes_on c.unpainted.result (reader_of c.step.new.self.reader)
-    (here c.in-Some.outcome c.unpainted.result (reader_of c.lines.self.reader) (reader_of c.step.new.self.reader) (rw c.in-Some.is at (c.in_ok-outcome.ensures {u = tt}).steps)
-    c.unpainted.ensures)
+    (here c.in-Some.outcome c.unpainted.result (reader_of c.lines.self.reader) (reader_of c.step.new.self.reader)
+    (rw c.in-Some.is at (c.in_ok-outcome.ensures {u = tt}).steps) c.unpainted.ensures)
 
 pub lines-preserved : goal.lines-preserved
 lines-preserved c = record {
