@@ -13,7 +13,7 @@ use Rattle.pp_model.specs.Emitting.{Emits, Alones, Collects}
 use Rattle.pp_model.specs.LineWords.{Operand, Words, LineWords}
 use Rattle.pp_model.specs.LineValues.{IsCondition, IsLineNumber}
 use Rattle.pp_model.specs.SourceReader.{SourceReader}
-use Rattle.pp_model.specs.Reads.{Steps, Reads}
+use Rattle.pp_model.specs.Reads.{Steps}
 use Rattle.pp_model.specs.Run.{Gives, Call, IsRun}
 use Rattle.pp_model.specs.RunStates.{IsReached}
 use Rattle.pp_model.specs.declared.call.Reply.{Reply}
@@ -32,6 +32,10 @@ is_given_token outcome.End = false
 pub record IsFinite (definitions : Definitions) : Type 0 where
   pub names : List Name
   pub among : (name : Name) (definition : Definition) → definitions name ≡ Some definition → is_in name names ≡ true
+
+-- A reader passes something next.
+abbrev pub AReading : {R : Type 0} → Reading R → Type 0
+AReading {R} I = (r : R) → IsFinite (I.visible r) → (x : Taken) × (t : R) × I.Reads r x t
 
 -- Something is taken from an expander.
 abbrev pub ATaking : {R : Type 0} → Reading R → Type 0
@@ -88,10 +92,6 @@ ALineNumber A = (directive : Location) (tokens : List Token) (definitions : Defi
 -- One token or line of a source has an outcome, or gives nothing.
 abbrev pub AStep : Answers → Type 0
 AStep A = (r : SourceReader) → IsFinite r.definitions → (x : Option Outcome) × (t : SourceReader) × Steps A r x t
-
--- Reading a source gives something next.
-abbrev pub AReading : Answers → Type 0
-AReading A = (r : SourceReader) → IsFinite r.definitions → (x : Taken) × (t : SourceReader) × Reads A r x t
 
 -- In each state of a run finitely many names are defined.
 abbrev pub RunDefinesFinitelyMany : Answers → Type 0

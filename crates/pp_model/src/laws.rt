@@ -4,9 +4,9 @@
 ghost use Rattle.pp_model.specs.ApartMarks.{OnlyTakesEntries, OpensNew, KeepsMarksApart, StartsApart};
 ghost use Rattle.pp_model.specs.BlockLaws.{OneBranch, NoneAfterTaken, DeadTextGivesNothing};
 ghost use Rattle.pp_model.specs.Emitting.{Alone, answers_at};
-ghost use Rattle.pp_model.specs.ExistenceLaws.{ATaking, AGathering, ACall, AnItem, AList, AnArgument};
+ghost use Rattle.pp_model.specs.ExistenceLaws.{AReading, ATaking, AGathering, ACall, AnItem, AList, AnArgument};
 ghost use Rattle.pp_model.specs.ExistenceLaws.{AnOperand, ALine, ACondition, ALineNumber};
-ghost use Rattle.pp_model.specs.ExistenceLaws.{AStep, AReading, RunDefinesFinitelyMany, AnEnd, ARun};
+ghost use Rattle.pp_model.specs.ExistenceLaws.{AStep, RunDefinesFinitelyMany, AnEnd, ARun};
 ghost use Rattle.pp_model.specs.ExpansionLaws.{OneReads, OneTaking, OneGathering, OneCall, OneItem, OneArgument, OneOperand, OneLine};
 ghost use Rattle.pp_model.specs.NoLineName.{ShowsNoLineName, AloneShowsNoLineName};
 ghost use Rattle.pp_model.specs.Reading.{argument_reading, line_reading};
@@ -148,6 +148,12 @@ pub fn respell()
     ensures { (level : ℕ) → RunsAreReadAfresh (answers_at level) }
 {}
 
+/// A list of tokens passes something next.
+pub fn a_reading()
+    ensures argument { AReading argument_reading }
+    ensures line { AReading line_reading }
+{}
+
 /// Something is taken from an expander.
 pub fn a_taking()
     ensures argument { ATaking argument_reading }
@@ -199,7 +205,7 @@ pub fn a_line_value()
 /// One token or line of a source has an outcome, or gives nothing, and reading the source gives something next.
 pub fn a_source_reading()
     ensures step { (level : ℕ) → AStep (answers_at level) }
-    ensures reading { (level : ℕ) → AReading (answers_at level) }
+    ensures reading { (level : ℕ) → AReading (source_reading (answers_at level)) }
 {}
 
 /// In each state of a run finitely many names are defined.

@@ -7,7 +7,7 @@ use Rattle.pp_model.specs.Reading.{Reading, Expander, Listed, listed_reading}
 use Rattle.pp_model.specs.Taking.{Takes}
 use Rattle.pp_model.specs.Calls.{Fault, Answers}
 use Rattle.pp_model.specs.Emitting.{opened, first_before, Emits, itself, object, name_alone, call_refused, call, Collects, done, failed, item}
-use Rattle.pp_model.specs.ExistenceLaws.{IsFinite, AnAnswer, ATaking, AGathering, ACall, AnItem, AList}
+use Rattle.pp_model.specs.ExistenceLaws.{IsFinite, AnAnswer, AReading, ATaking, AGathering, ACall, AnItem, AList}
 use Rattle.pp_model.specs.declared.read.Read.{Read}
 use Rattle.pp_model.specs.declared.read.Taken.{Taken}
 use Rattle.pp_model.specs.declared.read.Taken.TheVariants as taken
@@ -90,6 +90,10 @@ a_list is_reserved A answered e finite =
     every (listed_premises is_reserved A (Listing I A HasFinite) answered (listing I A HasFinite)) e finite
 
 -- ---- its steps
+
+-- A list of tokens passes something next.
+pub list_reads : (is_reserved : Name → Bool) → AReading (listed_reading is_reserved)
+list_reads is_reserved r finite = let g = listed_gives is_reserved r finite in (g.given, g.after, g.reads)
 
 module _ (is_reserved : Name → Bool) (A : Answers) (answered : AnAnswer A) where
   -- Over a list of tokens something is taken from an expander.
