@@ -20,7 +20,7 @@ live_keeps r = record {
   dead = dead_keeps r;
   numbered = λ word tokens. refl;
   defined = λ named. refl;
-  changed = λ definitions. refl;
+  changed = λ name. refl;
   decision = λ holds. refl;
   token = λ shown count least. refl;
 }

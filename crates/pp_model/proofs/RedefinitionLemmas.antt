@@ -24,7 +24,7 @@ live_leaves r = record {
   dead = dead_leaves r;
   numbered = λ word tokens named h. refl;
   defined = λ defined named h. refl;
-  changed = λ definitions named h. cc;
+  changed = λ name named h. cc;
   decision = λ holds named h. refl;
   token = λ shown count least named h. refl;
 }

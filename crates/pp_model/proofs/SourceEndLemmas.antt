@@ -51,7 +51,7 @@ live_goes_on r = record {
   dead = dead_goes_on r;
   numbered = λ word tokens. refl;
   defined = λ named. refl;
-  changed = λ definitions. refl;
+  changed = λ name. refl;
   decision = λ holds. refl;
   token = λ shown count least. refl;
 }

@@ -5,6 +5,7 @@ pub mod TakingLemmas
 pub mod SearchLemmas
 pub mod TurnLemmas
 pub mod EveryExpander
+pub mod CallLemmas
 pub mod ItemLemmas
 pub mod ListLemmas
 pub mod ArgumentLemmas

@@ -1,5 +1,5 @@
--- Laws of expansion, of reading and of runs: each step has an outcome. They ask that finitely many names are defined, as in
--- each state of a run. If there were endless names, each defined as the next one, macros would open for ever.
+-- Laws of expansion, of reading and of runs: each step has an outcome. They ask that finitely many names are defined, as
+-- in each state of a run. If there were endless names, each defined as the next one, macros would open for ever.
 use Rattle.std.specs.Prelude.{◌≡◌, ℕ, Bool, true, false, List, [], ◌∷◌, Option, Some, Result}
 use Rattle.pp_lexer.specs.Lexed.{Seen}
 use Rattle.pp_lexer.specs.declared.token.Location.{Location}
@@ -7,12 +7,13 @@ use Rattle.pp_lexer.specs.declared.token.Token.{Token}
 use Rattle.pp_model.specs.Names.{Name, is_in}
 use Rattle.pp_model.specs.Definitions.{Definition, Definitions}
 use Rattle.pp_model.specs.Reading.{Reading, Expander, Listed}
-use Rattle.pp_model.specs.Calls.{Fault, Answers, Site}
+use Rattle.pp_model.specs.Taking.{Takes}
+use Rattle.pp_model.specs.Calls.{Fault, Gathered, Gathers, Answers, Site, Called, Calls}
 use Rattle.pp_model.specs.Emitting.{Emits, Alones, Collects}
 use Rattle.pp_model.specs.LineWords.{Operand, Words, LineWords}
 use Rattle.pp_model.specs.LineValues.{IsCondition, IsLineNumber}
 use Rattle.pp_model.specs.SourceReader.{SourceReader}
-use Rattle.pp_model.specs.Reads.{Steps, Reads}
+use Rattle.pp_model.specs.Reads.{Steps}
 use Rattle.pp_model.specs.Run.{Gives, Call, IsRun}
 use Rattle.pp_model.specs.RunStates.{IsReached}
 use Rattle.pp_model.specs.declared.call.Reply.{Reply}
@@ -32,6 +33,19 @@ pub record IsFinite (definitions : Definitions) : Type 0 where
   pub names : List Name
   pub among : (name : Name) (definition : Definition) → definitions name ≡ Some definition → is_in name names ≡ true
 
+-- A reader passes something next.
+abbrev pub AReading : {R : Type 0} → Reading R → Type 0
+AReading {R} I = (r : R) → IsFinite (I.visible r) → (x : Taken) × (t : R) × I.Reads r x t
+
+-- Something is taken from an expander.
+abbrev pub ATaking : {R : Type 0} → Reading R → Type 0
+ATaking {R} I = (e : Expander R) → IsFinite (I.visible e.reader) → (x : Taken) × (f : Expander R) × Takes I e x f
+
+-- The search for the end of a call gathers a list of tokens, or meets a fault.
+abbrev pub AGathering : {R : Type 0} → Reading R → Type 0
+AGathering {R} I = (n : ℕ) (last : Location) (e : Expander R) → IsFinite (I.visible e.reader)
+    → (x : Result Gathered Fault) × (f : Expander R) × Gathers I n last e x f
+
 -- A call at a site gives a list of arguments, or a fault.
 abbrev pub AnAnswer : Answers → Type 0
 AnAnswer A = (definition : Definition) (site : Site) → IsFinite site.visible
@@ -41,6 +55,11 @@ AnAnswer A = (definition : Definition) (site : Site) → IsFinite site.visible
 abbrev pub AnArgument : Alones → Type 0
 AnArgument deeper = (tokens : List Read) (visible : Definitions) (hidden : List Name) → IsFinite visible
     → (x : Result (List Read) Fault) × deeper tokens visible hidden x
+
+-- After the name of a function-like macro a call is found, none, or a fault.
+abbrev pub ACall : {R : Type 0} → Reading R → Answers → Type 0
+ACall {R} I A = (definition : Definition) (e : Expander R) → IsFinite (I.visible e.reader)
+    → (x : Called) × (f : Expander R) × Calls I A definition e x f
 
 -- An expander has a next item.
 abbrev pub AnItem : {R : Type 0} → Reading R → Answers → Type 0
@@ -73,10 +92,6 @@ ALineNumber A = (directive : Location) (tokens : List Token) (definitions : Defi
 -- One token or line of a source has an outcome, or gives nothing.
 abbrev pub AStep : Answers → Type 0
 AStep A = (r : SourceReader) → IsFinite r.definitions → (x : Option Outcome) × (t : SourceReader) × Steps A r x t
-
--- Reading a source gives something next.
-abbrev pub AReading : Answers → Type 0
-AReading A = (r : SourceReader) → IsFinite r.definitions → (x : Taken) × (t : SourceReader) × Reads A r x t
 
 -- In each state of a run finitely many names are defined.
 abbrev pub RunDefinesFinitelyMany : Answers → Type 0

@@ -4,8 +4,9 @@
 ghost use Rattle.pp_model.specs.ApartMarks.{OnlyTakesEntries, OpensNew, KeepsMarksApart, StartsApart};
 ghost use Rattle.pp_model.specs.BlockLaws.{OneBranch, NoneAfterTaken, DeadTextGivesNothing};
 ghost use Rattle.pp_model.specs.Emitting.{Alone, answers_at};
-ghost use Rattle.pp_model.specs.ExistenceLaws.{AnItem, AnArgument, AList, AnOperand, ALine, ACondition, ALineNumber};
-ghost use Rattle.pp_model.specs.ExistenceLaws.{AStep, AReading, RunDefinesFinitelyMany, AnEnd, ARun};
+ghost use Rattle.pp_model.specs.ExistenceLaws.{AReading, ATaking, AGathering, ACall, AnItem, AList, AnArgument};
+ghost use Rattle.pp_model.specs.ExistenceLaws.{AnOperand, ALine, ACondition, ALineNumber};
+ghost use Rattle.pp_model.specs.ExistenceLaws.{AStep, RunDefinesFinitelyMany, AnEnd, ARun};
 ghost use Rattle.pp_model.specs.ExpansionLaws.{OneReads, OneTaking, OneGathering, OneCall, OneItem, OneArgument, OneOperand, OneLine};
 ghost use Rattle.pp_model.specs.LiveRuns.{RunsAreLive};
 ghost use Rattle.pp_model.specs.NoLineName.{ShowsNoLineName, AloneShowsNoLineName};
@@ -150,6 +151,30 @@ pub fn respell()
     ensures { (level : ℕ) → RunsAreReadAfresh (answers_at level) }
 {}
 
+/// A list of tokens passes something next.
+pub fn a_reading()
+    ensures argument { AReading argument_reading }
+    ensures line { AReading line_reading }
+{}
+
+/// Something is taken from an expander.
+pub fn a_taking()
+    ensures argument { ATaking argument_reading }
+    ensures line { ATaking line_reading }
+{}
+
+/// The search for the end of a call gathers a list of tokens, or meets a fault.
+pub fn a_gathering()
+    ensures argument { AGathering argument_reading }
+    ensures line { AGathering line_reading }
+{}
+
+/// After the name of a function-like macro a call is found, none, or a fault.
+pub fn a_call()
+    ensures argument { (level : ℕ) → ACall argument_reading (answers_at level) }
+    ensures line { (level : ℕ) → ACall line_reading (answers_at level) }
+{}
+
 /// An expander has a next item, over a list of tokens and over a source.
 pub fn an_item()
     ensures argument { (level : ℕ) → AnItem argument_reading (answers_at level) }
@@ -183,7 +208,7 @@ pub fn a_line_value()
 /// One token or line of a source has an outcome, or gives nothing, and reading the source gives something next.
 pub fn a_source_reading()
     ensures step { (level : ℕ) → AStep (answers_at level) }
-    ensures reading { (level : ℕ) → AReading (answers_at level) }
+    ensures reading { (level : ℕ) → AReading (source_reading (answers_at level)) }
 {}
 
 /// In each state of a run finitely many names are defined.

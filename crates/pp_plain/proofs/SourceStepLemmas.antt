@@ -35,7 +35,7 @@ live_waits r = record {
   dead = dead_waits r;
   numbered = λ w ts. record { condition = λ word tokens h. refl; number = λ word tokens h. refl };
   defined = λ named. record { condition = λ word tokens h. cc; number = λ word tokens h. cc };
-  changed = λ definitions. record { condition = λ word tokens h. cc; number = λ word tokens h. cc };
+  changed = λ name. record { condition = λ word tokens h. cc; number = λ word tokens h. cc };
   decision = λ holds. record { condition = λ word tokens h. cc; number = λ word tokens h. cc };
   token = λ shown count least. record { condition = λ word tokens h. cc; number = λ word tokens h. cc };
 }

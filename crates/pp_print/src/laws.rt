@@ -15,8 +15,8 @@ pub fn held_tokens()
     ensures { HeldTokensAreSpelledAlike }
 {}
 
-/// A source, where definitions were added, has a run, up to the end or to the first error item. It has no other run than
-/// one, and so no other output. The tokens that come first of it are the first tokens of its run.
+/// A source, where definitions were added, has a run, up to the end or to the first error item. It has no other
+/// run, and so no other output. The tokens that come first of it are the first tokens of its run.
 pub fn runs()
     ensures some { ARun }
     ensures one { OneRun }

@@ -287,4 +287,5 @@ fn one_outcome(_rt: HostRuntime) {
     laws::one_value();
     laws::one_fault();
     laws::not_both();
+    laws::an_evaluation();
 }

@@ -7,13 +7,14 @@ use Rattle.pp_model.specs.Reading.{Reading, Expander, Listed, listed_reading}
 use Rattle.pp_model.specs.Taking.{Takes}
 use Rattle.pp_model.specs.Calls.{Fault, Answers}
 use Rattle.pp_model.specs.Emitting.{opened, first_before, Emits, itself, object, name_alone, call_refused, call, Collects, done, failed, item}
-use Rattle.pp_model.specs.ExistenceLaws.{IsFinite, AnAnswer, AnItem, AList}
+use Rattle.pp_model.specs.ExistenceLaws.{IsFinite, AnAnswer, AReading, ATaking, AGathering, ACall, AnItem, AList}
 use Rattle.pp_model.specs.declared.read.Read.{Read}
 use Rattle.pp_model.specs.declared.read.Taken.{Taken}
 use Rattle.pp_model.specs.declared.read.Taken.TheVariants as taken
 use Rattle.pp_model.proofs.existence.Turns.{is_token, Given, Leads, Turn, Premises}
 use Rattle.pp_model.proofs.existence.Turns as turn
 use Rattle.pp_model.proofs.existence.EveryExpander.{every}
+use Rattle.pp_model.proofs.existence.CallLemmas.{fine_taking, fine_gathering, fine_call}
 use Rattle.pp_model.proofs.existence.ItemLemmas.{fine_item}
 
 -- ---- a list of tokens as a reader
@@ -88,8 +89,27 @@ a_list is_reserved A answered e finite =
     let I = listed_reading is_reserved in
     every (listed_premises is_reserved A (Listing I A HasFinite) answered (listing I A HasFinite)) e finite
 
--- Over a list of tokens an expander has a next item.
-pub list_item : (is_reserved : Name → Bool) (A : Answers) → AnAnswer A → AnItem (listed_reading is_reserved) A
-list_item is_reserved A answered e finite =
-    let i = fine_item (listed_reading is_reserved) A HasFinite tokens_left (listed_gives is_reserved) (λ r h. h) answered e finite in
-    (i.item, i.after, i.emits)
+-- ---- its steps
+
+-- A list of tokens passes something next.
+pub list_reads : (is_reserved : Name → Bool) → AReading (listed_reading is_reserved)
+list_reads is_reserved r finite = let g = listed_gives is_reserved r finite in (g.given, g.after, g.reads)
+
+module _ (is_reserved : Name → Bool) (A : Answers) (answered : AnAnswer A) where
+  -- Over a list of tokens something is taken from an expander.
+  pub list_taking : ATaking (listed_reading is_reserved)
+  list_taking = fine_taking (listed_reading is_reserved) A HasFinite (λ r finite. finite) answered tokens_left (listed_gives is_reserved)
+
+  -- The search for the end of a call gathers tokens, or meets a fault.
+  pub list_gathering : AGathering (listed_reading is_reserved)
+  list_gathering = fine_gathering (listed_reading is_reserved) A HasFinite (λ r finite. finite) answered tokens_left (listed_gives is_reserved)
+
+  -- The search for a call finds one, none or a fault.
+  pub list_call : ACall (listed_reading is_reserved) A
+  list_call = fine_call (listed_reading is_reserved) A HasFinite (λ r finite. finite) answered tokens_left (listed_gives is_reserved)
+
+  -- Over a list of tokens an expander has a next item.
+  pub list_item : AnItem (listed_reading is_reserved) A
+  list_item e finite =
+      let i = fine_item (listed_reading is_reserved) A HasFinite tokens_left (listed_gives is_reserved) (λ r h. h) answered e finite in
+      (i.item, i.after, i.emits)

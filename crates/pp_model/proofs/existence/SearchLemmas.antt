@@ -13,7 +13,8 @@ use Rattle.pp_model.proofs.existence.Turns.{is_token, Here}
 use Rattle.pp_model.proofs.existence.CoveredLists.{Front, front_fine, size}
 use Rattle.pp_model.proofs.existence.TakingLemmas.{Took, took}
 
-paren_is_token : (x : Taken) (paren : Location) → paren_at x ≡ Some paren → is_token x ≡ true
+-- Where a `(` was taken, a token was.
+pub paren_is_token : (x : Taken) (paren : Location) → paren_at x ≡ Some paren → is_token x ≡ true
 paren_is_token (taken.Token read) paren h = refl
 paren_is_token (taken.Fault fault) paren h = cc
 paren_is_token taken.End paren h = cc

@@ -171,5 +171,5 @@ module _ (A : Answers) (answered : AnAnswer A) where
   pub a_step : AStep A
   a_step r f = let s = stepped r f in (s.outcome, s.after, s.steps)
 
-  pub a_reading : AReading A
-  a_reading r f = let g = source_gives r f in (g.given, g.after, g.reads)
+  pub source_reads : AReading (source_reading A)
+  source_reads r f = let g = source_gives r f in (g.given, g.after, g.reads)
