@@ -1,5 +1,5 @@
--- Laws of expansion, of reading and of runs: each step has an outcome. They ask that finitely many names are defined, as
--- in each state of a run. If there were endless names, each defined as the next one, macros would open for ever.
+-- Laws of expansion, of reading and of runs: each step has an outcome. They ask that finitely many names are defined,
+-- as in each state of a run. If there were endless names, each defined as the next one, macros would open for ever.
 use Rattle.std.specs.Prelude.{◌≡◌, ℕ, Bool, true, false, List, [], ◌∷◌, Option, Some, Result}
 use Rattle.pp_lexer.specs.Lexed.{Seen}
 use Rattle.pp_lexer.specs.declared.token.Location.{Location}

@@ -104,7 +104,8 @@ pub fn one_reading()
 }
 
 /// Calls that follow one another from the start of a source, each in the state after the one before, are a run. Every
-/// source has a run, whatever is called, and equal sources and calls have equal replies, up to and with the first error item.
+/// source has a run, whatever is called. Equal sources and calls have equal replies, up to and with the first error
+/// item.
 pub fn runs()
     ensures chains { (level : ℕ) → ChainsAreRuns (answers_at level) }
     ensures some { ARun }

@@ -1,5 +1,5 @@
--- Lists over which the property is known wherever taking leads, and where taking has come to: less is left of the reader, or
--- such a list of it.
+-- Lists over which the property is known wherever taking leads; and how far taking may have led: less is left of the reader,
+-- or such a list before it.
 use Rattle.std.proofs.Common.{◌≡◌, ℕ, ◌+◌, ◌<◌, Bool, true, false, List, [], ◌∷◌, ◌++◌, length, refl, ap, Some, None}
 use Rattle.pp_model.specs.Names.{Name, is_same_name, is_in}
 use Rattle.pp_model.specs.SpliceList.{after_marks, open_names, spliced}
@@ -71,7 +71,7 @@ module _ {R : Type 0} {I : Reading R} {A : Answers} {Fine : R → Type 0} {left 
   covered_after_marks (End mark ∷ S) a = covered_after_marks S a
   covered_after_marks (Plain read ∷ S) a = a
 
-  -- ---- where taking has come to
+  -- ---- how far taking may have led
 
   pub data Front : Expander R → Type 0 where
     moved : (e : Expander R) → e.held ≡ None → Fine e.reader → left e.reader < left c.reader → Front e

@@ -1,6 +1,6 @@
--- A property that follows from a turn holds of every expander whose reader is fine. The reader is read only so often. Over what
--- of the list is left after a token, only so many macros can open as names are defined and not open there; and a search that
--- ends in no call leaves a shorter list.
+-- A property that follows from a turn holds of every expander whose reader is fine: by what is left of the reader; by how many
+-- of the defined names are not open over the rest of the list, since a macro that opens there leaves one fewer over its body;
+-- and by the length of the list, since a search that finds no call leaves a shorter one.
 use Rattle.std.proofs.Common.{ℕ, zero, suc, ◌≤◌, ◌<◌, List, [], ◌∷◌, ◌++◌, map, refl, arith, Option, Some, None}
 use Rattle.std.specs.Prelude.{slice_get, unwrap_or}
 use Rattle.pp_lexer.specs.declared.token.Token.{Token}

@@ -24,7 +24,7 @@ ok_before read (Ok g) h = refl
 ok_before read (Err fault) h = h
 
 module _ {R : Type 0} {I : Reading R} {A : Answers} {Fine : R → Type 0} {left : R → ℕ} {G : Expander R → Type 0} (c : Here I A Fine left G) where
-  -- where a search has come to: what is left is shorter, and no longer reader is left
+  -- how far a search has led: less is left in all, and no more of the reader
   pub record Comes (e f : Expander R) : Type 0 where
     pub front : Front c f
     pub less : size c f < size c e

@@ -34,7 +34,7 @@ pub taking : {R : Type 0} (I : Reading R) (e f : Expander R) (first : Taken) →
 taking I e f first fetches = record { first = first; fetches = fetches; paints = refl }
 
 module _ {R : Type 0} {I : Reading R} {A : Answers} {Fine : R → Type 0} {left : R → ℕ} {G : Expander R → Type 0} (c : Here I A Fine left G) where
-  -- what is taken; after a token the list or the reader is shorter, and no longer reader is left
+  -- what is taken; after a token less is left in all, and no more of the reader
   pub record Took (e : Expander R) : Type 0 where
     pub given : Taken
     pub after : Expander R

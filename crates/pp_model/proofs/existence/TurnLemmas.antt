@@ -1,4 +1,4 @@
--- One turn of an expander whose taking has come somewhere: what is taken opens no macro, or it leads to where the property is known.
+-- One turn of an expander: what is taken opens no macro, or it leads to where the property is known.
 use Rattle.std.proofs.Common.{◌≡◌, ℕ, zero, suc, ◌≤◌, ◌<◌, Bool, true, false, List, [], refl, arith, Option, Some, None}
 use Rattle.pp_model.specs.Names.{is_in}
 use Rattle.pp_model.specs.Painting.{taken_among}
