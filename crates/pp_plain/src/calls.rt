@@ -1,6 +1,6 @@
 //! The arguments of calls.
 
-ghost use Rattle.std.specs.Prelude.{◌≡◌, ◌≤◌, ◌<◌, ◌+◌, ◌^◌, IfOk};
+ghost use Rattle.std.specs.Prelude.{◌≡◌, ◌≤◌, ◌<◌, ◌+◌, ◌^◌, ◌&&◌, ◌==◌, IfOk};
 ghost use Rattle.pp_model.specs.Calls.{nesting, nesting_after, arguments_of, misfit, paren_at, is_left_paren, is_right_paren, is_comma, is_one_empty};
 ghost use Rattle.pp_plain.specs.inner.Nested.{nesting_named};
 
@@ -107,6 +107,13 @@ fn nesting_after(depth: usize, value: &TokenValue) -> usize
     }
 }
 
+/// Whether an argument ends at a token, where so many parentheses are open before it.
+fn ends_argument(depth: usize, value: &TokenValue) -> bool
+    ensures { result ≡ (is_comma value.now && (depth == 0)) }
+{
+    is_comma(value) && depth == 0
+}
+
 /// The tokens of a call cut at the commas that stand outside inner parentheses.
 pub fn arguments_of(alloc: Global, mut tokens: Vec<Read>) -> Result<ReadLists, AllocError>
     ensures { IfOk result (λ arguments. arguments ≡ arguments_of tokens.items) }
@@ -116,7 +123,7 @@ pub fn arguments_of(alloc: Global, mut tokens: Vec<Read>) -> Result<ReadLists, A
     let mut depth: usize = 0;
     while let Some(read) = take_first(&mut tokens) {
         let after = nesting_after(depth, &read.token.value);
-        if is_comma(&read.token.value) && depth == 0 {
+        if ends_argument(depth, &read.token.value) {
             pieces.push(ReadList { items: piece })?;
             piece = Vec::new(alloc);
         } else {
