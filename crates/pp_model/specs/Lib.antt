@@ -23,6 +23,7 @@ pub mod ApartMarks
 pub mod NoLineName
 pub mod RunLaws
 pub mod RunStates
+pub mod OpenOnce
 pub mod BlockLaws
 pub use Rattle.pp_lexer.specs.Spelling
 pub mod RespellLaws
