@@ -67,7 +67,8 @@ module _ (Q : Token → Type 0) (L : ℕ → Type 0) where
   followed_hold [] entries all h = h
   followed_hold (token ∷ tokens) entries all h = (all.0, followed_hold tokens entries all.1 h)
 
-  argument_holds : (arguments : List (List Read)) (k : ℕ) → Each (λ tokens. Each (HoldsOfRead Q) tokens) arguments → Each (HoldsOfRead Q) (unwrap_or (slice_get arguments k) [])
+  argument_holds : (arguments : List (List Read)) (k : ℕ) → Each (λ tokens. Each (HoldsOfRead Q) tokens) arguments
+      → Each (HoldsOfRead Q) (unwrap_or (slice_get arguments k) [])
   argument_holds [] k all = tt
   argument_holds (argument ∷ arguments) zero all = all.0
   argument_holds (argument ∷ arguments) (suc k) all = argument_holds arguments k all.1
@@ -91,12 +92,14 @@ module _ (Q : Token → Type 0) (L : ℕ → Type 0) where
   spliced_holds name definition line arguments entries body l all h =
       replaced_holds definition.parameters arguments definition.body (End (record { name = name; line = line }) ∷ entries) all body (l, h)
 
-  cut_holds : (parts : Bool) (token : Read) (cut : Pieces) → Q token.token → Each (HoldsOfRead Q) cut.first → Each (λ tokens. Each (HoldsOfRead Q) tokens) cut.others
+  cut_holds : (parts : Bool) (token : Read) (cut : Pieces) → Q token.token → Each (HoldsOfRead Q) cut.first
+      → Each (λ tokens. Each (HoldsOfRead Q) tokens) cut.others
       → Each (HoldsOfRead Q) (cut_before parts token cut).first × Each (λ tokens. Each (HoldsOfRead Q) tokens) (cut_before parts token cut).others
   cut_holds true token cut q first others = (tt, (first, others))
   cut_holds false token cut q first others = ((q, first), others)
 
-  pieces_hold : (n : ℕ) (tokens : List Read) → Each (HoldsOfRead Q) tokens → Each (HoldsOfRead Q) (pieces n tokens).first × Each (λ ts. Each (HoldsOfRead Q) ts) (pieces n tokens).others
+  pieces_hold : (n : ℕ) (tokens : List Read) → Each (HoldsOfRead Q) tokens
+      → Each (HoldsOfRead Q) (pieces n tokens).first × Each (λ ts. Each (HoldsOfRead Q) ts) (pieces n tokens).others
   pieces_hold n [] all = (tt, tt)
   pieces_hold n (token ∷ tokens) all =
       let later = pieces_hold (nesting_after n token.token.value) tokens all.1 in

@@ -48,15 +48,18 @@ module _ (Q : Token → Type 0) (L : ℕ → Type 0) where
   HoldsOfCalled (fits arguments line) = Each (λ ts. Each (HoldsOfRead Q) ts) arguments × L line
 
 module _ (Q : Token → Type 0) (L : ℕ → Type 0) (closed_under : AreClosed Q L) where
-  gathered_more : (token : Read) (rest : Result Gathered Fault) → Q token.token → IfOk rest (HoldsOfGathered Q L) → IfOk (before token rest) (HoldsOfGathered Q L)
+  gathered_more : (token : Read) (rest : Result Gathered Fault) → Q token.token → IfOk rest (HoldsOfGathered Q L)
+      → IfOk (before token rest) (HoldsOfGathered Q L)
   gathered_more token (Ok rest) q h = ((q, h.0), h.1)
   gathered_more token (Err fault) q h = tt
 
-  token_more : (token : Read) (rest : Result (List Read) Fault) → Q token.token → IfOk rest (Each (HoldsOfRead Q)) → IfOk (read_before token rest) (Each (HoldsOfRead Q))
+  token_more : (token : Read) (rest : Result (List Read) Fault) → Q token.token → IfOk rest (Each (HoldsOfRead Q))
+      → IfOk (read_before token rest) (Each (HoldsOfRead Q))
   token_more token (Ok rest) q h = (q, h)
   token_more token (Err fault) q h = tt
 
-  list_more : (tokens : List Read) (rest : Result (List (List Read)) Fault) → Each (HoldsOfRead Q) tokens → IfOk rest (λ lists. Each (λ ts. Each (HoldsOfRead Q) ts) lists)
+  list_more : (tokens : List Read) (rest : Result (List (List Read)) Fault) → Each (HoldsOfRead Q) tokens
+      → IfOk rest (λ lists. Each (λ ts. Each (HoldsOfRead Q) ts) lists)
       → IfOk (list_before tokens rest) (λ lists. Each (λ ts. Each (HoldsOfRead Q) ts) lists)
   list_more tokens (Ok rest) q h = (q, h)
   list_more tokens (Err fault) q h = tt
@@ -232,13 +235,15 @@ module _ (Q : Token → Type 0) (L : ℕ → Type 0) (closed_under : AreClosed Q
   each_or_refused_keeps deeper keeps None site out is v all = each_keeps deeper keeps site.visible site.open_around site.arguments out is v all
 
   limit_keeps : AnswersKeep Q L answers_at_limit
-  limit_keeps definition site out is v all = subst (λ (y : Result (List (List Read)) Fault). IfOk y (λ lists. Each (λ ts. Each (HoldsOfRead Q) ts) lists)) (sym is) tt
+  limit_keeps definition site out is v all =
+      subst (λ (y : Result (List (List Read)) Fault). IfOk y (λ lists. Each (λ ts. Each (HoldsOfRead Q) ts) lists)) (sym is) tt
 
   below_keeps : (deeper : Alones) → AloneKeeps deeper → AnswersKeep Q L (answers_below deeper)
   below_keeps deeper keeps definition site out is v all = each_or_refused_keeps deeper keeps (misfit definition.parameters site.arguments) site out is v all
 
   collected_keeps : (A : Answers) → AnswersKeep Q L A → (tokens : List Read) (visible : Definitions) (hidden : List Name)
-      (out : Result (List Read) Fault) → Collects argument_reading A (reading_of tokens visible hidden) out → Each (HoldsOfRead Q) tokens → HoldInBodies Q visible
+      (out : Result (List Read) Fault) → Collects argument_reading A (reading_of tokens visible hidden) out
+      → Each (HoldsOfRead Q) tokens → HoldInBodies Q visible
       → IfOk out (Each (HoldsOfRead Q))
   collected_keeps A answers tokens visible hidden out c all v =
       list_keeps argument_reading HoldsOfListed listed_keeps A answers out (reading_of tokens visible hidden) c

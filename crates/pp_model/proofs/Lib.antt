@@ -16,6 +16,7 @@ pub mod LineValueLemmas
 pub mod ReadsLemmas
 pub mod RunLemmas
 pub mod RunStatesLemmas
+pub mod OpenOnceLemmas
 pub mod ActsLemmas
 pub mod SourceEndLemmas
 pub mod EndLemmas

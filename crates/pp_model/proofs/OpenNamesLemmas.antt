@@ -32,7 +32,7 @@ after_marks_is_rest (End mark ∷ entries) =
     (End mark ∷ rest.0, ap (λ es. End mark ∷ es) rest.1)
 after_marks_is_rest (Plain token ∷ entries) = ([], refl)
 
-not_in_tail : (name other : Name) (names : List Name) → is_in name (other ∷ names) ≡ false → is_in name names ≡ false
+pub not_in_tail : (name other : Name) (names : List Name) → is_in name (other ∷ names) ≡ false → is_in name names ≡ false
 not_in_tail name other names h = go (is_same_name name other) refl
   where
     go : (b : Bool) → is_same_name name other ≡ b → is_in name names ≡ false

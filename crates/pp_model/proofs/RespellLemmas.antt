@@ -191,7 +191,8 @@ module _ (level : ℕ) where
       let after = item_keeps IsGood IsLine good_closed (source_reading (answers_at level)) K keeps (answers_at level)
       (answers_keep IsGood IsLine good_closed level) item.taken e f item.emits h in
       subst (λ (rs : List Reply). Each IsGood (given_tokens rs)) (sym p)
-      (given_good o (given_tokens rest) (subst (HoldsOfOutcome IsGood) (sym item.is) (item_good item.taken after.0)) (given_are_good f more rest runs (All-tail HasText next more texts) after.1))
+      (given_good o (given_tokens rest) (subst (HoldsOfOutcome IsGood) (sym item.is) (item_good item.taken after.0))
+      (given_are_good f more rest runs (All-tail HasText next more texts) after.1))
   given_are_good e calls replies (failed fault e1 f more r1 item p) texts h = subst (λ (rs : List Reply). Each IsGood (given_tokens rs)) (sym p) tt
 
   run_is_good : (text : List ℕ) (calls : List Call) (replies : List Reply) → IsText text → All HasText calls

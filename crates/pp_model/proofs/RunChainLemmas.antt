@@ -59,5 +59,7 @@ module _ (C : Comings) where
 pub chains_are_runs : (A : Answers) → ChainsAreRuns A
 chains_are_runs A = record {
   whole = λ source calls replies f chain. chain_runs (by_rules A) (start source) f calls replies chain;
-  to_error = λ source calls replies f g fault chain item. chain_runs_to_error (by_rules A) (start source) f g calls [] replies fault chain (record { taken = taken.Fault fault; emits = item; is = refl });
+  to_error = λ source calls replies f g fault chain item.
+      chain_runs_to_error (by_rules A) (start source) f g calls [] replies fault chain
+      (record { taken = taken.Fault fault; emits = item; is = refl });
 }

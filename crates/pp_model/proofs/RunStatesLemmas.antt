@@ -48,7 +48,8 @@ module _ (A : Answers) where
       rw p (All-cons IsNoLineName (reply.Refused fault) rest refl (replies_show_none e later rest more none))
   replies_show_none e calls replies (given o e1 f later rest r1 item h more p) none =
       let shown = item_shows_none (source_reading A) A item.taken e f item.emits none in
-      rw p (All-cons IsNoLineName (reply.Given o) rest (ap (λ x. is_line_name (taken_of x)) item.is ∙ same_name item.taken ∙ shown.0) (replies_show_none f later rest more shown.1))
+      rw p (All-cons IsNoLineName (reply.Given o) rest (ap (λ x. is_line_name (taken_of x)) item.is ∙ same_name item.taken ∙ shown.0)
+      (replies_show_none f later rest more shown.1))
   replies_show_none e calls replies (failed fault e1 f later r1 item p) none =
       rw p (All-cons IsNoLineName (reply.Given (outcome.Fault fault)) [] refl (All-nil IsNoLineName))
 

@@ -26,16 +26,14 @@ use Rattle.pp_model.specs.SourceReader.{SourceReader}
 use Rattle.pp_model.specs.Acts.{ended_by, live_act, dead_act, act}
 use Rattle.pp_model.specs.Reading.{Expander, opening}
 use Rattle.pp_model.specs.SpliceList.{outermost_line}
-use Rattle.pp_model.specs.Taking.{line_number, Fetches, Takes, read, shown_token, shown_outcome}
+use Rattle.pp_model.specs.Taking.{line_number, Takes, read, shown_token, shown_outcome}
 use Rattle.pp_model.specs.Calls.{Answers}
 use Rattle.pp_model.specs.Emitting.{Emits, itself}
 use Rattle.pp_model.specs.Reads.{Steps, passes, gives, Reads, here, later, source_reading, shown_line}
 use Rattle.pp_model.specs.Run.{by_rules, start, Runs, done, given}
 use Rattle.pp_model.specs.RespellLaws.{calls_for, replies_with}
 use Rattle.pp_model.specs.declared.call.Reply.TheVariants as reply
-use Rattle.pp_model.specs.declared.outcome.Outcome.{Outcome}
 use Rattle.pp_model.specs.declared.outcome.Outcome.TheVariants as outcome
-use Rattle.pp_model.specs.declared.read.Read.{Read}
 use Rattle.pp_model.specs.declared.read.Taken.{Taken}
 use Rattle.pp_model.specs.declared.read.Taken.TheVariants as taken
 use Rattle.pp_model.specs.Painting.{unpainted, is_one_of, taken_among}
@@ -97,7 +95,8 @@ starts_there items all =
 abbrev pub IsPlain : TokenValue → Type 0
 IsPlain value = IsSpellable value × (is_identifier line_name value ≡ false)
 
-or_none : (b : Bool) (value : TokenValue) → (b || is_one_of [] value) ≡ b
+-- where no name is open nothing is painted
+pub or_none : (b : Bool) (value : TokenValue) → (b || is_one_of [] value) ≡ b
 or_none true value = refl
 or_none false (Ident name) = refl
 or_none false (Integer i) = refl
@@ -143,7 +142,8 @@ module _ (A : Answers) (items : List Seen) (all : Each IsNoHash items) where
   }
 
   taken_plain : (shown : ℕ → Option ℕ) (value : TokenValue) (location : Location) → is_identifier line_name value ≡ false
-      → taken.Token (unpainted (record { value = value; location = location })) ≡ shown_token shown [] (unpainted (record { value = value; location = location }))
+      → taken.Token (unpainted (record { value = value; location = location }))
+      ≡ shown_token shown [] (unpainted (record { value = value; location = location }))
   taken_plain shown value location e =
       ap (λ b. if b then line_number location (shown (unwrap_or (outermost_line []) location.line)) else taken.Token
       (unpainted (record { value = value; location = location }))) (sym e)
@@ -151,7 +151,8 @@ module _ (A : Answers) (items : List Seen) (all : Each IsNoHash items) where
   -- a token gives itself
   gives_token : (position : ℕ) (value : TokenValue) (location : Location)
       → sight_of (drop position items) ≡ sight.Token (record { value = value; location = location }) → is_identifier line_name value ≡ false
-      → Emits (source_reading A) A (state_at items position) (taken.Token (unpainted (record { value = value; location = location }))) (state_at items (position + 1))
+      → Emits (source_reading A) A (state_at items position) (taken.Token (unpainted (record { value = value; location = location })))
+      (state_at items (position + 1))
   gives_token position value location e plain =
       let token : Token = record { value = value; location = location } in
       let a = act_there position (sight.Token token) e in
@@ -198,7 +199,8 @@ module _ (A : Answers) (items : List Seen) (all : Each IsNoHash items) where
   ends_run position after r = record {
     tokens = [];
     same = refl;
-    run = given outcome.End (state_at items position) (state_at items after) [] [] (reply.Given outcome.End ∷ []) (record { taken = taken.End; emits = gives_end position after r; is = refl }) refl
+    run = given outcome.End (state_at items position) (state_at items after) [] [] (reply.Given outcome.End ∷ [])
+        (record { taken = taken.End; emits = gives_end position after r; is = refl }) refl
         (done (state_at items after) [] refl) refl;
   }
 
@@ -260,7 +262,8 @@ module _ (A : Answers) (items : List Seen) (all : Each IsNoHash items) where
         tokens = token ∷ g.tokens;
         same = ap (λ later. value ∷ later) g.same;
         run = given (outcome.Token token) (state_at items position) (state_at items (position + 1)) (calls_for g.tokens) (replies_with g.tokens)
-            (replies_with (token ∷ g.tokens)) (record { taken = taken.Token (unpainted token); emits = gives_token position value location e plain; is = refl }) refl g.run refl;
+            (replies_with (token ∷ g.tokens))
+            (record { taken = taken.Token (unpainted token); emits = gives_token position value location e plain; is = refl }) refl g.run refl;
       }
 
   -- such a text gives its values from each position on

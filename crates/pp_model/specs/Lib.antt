@@ -24,6 +24,7 @@ pub mod NoLineName
 pub mod RunLaws
 pub mod RunStates
 pub mod ExistenceLaws
+pub mod OpenOnce
 pub mod BlockLaws
 pub mod LiveRuns
 pub use Rattle.pp_lexer.specs.Spelling

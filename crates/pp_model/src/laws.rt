@@ -9,6 +9,7 @@ ghost use Rattle.pp_model.specs.ExistenceLaws.{AnOperand, ALine, ACondition, ALi
 ghost use Rattle.pp_model.specs.ExistenceLaws.{AStep, RunDefinesFinitelyMany, AnEnd, ARun};
 ghost use Rattle.pp_model.specs.ExpansionLaws.{OneReads, OneTaking, OneGathering, OneCall, OneItem, OneArgument, OneOperand, OneLine};
 ghost use Rattle.pp_model.specs.LiveRuns.{RunsAreLive};
+ghost use Rattle.pp_model.specs.OpenOnce.{RunOpensOnce, ListOpensOnce};
 ghost use Rattle.pp_model.specs.NoLineName.{ShowsNoLineName, AloneShowsNoLineName};
 ghost use Rattle.pp_model.specs.Reading.{argument_reading, line_reading};
 ghost use Rattle.pp_model.specs.Reads.{source_reading};
@@ -77,6 +78,16 @@ pub fn apart_marks()
     ensures start { StartsApart }
     ensures argument { (level : ℕ) → KeepsMarksApart argument_reading (answers_at level) }
     ensures line { (level : ℕ) → KeepsMarksApart line_reading (answers_at level) }
+    ensures source { (level : ℕ) → KeepsMarksApart (source_reading (answers_at level))
+        (answers_at level) }
+{}
+
+/// No macro is open twice, here or around, in whatever state expansion passes: of a source, within one item too, of an
+/// argument of a call, and of the line of an `#if`, `#elif` or `#line`.
+pub fn open_once()
+    ensures source { (level : ℕ) → RunOpensOnce (answers_at level) }
+    ensures argument { (level : ℕ) → ListOpensOnce argument_reading (answers_at level) }
+    ensures line { (level : ℕ) → ListOpensOnce line_reading (answers_at level) }
 {}
 
 /// No `__LINE__` is taken, gathered or given, unless one was held, and none is in what a list of tokens comes to alone.

@@ -5,6 +5,7 @@ pub mod EndLemmas
 pub mod DirectivePlaceLemmas
 pub mod DirectiveBeforeLemmas
 pub mod TextBeforeLemmas
+pub mod UnpaintedLemmas
 pub mod StandsAfterLemmas
 pub mod StepHereLemmas
 pub mod StandsQuietLemmas

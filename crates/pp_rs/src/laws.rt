@@ -9,6 +9,8 @@ ghost use Rattle.pp_model.specs.Emitting.{answers_at};
 ghost use Rattle.pp_model.specs.ExistenceLaws.{ARun};
 ghost use Rattle.pp_model.specs.ExpansionLaws.{OneReads};
 ghost use Rattle.pp_model.specs.LiveRuns.{RunsAreLive};
+ghost use Rattle.pp_model.specs.OpenOnce.{RunOpensOnce, ListOpensOnce};
+ghost use Rattle.pp_model.specs.Reading.{argument_reading, line_reading};
 ghost use Rattle.pp_model.specs.Reads.{source_reading};
 ghost use Rattle.pp_model.specs.RespellLaws.{RunsAreReadAfresh};
 ghost use Rattle.pp_model.specs.RunChains.{ChainsAreRuns};
@@ -38,11 +40,17 @@ pub fn line_ends()
     lexer::laws::line_ends()
 }
 
-/// No macro is open twice: in no state of a run does the list to read hold two end marks of one name.
+/// No macro is open twice: in no state of a run does the list to read hold two end marks of one name. Neither here nor around is
+/// one open twice in any state that expansion passes: of a source, in the midst of one `next` too, of an argument of a call, and
+/// of the line of an `#if`, `#elif` or `#line`.
 pub fn open_names()
-    ensures { (level : ℕ) → RunKeepsMarksApart (answers_at level) }
+    ensures between { (level : ℕ) → RunKeepsMarksApart (answers_at level) }
+    ensures source { (level : ℕ) → RunOpensOnce (answers_at level) }
+    ensures argument { (level : ℕ) → ListOpensOnce argument_reading (answers_at level) }
+    ensures line { (level : ℕ) → ListOpensOnce line_reading (answers_at level) }
 {
-    pp_model::laws::run_marks_apart()
+    pp_model::laws::run_marks_apart();
+    pp_model::laws::open_once()
 }
 
 /// A `#define` of a name that is defined gives nothing where it says the same, and an error where it says something else.

@@ -2,7 +2,7 @@
 use Rattle.std.proofs.Common.{◌≡◌, ◌∙◌, ℕ, Bool, true, false, List, refl, sym, ap, Option, Some, None}
 use Rattle.std.specs.Prelude.{Result, Ok, Err, is_some}
 use Rattle.pp_lexer.specs.declared.token.Location.{Location}
-use Rattle.pp_lexer.specs.declared.token.Token.{Token}
+use Rattle.pp_model.specs.declared.read.Read.{Read}
 use Rattle.pp_model.specs.Names.{Name}
 use Rattle.pp_model.specs.Reading.{Expander, Listed, line_reading}
 use Rattle.pp_model.specs.Calls.{Fault}
@@ -11,7 +11,7 @@ use Rattle.pp_model.specs.LineWords.{Operand, is_defined, name_in, unwanted, unw
 use Rattle.pp_model.specs.inner.LineWords.{is_open_paren, is_close_paren}
 use Rattle.pp_model.specs.LineWords as line
 use Rattle.pp_model.specs.inner.WordsRead.{Closes, Parenthesized, unclosed, closed, no_name, named}
-use Rattle.pp_model.specs.declared.outcome.Outcome.TheVariants as outcome
+use Rattle.pp_model.specs.declared.read.Taken.TheVariants as given
 use Rattle.pp_model.specs.declared.word.LineKind.{LineKind}
 use Rattle.pp_model.proofs.WordLemmas.{operand_parenthesized}
 use Rattle.pp_expansion.specs.inner.Defined.{Defined, meaning_of}
@@ -37,12 +37,12 @@ module _ (kind : LineKind) (directive : Location) (levels : ℕ) (definitions : 
   pub closed_broken : (name : Name) (h : Halt) (r : Result Bool Halt) → r ≡ Err h → ReadsItem levels definitions m l (Err h) n k
       → ReadsClosed kind directive levels definitions name m l r n k
   closed_broken name h r is reads =
-      reads_broken levels definitions m l (λ (item : Result (Option Token) Fault) (f : Expander Listed). Emits line_reading (answers_at levels)
+      reads_broken levels definitions m l (λ (item : Result (Option Read) Fault) (f : Expander Listed). Emits line_reading (answers_at levels)
       (expander_of m l) (outcome_of_item item) f)
       (λ (answer : Result Bool Fault) (f : Expander Listed). Closes kind directive (answers_at levels) name
-      (expander_of m l) answer f) h n n k k r is (λ fault f emits. unclosed (outcome.Fault fault) (expander_of m l) f (Err fault) emits refl refl) reads
+      (expander_of m l) answer f) h n n k k r is (λ fault f emits. unclosed (given.Fault fault) (expander_of m l) f (Err fault) emits refl refl) reads
 
-  module _ (found : Option Token) (item : ReadsItem levels definitions m l (Ok found) n k) where
+  module _ (found : Option Read) (item : ReadsItem levels definitions m l (Ok found) n k) where
     pub closed_answer : (name : Name) (b : Bool) → is_close_paren (outcome_of found) ≡ true → b ≡ is_some (meaning_of definitions name)
         → ReadsClosed kind directive levels definitions name m l (Ok b) n k
     closed_answer name b close is = (
@@ -59,7 +59,7 @@ module _ (kind : LineKind) (directive : Location) (levels : ℕ) (definitions : 
           (reported_fault fault (unwanted_word kind directive (outcome_of found)) is),
     )
 
-  module _ (found : Option Token) (taken : ReadsTaken levels definitions m l (Ok found) n k) where
+  module _ (found : Option Read) (taken : ReadsTaken levels definitions m l (Ok found) n k) where
     -- after the `(`
     pub parenthesized_name : (name : Name) (r : Result Bool Halt) (p : Machine) (q : Listing) → name_in (outcome_of found) ≡ Some name
         → ReadsClosed kind directive levels definitions name n k r p q → ReadsParenthesized kind directive levels definitions m l r p q

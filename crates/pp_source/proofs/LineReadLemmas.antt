@@ -1,12 +1,12 @@
 -- What is read of a line, as the code reads it: parts of it read one after the other, and faults that are passed on.
 use Rattle.std.proofs.Common.{◌≡◌, ℕ, ◌≤◌, arith, Bool, true, false, List, [], ◌++◌, refl, sym, subst, le_trans, Option, Some, None}
 use Rattle.std.specs.Prelude.{if◌then◌else◌, Result, Ok, Err}
-use Rattle.pp_lexer.specs.declared.token.Token.{Token}
+use Rattle.pp_model.specs.declared.read.Read.{Read}
 use Rattle.pp_model.specs.Reading.{Expander, Listed, line_reading}
 use Rattle.pp_model.specs.Calls.{Fault}
 use Rattle.pp_model.specs.Emitting.{Emits, answers_at}
 use Rattle.pp_model.specs.Taking.{Takes}
-use Rattle.pp_model.specs.declared.outcome.Outcome.TheVariants as outcome
+use Rattle.pp_model.specs.declared.read.Taken.TheVariants as given
 use Rattle.pp_expansion.specs.inner.Calling.{PendingCall}
 use Rattle.pp_expansion.specs.inner.CallTurns.{TurnsTo, TurnsOrRefuses}
 use Rattle.pp_expansion.specs.inner.Finishing.{Finishes, IsOpened}
@@ -23,7 +23,7 @@ use Rattle.pp_expansion.specs.declared.calls.Taken.TheVariants as taken
 use Rattle.pp_expansion.specs.declared.step.StepExit.TheVariants.{Error, Continue, Finished}
 use Rattle.pp_source.proofs.LineTurnLemmas.{GoesOn, token_read, pause_read, end_read, fault_read, call_read, call_fault_read, next_read}
 use Rattle.pp_expansion.proofs.taking.ListedLeadsLemmas.{turned}
-use Rattle.pp_expansion.proofs.taking.TurnLeadsLemmas.{wants_taken}
+use Rattle.pp_expansion.proofs.open_frames.ReportedLemmas.{wants_taken}
 use Rattle.pp_expansion.specs.declared.halt.Halt.{Halt}
 use Rattle.pp_expansion.specs.declared.halt.Halt.TheVariants as halt
 
@@ -63,7 +63,7 @@ pub taken_fault : (levels : ℕ) (definitions : List Defined) (m : Machine) (l :
     → (n : Machine) (k : Listing) (fault : Fault) (h : Halt) → TakesNext m (of_list l) (Err (Error fault)) n (of_list k) → h ≡ halt_of fault
     → ReadsTaken levels definitions m l (Err h) n k
 taken_fault levels definitions m l on n k fault h next is =
-    reads_fault levels definitions m l (λ (item : Result (Option Token) Fault) (f : Expander Listed). Takes line_reading (expander_of m l)
+    reads_fault levels definitions m l (λ (item : Result (Option Read) Fault) (f : Expander Listed). Takes line_reading (expander_of m l)
     (outcome_of_item item) f) h n k fault is
     (λ reported. let read = next_read levels definitions m n l k on (Err (Error fault)) next reported in (expander_of n k, read.0))
 
@@ -81,23 +81,23 @@ module _ (levels : ℕ) (definitions : List Defined) (m : Machine) (l : Listing)
   itself : (step : Step Taken) → TurnsOrRefuses n (of_list k) step p (of_list q) → wants_taken step ≡ false → TurnsTo n (of_list k) step p (of_list q)
   itself step turns reported = turned n p (of_list k) (of_list q) step turns reported
 
-  pub items_token : (token : Token) → TurnsOrRefuses n (of_list k) (Ok (taken.Token token)) p (of_list q)
-      → ReadsItem levels definitions m l (Ok (Some token)) p q
-  items_token token turns =
-      let h = token_read levels definitions n p k q on.stands token (itself (Ok (taken.Token token)) turns refl) in
+  pub items_token : (read : Read) → TurnsOrRefuses n (of_list k) (Ok (taken.Token read)) p (of_list q)
+      → ReadsItem levels definitions m l (Ok (Some read)) p q
+  items_token read turns =
+      let h = token_read levels definitions n p k q on.stands read (itself (Ok (taken.Token read)) turns refl) in
       let less : IsWorkLess levels n k p q = h.2 in
-      (on.goes_on (outcome.Token token) (expander_of p q) h.0, record { stands = h.1; least = omega (arith, on.least, less) })
+      (on.goes_on (given.Token read) (expander_of p q) h.0, record { stands = h.1; least = omega (arith, on.least, less) })
 
-  pub items_token_less : (token : Token) → TurnsOrRefuses n (of_list k) (Ok (taken.Token token)) p (of_list q) → IsWorkLess levels m l p q
-  items_token_less token turns =
-      let less : IsWorkLess levels n k p q = (token_read levels definitions n p k q on.stands token (itself (Ok (taken.Token token)) turns refl)).2 in
+  pub items_token_less : (read : Read) → TurnsOrRefuses n (of_list k) (Ok (taken.Token read)) p (of_list q) → IsWorkLess levels m l p q
+  items_token_less read turns =
+      let less : IsWorkLess levels n k p q = (token_read levels definitions n p k q on.stands read (itself (Ok (taken.Token read)) turns refl)).2 in
       omega (arith, on.least, less)
 
   pub items_end : TurnsOrRefuses n (of_list k) (Err Finished) p (of_list q) → ReadsItem levels definitions m l (Ok None) p q
   items_end turns =
       let h = end_read levels definitions n p k q on.stands (itself (Err Finished) turns refl) in
       let after : ReadsOn levels definitions n k p q = h.1 in
-      (on.goes_on outcome.End (expander_of p q) h.0, record { stands = after.stands; least = omega (arith, on.least, after.least) })
+      (on.goes_on given.End (expander_of p q) h.0, record { stands = after.stands; least = omega (arith, on.least, after.least) })
 
   -- a part of the line was passed, and the items go on
   passed : (p : Machine) → GoesOn levels n k p q → IsOnLine definitions p q → IsWorkLess levels n k p q → ItemsOn levels definitions m l p q
@@ -114,10 +114,10 @@ module _ (levels : ℕ) (definitions : List Defined) (m : Machine) (l : Listing)
   pub items_fault : (fault : Fault) (h : Halt) → TurnsOrRefuses n (of_list k) (Err (Error fault)) p (of_list q) → h ≡ halt_of fault
       → ReadsItem levels definitions m l (Err h) p q
   items_fault fault h turns is =
-      reads_fault levels definitions m l (λ (item : Result (Option Token) Fault) (f : Expander Listed). Emits line_reading (answers_at levels)
+      reads_fault levels definitions m l (λ (item : Result (Option Read) Fault) (f : Expander Listed). Emits line_reading (answers_at levels)
       (expander_of m l) (outcome_of_item item) f) h p q fault is
       (λ reported. let read = fault_read levels definitions n p k q on.stands fault (itself (Err (Error fault)) turns reported) reported in
-      (read.0, on.goes_on (outcome.Fault fault) read.0 read.1))
+      (read.0, on.goes_on (given.Fault fault) read.0 read.1))
 
   module _ (c : PendingCall) (turns : TurnsOrRefuses n (of_list k) (Ok (taken.Call c)) p (of_list q)) where
     call : TurnsTo n (of_list k) (Ok (taken.Call c)) p (of_list q)
@@ -131,12 +131,12 @@ module _ (levels : ℕ) (definitions : List Defined) (m : Machine) (l : Listing)
     pub items_call_less : (u : Machine) → IsOpened levels definitions (names_of p.frames ++ []) c p u → IsWorkLess levels n k u q
     items_call_less u opened = (call_read levels definitions n p k q on.stands c call u opened).2
 
-    pub items_call_fault : (u : Machine) (h : Halt) (r : Result (Option Token) Halt) → Finishes levels definitions [] c p (Err h) u → r ≡ Err h
+    pub items_call_fault : (u : Machine) (h : Halt) (r : Result (Option Read) Halt) → Finishes levels definitions [] c p (Err h) u → r ≡ Err h
         → ReadsItem levels definitions m l r u q
-    items_call_fault u h r finishes is = subst (λ (x : Result (Option Token) Halt). ReadsItem levels definitions m l x u q) (sym is) (go h finishes)
+    items_call_fault u h r finishes is = subst (λ (x : Result (Option Read) Halt). ReadsItem levels definitions m l x u q) (sym is) (go h finishes)
       where
         go : (h : Halt) → Finishes levels definitions [] c p (Err h) u → ReadsItem levels definitions m l (Err h) u q
         go (halt.Fault fault) finishes =
             let read = call_fault_read levels definitions n p k q on.stands c call fault finishes.0 in
-            (read.0, on.goes_on (outcome.Fault fault) read.0 read.1)
+            (read.0, on.goes_on (given.Fault fault) read.0 read.1)
         go halt.OutOfMemory finishes = tt

@@ -7,6 +7,7 @@ use Rattle.pp_model.specs.Calls.{Fault}
 use Rattle.pp_model.specs.Emitting.{answers_at}
 use Rattle.pp_model.specs.LineWords.{LineWords, Words, reading, word_before}
 use Rattle.pp_model.specs.LineWords as line
+use Rattle.pp_model.specs.declared.read.Read.{Read}
 use Rattle.pp_model.specs.declared.word.LineKind.{LineKind}
 use Rattle.pp_model.specs.declared.word.Word.{Word}
 use Rattle.pp_model.specs.declared.word.Word.TheVariants.{Plain, Defined}
@@ -44,37 +45,37 @@ module _ (kind : LineKind) (directive : Location) (levels : ℕ) (defined : List
       → w ≡ record { words = words; ending = Some fault } → LineWords kind directive (answers_at levels) (expander_of m l) w
   words_fault fault w item is = end_with (Some fault) w is (line.failed fault (expander_of n k) item.0 (record { words = []; ending = Some fault }) item.1 refl)
 
-  module _ (token : Token) (item : ReadsItem levels defined n k (Ok (Some token)) p q) where
-    pub words_refused : (fault : Fault) (w : Words) → reading kind token ≡ line.fault fault → w ≡ record { words = words; ending = Some fault }
+  module _ (read : Read) (item : ReadsItem levels defined n k (Ok (Some read)) p q) where
+    pub words_refused : (fault : Fault) (w : Words) → reading kind read.token ≡ line.fault fault → w ≡ record { words = words; ending = Some fault }
         → LineWords kind directive (answers_at levels) (expander_of m l) w
-    words_refused fault w reads is = end_with (Some fault) w is (line.refused token fault (expander_of n k) (expander_of p q)
+    words_refused fault w reads is = end_with (Some fault) w is (line.refused read fault (expander_of n k) (expander_of p q)
         (record { words = []; ending = Some fault }) item.0 reads refl)
 
-    pub words_plain : (word : Token) (more : List Word) → reading kind token ≡ line.word word → more ≡ words ++ Plain word ∷ []
+    pub words_plain : (word : Token) (more : List Word) → reading kind read.token ≡ line.word word → more ≡ words ++ Plain word ∷ []
         → WordsOn kind directive levels defined m l more p q
     words_plain word more reads is =
         rw is (record {
           goes_on = λ rest h. rw (← after_words-before words (Plain word) rest)
-              (on.goes_on (word_before (Plain word) rest) (line.plain token word (expander_of n k) (expander_of p q) rest
+              (on.goes_on (word_before (Plain word) rest) (line.plain read word (expander_of n k) (expander_of p q) rest
               (word_before (Plain word) rest) item.0 reads h refl));
           stands = item.1.stands;
         })
 
-    pub words_answered : (answer : Bool) (u : Machine) (v : Listing) (more : List Word) → reading kind token ≡ line.operator
-        → ReadsOperand kind directive levels defined p q (Ok answer) u v → more ≡ words ++ Defined token.location (Ok answer) ∷ []
+    pub words_answered : (answer : Bool) (u : Machine) (v : Listing) (more : List Word) → reading kind read.token ≡ line.operator
+        → ReadsOperand kind directive levels defined p q (Ok answer) u v → more ≡ words ++ Defined read.token.location (Ok answer) ∷ []
         → WordsOn kind directive levels defined m l more u v
     words_answered answer u v more reads operand is =
-        let w : Word = Defined token.location (Ok answer) in
+        let w : Word = Defined read.token.location (Ok answer) in
         rw is (record {
           goes_on = λ rest h. rw (← after_words-before words w rest)
-              (on.goes_on (word_before w rest) (line.answered token answer (expander_of n k) (expander_of p q) (expander_of u v) rest
+              (on.goes_on (word_before w rest) (line.answered read answer (expander_of n k) (expander_of p q) (expander_of u v) rest
               (word_before w rest) item.0 reads operand.0 h refl));
           stands = operand.1.stands;
         })
 
-    pub words_faulty : (fault : Fault) (u : Machine) (v : Listing) (more : List Word) (w : Words) → reading kind token ≡ line.operator
-        → ReadsOperand kind directive levels defined p q (Err (halt.Fault fault)) u v → more ≡ words ++ Defined token.location (Err fault) ∷ []
+    pub words_faulty : (fault : Fault) (u : Machine) (v : Listing) (more : List Word) (w : Words) → reading kind read.token ≡ line.operator
+        → ReadsOperand kind directive levels defined p q (Err (halt.Fault fault)) u v → more ≡ words ++ Defined read.token.location (Err fault) ∷ []
         → w ≡ record { words = more; ending = None } → LineWords kind directive (answers_at levels) (expander_of m l) w
     words_faulty fault u v more w reads operand grown is =
-        let rest : Words = record { words = Defined token.location (Err fault) ∷ []; ending = None } in
-        rw (is, grown) (on.goes_on rest (line.faulty token fault (expander_of n k) (expander_of p q) operand.0 rest item.0 reads operand.1 refl))
+        let rest : Words = record { words = Defined read.token.location (Err fault) ∷ []; ending = None } in
+        rw (is, grown) (on.goes_on rest (line.faulty read fault (expander_of n k) (expander_of p q) operand.0 rest item.0 reads operand.1 refl))

@@ -18,6 +18,7 @@ use pp_expansion::open_around::OpenAround;
 use pp_expansion::step::StepExit;
 use pp_lexer::token::{Location, PreprocessorError, Text, Token, TokenValue};
 use pp_model::outcome::Fault;
+use pp_model::read::Read;
 use pp_model::word::{LineKind, Word, WordReading, Words, reading_of, unwanted_reading};
 use std::alloc::{AllocError, Global};
 
@@ -40,28 +41,28 @@ struct IfParser<'a> {
 }
 
 // Whether it is a `(`.
-fn is_open_paren(found: &Option<Token>) -> bool
+fn is_open_paren(found: &Option<Read>) -> bool
     ensures { result ≡ is_open_paren (outcome_of found.now) }
 {
     match found {
-        Some(token) => is_left_paren(&token.value),
+        Some(read) => is_left_paren(&read.token.value),
         None => false,
     }
 }
 
 // Whether it is a `)`.
-fn is_close_paren(found: &Option<Token>) -> bool
+fn is_close_paren(found: &Option<Read>) -> bool
     ensures { result ≡ is_close_paren (outcome_of found.now) }
 {
     match found {
-        Some(token) => is_right_paren(&token.value),
+        Some(read) => is_right_paren(&read.token.value),
         None => false,
     }
 }
 
 impl<'a> IfParser<'a> {
     // The next item of the line, or nothing at its end.
-    fn next_item(&self, line: &mut LineExpander<'_>) -> Result<Option<Token>, Halt>
+    fn next_item(&self, line: &mut LineExpander<'_>) -> Result<Option<Read>, Halt>
         requires { Stands self.now line.old }
         ensures reads { GivesItem self.now line.old result line.new }
         ensures less { TakesOff self.now line.old result line.new }
@@ -75,7 +76,7 @@ impl<'a> IfParser<'a> {
         &self,
         line: &mut LineExpander<'_>,
         around: &OpenAround<'_>,
-    ) -> Result<Option<Token>, Halt>
+    ) -> Result<Option<Read>, Halt>
         requires stands { Stands self.now line.old }
         requires alone { around.now ≡ [] }
         ensures reads { GivesItem self.now line.old result line.new }
@@ -83,7 +84,7 @@ impl<'a> IfParser<'a> {
     {
         'items: loop {
             match step_list(&mut line.caller, &mut line.lexer) {
-                Ok(Taken::Token(read)) => return Ok(Some(read.token)),
+                Ok(Taken::Token(read)) => return Ok(Some(read)),
                 Ok(Taken::Call(call)) => finish_call(
                     self.alloc,
                     &mut line.caller,
@@ -100,12 +101,12 @@ impl<'a> IfParser<'a> {
     }
 
     // What is taken next and not looked up, or nothing at the end of the line.
-    fn take(&self, line: &mut LineExpander<'_>) -> Result<Option<Token>, Halt>
+    fn take(&self, line: &mut LineExpander<'_>) -> Result<Option<Read>, Halt>
         requires { Stands self.now line.old }
         ensures { GivesTaken self.now line.old result line.new }
     {
         match take_list(&mut line.caller, &mut line.lexer) {
-            Ok(read) => Ok(Some(read.token)),
+            Ok(read) => Ok(Some(read)),
             Err(StepExit::Finished) => Ok(None),
             Err(StepExit::Continue) => Ok(None),
             Err(StepExit::Error(fault)) => Err(halt_of(fault)),
@@ -120,22 +121,22 @@ impl<'a> IfParser<'a> {
     }
 
     // The fault of an item where a part of `defined` is wanted.
-    fn unwanted_word(&self, found: Option<Token>) -> Fault
+    fn unwanted_word(&self, found: Option<Read>) -> Fault
         ensures { result ≡ unwanted_word self.now.kind self.now.directive (outcome_of found) }
     {
         match found {
-            Some(token) => unwanted_reading(reading_of(self.kind, token)),
+            Some(read) => unwanted_reading(reading_of(self.kind, read.token)),
             None => (PreprocessorError::UnexpectedEndOfInput, self.directive),
         }
     }
 
     // The name of an identifier, or the fault of anything else where a part of `defined` is wanted.
-    fn name_or_fault(&self, found: Option<Token>) -> Result<Text, Fault>
+    fn name_or_fault(&self, found: Option<Read>) -> Result<Text, Fault>
         ensures { IsNameOrFault self.now.directive found result }
     {
         match found {
-            Some(token) => {
-                let Token { value, location } = token;
+            Some(read) => {
+                let Token { value, location } = read.token;
                 match value {
                     TokenValue::Ident(name) => Ok(name),
                     other => Err((PreprocessorError::UnexpectedToken(other), location)),
@@ -195,7 +196,7 @@ impl<'a> IfParser<'a> {
         let mut words = Vec::new(self.alloc);
         'words: loop {
             let token = match self.next_item(line) {
-                Ok(Some(token)) => token,
+                Ok(Some(read)) => read.token,
                 Ok(None) => return Ok(Words::new(words, None)),
                 Err(Halt::Fault(fault)) => return Ok(Words::new(words, Some(fault))),
                 Err(Halt::OutOfMemory) => return Err(AllocError),

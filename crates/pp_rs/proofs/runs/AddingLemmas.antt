@@ -3,6 +3,7 @@ use Rattle.std.proofs.Common.{◌≡◌, ◌∙◌, ℕ, ◌+◌, Bool, true, fa
 use Rattle.std.specs.Str.{chars}
 use Rattle.pp_lexer.specs.PreprocessorError.{out_of_memory}
 use Rattle.pp_lexer.specs.declared.token.Token.{Token}
+use Rattle.pp_model.specs.declared.read.Read.{Read}
 use Rattle.pp_model.specs.Names.{Name, is_same_name}
 use Rattle.pp_model.specs.Definitions.{Definitions, object_like, changed}
 use Rattle.pp_model.specs.Reading.{Expander}
@@ -47,10 +48,10 @@ module _ (name : Name) (tokens : List Token) (old new : Source) (h : IsSetIn nam
     off_line = s.off_line;
   }
 
-  held_added : (o : Option (Step Token)) (r : SourceReader) → StandsForHeld o old r → StandsForHeld o new (adding name tokens r)
+  held_added : (o : Option (Step Read)) (r : SourceReader) → StandsForHeld o old r → StandsForHeld o new (adding name tokens r)
   held_added None r s = subst (λ (source : Source). StandsForReader source (adding name tokens r)) (sym h.others)
       (reader_added new.definitions h.definitions r s)
-  held_added (Some (Ok token)) r s = subst (λ (source : Source). StandsForReader source (adding name tokens r)) (sym h.others)
+  held_added (Some (Ok read)) r s = subst (λ (source : Source). StandsForReader source (adding name tokens r)) (sym h.others)
       (reader_added new.definitions h.definitions r s)
   held_added (Some (Err Finished)) r s = subst (λ (source : Source). StandsForReader source (adding name tokens r)) (sym h.others)
       (reader_added new.definitions h.definitions r s)
@@ -80,12 +81,12 @@ module _ (name : Name) (tokens : List Token) (old new : Source) (h : IsSetIn nam
   above_added (x ∷ y ∷ names) d = (defined_added x d.0, above_added (y ∷ names) d.1)
 
   -- the expander may go on
-  last_added : (o : Option (Step Token)) (frames : List Layer) → EndIsLast o frames (of_source old) → EndIsLast o frames (of_source new)
+  last_added : (o : Option (Step Read)) (frames : List Layer) → EndIsLast o frames (of_source old) → EndIsLast o frames (of_source new)
   last_added o frames last = subst (λ (source : Source). EndIsLast o frames (of_source source)) (sym h.others) (same o last)
     where
-      same : (o : Option (Step Token)) → EndIsLast o frames (of_source old) → EndIsLast o frames (of_source (record old { definitions = new.definitions }))
+      same : (o : Option (Step Read)) → EndIsLast o frames (of_source old) → EndIsLast o frames (of_source (record old { definitions = new.definitions }))
       same None last = tt
-      same (Some (Ok token)) last = tt
+      same (Some (Ok read)) last = tt
       same (Some (Err Continue)) last = tt
       same (Some (Err Finished)) last = last
       same (Some (Err (Error fault))) last = tt

@@ -1,6 +1,8 @@
 -- The tokens that come one after another in a state.
-use Rattle.std.proofs.Common.{List, [], ◌∷◌, ◌++◌, refl, ap, subst}
+use Rattle.std.proofs.Common.{◌≡◌, ◌∙◌, sym, List, [], ◌∷◌, ◌++◌, refl, ap, subst}
 use Rattle.pp_lexer.specs.declared.token.Token.{Token}
+use Rattle.pp_model.specs.Painting.{item_of}
+use Rattle.pp_model.specs.declared.outcome.Outcome.{Outcome}
 use Rattle.pp_model.specs.declared.outcome.Outcome.TheVariants as outcome
 use Rattle.pp_model.specs.Emitting.{answers_at, expansion_limit}
 use Rattle.pp_model.specs.ExpansionLaws.{OneItem}
@@ -8,9 +10,14 @@ use Rattle.pp_model.proofs.LevelLemmas.{one_answer, one_item_at}
 use Rattle.pp_model.proofs.ReadsLemmas.{source_reads_one}
 use Rattle.pp_rs.specs.Comes.{State, source_rules, Comes, Gives, nothing, first}
 
+one_taken : OneItem source_rules (answers_at expansion_limit)
+one_taken = one_item_at source_rules (source_reads_one (answers_at expansion_limit) (one_answer expansion_limit)) expansion_limit
+
 -- one thing comes next
-pub one_comes : OneItem source_rules (answers_at expansion_limit)
-one_comes = one_item_at source_rules (source_reads_one (answers_at expansion_limit) (one_answer expansion_limit)) expansion_limit
+pub one_comes : (x y : Outcome) (e f g : State) → Comes e x f → Comes e y g → (x ≡ y) × (f ≡ g)
+one_comes x y e f g a b =
+    let same = one_taken a.taken b.taken e f g a.emits b.emits in
+    (a.is ∙ ap item_of same.0 ∙ sym b.is, same.1)
 
 pub gives_nothing : (e : State) → Gives e [] e
 gives_nothing e = nothing [] e e refl refl

@@ -1,25 +1,30 @@
 -- A token of a source, where no macro is open: it is given at once, or is taken, held, and goes on from there.
-use Rattle.std.proofs.Common.{◌≡◌, ◌&&◌, inl, inr, ℕ, Bool, true, false, not, is_some, [], ◌∷◌, List, refl, Option, Some, None, Ok, Err}
+use Rattle.std.proofs.Common.{◌≡◌, ◌∙◌, ◌&&◌, inl, inr, ℕ, Bool, true, false, not, is_some, [], ◌∷◌, List, refl, ap, sym, Option, Some, None, Ok, Err}
 use Rattle.pp_lexer.specs.declared.token.Token.{Token}
-use Rattle.pp_model.specs.Names.{is_identifier, line_name}
+use Rattle.pp_model.specs.declared.read.Read.{Read}
+use Rattle.pp_model.specs.Names.{Name, is_identifier, line_name}
+use Rattle.pp_model.specs.Painting.{unpainted}
+use Rattle.pp_model.proofs.SpelledRunLemmas.{or_none}
 use Rattle.pp_expansion.specs.inner.CallTurns.{TurnsTo, passes, gives, object, seeks}
 use Rattle.pp_expansion.specs.inner.Frames.{Layer}
 use Rattle.pp_expansion.specs.inner.Idle.{is_idle, gives_itself, IsHeld, HoldsWord}
 use Rattle.pp_expansion.specs.Item.{Step}
-use Rattle.pp_expansion.specs.inner.Machine.{Machine, taken_as, StepsTaking, held, moved}
-use Rattle.pp_expansion.specs.inner.Reader.{Reader, of_source, Reads}
+use Rattle.pp_expansion.specs.inner.Machine.{Machine, taken_as, StepsFetching, StepsTaking, held, moved}
+use Rattle.pp_expansion.specs.inner.Reader.{Reader, of_source}
+use Rattle.pp_expansion.specs.inner.Reading.{painted_step}
 use Rattle.pp_expansion.specs.inner.Source.{Source}
 use Rattle.pp_rs.specs.inner.SourceTurns.{StepsOver}
-use Rattle.pp_expansion.specs.inner.Turns.{opens_value}
+use Rattle.pp_expansion.specs.inner.Turns.{masks, opens_value}
 use Rattle.pp_expansion.specs.declared.calls.Taken.{Taken}
 use Rattle.pp_expansion.specs.declared.calls.Taken.TheVariants as taken
 use Rattle.pp_expansion.specs.declared.step.StepExit.{StepExit}
-use Rattle.pp_expansion.proofs.taking.MachineLemmas.{takes_exit, takes_shown, takes_step, shows_token}
+use Rattle.pp_expansion.proofs.taking.MachineLemmas.{fetches_shown, fetches_step, shows_token}
+use Rattle.pp_rs.proofs.source.UnpaintedLemmas.{StepsReporting, reads_step}
 
 abbrev pub idle : Machine
 idle = record { held = None; frames = [] }
 
-idle_at : (h : Option (Step Token)) (fs : List Layer) → is_idle (record { held = h; frames = fs }) ≡ true
+idle_at : (h : Option (Step Read)) (fs : List Layer) → is_idle (record { held = h; frames = fs }) ≡ true
     → ◌≡◌ {A = Machine} (record { held = h; frames = fs }) idle
 idle_at None [] e = refl
 idle_at None (f ∷ fs) e = cc
@@ -33,24 +38,41 @@ neither false None e = (refl, refl)
 neither false (Some x) e = cc
 neither true o e = cc
 
--- what a step that is held goes on to, the step by which it came goes on to
-module _ (m h : Machine) (r s : Reader) (token : Token) (takes : StepsTaking m r (Ok token) (record h { held = None }) s)
-    (holds : h.held ≡ Some (Ok token)) where
-  retaken : (step : Step Token) (n : Machine) (t : Reader) → StepsTaking h s step n t → StepsTaking m r step n t
-  retaken step n t (held step1 m1 n1 r1 s1 a b c) =
-      let same : step ≡ Ok token = cc in
-      rw (same, b, c) takes
-  retaken step n t (moved move step1 m1 n1 r1 s1 a moves b c) = cc
+-- where nothing is open nothing is painted
+painted_nothing : (step : Step Read) → painted_step [] step ≡ step
+painted_nothing (Ok read) = ap (λ (b : Bool). Ok (record read { painted = b })) (or_none read.painted read.token.value)
+painted_nothing (Err exit) = refl
 
-  returned : (step : Step Taken) (n : Machine) (t : Reader) → TurnsTo h s step n t → TurnsTo m r step n t
+-- what a step that is held goes on to, the step by which it came goes on to
+module _ (m h : Machine) (r : Reader) (s : Source) (read : Read) (takes : StepsTaking m r (Ok read) (record h { held = None }) (of_source s))
+    (holds : h.held ≡ Some (Ok read)) (closed : h.frames ≡ []) where
+  refetched : (step : Step Read) (n : Machine) (t : Reader) → StepsFetching h (of_source s) step n t
+      → (step ≡ Ok read) × (n ≡ record h { held = None }) × (t ≡ of_source s)
+  refetched step n t (held step1 m1 n1 r1 s1 a b c) = let same : step ≡ Ok read = cc in (same, b, c)
+  refetched step n t (moved move step1 m1 n1 r1 s1 a moves b c) = cc
+
+  retaken : (step : Step Read) (n : Machine) (t : Reader) → StepsTaking h (of_source s) step n t → StepsTaking m r step n t
+  retaken step n t steps =
+      let back = refetched steps.first n t steps.fetches in
+      let none : masks n.frames t ≡ [] = ap (λ (k : Machine). masks k.frames t) back.1 ∙ ap (masks h.frames) back.2
+      ∙ ap (λ (fs : List Layer). masks fs (of_source s)) closed in
+      let same : step ≡ Ok read = steps.paints ∙ ap (painted_step (masks n.frames t)) back.0
+      ∙ ap (λ (names : List Name). painted_step names (Ok read)) none ∙ painted_nothing (Ok read) in
+      rw (same, back.1, back.2) takes
+
+  returned : (step : Step Taken) (n : Machine) (t : Reader) → TurnsTo h (of_source s) step n t → TurnsTo m r step n t
   returned step n t (passes exit step1 m1 n1 r1 s1 steps is) = passes exit step m n r t (retaken (Err exit) n t steps) is
-  returned step n t (gives token1 step1 m1 n1 r1 s1 steps none is) = gives token1 step m n r t (retaken (Ok token1) n t steps) none is
-  returned step p t (object token1 name definition step1 m1 n p1 r1 s1 steps some plain is opened) =
-      object token1 name definition step m n p r t (retaken (Ok token1) n t steps) some plain is opened
-  returned step q t (seeks token1 name definition c step1 m1 n p q1 r1 u t1 steps some function sought finds) =
-      seeks token1 name definition c step m n p q r u t (retaken (Ok token1) n u steps) some function sought finds
+  returned step n t (gives other step1 m1 n1 r1 s1 steps none is) = gives other step m n r t (retaken (Ok other) n t steps) none is
+  returned step p t (object other name definition step1 m1 n p1 r1 s1 steps some plain is opened) =
+      object other name definition step m n p r t (retaken (Ok other) n t steps) some plain is opened
+  returned step q t (seeks other name definition c step1 m1 n p q1 r1 u t1 steps some function sought finds) =
+      seeks other name definition c step m n p q r u t (retaken (Ok other) n u steps) some function sought finds
 
 module _ (levels : ℕ) (r s : Source) where
+  -- where no macro is open, what comes first is taken as it is
+  takes_first : (step : Step Read) → StepsFetching idle (of_source r) step idle (of_source s) → StepsTaking idle (of_source r) step idle (of_source s)
+  takes_first step fetches = record { first = step; fetches = fetches; paints = sym (painted_nothing step) }
+
   exits : (exit : StepExit) (step : Step Token) → StepsTaking idle (of_source r) (Err exit) idle (of_source s) → step ≡ Err exit
       → StepsOver levels idle r step idle s
   exits exit step takes is =
@@ -58,46 +80,50 @@ module _ (levels : ℕ) (r s : Source) where
       inl (record { taken = Err exit; between = idle; turns = turns; follows = (is, refl) })
 
   -- a pause, a fault or the end of the source
-  pub idle_exit : (m : Machine) (exit : StepExit) (step : Step Token) → m ≡ idle → Reads (of_source r) (Err exit) (of_source s)
+  pub idle_exit : (m : Machine) (exit : StepExit) (step : Step Token) → m ≡ idle → StepsReporting r (Err exit) s
       → step ≡ Err exit → StepsOver levels m r step m s
   idle_exit m exit step e reads is =
-      let takes = takes_exit idle None None [] [] (Err exit) (Err exit) exit (of_source r) (of_source s) refl refl refl (refl, reads) refl refl in
-      rw e (exits exit step takes is)
+      let fetches = fetches_shown idle None None [] [] (Err exit) (Err exit) (of_source r) (of_source s) refl refl refl
+      (refl, reads_step r s (Err exit) reads) refl in
+      rw e (exits exit step (takes_first (Err exit) fetches) is)
 
   -- a token that is given as it stands there
-  pub idle_token : (m : Machine) (token : Token) → m ≡ idle → Reads (of_source r) (Ok token) (of_source s)
+  pub idle_token : (m : Machine) (token : Token) → m ≡ idle → StepsReporting r (Ok token) s
       → gives_itself s token.value ≡ true → StepsOver levels m r (Ok token) m s
   idle_token m token e reads itself =
-      let plain = neither (is_identifier line_name token.value) (opens_value [] (of_source s) token.value) itself in
-      let takes = takes_step idle None None [] [] (Ok token) (of_source r) (of_source s) refl refl refl (refl, reads) plain.0 in
-      let turns = gives token (Ok (taken.Token token)) idle idle (of_source r) (of_source s) takes plain.1 refl in
-      rw e (inl (record { taken = Ok (taken.Token token); between = idle; turns = turns; follows = (refl, refl) }))
+      let read = unpainted token in
+      let plain = neither (is_identifier line_name token.value) (opens_value (of_source s) token.value) itself in
+      let fetches = fetches_step idle None None [] [] (Ok read) (of_source r) (of_source s) refl refl refl
+      (refl, reads_step r s (Ok token) reads) plain.0 in
+      let turns = gives read (Ok (taken.Token read)) idle idle (of_source r) (of_source s) (takes_first (Ok read) fetches) plain.1 refl in
+      rw e (inl (record { taken = Ok (taken.Token read); between = idle; turns = turns; follows = (refl, refl) }))
 
   -- a step as which the word is taken
-  shown : (word : Token) (step : Step Token) → Reads (of_source r) (Ok word) (of_source s) → step ≡ taken_as (Ok word) [] (of_source s)
+  shown : (word : Token) (step : Step Read) → StepsReporting r (Ok word) s → step ≡ taken_as (Ok (unpainted word)) [] (of_source s)
       → StepsTaking idle (of_source r) step idle (of_source s)
-  shown word step reads is = takes_shown idle None None [] [] (Ok word) step (of_source r) (of_source s) refl refl refl (refl, reads) is
+  shown word step reads is = takes_first step (fetches_shown idle None None [] [] (Ok (unpainted word)) step (of_source r) (of_source s)
+      refl refl refl (refl, reads_step r s (Ok word) reads) is)
 
   -- `__LINE__` out of range
   pub idle_fault : (m n : Machine) (word : Token) (exit : StepExit) (step : Step Token) → m ≡ idle
-      → Reads (of_source r) (Ok word) (of_source s) → HoldsWord word s m (Err exit) n → step ≡ Err exit → StepsOver levels m r step n s
+      → StepsReporting r (Ok word) s → HoldsWord word s m (Err exit) n → step ≡ Err exit → StepsOver levels m r step n s
   idle_fault m n word exit step e reads fault is =
-      rw (fault.2, e) (exits exit step (shown word (Err exit) reads (shows_token [] (of_source s) word (Err exit) (fault.0, fault.1))) is)
+      rw (fault.2, e) (exits exit step (shown word (Err exit) reads (shows_token [] (of_source s) (unpainted word) (Err exit) (fault.0, fault.1))) is)
 
   -- a word that is held goes on to what it goes on to as it is read
   pub idle_word : (m h n : Machine) (t : Source) (word : Token) (step : Step Token) → m ≡ idle
-      → Reads (of_source r) (Ok word) (of_source s) → IsHeld word s m h → StepsOver levels h s step n t → StepsOver levels m r step n t
+      → StepsReporting r (Ok word) s → IsHeld word s m h → StepsOver levels h s step n t → StepsOver levels m r step n t
   idle_word m h n t word step e reads w steps = rw e (goes (rw (w.holds, e) at steps))
     where
       kept : Machine
       kept = record { held = Some (Ok w.token); frames = [] }
 
       takes : StepsTaking idle (of_source r) (Ok w.token) idle (of_source s)
-      takes = shown word (Ok w.token) reads (shows_token [] (of_source s) word (Ok w.token) w.taken)
+      takes = shown word (Ok w.token) reads (shows_token [] (of_source s) (unpainted word) (Ok w.token) w.taken)
 
       goes : StepsOver levels kept s step n t → StepsOver levels idle r step n t
       goes (inl x) =
-          let turns = returned idle kept (of_source r) (of_source s) w.token takes refl x.taken x.between (of_source t) x.turns in
+          let turns = returned idle kept (of_source r) s w.token takes refl refl x.taken x.between (of_source t) x.turns in
           inl (record { taken = x.taken; between = x.between; turns = turns; follows = x.follows })
       goes (inr x) =
           inr (record { some = record { step = Ok w.token; after = idle; reader = of_source s; takes = takes; goes = refl }; fault = x.fault })

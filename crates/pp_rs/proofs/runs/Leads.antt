@@ -1,13 +1,15 @@
 -- What a step of a preprocessor is to the runs of the definitions: what they give from the state after the step they give from
 -- the state before it.
-use Rattle.std.specs.Prelude.{Ok, Err}
+use Rattle.std.specs.Prelude.{◌≡◌, Ok, Err}
 use Rattle.pp_lexer.specs.declared.token.Token.{Token}
 use Rattle.pp_model.specs.Reading.{Expander}
 use Rattle.pp_model.specs.Calls.{Answers}
 use Rattle.pp_model.specs.Emitting.{Emits}
+use Rattle.pp_model.specs.Painting.{item_of}
 use Rattle.pp_model.specs.SourceReader.{SourceReader}
 use Rattle.pp_model.specs.declared.outcome.Outcome.{Outcome}
 use Rattle.pp_model.specs.declared.outcome.Outcome.TheVariants as outcome
+use Rattle.pp_model.specs.declared.read.Taken.{Taken}
 use Rattle.pp_expansion.specs.Item.{Step}
 use Rattle.pp_rs.specs.Comes.{source_rules}
 use Rattle.pp_expansion.specs.inner.Source.{Source}
@@ -15,25 +17,36 @@ use Rattle.pp_expansion.specs.inner.Machine.{Machine}
 use Rattle.pp_rs.specs.inner.Stands.{StandsFor}
 use Rattle.pp_expansion.specs.declared.step.StepExit.TheVariants.{Error, Continue, Finished}
 
+-- this is the next item, without its paint
+pub record GivesItem (A : Answers) (e : Expander SourceReader) (o : Outcome) (f : Expander SourceReader) : Type 0 where
+  pub taken : Taken
+  pub emits : Emits source_rules A e taken f
+  pub is : o ≡ item_of taken
+
 -- What a step of an expander is to the state that it stands for: it gives the next item, or pauses and keeps that.
 abbrev pub LeadsFrom : Answers → Expander SourceReader → Step Token → Machine → Source → Type 0
-LeadsFrom A e (Ok token) machine source = (f : Expander SourceReader) × Emits source_rules A e (outcome.Token token) f × StandsFor machine source f
+LeadsFrom A e (Ok token) machine source = (f : Expander SourceReader) × GivesItem A e (outcome.Token token) f × StandsFor machine source f
 LeadsFrom A e (Err Continue) machine source = (f : Expander SourceReader) × StandsFor machine source f
-    × ((o : Outcome) (g : Expander SourceReader) → Emits source_rules A f o g → Emits source_rules A e o g)
-LeadsFrom A e (Err Finished) machine source = (f : Expander SourceReader) × Emits source_rules A e outcome.End f × StandsFor machine source f
-LeadsFrom A e (Err (Error fault)) machine source = (f : Expander SourceReader) × Emits source_rules A e (outcome.Fault fault) f
+    × ((x : Taken) (g : Expander SourceReader) → Emits source_rules A f x g → Emits source_rules A e x g)
+LeadsFrom A e (Err Finished) machine source = (f : Expander SourceReader) × GivesItem A e outcome.End f × StandsFor machine source f
+LeadsFrom A e (Err (Error fault)) machine source = (f : Expander SourceReader) × GivesItem A e (outcome.Fault fault) f
 
 -- the same of each state that the machine and the source stand for; one step, or many that pause before it
 pub record Leads (A : Answers) (machine : Machine) (source : Source) (step : Step Token) (machine_then : Machine) (source_then : Source) : Type 0 where
   pub from : (e : Expander SourceReader) → StandsFor machine source e → LeadsFrom A e step machine_then source_then
 
+-- what comes from the state after a pause comes from the one before it
+item_kept : (A : Answers) (e f g : Expander SourceReader) (o : Outcome)
+    → ((x : Taken) (g : Expander SourceReader) → Emits source_rules A f x g → Emits source_rules A e x g) → GivesItem A f o g → GivesItem A e o g
+item_kept A e f g o keeps item = record { taken = item.taken; emits = keeps item.taken g item.emits; is = item.is }
+
 leads_on : (A : Answers) (e f : Expander SourceReader) (step : Step Token) (machine : Machine) (source : Source)
-    → ((o : Outcome) (g : Expander SourceReader) → Emits source_rules A f o g → Emits source_rules A e o g) → LeadsFrom A f step machine source
+    → ((x : Taken) (g : Expander SourceReader) → Emits source_rules A f x g → Emits source_rules A e x g) → LeadsFrom A f step machine source
     → LeadsFrom A e step machine source
-leads_on A e f (Ok token) machine source keeps leads = (leads.0, keeps (outcome.Token token) leads.0 leads.1, leads.2)
-leads_on A e f (Err Continue) machine source keeps leads = (leads.0, leads.1, λ o g emits. keeps o g (leads.2 o g emits))
-leads_on A e f (Err Finished) machine source keeps leads = (leads.0, keeps outcome.End leads.0 leads.1, leads.2)
-leads_on A e f (Err (Error fault)) machine source keeps leads = (leads.0, keeps (outcome.Fault fault) leads.0 leads.1)
+leads_on A e f (Ok token) machine source keeps leads = (leads.0, item_kept A e f leads.0 (outcome.Token token) keeps leads.1, leads.2)
+leads_on A e f (Err Continue) machine source keeps leads = (leads.0, leads.1, λ x g emits. keeps x g (leads.2 x g emits))
+leads_on A e f (Err Finished) machine source keeps leads = (leads.0, item_kept A e f leads.0 outcome.End keeps leads.1, leads.2)
+leads_on A e f (Err (Error fault)) machine source keeps leads = (leads.0, item_kept A e f leads.0 (outcome.Fault fault) keeps leads.1)
 
 -- a pause, and then a step
 pub leads_then : (A : Answers) (machine machine_then machine_last : Machine) (source source_then source_last : Source) (step : Step Token)

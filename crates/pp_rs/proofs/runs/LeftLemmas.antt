@@ -1,21 +1,24 @@
 -- A turn that isn't the end had something left to read.
 use Rattle.std.proofs.Common.{◌≡◌, ◌≢◌, ◌⊎◌, ◌∙◌, inl, inr, ℕ, ◌<◌, length, arith, true, false, Bool, List, [], ◌∷◌, refl, ap, sym, subst, Option, Some, None}
-use Rattle.std.specs.Prelude.{Err, ◌-◌, ℤ}
+use Rattle.std.specs.Prelude.{Ok, Err, ◌-◌, ℤ}
 use Rattle.std.specs.Fn.{iterate}
 use Rattle.pp_lexer.specs.Lexed.{Seen}
 use Rattle.pp_lexer.specs.declared.token.Location.{Location}
 use Rattle.pp_lexer.specs.declared.token.Token.{Token}
+use Rattle.pp_model.specs.Names.{Name}
+use Rattle.pp_model.specs.declared.read.Read.{Read}
 use Rattle.pp_expansion.specs.inner.CallTurns.{TakesSomething}
 use Rattle.pp_expansion.specs.inner.Defined.{Defined}
 use Rattle.pp_expansion.specs.inner.Frames.{Layer}
 use Rattle.pp_expansion.specs.Item.{Step}
 use Rattle.pp_expansion.specs.inner.Left.{work_of, regions, regions_of, most_open, most_bodies, holding_step}
-use Rattle.pp_expansion.specs.inner.Machine.{Machine, StepsTaking, held, moved, taken_as}
+use Rattle.pp_expansion.specs.inner.Machine.{Machine, StepsFetching, held, moved, taken_as}
 use Rattle.pp_expansion.specs.declared.blocks.OpenBlock.{OpenBlock}
 use Rattle.pp_expansion.specs.inner.Reach.{grown, through, total, work_in, frame_steps}
 use Rattle.pp_expansion.specs.inner.Reader.{Reader, of_source, of_list, Reads}
 use Rattle.pp_expansion.specs.inner.Source.{Source, StepsSource}
-use Rattle.pp_expansion.specs.inner.Turns.{Moves}
+use Rattle.pp_expansion.specs.inner.Reading.{unpainted_step, painted_step}
+use Rattle.pp_expansion.specs.inner.Turns.{Moves, masks}
 use Rattle.pp_expansion.specs.inner.Work.{is_end, most_reads}
 use Rattle.pp_expansion.specs.declared.step.StepExit.TheVariants.{Finished}
 use Rattle.pp_expansion.proofs.open_frames.AdvanceLemmas.{some_steps_left}
@@ -23,7 +26,7 @@ use Rattle.pp_expansion.proofs.work.ReachLemmas.{through_up}
 use Rattle.pp_expansion.proofs.work.SpendLemmas.{total_one_more}
 
 -- something is held that isn't the end
-abbrev pub HoldsMore : Option (Step Token) → Type 0
+abbrev pub HoldsMore : Option (Step Read) → Type 0
 HoldsMore None = ⊥
 HoldsMore (Some step) = is_end step ≡ false
 
@@ -51,7 +54,7 @@ empty_source places error_place definitions line_offset has_text has_directive t
 empty_source places error_place definitions line_offset has_text has_directive false new step (inr h) = h.0
 
 read_before : (rest : List Seen) (places : List Location) (error_place : Option Location) (definitions : List Defined) (blocks : List OpenBlock)
-    (line_offset : ℤ) (has_text has_directive dead : Bool) (s : Reader) (step : Step Token)
+    (line_offset : ℤ) (has_text has_directive dead : Bool) (s : Reader) (step : Step Read)
     → Reads (of_source (record {
       rest = rest;
       places = places;
@@ -68,10 +71,10 @@ read_before : (rest : List Seen) (places : List Location) (error_place : Option 
 read_before (x ∷ rest) places error_place definitions blocks line_offset has_text has_directive dead s step h goes = inl (λ e. cc)
 read_before [] places error_place definitions (block ∷ blocks) line_offset has_text has_directive dead s step h goes = inr (λ e. cc)
 read_before [] places error_place definitions [] line_offset has_text has_directive dead (of_source new) step h goes =
-    absurd (goes (empty_source places error_place definitions line_offset has_text has_directive dead new step h.0))
+    absurd (goes (h.is ∙ ap unpainted_step (empty_source places error_place definitions line_offset has_text has_directive dead new h.given h.steps)))
 read_before [] places error_place definitions [] line_offset has_text has_directive dead (of_list new) step h goes = absurd h
 
-left_in_source : (old : Source) (s : Reader) (step : Step Token) → old.spent ≡ false → Reads (of_source old) step s → (step ≡ Err Finished → ⊥)
+left_in_source : (old : Source) (s : Reader) (step : Step Read) → old.spent ≡ false → Reads (of_source old) step s → (step ≡ Err Finished → ⊥)
     → (old.rest ≢ []) ⊎ (old.blocks ≢ [])
 left_in_source old s step unspent h goes =
     read_before old.rest old.places old.error_place old.definitions old.blocks old.line_offset old.has_text old.has_directive old.dead_for_good s step
@@ -92,28 +95,35 @@ reads_more : (frames : List Layer) (old : Source) → (old.rest ≢ []) ⊎ (old
 reads_more frames old (inl h) = inr (inl h)
 reads_more frames old (inr h) = inr (inr h)
 
-moved_left : (frames after : List Layer) (old : Source) (s : Reader) (step : Step Token) → old.spent ≡ false
+moved_left : (frames after : List Layer) (old : Source) (s : Reader) (step : Step Read) → old.spent ≡ false
     → Moves frames (of_source old) step after s → (step ≡ Err Finished → ⊥) → (frames ≢ []) ⊎ (old.rest ≢ []) ⊎ (old.blocks ≢ [])
 moved_left (f ∷ fs) after old s step unspent moves goes = inl (λ e. cc)
 moved_left [] after old s step unspent moves goes = reads_more [] old (left_in_source old s step unspent moves.1 goes)
 
-taking_left : (m n : Machine) (old : Source) (s : Reader) (step : Step Token) → old.spent ≡ false → StepsTaking m (of_source old) step n s
+fetching_left : (m n : Machine) (old : Source) (s : Reader) (step : Step Read) → old.spent ≡ false → StepsFetching m (of_source old) step n s
     → is_end step ≡ false → SomethingLeft m old
-taking_left m n old s step unspent (held step1 m1 n1 r1 s1 is at same) goes = inl (subst HoldsMore (sym is) goes)
-taking_left m n old s step unspent (moved move step1 m1 n1 r1 s1 free moves is none) goes =
+fetching_left m n old s step unspent (held step1 m1 n1 r1 s1 is at same) goes = inl (subst HoldsMore (sym is) goes)
+fetching_left m n old s step unspent (moved move step1 m1 n1 r1 s1 free moves is none) goes =
     more (moved_left m.frames n.frames old s move unspent moves (λ e. absurd (ends e)))
   where
     ends : move ≡ Err Finished → ⊥
-    ends e = let bad : is_end step ≡ true = ap is_end (is ∙ ap (λ (x : Step Token). taken_as x n.frames s) e) in cc
+    ends e = let bad : is_end step ≡ true = ap is_end (is ∙ ap (λ (x : Step Read). taken_as x n.frames s) e) in cc
 
     more : (m.frames ≢ []) ⊎ (old.rest ≢ []) ⊎ (old.blocks ≢ []) → SomethingLeft m old
     more (inl h) = inr (inl h)
     more (inr (inl h)) = inr (inr (inl h))
     more (inr (inr h)) = inr (inr (inr h))
 
+painted_goes : (names : List Name) (first : Step Read) → is_end (painted_step names first) ≡ is_end first
+painted_goes names (Ok read) = refl
+painted_goes names (Err exit) = refl
+
 -- where something was taken, something was left
 pub some_left : (m : Machine) (old : Source) → old.spent ≡ false → TakesSomething m (of_source old) → SomethingLeft m old
-some_left m old unspent h = taking_left m h.after old h.reader h.step unspent h.takes h.goes
+some_left m old unspent h =
+    let first = h.takes.first in
+    fetching_left m h.after old h.reader first unspent h.takes.fetches
+    (sym (painted_goes (masks h.after.frames h.reader) first) ∙ sym (ap is_end h.takes.paints) ∙ h.goes)
 
 some_there : {A : Type 0} (items : List A) → items ≢ [] → 0 < length items
 some_there [] left = absurd (left refl)
@@ -124,11 +134,11 @@ frames_some [] reads (inl left) = absurd (left refl)
 frames_some [] reads (inr left) = omega arith
 frames_some (f ∷ fs) reads left = omega (arith, some_steps_left f)
 
-holding_some : (o : Option (Step Token)) (xs : List ℕ) → HoldsMore o → 0 < total (holding_step o xs)
+holding_some : (o : Option (Step Read)) (xs : List ℕ) → HoldsMore o → 0 < total (holding_step o xs)
 holding_some None xs h = absurd h
 holding_some (Some step) xs h = rw h (omega (arith, total_one_more xs))
 
-holding_more : (o : Option (Step Token)) (xs : List ℕ) → 0 < total xs → 0 < total (holding_step o xs)
+holding_more : (o : Option (Step Read)) (xs : List ℕ) → 0 < total xs → 0 < total (holding_step o xs)
 holding_more None xs h = h
 holding_more (Some step) xs h = go (is_end step) refl
   where
@@ -158,7 +168,7 @@ pub no_work : (levels : ℕ) (m : Machine) (source : Source) → m.held ≡ None
 no_work levels m source free closed e f =
     let r = of_source source in
     let reads : most_reads source ≡ 0 = omega (arith, ap length e, ap length f) in
-    let xs : regions m r ≡ 0 ∷ [] = ap (λ (o : Option (Step Token)). holding_step o (regions_of m.frames (most_reads source))) free
+    let xs : regions m r ≡ 0 ∷ [] = ap (λ (o : Option (Step Read)). holding_step o (regions_of m.frames (most_reads source))) free
     ∙ ap (λ (fs : List Layer). regions_of fs (most_reads source)) closed ∙ ap (λ (k : ℕ). k ∷ []) reads in
     ap (work_in (frame_steps (most_bodies r) (most_open r) levels) (most_open r)) xs
 

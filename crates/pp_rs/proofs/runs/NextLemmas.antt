@@ -4,10 +4,13 @@ use Rattle.std.specs.Prelude.{Ok, Err, MatchBool, unwrap_or}
 use Rattle.pp_lexer.specs.PreprocessorError.{out_of_memory}
 use Rattle.pp_lexer.specs.declared.token.Location.{Location}
 use Rattle.pp_lexer.specs.declared.token.Token.{Token}
+use Rattle.pp_model.specs.declared.read.Read.{Read}
 use Rattle.pp_model.specs.Emitting.{answers_at, expansion_limit}
 use Rattle.pp_model.specs.Calls.{Fault}
 use Rattle.pp_model.specs.Reading.{Expander}
 use Rattle.pp_model.specs.SourceReader.{SourceReader}
+use Rattle.pp_model.specs.declared.outcome.Outcome.{Outcome}
+use Rattle.pp_rs.specs.Comes.{Comes}
 use Rattle.pp_rs.specs.inner.Fit.{EndIsLast, IsFit, IsReported}
 use Rattle.pp_expansion.specs.Held.{HoldsOrdinary}
 use Rattle.pp_expansion.specs.Item.{Item, Step, is_out_of_memory, wants_memory}
@@ -22,10 +25,14 @@ use Rattle.pp_rs.specs.Kept.{Preprocessing, Stands, is_spent, most_items, errors
 use Rattle.pp_rs.specs.Preprocessing.{IsLessLeft, IsErrorAt, of_lexer, of_its_own, IsRefusedItem, IsGivenItem, IsNextItem}
 use Rattle.pp_expansion.specs.inner.Unreported.{with_read, IsReportedBut}
 use Rattle.pp_expansion.specs.declared.step.StepExit.TheVariants.{Error, Continue, Finished}
-use Rattle.pp_rs.proofs.runs.Leads.{LeadsFrom, Leads, leads_then}
+use Rattle.pp_rs.proofs.runs.Leads.{GivesItem, LeadsFrom, Leads, leads_then}
 use Rattle.pp_rs.proofs.runs.LeftLemmas.{SomethingLeft, some_left, left_is_work, no_work}
 use Rattle.pp_rs.proofs.runs.UnreportedTurnLemmas.{errors_of, ErrorsLeft, turn_errors}
 use Rattle.pp_rs.proofs.runs.SourceTurnLemmas.{turned_source, source_fits, source_lowers, source_ends, source_some, source_turn_leads}
+
+-- what is given next comes next
+comes : (e f : Expander SourceReader) (o : Outcome) → GivesItem (answers_at expansion_limit) e o f → Comes e o f
+comes e f o item = record { taken = item.taken; emits = item.emits; is = item.is }
 
 -- a state from which the same comes next as from the first
 pub record Reached (machine : Machine) (source : Source) (machine_now : Machine) (source_now : Source) : Type 0 where
@@ -41,7 +48,7 @@ pub reached_first : (machine now : Machine) (source source_now : Source) → now
     × IsReported now source_now → Reached machine source now source_now
 reached_first machine now source source_now e f fit = rw (e, f) (record {
   fit = rw (e, f) at fit.0;
-  leads = record { from = λ s stands. (s, stands, λ o g emits. emits) };
+  leads = record { from = λ s stands. (s, stands, λ x g emits. emits) };
   left = λ left. left;
   less = omega arith;
   reported = rw (e, f) at fit.1;
@@ -111,9 +118,9 @@ module _ (machine now after : Machine) (source source_now source_after : Source)
           unspent = fit.unspent;
           sound = fit.sound;
           last =
-              subst (λ (o : Option (Step Token)). EndIsLast o after.frames (of_source (record source_after { error_place = None }))) (sym free) tt;
+              subst (λ (o : Option (Step Read)). EndIsLast o after.frames (of_source (record source_after { error_place = None }))) (sym free) tt;
         },
-        subst (λ (o : Option (Step Token)). IsReportedBut o (unreported_of (record source_after { error_place = None }))) (sym free) refl,
+        subst (λ (o : Option (Step Read)). IsReportedBut o (unreported_of (record source_after { error_place = None }))) (sym free) refl,
       )
 
   -- the answers from a state that isn't spent
@@ -155,7 +162,7 @@ module _ (machine now after : Machine) (source source_now source_after : Source)
           item = λ e stands.
               let leads : LeadsFrom (answers_at expansion_limit) e (Ok token) after source_after =
               (leads_last (Ok token) turn refl).from e (stands_first e stands) in
-              record { after = leads.0; emits = leads.1; goes_on = leads.2 };
+              record { after = leads.0; emits = comes e leads.0 _ leads.1; goes_on = leads.2 };
           no_refusal = refl;
           holds = holds;
           reports = ((errors_last (Ok token) turn refl).1 ∙ sym errors_first, same);
@@ -183,7 +190,7 @@ module _ (machine now after : Machine) (source source_now source_after : Source)
           item = λ e stands.
               let leads : LeadsFrom (answers_at expansion_limit) e (Err Finished) after source_after =
               (leads_last (Err Finished) turn refl).from e (stands_first e stands) in
-              record { after = leads.0; emits = leads.1; goes_on = leads.2 };
+              record { after = leads.0; emits = comes e leads.0 _ leads.1; goes_on = leads.2 };
           no_refusal = refl;
           holds = tt;
           reports = (errors_first ∙ sym (errors_last (Err Finished) turn refl).1 ∙ none_unreported turn, none_unreported turn, same);
@@ -220,7 +227,7 @@ module _ (machine now after : Machine) (source source_now source_after : Source)
             item = λ e stands.
                 let leads : LeadsFrom (answers_at expansion_limit) e (Err (Error fault)) after source_after =
                 (leads_last (Err (Error fault)) turn reported).from e (stands_first e stands) in
-                record { after = leads.0; emits = leads.1; goes_on = tt };
+                record { after = leads.0; emits = comes e leads.0 _ leads.1; goes_on = tt };
             no_refusal = reported;
             holds = tt;
             reports = error_reported source_after.error_place (unreported_of source_after).later (errors_last (Err (Error fault)) turn reported).1 at

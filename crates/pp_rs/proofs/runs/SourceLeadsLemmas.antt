@@ -1,17 +1,21 @@
 -- The expander with calls over a source is the definitions' expander of it.
-use Rattle.std.proofs.Common.{◌≡◌, false, ℕ, [], sym, ap, None}
-use Rattle.std.specs.Prelude.{ℤ, pos, ◌+ℤ◌, if◌then◌else◌, ◌||◌, Ok, Err}
+use Rattle.std.proofs.Common.{◌≡◌, false, ℕ, [], refl, sym, ap, None}
+use Rattle.std.specs.Prelude.{ℤ, pos, ◌+ℤ◌, if◌then◌else◌, Ok, Err}
 use Rattle.pp_lexer.specs.declared.token.Token.{Token}
-use Rattle.pp_model.specs.Names.{Name, is_in}
+use Rattle.pp_model.specs.Names.{Name}
 use Rattle.pp_model.specs.Definitions.{Definitions}
 use Rattle.pp_model.specs.Reading.{Expander}
 use Rattle.pp_model.specs.Calls.{Answers}
 use Rattle.pp_model.specs.SourceReader.{SourceReader}
+use Rattle.pp_model.specs.Painting.{unpainted}
 use Rattle.pp_model.specs.declared.outcome.Outcome.TheVariants as outcome
+use Rattle.pp_model.specs.declared.read.Read.{Read}
+use Rattle.pp_model.specs.declared.read.Taken.TheVariants as given
 use Rattle.pp_expansion.specs.inner.CallTurns.{TurnsTo}
 use Rattle.pp_expansion.specs.Item.{Step, wants_memory}
 use Rattle.pp_expansion.specs.inner.Machine.{Machine}
-use Rattle.pp_expansion.specs.inner.Reader.{Reader, of_source, of_list, Reads, shown_line, visible}
+use Rattle.pp_expansion.specs.inner.Reader.{Reader, of_source, of_list, Reads, hidden_of, shown_line, visible}
+use Rattle.pp_expansion.specs.inner.Reading.{unpainted_step}
 use Rattle.pp_model.specs.LineValues.{as_line_number}
 use Rattle.pp_model.specs.Reads.{here, later}
 use Rattle.pp_rs.specs.Comes.{source_rules}
@@ -19,24 +23,28 @@ use Rattle.pp_expansion.specs.inner.Source.{Source}
 use Rattle.pp_rs.specs.inner.Stands.{StandsForReader}
 use Rattle.pp_expansion.specs.declared.calls.Taken.{Taken}
 use Rattle.pp_expansion.specs.declared.step.StepExit.TheVariants.{Error, Continue, Finished}
+use Rattle.pp_expansion.proofs.open_frames.ReportedLemmas.{wants_taken}
 use Rattle.pp_expansion.proofs.taking.SearchSimulates.{ReadsTo, StandsIn}
 use Rattle.pp_rs.proofs.source.Simulates.{Simulates}
 use Rattle.pp_rs.proofs.source.SourceSimulates.{source_simulates}
-use Rattle.pp_expansion.proofs.taking.TurnLeadsLemmas.{LeadsTo, turn_leads, wants_taken}
+use Rattle.pp_rs.proofs.source.UnpaintedLemmas.{unpainted_reported}
+use Rattle.pp_expansion.proofs.taking.TurnLeadsLemmas.{LeadsTo, turn_leads}
 
 abbrev pub IsSource : Reader → SourceReader → Type 0
 IsSource (of_source source) x = StandsForReader source x
 IsSource (of_list l) x = ⊥
 
-pub reads_source : (old new : Source) (x : SourceReader) (step : Step Token) → Simulates step x new → ReadsTo source_rules IsSource [] step x (of_source new)
-reads_source old new x (Ok token) h = (h.after, here (outcome.Token token) x h.after h.steps, h.stands)
+pub reads_source : (old new : Source) (x : SourceReader) (step : Step Token) → Simulates step x new
+    → ReadsTo source_rules IsSource [] (unpainted_step step) x (of_source new)
+reads_source old new x (Ok token) h = (h.after, here (outcome.Token token) (given.Token (unpainted token)) x h.after h.steps refl, h.stands)
 reads_source old new x (Err Continue) h = (h.after, h.stands, λ o z reads. later o x h.after z h.steps reads)
-reads_source old new x (Err Finished) h = (h.after, here outcome.End x h.after h.steps, h.stands)
-reads_source old new x (Err (Error fault)) h = (h.after, here (outcome.Fault fault) x h.after h.steps)
+reads_source old new x (Err Finished) h = (h.after, here outcome.End given.End x h.after h.steps refl, h.stands)
+reads_source old new x (Err (Error fault)) h = (h.after, here (outcome.Fault fault) (given.Fault fault) x h.after h.steps refl)
 
-pub sources_simulate : (r s : Reader) (x : SourceReader) (step : Step Token) → IsSource r x → Reads r step s → wants_memory step ≡ false
+pub sources_simulate : (r s : Reader) (x : SourceReader) (step : Step Read) → IsSource r x → Reads r step s → wants_memory step ≡ false
     → ReadsTo source_rules IsSource [] step x s
-sources_simulate (of_source old) (of_source new) x step stands h reported = reads_source old new x step (source_simulates old new x step stands h.0 reported)
+sources_simulate (of_source old) (of_source new) x step stands h reported =
+    rw h.is (reads_source old new x h.given (source_simulates old new x h.given stands h.steps (unpainted_reported h.given (rw h.is at reported))))
 sources_simulate (of_source old) (of_list new) x step stands h reported = absurd h
 sources_simulate (of_list old) s x step stands h reported = absurd stands
 
@@ -44,14 +52,18 @@ pub source_shows : (s : Reader) (y : SourceReader) (line : ℕ) → IsSource s y
 source_shows (of_source source) y line stands = ap (λ (k : ℤ). as_line_number (pos line +ℤ k)) stands.line_offset
 source_shows (of_list l) y line stands = absurd stands
 
+pub source_hides : (s : Reader) (y : SourceReader) → IsSource s y → hidden_of s ≡ []
+source_hides (of_source source) y stands = refl
+source_hides (of_list l) y stands = absurd stands
+
 pub source_sees : (s : Reader) (y : SourceReader) (name : Name) → IsSource s y
-    → visible s name ≡ (if source_rules.is_reserved name || is_in name [] then None else source_rules.visible y name)
+    → visible s name ≡ (if source_rules.is_reserved name then None else source_rules.visible y name)
 source_sees (of_source source) y name stands = ap (λ (d : Definitions). d name) (sym stands.definitions)
 source_sees (of_list l) y name stands = absurd stands
 
 -- one turn over a source
 pub source_leads : (A : Answers) (m n : Machine) (r s : Reader) (step : Step Taken) (e : Expander SourceReader)
     → StandsIn source_rules IsSource [] m r e → TurnsTo m r step n s → wants_taken step ≡ false
-    → LeadsTo source_rules IsSource [] sources_simulate source_shows source_sees A step e n s
+    → LeadsTo source_rules IsSource [] sources_simulate source_shows source_hides source_sees A step e n s
 source_leads A m n r s step e stands turns reported = turn_leads source_rules IsSource
-    [] sources_simulate source_shows source_sees A m n r s step e stands turns reported
+    [] sources_simulate source_shows source_hides source_sees A m n r s step e stands turns reported

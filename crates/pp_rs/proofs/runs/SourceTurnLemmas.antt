@@ -4,11 +4,15 @@ use Rattle.pp_lexer.specs.PreprocessorError.{out_of_memory}
 use Rattle.pp_lexer.specs.declared.token.Token.{Token}
 use Rattle.pp_model.specs.Calls.{Site, arguments_of, site_of}
 use Rattle.pp_model.specs.Definitions.{Definitions}
-use Rattle.pp_model.specs.Emitting.{answers_at}
+use Rattle.pp_model.specs.Emitting.{Emits, answers_at}
 use Rattle.pp_model.specs.Names.{Name}
+use Rattle.pp_model.specs.Painting.{item_of}
 use Rattle.pp_model.specs.Reading.{Expander, masked}
 use Rattle.pp_model.specs.SourceReader.{SourceReader}
 use Rattle.pp_model.specs.SpliceList.{open_names, spliced}
+use Rattle.pp_model.specs.declared.read.Read.{Read}
+use Rattle.pp_model.specs.declared.read.Taken.{Taken as Given}
+use Rattle.pp_model.specs.declared.read.Taken.TheVariants as given
 use Rattle.pp_model.specs.declared.splice.Entry.{Entry}
 use Rattle.pp_expansion.specs.inner.Calling.{PendingCall}
 use Rattle.pp_expansion.specs.inner.CallTurns.{TurnsTo, TurnsOrRefuses, TakesSomething}
@@ -33,14 +37,15 @@ use Rattle.pp_expansion.specs.declared.step.StepExit.{StepExit}
 use Rattle.pp_expansion.specs.declared.step.StepExit.TheVariants.{Error, Continue, Finished}
 use Rattle.pp_expansion.proofs.work.CallFallsLemmas.{IsLess, IsPending, turn_falls, pending_opens}
 use Rattle.pp_expansion.proofs.open_frames.FlatLemmas.{open_flat}
-use Rattle.pp_rs.proofs.runs.Leads.{LeadsFrom, Leads}
+use Rattle.pp_rs.proofs.runs.Leads.{GivesItem, LeadsFrom, Leads}
 use Rattle.pp_expansion.proofs.open_frames.OpenSoundLemmas.{sound_rest}
+use Rattle.pp_expansion.proofs.open_frames.ReportedLemmas.{wants_taken}
 use Rattle.pp_expansion.proofs.work.ReachLemmas.{frame_steps_level}
 use Rattle.pp_rs.proofs.runs.ReadyLemmas.{turn_ready, turn_last, turn_end, turn_some}
 use Rattle.pp_expansion.proofs.taking.SearchSimulates.{StandsIn, StandsHeld}
-use Rattle.pp_rs.proofs.runs.SourceLeadsLemmas.{IsSource, sources_simulate, source_shows, source_sees, source_leads}
+use Rattle.pp_rs.proofs.runs.SourceLeadsLemmas.{IsSource, sources_simulate, source_shows, source_hides, source_sees, source_leads}
 use Rattle.pp_expansion.proofs.work.SpendLemmas.{Falls, no_more_falls, one_more_falls}
-use Rattle.pp_expansion.proofs.taking.TurnLeadsLemmas.{LeadsTo, wants_taken}
+use Rattle.pp_expansion.proofs.taking.TurnLeadsLemmas.{LeadsTo}
 use Rattle.pp_expansion.proofs.work.WorkFallsLemmas.{frame_of, falls_work}
 
 -- what follows of a call that is not finished, unless memory is refused
@@ -52,9 +57,9 @@ follows_halt levels l ds es hidden c m n halt.OutOfMemory step e d none f is = i
 
 -- the turns of the code
 module _ (levels : ℕ) (m n : Machine) (r s : Source) where
-  pub goes_token : (token : Token) → TurnsOrRefuses m (of_source r) (Ok (taken.Token token)) n (of_source s) → StepsOver levels m r (Ok token) n s
-  goes_token token (inl h) = inl (record { taken = Ok (taken.Token token); between = n; turns = h; follows = (refl, refl) })
-  goes_token token (inr h) = let bad = h.fault in cc
+  pub goes_token : (read : Read) → TurnsOrRefuses m (of_source r) (Ok (taken.Token read)) n (of_source s) → StepsOver levels m r (Ok read.token) n s
+  goes_token read (inl h) = inl (record { taken = Ok (taken.Token read); between = n; turns = h; follows = (refl, refl) })
+  goes_token read (inr h) = let bad = h.fault in cc
 
   exit_as : (exit : StepExit) (step : Step Token) → ◌≡◌ {A = Step Taken} (Err exit) (Err (Error out_of_memory)) → step ≡ Err exit
       → step ≡ Err (Error out_of_memory)
@@ -92,17 +97,17 @@ record IsAfter (levels : ℕ) (m : Machine) (old : Source) (step : Step Token) (
   last : EndIsLast n.held n.frames (of_source new)
 
 module _ (levels : ℕ) (m : Machine) (old new : Source) (fit : IsFit m old) where
-  free_last : (o : Option (Step Token)) (n : Machine) → o ≡ None → EndIsLast o n.frames (of_source new)
-  free_last o n e = subst (λ (x : Option (Step Token)). EndIsLast x n.frames (of_source new)) (sym e) tt
+  free_last : (o : Option (Step Read)) (n : Machine) → o ≡ None → EndIsLast o n.frames (of_source new)
+  free_last o n e = subst (λ (x : Option (Step Read)). EndIsLast x n.frames (of_source new)) (sym e) tt
 
   opened_less : (levels' : ℕ) → levels' ≡ levels → (c : PendingCall) (n p : Machine) → IsPending levels' m (of_source old) c n (of_source new)
       → IsOpened levels' new.definitions (names_of n.frames ++ []) c n p → IsLess levels' m (of_source old) p (of_source new)
   opened_less zero e c n p pend o = absurd (let bad : Ok o.arguments ≡ Err _ = o.answers in cc)
   opened_less (suc lower) e c n p pend o =
       let one : suc lower - 1 ≡ lower = omega arith in
-      let least : All (λ (a : List Token). length a ≤ most_alone lower new.definitions (length c.tokens)) o.arguments = rw (← one) o.least in
+      let least : All (λ (a : List Read). length a ≤ most_alone lower new.definitions (length c.tokens)) o.arguments = rw (← one) o.least in
       let at : p ≡ record { held = None; frames = layer c.name c.closing.line c.definition o.arguments ∷ n.frames } = o.opens
-      ∙ ap (λ (h : Option (Step Token)). record { held = h; frames = layer c.name c.closing.line c.definition o.arguments ∷ n.frames }) pend.free in
+      ∙ ap (λ (h : Option (Step Read)). record { held = h; frames = layer c.name c.closing.line c.definition o.arguments ∷ n.frames }) pend.free in
       rw at (pending_opens lower m (of_source old) c n (of_source new) o.arguments pend least)
 
   call_after : (c : PendingCall) (n p : Machine) (step : Step Token) → IsPending levels m (of_source old) c n (of_source new)
@@ -130,9 +135,9 @@ module _ (levels : ℕ) (m : Machine) (old new : Source) (fit : IsFit m old) whe
 
   follows_after : (step : Step Token) (n p : Machine) (t : Step Taken) → TurnsTo m (of_source old) t n (of_source new)
       → FollowsTurn levels new.definitions t n step p → wants_memory step ≡ false → IsAfter levels m old step p new
-  follows_after step n p (Ok (taken.Token token)) turns follows reported =
-      less_after step n p follows.1 (turn_last m n (of_source old) (of_source new) (Ok (taken.Token token)) fit.unspent turns)
-      (turn_falls levels m (of_source old) fit.sound (Ok (taken.Token token)) n (of_source new) turns refl)
+  follows_after step n p (Ok (taken.Token read)) turns follows reported =
+      less_after step n p follows.1 (turn_last m n (of_source old) (of_source new) (Ok (taken.Token read)) fit.unspent turns)
+      (turn_falls levels m (of_source old) fit.sound (Ok (taken.Token read)) n (of_source new) turns refl)
   follows_after step n p (Ok (taken.Call c)) turns follows reported =
       call_after c n p step (turn_falls levels m (of_source old) fit.sound (Ok (taken.Call c)) n (of_source new) turns refl) follows
   follows_after step n p (Err Continue) turns follows reported =
@@ -151,7 +156,7 @@ module _ (levels : ℕ) (m : Machine) (old new : Source) (fit : IsFit m old) whe
 
   taken_reported : (step : Step Token) (n p : Machine) (t : Step Taken) → FollowsTurn levels new.definitions t n step p → wants_memory step ≡ false
       → wants_taken t ≡ false
-  taken_reported step n p (Ok (taken.Token token)) follows reported = refl
+  taken_reported step n p (Ok (taken.Token read)) follows reported = refl
   taken_reported step n p (Ok (taken.Call c)) follows reported = refl
   taken_reported step n p (Err Continue) follows reported = refl
   taken_reported step n p (Err Finished) follows reported = refl
@@ -177,7 +182,7 @@ module _ (levels : ℕ) (m : Machine) (old new : Source) (fit : IsFit m old) whe
     where
       go : (t : Step Taken) (k : Machine) → TurnsTo m (of_source old) t k (of_source new) → FollowsTurn levels new.definitions t k (Err Finished) n
           → (n.held ≡ None) × (n.frames ≡ []) × (new.rest ≡ []) × (new.blocks ≡ [])
-      go (Ok (taken.Token token)) k turns follows = let bad = follows.0 in cc
+      go (Ok (taken.Token read)) k turns follows = let bad = follows.0 in cc
       go (Ok (taken.Call c)) k turns (opened is o) = cc
       go (Ok (taken.Call c)) k turns (refused fault is answers same) = cc
       go (Err exit) k turns follows =
@@ -189,17 +194,17 @@ module _ (levels : ℕ) (m : Machine) (old new : Source) (fit : IsFit m old) whe
           exit_same exit e = cc
 
 -- the states that are stood for, as the lemmas on all readers say it
-held_in : (o : Option (Step Token)) (source : Source) (x : SourceReader) → StandsForHeld o source x → StandsHeld source_rules IsSource [] o (of_source source) x
+held_in : (o : Option (Step Read)) (source : Source) (x : SourceReader) → StandsForHeld o source x → StandsHeld source_rules IsSource [] o (of_source source) x
 held_in None source x h = h
-held_in (Some (Ok token)) source x h = h
+held_in (Some (Ok read)) source x h = h
 held_in (Some (Err Continue)) source x h = h
 held_in (Some (Err Finished)) source x h = h
 held_in (Some (Err (Error fault))) source x h = tt
 
-held_for : (o : Option (Step Token)) (source : Source) (x : SourceReader) → StandsHeld source_rules IsSource [] o (of_source source) x
+held_for : (o : Option (Step Read)) (source : Source) (x : SourceReader) → StandsHeld source_rules IsSource [] o (of_source source) x
     → StandsForHeld o source x
 held_for None source x h = h
-held_for (Some (Ok token)) source x h = h
+held_for (Some (Ok read)) source x h = h
 held_for (Some (Err Continue)) source x h = h
 held_for (Some (Err Finished)) source x h = h
 held_for (Some (Err (Error fault))) source x h = tt
@@ -214,7 +219,7 @@ stands_for m source e h = record { held = h.holds; list = h.list; reader = held_
 site_same : (c : PendingCall) (n : Machine) (source : Source) (f : Expander SourceReader) → StandsIn source_rules IsSource [] n (of_source source) f
     → n.held ≡ None → site_of source_rules f c.paren c.tokens ≡ site_at c source.definitions (names_of n.frames ++ [])
 site_same c n source f stands free =
-    let reader : StandsForReader source f.reader = subst (λ (o : Option (Step Token)). StandsHeld source_rules IsSource [] o
+    let reader : StandsForReader source f.reader = subst (λ (o : Option (Step Read)). StandsHeld source_rules IsSource [] o
     (of_source source) f.reader) free stands.reader in
     let around : masked f ≡ names_of n.frames ++ [] =
     ap (λ (es : List Entry). open_names es ++ f.hidden) stands.list ∙ ap (λ (hs : List Name). open_names (flat n.frames) ++ hs) stands.names
@@ -224,7 +229,11 @@ site_same c n source f stands free =
 
 module _ (levels : ℕ) (m : Machine) (old new : Source) (fit : IsFit m old) (e : Expander SourceReader) (stands : StandsFor m old e) where
   abbrev LeadsBy : Step Taken → Machine → Type 0
-  LeadsBy t n = LeadsTo source_rules IsSource [] sources_simulate source_shows source_sees (answers_at levels) t e n (of_source new)
+  LeadsBy t n = LeadsTo source_rules IsSource [] sources_simulate source_shows source_hides source_sees (answers_at levels) t e n (of_source new)
+
+  -- an item without its paint
+  item : (x : Given) (f : Expander SourceReader) → Emits source_rules (answers_at levels) e x f → GivesItem (answers_at levels) e (item_of x) f
+  item x f emits = record { taken = x; emits = emits; is = refl }
 
   call_leads : (c : PendingCall) (n p : Machine) (step : Step Token) → n.held ≡ None → LeadsBy (Ok (taken.Call c)) n
       → FollowsCall levels new.definitions c n step p → LeadsFrom (answers_at levels) e step p new
@@ -243,18 +252,24 @@ module _ (levels : ℕ) (m : Machine) (old new : Source) (fit : IsFit m old) (e 
         led.3 o.arguments (subst (λ (x : Site). answers_at levels c.definition x (Ok o.arguments)) (sym (site_same c n new led.0 k free)) o.answers),
       )
   call_leads c n p step free led (refused fault is answers same) =
-      rw is (led.0, led.2 fault (subst (λ (x : Site). answers_at levels c.definition x (Err fault)) (sym (site_same c n new led.0 led.1 free)) answers))
+      rw is (
+        led.0,
+        item (given.Fault fault) led.0
+            (led.2 fault (subst (λ (x : Site). answers_at levels c.definition x (Err fault)) (sym (site_same c n new led.0 led.1 free)) answers)),
+      )
 
   follows_lead : (step : Step Token) (n p : Machine) (t : Step Taken) → TurnsTo m (of_source old) t n (of_source new) → LeadsBy t n
       → FollowsTurn levels new.definitions t n step p → LeadsFrom (answers_at levels) e step p new
-  follows_lead step n p (Ok (taken.Token token)) turns led follows = rw (follows.0, follows.1) (led.0, led.1, stands_for n new led.0 led.2)
+  follows_lead step n p (Ok (taken.Token read)) turns led follows =
+      rw (follows.0, follows.1) (led.0, item (given.Token read) led.0 led.1, stands_for n new led.0 led.2)
   follows_lead step n p (Ok (taken.Call c)) turns led follows =
       let pend : IsPending levels m (of_source old) c n (of_source new) =
       turn_falls levels m (of_source old) fit.sound (Ok (taken.Call c)) n (of_source new) turns refl in
       call_leads c n p step pend.free led follows
   follows_lead step n p (Err Continue) turns led follows = rw (follows.0, follows.1) (led.0, stands_for n new led.0 led.1, led.2)
-  follows_lead step n p (Err Finished) turns led follows = rw (follows.0, follows.1) (led.0, led.1, stands_for n new led.0 led.2)
-  follows_lead step n p (Err (Error fault)) turns led follows = rw follows.0 (led.0, led.1)
+  follows_lead step n p (Err Finished) turns led follows =
+      rw (follows.0, follows.1) (led.0, item given.End led.0 led.1, stands_for n new led.0 led.2)
+  follows_lead step n p (Err (Error fault)) turns led follows = rw follows.0 (led.0, item (given.Fault fault) led.0 led.1)
 
 -- One turn: a token, a fault or the end is the next item, and a pause keeps it.
 pub source_turn_leads : (levels : ℕ) (m n : Machine) (old new : Source) (step : Step Token) → IsFit m old → TurnsSource levels m old step n new

@@ -2,6 +2,7 @@
 use Rattle.std.proofs.Common.{◌≡◌, ◌∙◌, ℕ, false, List, [], ◌∷◌, refl, ap, sym, subst, Option, Some, None, Result, Ok, Err}
 use Rattle.pp_lexer.specs.declared.token.Location.{Location}
 use Rattle.pp_lexer.specs.declared.token.Token.{Token}
+use Rattle.pp_model.specs.declared.read.Read.{Read}
 use Rattle.pp_model.specs.Calls.{Fault, Gathered, before}
 use Rattle.pp_model.specs.Definitions.{Definition}
 use Rattle.pp_model.specs.Names.{Name}
@@ -12,17 +13,19 @@ use Rattle.pp_rs.specs.inner.Fit.{IsReported}
 use Rattle.pp_expansion.specs.inner.Frames.{Layer}
 use Rattle.pp_expansion.specs.Item.{Step, is_out_of_memory, wants_memory}
 use Rattle.pp_expansion.specs.LexerErrors.{ErrorAt}
-use Rattle.pp_expansion.specs.inner.Machine.{Machine, StepsTaking, held, moved, TakesNext, now, later, GathersNext, closed, inside, overfull, ended, failed, taken_as}
+use Rattle.pp_expansion.specs.inner.Machine.{Machine, StepsFetching, StepsTaking, held, moved, TakesNext, now, later, GathersNext, closed, inside, overfull, ended, failed, taken_as}
 use Rattle.pp_expansion.specs.inner.Reader.{Reader, of_source, of_list, Reads}
 use Rattle.pp_expansion.specs.inner.Source.{Source, unreported_of}
 use Rattle.pp_rs.specs.inner.SourceTurns.{FollowsCall, opened, refused as call_refused, FollowsTurn, TurnsSource}
-use Rattle.pp_expansion.specs.inner.Turns.{Moves}
+use Rattle.pp_expansion.specs.inner.Reading.{painted_step}
+use Rattle.pp_expansion.specs.inner.Turns.{Moves, masks}
 use Rattle.pp_expansion.specs.inner.Unreported.{Unreported, with_read, ExitReports, StepReports, unreported_with, IsReportedBut}
 use Rattle.pp_expansion.specs.declared.calls.Taken.{Taken}
 use Rattle.pp_expansion.specs.declared.calls.Taken.TheVariants as taken
 use Rattle.pp_expansion.specs.declared.step.StepExit.{StepExit}
 use Rattle.pp_expansion.specs.declared.step.StepExit.TheVariants.{Error, Continue, Finished}
 use Rattle.pp_rs.proofs.runs.ReadyLemmas.{step_free, next_free, gather_free}
+use Rattle.pp_rs.proofs.source.UnpaintedLemmas.{unpainted_tells}
 use Rattle.pp_source.proofs.UnreportedLemmas.{nothing_met}
 
 -- a list of tokens has no errors of the lexer
@@ -35,17 +38,18 @@ exit_same Continue old new same = same
 exit_same Finished old new same = same
 exit_same (Error fault) old new same = λ reported. nothing_met fault old new same
 
-step_same : (step : Step Token) (old new : Unreported) → new ≡ old → StepReports step old new
-step_same (Ok token) old new same = same
+step_same : (step : Step Read) (old new : Unreported) → new ≡ old → StepReports step old new
+step_same (Ok read) old new same = same
 step_same (Err exit) old new same = exit_same exit old new same
 
-reads_tell : (r s : Reader) (step : Step Token) → Reads r step s → StepReports step (unreported_in r) (unreported_in s)
-reads_tell (of_source old) (of_source new) step h = h.1
+reads_tell : (r s : Reader) (step : Step Read) → Reads r step s → StepReports step (unreported_in r) (unreported_in s)
+reads_tell (of_source old) (of_source new) step h =
+    rw h.is (unpainted_tells h.given (unreported_of old) (unreported_of new) h.reports)
 reads_tell (of_list old) (of_list new) step h = step_same step _ _ refl
 reads_tell (of_source old) (of_list new) step h = absurd h
 reads_tell (of_list old) (of_source new) step h = absurd h
 
-moves_tell : (fs gs : List Layer) (r s : Reader) (move : Step Token) → Moves fs r move gs s → StepReports move (unreported_in r) (unreported_in s)
+moves_tell : (fs gs : List Layer) (r s : Reader) (move : Step Read) → Moves fs r move gs s → StepReports move (unreported_in r) (unreported_in s)
 moves_tell [] gs r s move h = reads_tell r s move h.1
 moves_tell (f ∷ fs) gs r s move h = step_same move (unreported_in r) (unreported_in s) (ap unreported_in h.0)
 
@@ -83,14 +87,14 @@ exit_leaves Continue old new h none = quiet None old new h none
 exit_leaves Finished old new h none = quiet None old new h none
 exit_leaves (Error fault) old new h none = λ reported. h reported none
 
-taken_leaves : (move : Step Token) (fs : List Layer) (s : Reader) (old new : Unreported) → StepReports move old new → old.read ≡ None
+taken_leaves : (move : Step Read) (fs : List Layer) (s : Reader) (old new : Unreported) → StepReports move old new → old.read ≡ None
     → Leaves (fault_of (taken_as move fs s)) old.later new
-taken_leaves (Ok token) fs s old new h none = quiet (fault_of (taken_as (Ok token) fs s)) old new h none
+taken_leaves (Ok read) fs s old new h none = quiet (fault_of (taken_as (Ok read) fs s)) old new h none
 taken_leaves (Err exit) fs s old new h none = exit_leaves exit old new h none
 
 -- what was held is reported
-held_leaves : (step : Step Token) (u : Unreported) → IsReportedBut (Some step) u → Leaves (fault_of step) (unreported_with (Some step) u) u
-held_leaves (Ok token) u h = (refl, h)
+held_leaves : (step : Step Read) (u : Unreported) → IsReportedBut (Some step) u → Leaves (fault_of step) (unreported_with (Some step) u) u
+held_leaves (Ok read) u h = (refl, h)
 held_leaves (Err Continue) u h = (refl, h)
 held_leaves (Err Finished) u h = (refl, h)
 held_leaves (Err (Error fault)) u h = λ reported. refl
@@ -101,17 +105,26 @@ UnreportedFirst m r = unreported_with m.held (unreported_in r)
 abbrev IsReportedFirst : Machine → Reader → Type 0
 IsReportedFirst m r = IsReportedBut m.held (unreported_in r)
 
-step_leaves : (m n : Machine) (r s : Reader) (step : Step Token) → StepsTaking m r step n s → IsReportedFirst m r
+fetch_leaves : (m n : Machine) (r s : Reader) (step : Step Read) → StepsFetching m r step n s → IsReportedFirst m r
     → Leaves (fault_of step) (UnreportedFirst m r) (unreported_in s)
-step_leaves m n r s step (held step1 m1 n1 r1 s1 is at same) reported =
-    subst (λ (o : Option (Step Token)). Leaves (fault_of step) (unreported_with o (unreported_in r)) (unreported_in s)) (sym is)
+fetch_leaves m n r s step (held step1 m1 n1 r1 s1 is at same) reported =
+    subst (λ (o : Option (Step Read)). Leaves (fault_of step) (unreported_with o (unreported_in r)) (unreported_in s)) (sym is)
     (subst (λ (x : Reader). Leaves (fault_of step) (unreported_with (Some step) (unreported_in r)) (unreported_in x)) (sym same)
-    (held_leaves step (unreported_in r) (subst (λ (o : Option (Step Token)). IsReportedBut o (unreported_in r)) is reported)))
-step_leaves m n r s step (moved move step1 m1 n1 r1 s1 free moves is none) reported =
-    subst (λ (o : Option (Step Token)). Leaves (fault_of step) (unreported_with o (unreported_in r)) (unreported_in s)) (sym free)
-    (subst (λ (x : Step Token). Leaves (fault_of x) (unreported_in r).later (unreported_in s)) (sym is)
+    (held_leaves step (unreported_in r) (subst (λ (o : Option (Step Read)). IsReportedBut o (unreported_in r)) is reported)))
+fetch_leaves m n r s step (moved move step1 m1 n1 r1 s1 free moves is none) reported =
+    subst (λ (o : Option (Step Read)). Leaves (fault_of step) (unreported_with o (unreported_in r)) (unreported_in s)) (sym free)
+    (subst (λ (x : Step Read). Leaves (fault_of x) (unreported_in r).later (unreported_in s)) (sym is)
     (taken_leaves move n.frames s (unreported_in r) (unreported_in s) (moves_tell m.frames n.frames r s move moves)
-    (subst (λ (o : Option (Step Token)). IsReportedBut o (unreported_in r)) free reported)))
+    (subst (λ (o : Option (Step Read)). IsReportedBut o (unreported_in r)) free reported)))
+
+painted_fault : (names : List Name) (first : Step Read) → fault_of (painted_step names first) ≡ fault_of first
+painted_fault names (Ok read) = refl
+painted_fault names (Err exit) = refl
+
+step_leaves : (m n : Machine) (r s : Reader) (step : Step Read) → StepsTaking m r step n s → IsReportedFirst m r
+    → Leaves (fault_of step) (UnreportedFirst m r) (unreported_in s)
+step_leaves m n r s step steps reported =
+    rw (steps.paints, painted_fault (masks n.frames s) steps.first) (fetch_leaves m n r s steps.first steps.fetches reported)
 
 -- where nothing is held, and no error was read
 pub record IsClear (errors : List ErrorAt) (n : Machine) (s : Reader) : Type 0 where
@@ -119,17 +132,17 @@ pub record IsClear (errors : List ErrorAt) (n : Machine) (s : Reader) : Type 0 w
   pub leaves : Leaves None errors (unreported_in s)
 
 clear_reported : (errors : List ErrorAt) (n : Machine) (s : Reader) → IsClear errors n s → IsReportedFirst n s
-clear_reported errors n s c = subst (λ (o : Option (Step Token)). IsReportedBut o (unreported_in s)) (sym c.free) c.leaves.1
+clear_reported errors n s c = subst (λ (o : Option (Step Read)). IsReportedBut o (unreported_in s)) (sym c.free) c.leaves.1
 
 clear_same : (errors : List ErrorAt) (n : Machine) (s : Reader) → IsClear errors n s → UnreportedFirst n s ≡ errors
-clear_same errors n s c = ap (λ (o : Option (Step Token)). unreported_with o (unreported_in s)) c.free ∙ c.leaves.0
+clear_same errors n s c = ap (λ (o : Option (Step Read)). unreported_with o (unreported_in s)) c.free ∙ c.leaves.0
 
 -- what is left after something that left the same
 goes_on : (o : Option Fault) (errors : List ErrorAt) (n : Machine) (s t : Reader) → IsClear errors n s
     → Leaves o (UnreportedFirst n s) (unreported_in t) → Leaves o errors (unreported_in t)
 goes_on o errors n s t c h = subst (λ (es : List ErrorAt). Leaves o es (unreported_in t)) (clear_same errors n s c) h
 
-next_leaves : (m n : Machine) (r s : Reader) (step : Step Token) → TakesNext m r step n s → IsReportedFirst m r
+next_leaves : (m n : Machine) (r s : Reader) (step : Step Read) → TakesNext m r step n s → IsReportedFirst m r
     → Leaves (fault_of step) (UnreportedFirst m r) (unreported_in s)
 next_leaves m n r s step (now step1 m1 n1 r1 s1 steps goes) reported = step_leaves m n r s step steps reported
 next_leaves m n r s step (later step1 m1 between n1 r1 s1 t1 steps next) reported =
@@ -139,27 +152,27 @@ next_leaves m n r s step (later step1 m1 between n1 r1 s1 t1 steps next) reporte
     } in
     goes_on (fault_of step) (UnreportedFirst m r) between s1 s c (next_leaves between n s1 s step next (clear_reported (UnreportedFirst m r) between s1 c))
 
-before_leaves : (token : Token) (rest : Result Gathered Fault) (errors : List ErrorAt) (u : Unreported) → Leaves (fault_in rest) errors u
-    → Leaves (fault_in (before token rest)) errors u
-before_leaves token (Ok rest) errors u h = h
-before_leaves token (Err fault) errors u h = h
+before_leaves : (read : Read) (rest : Result Gathered Fault) (errors : List ErrorAt) (u : Unreported) → Leaves (fault_in rest) errors u
+    → Leaves (fault_in (before read rest)) errors u
+before_leaves read (Ok rest) errors u h = h
+before_leaves read (Err fault) errors u h = h
 
 gather_leaves : (k : ℕ) (last : Location) (m n : Machine) (r s : Reader) (g : Result Gathered Fault) → GathersNext k last m r g n s
     → IsReportedFirst m r → Leaves (fault_in g) (UnreportedFirst m r) (unreported_in s)
-gather_leaves k last m n r s g (closed k1 last1 token m1 n1 r1 s1 g1 next out is) reported =
-    subst (λ (x : Result Gathered Fault). Leaves (fault_in x) (UnreportedFirst m r) (unreported_in s)) (sym is) (next_leaves m n r s (Ok token) next reported)
-gather_leaves k last m n r s g (inside k1 l last1 token m1 between n1 r1 s1 t1 rest g1 next in_call more is) reported =
+gather_leaves k last m n r s g (closed k1 last1 read m1 n1 r1 s1 g1 next out is) reported =
+    subst (λ (x : Result Gathered Fault). Leaves (fault_in x) (UnreportedFirst m r) (unreported_in s)) (sym is) (next_leaves m n r s (Ok read) next reported)
+gather_leaves k last m n r s g (inside k1 l last1 read m1 between n1 r1 s1 t1 rest g1 next in_call more is) reported =
     let c : IsClear (UnreportedFirst m r) between s1 = record {
-      free = next_free m between r s1 (Ok token) next;
-      leaves = next_leaves m between r s1 (Ok token) next reported;
+      free = next_free m between r s1 (Ok read) next;
+      leaves = next_leaves m between r s1 (Ok read) next reported;
     } in
     let h = goes_on (fault_in rest) (UnreportedFirst m r) between s1 s c
-    (gather_leaves l token.location between n s1 s rest more (clear_reported (UnreportedFirst m r) between s1 c)) in
+    (gather_leaves l read.token.location between n s1 s rest more (clear_reported (UnreportedFirst m r) between s1 c)) in
     subst (λ (x : Result Gathered Fault). Leaves (fault_in x) (UnreportedFirst m r) (unreported_in s)) (sym is)
-    (before_leaves token rest (UnreportedFirst m r) (unreported_in s) h)
-gather_leaves k last m n r s g (overfull k1 last1 token m1 n1 r1 s1 g1 next out is) reported =
+    (before_leaves read rest (UnreportedFirst m r) (unreported_in s) h)
+gather_leaves k last m n r s g (overfull k1 last1 read m1 n1 r1 s1 g1 next out is) reported =
     subst (λ (x : Result Gathered Fault). Leaves (fault_in x) (UnreportedFirst m r) (unreported_in s)) (sym is)
-    (own_fault _ (UnreportedFirst m r) (unreported_in s) (next_leaves m n r s (Ok token) next reported))
+    (own_fault _ (UnreportedFirst m r) (unreported_in s) (next_leaves m n r s (Ok read) next reported))
 gather_leaves k last m n r s g (ended k1 last1 m1 n1 r1 s1 g1 next is) reported =
     subst (λ (x : Result Gathered Fault). Leaves (fault_in x) (UnreportedFirst m r) (unreported_in s)) (sym is)
     (own_fault _ (UnreportedFirst m r) (unreported_in s) (next_leaves m n r s (Err Finished) next reported))
@@ -169,35 +182,35 @@ gather_leaves k last m n r s g (failed k1 last1 fault m1 n1 r1 s1 g1 next kept i
 
 -- what a turn leaves: the same, though an error may be held now, or what a fault leaves
 abbrev TakenLeaves : Step Taken → List ErrorAt → Machine → Reader → Type 0
-TakenLeaves (Ok (taken.Token token)) errors n s = IsReportedFirst n s × (UnreportedFirst n s ≡ errors)
+TakenLeaves (Ok (taken.Token read)) errors n s = IsReportedFirst n s × (UnreportedFirst n s ≡ errors)
 TakenLeaves (Ok (taken.Call call)) errors n s = IsClear errors n s
 TakenLeaves (Err exit) errors n s = (n.held ≡ None) × Leaves (fault_of_exit exit) errors (unreported_in s)
 
-holds_next : (next : Step Token) (errors : List ErrorAt) (u : Unreported) → is_refusal next ≡ false → Leaves (fault_of next) errors u
+holds_next : (next : Step Read) (errors : List ErrorAt) (u : Unreported) → is_refusal next ≡ false → Leaves (fault_of next) errors u
     → IsReportedBut (Some next) u × (unreported_with (Some next) u ≡ errors)
-holds_next (Ok token) errors u reported h = (h.1, h.0)
+holds_next (Ok read) errors u reported h = (h.1, h.0)
 holds_next (Err Continue) errors u reported h = (h.1, h.0)
 holds_next (Err Finished) errors u reported h = (h.1, h.0)
 holds_next (Err (Error fault)) errors u reported h = (tt, sym (h reported))
 
-find_leaves : (token : Token) (name : Name) (definition : Definition) (c : Sought) (step : Step Taken) (errors : List ErrorAt)
-    (m p q : Machine) (r t : Reader) → Seeks m r c p t → Finds token name definition c step p q → IsClear errors m r → TakenLeaves step errors q t
-find_leaves token name definition c step errors m p q r t (alone next m1 n1 r1 s1 c1 takes apart reported is) finds clear =
+find_leaves : (read : Read) (name : Name) (definition : Definition) (c : Sought) (step : Step Taken) (errors : List ErrorAt)
+    (m p q : Machine) (r t : Reader) → Seeks m r c p t → Finds read name definition c step p q → IsClear errors m r → TakenLeaves step errors q t
+find_leaves read name definition c step errors m p q r t (alone next m1 n1 r1 s1 c1 takes apart reported is) finds clear =
     let h : Leaves (fault_of next) errors (unreported_in t) =
     goes_on (fault_of next) errors m r t clear (next_leaves m p r t next takes (clear_reported errors m r clear)) in
-    let f : Finds token name definition (no_call next) step p q = subst (λ (x : Sought). Finds token name definition x step p q) is finds in
+    let f : Finds read name definition (no_call next) step p q = subst (λ (x : Sought). Finds read name definition x step p q) is finds in
     rw (f.0, f.1) (holds_next next errors (unreported_in t) reported h)
-find_leaves token name definition c step errors m p q r t (called next paren m1 between n1 r1 s1 t1 g c1 takes at gathers is) finds clear =
-    go g gathers (subst (λ (x : Sought). Finds token name definition x step p q) is finds)
+find_leaves read name definition c step errors m p q r t (called next paren m1 between n1 r1 s1 t1 g c1 takes at gathers is) finds clear =
+    go g gathers (subst (λ (x : Sought). Finds read name definition x step p q) is finds)
   where
-    clear_paren : (next : Step Token) → paren_of next ≡ Some paren → TakesNext m r next between s1 → IsClear errors between s1
+    clear_paren : (next : Step Read) → paren_of next ≡ Some paren → TakesNext m r next between s1 → IsClear errors between s1
     clear_paren (Ok other) e takes = record {
       free = next_free m between r s1 (Ok other) takes;
       leaves = goes_on None errors m r s1 clear (next_leaves m between r s1 (Ok other) takes (clear_reported errors m r clear));
     }
     clear_paren (Err exit) e takes = cc
 
-    go : (g : Result Gathered Fault) → GathersNext 0 paren between s1 g p t → Finds token name definition (sought_by paren g) step p q
+    go : (g : Result Gathered Fault) → GathersNext 0 paren between s1 g p t → Finds read name definition (sought_by paren g) step p q
         → TakenLeaves step errors q t
     go (Ok found) gathers f =
         let c = clear_paren next at takes in
@@ -211,14 +224,14 @@ find_leaves token name definition c step errors m p q r t (called next paren m1 
 turn_leaves : (m n : Machine) (r s : Reader) (step : Step Taken) → TurnsTo m r step n s → IsReportedFirst m r → TakenLeaves step (UnreportedFirst m r) n s
 turn_leaves m n r s step (passes exit step1 m1 n1 r1 s1 takes is) reported =
     rw is (step_free m n r s (Err exit) takes, step_leaves m n r s (Err exit) takes reported)
-turn_leaves m n r s step (gives token step1 m1 n1 r1 s1 takes apart is) reported =
-    let c : IsClear (UnreportedFirst m r) n s = record { free = step_free m n r s (Ok token) takes; leaves = step_leaves m n r s (Ok token) takes reported } in
+turn_leaves m n r s step (gives read step1 m1 n1 r1 s1 takes apart is) reported =
+    let c : IsClear (UnreportedFirst m r) n s = record { free = step_free m n r s (Ok read) takes; leaves = step_leaves m n r s (Ok read) takes reported } in
     rw is (clear_reported (UnreportedFirst m r) n s c, clear_same (UnreportedFirst m r) n s c)
-turn_leaves m p r s step (object token name definition step1 m1 n p1 r1 s1 takes opens plain is at) reported =
-    rw (is, at) (step_free m n r s (Ok token) takes, step_leaves m n r s (Ok token) takes reported)
-turn_leaves m q r t step (seeks token name definition c step1 m1 n p q1 r1 s t1 takes opens by_call sought finds) reported =
-    find_leaves token name definition c step (UnreportedFirst m r) n p q s t sought finds
-    (record { free = step_free m n r s (Ok token) takes; leaves = step_leaves m n r s (Ok token) takes reported })
+turn_leaves m p r s step (object read name definition step1 m1 n p1 r1 s1 takes opens plain is at) reported =
+    rw (is, at) (step_free m n r s (Ok read) takes, step_leaves m n r s (Ok read) takes reported)
+turn_leaves m q r t step (seeks read name definition c step1 m1 n p q1 r1 s t1 takes opens by_call sought finds) reported =
+    find_leaves read name definition c step (UnreportedFirst m r) n p q s t sought finds
+    (record { free = step_free m n r s (Ok read) takes; leaves = step_leaves m n r s (Ok read) takes reported })
 
 -- the errors that are unreported of a source
 abbrev pub errors_of : Machine → Source → List ErrorAt
@@ -236,7 +249,7 @@ clear_left (Err Finished) errors n new c = (clear_reported errors n (of_source n
 clear_left (Err (Error fault)) errors n new c = (c.free, rw c.leaves.1 (sym c.leaves.0))
 
 exit_left : (exit : StepExit) (errors : List ErrorAt) (n : Machine) (new : Source) → (n.held ≡ None)
-    × Leaves (fault_of_exit exit) errors (unreported_of new) → wants_memory (Err exit) ≡ false → ErrorsLeft (Err exit) errors n new
+    × Leaves (fault_of_exit exit) errors (unreported_of new) → wants_memory {T = Token} (Err exit) ≡ false → ErrorsLeft (Err exit) errors n new
 exit_left Continue errors n new h reported = clear_left (Err Continue) errors n new (record { free = h.0; leaves = h.1 })
 exit_left Finished errors n new h reported = clear_left (Err Finished) errors n new (record { free = h.0; leaves = h.1 })
 exit_left (Error fault) errors n new h reported = (h.0, h.1 reported)
@@ -250,7 +263,7 @@ call_left levels definitions c errors k n new step (call_refused fault is answer
 
 follows_left : (levels : ℕ) (definitions : List Defined) (t : Step Taken) (errors : List ErrorAt) (k n : Machine) (new : Source) (step : Step Token)
     → FollowsTurn levels definitions t k step n → TakenLeaves t errors k (of_source new) → wants_memory step ≡ false → ErrorsLeft step errors n new
-follows_left levels definitions (Ok (taken.Token token)) errors k n new step f h reported = rw (f.0, f.1) h
+follows_left levels definitions (Ok (taken.Token read)) errors k n new step f h reported = rw (f.0, f.1) h
 follows_left levels definitions (Ok (taken.Call call)) errors k n new step f h reported = call_left levels definitions call errors k n new step f h
 follows_left levels definitions (Err exit) errors k n new step f h reported = rw (f.0, f.1) (exit_left exit errors k new h (rw f.0 at reported))
 

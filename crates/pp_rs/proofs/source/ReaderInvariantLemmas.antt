@@ -7,7 +7,7 @@ use Rattle.pp_lexer.specs.declared.token.Token.{Token}
 use Rattle.pp_model.specs.Names.{Name}
 use Rattle.pp_model.specs.Definitions.{Definition}
 use Rattle.pp_model.specs.Reading.{Expander}
-use Rattle.pp_model.specs.Taking.{Takes, held, listed, read}
+use Rattle.pp_model.specs.Taking.{Fetches, held, listed, read, Takes}
 use Rattle.pp_model.specs.Calls.{Fault, Gathered, Gathers, closed, inside, overfull, ended, failed, Answers, Called, Calls, alone, broken, whole}
 use Rattle.pp_model.specs.Emitting.{opened, Emits, itself, object, name_alone, call_refused, call}
 use Rattle.pp_model.specs.SourceReader.{SourceReader, start_of}
@@ -16,6 +16,7 @@ use Rattle.pp_model.specs.Run.{start, with_added}
 use Rattle.pp_model.specs.inner.Run.{adding as with_definition}
 use Rattle.pp_model.specs.RunStates.{LeadsTo, nowhere, adding, giving, IsReached}
 use Rattle.pp_model.specs.declared.outcome.Outcome.{Outcome}
+use Rattle.pp_model.specs.declared.read.Taken.{Taken}
 
 -- each step keeps it, and so does a definition that is added
 pub record IsKept (A : Answers) (P : SourceReader → Type 0) : Type 0 where
@@ -23,19 +24,22 @@ pub record IsKept (A : Answers) (P : SourceReader → Type 0) : Type 0 where
   pub by_definition : (name : Name) (tokens : List Token) (r : SourceReader) → P r → P (with_definition name tokens r)
 
 module _ (A : Answers) (P : SourceReader → Type 0) (kept : IsKept A P) where
-  reading_keeps : (o : Outcome) (r t : SourceReader) → Reads A r o t → P r → P t
-  reading_keeps o r t (here o1 r1 t1 s) h = kept.by_step (Some o) r t s h
-  reading_keeps o r t (later o1 r1 s t1 first more) h = reading_keeps o s t more (kept.by_step None r s first h)
+  reading_keeps : (x : Taken) (r t : SourceReader) → Reads A r x t → P r → P t
+  reading_keeps x r t (here o x1 r1 t1 s is) h = kept.by_step (Some o) r t s h
+  reading_keeps x r t (later x1 r1 s t1 first more) h = reading_keeps x s t more (kept.by_step None r s first h)
 
-  taking_keeps : (o : Outcome) (e f : Expander SourceReader) → Takes (source_reading A) e o f → P e.reader → P f.reader
-  taking_keeps o e f (held o1 e1 f1 is p) h = subst P (sym (ap (λ g. g.reader) p)) h
-  taking_keeps o e f (listed o1 token rest e1 f1 none b is p) h = subst P (sym (ap (λ g. g.reader) p)) h
-  taking_keeps o e f (read x o1 reader e1 f1 none b r is p) h = subst P (sym (ap (λ g. g.reader) p)) (reading_keeps x e.reader reader r h)
+  fetching_keeps : (o : Taken) (e f : Expander SourceReader) → Fetches (source_reading A) e o f → P e.reader → P f.reader
+  fetching_keeps o e f (held o1 e1 f1 is p) h = subst P (sym (ap (λ g. g.reader) p)) h
+  fetching_keeps o e f (listed o1 token rest e1 f1 none b is p) h = subst P (sym (ap (λ g. g.reader) p)) h
+  fetching_keeps o e f (read x o1 reader e1 f1 none b r is p) h = subst P (sym (ap (λ g. g.reader) p)) (reading_keeps x e.reader reader r h)
+
+  taking_keeps : (o : Taken) (e f : Expander SourceReader) → Takes (source_reading A) e o f → P e.reader → P f.reader
+  taking_keeps o e f takes h = fetching_keeps takes.first e f takes.fetches h
 
   gathering_keeps : (n : ℕ) (last : Location) (x : Result Gathered Fault) (e f : Expander SourceReader) → Gathers (source_reading A) n last e x f
       → P e.reader → P f.reader
   gathering_keeps n last x e f (closed n1 l1 token e1 f1 x1 t is p) h = taking_keeps _ e f t h
-  gathering_keeps n last x e f (inside n1 k l1 token e1 g f1 rest x1 t is u p) h = gathering_keeps k token.location rest g f u (taking_keeps _ e g t h)
+  gathering_keeps n last x e f (inside n1 k l1 token e1 g f1 rest x1 t is u p) h = gathering_keeps k token.token.location rest g f u (taking_keeps _ e g t h)
   gathering_keeps n last x e f (overfull n1 l1 token e1 f1 x1 t is p) h = taking_keeps _ e f t h
   gathering_keeps n last x e f (ended n1 l1 e1 f1 x1 t p) h = taking_keeps _ e f t h
   gathering_keeps n last x e f (failed n1 l1 fault e1 f1 x1 t p) h = taking_keeps _ e f t h
@@ -45,7 +49,7 @@ module _ (A : Answers) (P : SourceReader → Type 0) (kept : IsKept A P) where
   call_keeps m c e f (broken x paren fault e1 g f1 c1 t is u p) h = gathering_keeps 0 paren (Err fault) g f u (taking_keeps x e g t h)
   call_keeps m c e f (whole x paren gathered answer e1 g f1 c1 t is u a p) h = gathering_keeps 0 paren (Ok gathered) g f u (taking_keeps x e g t h)
 
-  item_keeps : (o : Outcome) (e f : Expander SourceReader) → Emits (source_reading A) A e o f → P e.reader → P f.reader
+  item_keeps : (o : Taken) (e f : Expander SourceReader) → Emits (source_reading A) A e o f → P e.reader → P f.reader
   item_keeps o e f (itself o1 e1 f1 t none) h = taking_keeps o e f t h
   item_keeps o e f (object x o1 m e1 g f1 t some k i) h = item_keeps o (opened m m.token.location.line [] g) f i (taking_keeps x e g t h)
   item_keeps o e f (name_alone x y o1 m e1 g g1 f1 t some k c p q) h =

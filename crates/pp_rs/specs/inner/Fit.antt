@@ -1,6 +1,6 @@
 -- What holds of an expander over a source between any two calls, unless memory was refused.
 use Rattle.std.specs.Prelude.{◌≡◌, false, List, [], Option, Some, Err, ⊤}
-use Rattle.pp_lexer.specs.declared.token.Token.{Token}
+use Rattle.pp_model.specs.declared.read.Read.{Read}
 use Rattle.pp_expansion.specs.inner.Frames.{Layer}
 use Rattle.pp_expansion.specs.Item.{Step}
 use Rattle.pp_expansion.specs.inner.Left.{IsSound}
@@ -21,7 +21,7 @@ IsReady (of_source source) = source.spent ≡ false
 IsReady (of_list list) = ⊤
 
 -- where the end is held, nothing is left
-abbrev pub EndIsLast : Option (Step Token) → List Layer → Reader → Type 0
+abbrev pub EndIsLast : Option (Step Read) → List Layer → Reader → Type 0
 EndIsLast (Some (Err Finished)) frames r = (frames ≡ []) × NothingIn r
 EndIsLast _ frames r = ⊤
 

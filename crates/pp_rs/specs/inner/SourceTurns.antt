@@ -24,9 +24,9 @@ pub data FollowsCall (levels : ℕ) (definitions : List Defined) (call : Pending
       → answers_at levels call.definition (site_at call definitions (names_of old.frames ++ [])) (Err fault) → new ≡ old
       → FollowsCall levels definitions call old step new
 
--- what follows of a turn
+-- what follows of a turn: a token is given without its paint
 abbrev pub FollowsTurn : ℕ → List Defined → Step Taken → Machine → Step Token → Machine → Type 0
-FollowsTurn levels definitions (Ok (taken.Token token)) old step new = (step ≡ Ok token) × (new ≡ old)
+FollowsTurn levels definitions (Ok (taken.Token read)) old step new = (step ≡ Ok read.token) × (new ≡ old)
 FollowsTurn levels definitions (Ok (taken.Call call)) old step new = FollowsCall levels definitions call old step new
 FollowsTurn levels definitions (Err exit) old step new = (step ≡ Err exit) × (new ≡ old)
 

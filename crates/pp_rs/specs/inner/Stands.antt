@@ -1,7 +1,7 @@
 -- The state of a run that a preprocessor stands for. It keeps less: neither what was read, nor the list into which its frames are spliced.
 use Rattle.std.specs.Prelude.{◌≡◌, ◌≢◌, ◌≤◌, true, false, ◌||◌, List, [], ◌++◌, length, take, drop, Option, Some, Err, option_map, ⊤}
 use Rattle.pp_lexer.specs.Lexed.{Seen}
-use Rattle.pp_lexer.specs.declared.token.Token.{Token}
+use Rattle.pp_model.specs.declared.read.Read.{Read}
 use Rattle.pp_model.specs.Reading.{Expander}
 use Rattle.pp_model.specs.Blocks.{block_lines, blocks_at}
 use Rattle.pp_model.specs.SourceReader.{SourceReader, has_directive, is_on_directive_line, has_live_text_before}
@@ -37,7 +37,7 @@ pub record StandsForReader (source : Source) (reader : SourceReader) : Type 0 wh
   pub off_line : is_live_in (last_block source.blocks) ≡ true → source.rest ≢ [] → is_on_directive_line reader.items reader.position ≡ false
 
 -- what is held comes next; after a fault that is held nothing is said of the reader, and a pause is never held
-abbrev pub StandsForHeld : Option (Step Token) → Source → SourceReader → Type 0
+abbrev pub StandsForHeld : Option (Step Read) → Source → SourceReader → Type 0
 StandsForHeld (Some (Err (Error fault))) source reader = ⊤
 StandsForHeld (Some (Err Continue)) source reader = ⊥
 StandsForHeld _ source reader = StandsForReader source reader

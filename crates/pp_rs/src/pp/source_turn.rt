@@ -4,7 +4,8 @@ ghost use Rattle.std.specs.Prelude.{◌≡◌, ◌⊎◌, [], Err, IfOk, MatchRe
 ghost use Rattle.pp_lexer.specs.PreprocessorError.{out_of_memory};
 ghost use Rattle.pp_lexer.specs.declared.token.PreprocessorError.TheVariants.{LineOverflow};
 ghost use Rattle.pp_model.specs.Emitting.{expansion_limit};
-ghost use Rattle.pp_model.specs.declared.outcome.Outcome.TheVariants as outcome;
+ghost use Rattle.pp_model.specs.Painting.{unpainted};
+ghost use Rattle.pp_model.specs.declared.read.Taken.TheVariants as given;
 ghost use Rattle.pp_expansion.specs.Held.{HoldsOrdinary};
 ghost use Rattle.pp_expansion.specs.inner.Idle.{gives_itself, HoldsWord};
 ghost use Rattle.pp_expansion.specs.inner.Reader.{of_source};
@@ -81,10 +82,11 @@ fn gives_itself(source: &DirectiveProcessor<'_>, value: &TokenValue) -> bool
 fn take_in(source: &DirectiveProcessor<'_>, token: Token) -> Step<Token>
     requires { HoldsOrdinary token.value }
     ensures taken { MatchResult result
-        (λ taken. taken_in [] (of_source source.now) token ≡ outcome.Token taken)
+        (λ taken. taken_in [] (of_source source.now) (unpainted token)
+        ≡ given.Token (unpainted taken))
         (λ exit. (exit ≡ Error (LineOverflow, token.location))
-        × (taken_in [] (of_source source.now) token
-        ≡ outcome.Fault (LineOverflow, token.location))) }
+        × (taken_in [] (of_source source.now) (unpainted token)
+        ≡ given.Fault (LineOverflow, token.location))) }
     ensures holds { IfOk result (λ token. HoldsOrdinary token.value) }
 {
     if !is_line_name(&token.value) {

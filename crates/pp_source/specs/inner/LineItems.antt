@@ -2,7 +2,7 @@
 -- Expressions 1 and 2).
 use Rattle.std.specs.Prelude.{◌≡◌, ℕ, ◌≤◌, ◌<◌, true, List, [], Bool, Option, Some, None, option_map, Result, Ok, Err, ⊤}
 use Rattle.pp_lexer.specs.declared.token.Location.{Location}
-use Rattle.pp_lexer.specs.declared.token.Token.{Token}
+use Rattle.pp_model.specs.declared.read.Read.{Read}
 use Rattle.pp_model.specs.Names.{Name}
 use Rattle.pp_model.specs.Reading.{Expander, Listed, line_reading}
 use Rattle.pp_model.specs.Taking.{Takes}
@@ -10,8 +10,8 @@ use Rattle.pp_model.specs.Calls.{Fault}
 use Rattle.pp_model.specs.Emitting.{Emits, answers_at}
 use Rattle.pp_model.specs.LineWords.{Operand}
 use Rattle.pp_model.specs.inner.WordsRead.{Closes, Parenthesized}
-use Rattle.pp_model.specs.declared.outcome.Outcome.{Outcome}
-use Rattle.pp_model.specs.declared.outcome.Outcome.TheVariants as outcome
+use Rattle.pp_model.specs.declared.read.Taken.{Taken}
+use Rattle.pp_model.specs.declared.read.Taken.TheVariants as given
 use Rattle.pp_model.specs.declared.word.LineKind.{LineKind}
 use Rattle.pp_expansion.specs.inner.Defined.{Defined, meaning_of}
 use Rattle.pp_expansion.specs.inner.Frames.{flat}
@@ -34,9 +34,9 @@ expander_of m l = record {
 }
 
 -- what is held is a token or the end
-abbrev pub IsHeld : Option (Step Token) → Type 0
+abbrev pub IsHeld : Option (Step Read) → Type 0
 IsHeld None = ⊤
-IsHeld (Some (Ok token)) = ⊤
+IsHeld (Some (Ok read)) = ⊤
 IsHeld (Some (Err Finished)) = ⊤
 IsHeld (Some (Err Continue)) = ⊥
 IsHeld (Some (Err (Error fault))) = ⊥
@@ -67,21 +67,23 @@ Reads levels definitions m l P (Err (halt.Fault fault)) n k = (f : Expander List
 Reads levels definitions m l P (Err halt.OutOfMemory) n k = ⊤
 
 -- a token, or nothing at the end
-abbrev pub outcome_of : Option Token → Outcome
-outcome_of (Some token) = outcome.Token token
-outcome_of None = outcome.End
+abbrev pub outcome_of : Option Read → Taken
+outcome_of (Some read) = given.Token read
+outcome_of None = given.End
 
-abbrev pub outcome_of_item : Result (Option Token) Fault → Outcome
+abbrev pub outcome_of_item : Result (Option Read) Fault → Taken
 outcome_of_item (Ok found) = outcome_of found
-outcome_of_item (Err fault) = outcome.Fault fault
+outcome_of_item (Err fault) = given.Fault fault
 
 -- the next item
-abbrev pub ReadsItem : ℕ → List Defined → Machine → Listing → Result (Option Token) Halt → Machine → Listing → Type 0
-ReadsItem levels definitions m l = Reads levels definitions m l (λ item f. Emits line_reading (answers_at levels) (expander_of m l) (outcome_of_item item) f)
+abbrev pub ReadsItem : ℕ → List Defined → Machine → Listing → Result (Option Read) Halt → Machine → Listing → Type 0
+ReadsItem levels definitions m l = Reads levels definitions m l (λ item f.
+    Emits line_reading (answers_at levels) (expander_of m l) (outcome_of_item item) f)
 
 -- what is taken next
-abbrev pub ReadsTaken : ℕ → List Defined → Machine → Listing → Result (Option Token) Halt → Machine → Listing → Type 0
-ReadsTaken levels definitions m l = Reads levels definitions m l (λ item f. Takes line_reading (expander_of m l) (outcome_of_item item) f)
+abbrev pub ReadsTaken : ℕ → List Defined → Machine → Listing → Result (Option Read) Halt → Machine → Listing → Type 0
+ReadsTaken levels definitions m l =
+    Reads levels definitions m l (λ item f. Takes line_reading (expander_of m l) (outcome_of_item item) f)
 
 -- what the operand of a `defined` comes to; the same after its `(`, and after that and the name
 abbrev pub ReadsOperand : LineKind → Location → ℕ → List Defined → Machine → Listing → Result Bool Halt → Machine → Listing → Type 0

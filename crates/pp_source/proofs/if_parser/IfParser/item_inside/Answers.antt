@@ -9,11 +9,11 @@ pub items-init : goal.items-init
 items-init c = items_start _ _ _ _ c.requires.stands
 
 pub returns-in-Ok-Token-clause-reads : goal.returns-in-Ok-Token-clause-reads
-returns-in-Ok-Token-clause-reads c = items_token _ _ _ _ _ _ c.items.invariant _ _ c.in-Ok-Token.token
+returns-in-Ok-Token-clause-reads c = items_token _ _ _ _ _ _ c.items.invariant _ _ c.in-Ok-Token.read
     (rw c.in-Ok-Token.field-0-is at c.in-Ok-Token.ensures.turns)
 
 pub returns-in-Ok-Token-clause-less : goal.returns-in-Ok-Token-clause-less
-returns-in-Ok-Token-clause-less c = items_token_less _ _ _ _ _ _ c.items.invariant _ _ c.in-Ok-Token.token
+returns-in-Ok-Token-clause-less c = items_token_less _ _ _ _ _ _ c.items.invariant _ _ c.in-Ok-Token.read
     (rw c.in-Ok-Token.field-0-is at c.in-Ok-Token.ensures.turns)
 
 pub items-smaller-in-Continue-1 : goal.items-smaller-in-Continue-1

@@ -7,7 +7,7 @@ use Rattle.pp_expansion.proofs.taking.MachineLemmas.{next_no_pause}
 use Rattle.pp_source.proofs.if_parser.IfParser.take.Goals as goal
 
 pub returns-in-Ok : goal.returns-in-Ok
-returns-in-Ok c = next_read _ _ _ _ _ _ c.requires (Ok c.in-Ok.token) c.in-Ok.ensures.takes refl
+returns-in-Ok c = next_read _ _ _ _ _ _ c.requires (Ok c.in-Ok.read) c.in-Ok.ensures.takes refl
 
 pub returns-in-Err-Finished : goal.returns-in-Err-Finished
 returns-in-Err-Finished c = next_read _ _ _ _ _ _ c.requires (Err Finished) (rw c.in-Err-Finished.field-0-is at c.in-Err-Finished.ensures.takes) refl

@@ -1,0 +1,32 @@
+-- A source gives its tokens unpainted: what holds of its steps holds of what is taken of them.
+use Rattle.std.proofs.Common.{◌≡◌, false, refl}
+use Rattle.std.specs.Prelude.{Ok, Err}
+use Rattle.pp_lexer.specs.declared.token.Token.{Token}
+use Rattle.pp_expansion.specs.Item.{Step, wants_memory}
+use Rattle.pp_expansion.specs.inner.Reader.{of_source, Reads}
+use Rattle.pp_expansion.specs.inner.Reading.{unpainted_step}
+use Rattle.pp_expansion.specs.inner.Source.{Source, StepsSource, unreported_of}
+use Rattle.pp_expansion.specs.inner.Unreported.{Unreported, StepReports}
+use Rattle.pp_expansion.specs.declared.step.StepExit.TheVariants.{Error, Continue, Finished}
+
+pub unpainted_reported : (given : Step Token) → wants_memory (unpainted_step given) ≡ false → wants_memory given ≡ false
+unpainted_reported (Ok token) h = refl
+unpainted_reported (Err exit) h = h
+
+pub unpainted_end : (given : Step Token) → unpainted_step given ≡ Err Finished → given ≡ Err Finished
+unpainted_end (Ok token) e = cc
+unpainted_end (Err Continue) e = cc
+unpainted_end (Err Finished) e = refl
+unpainted_end (Err (Error fault)) e = cc
+
+pub unpainted_tells : (given : Step Token) (old new : Unreported) → StepReports given old new → StepReports (unpainted_step given) old new
+unpainted_tells (Ok token) old new h = h
+unpainted_tells (Err exit) old new h = h
+
+-- a step of a source, and the errors of the lexer that it reports
+abbrev pub StepsReporting : Source → Step Token → Source → Type 0
+StepsReporting old step new = StepsSource old step new × StepReports step (unreported_of old) (unreported_of new)
+
+-- it is what the source gives as a reader
+pub reads_step : (old new : Source) (step : Step Token) → StepsReporting old step new → Reads (of_source old) (unpainted_step step) (of_source new)
+reads_step old new step h = record { given = step; steps = h.0; reports = h.1; is = refl }
