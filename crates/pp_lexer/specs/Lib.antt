@@ -21,6 +21,8 @@ pub mod Identifiers
 pub mod Numbers
 pub mod Punctuators
 pub mod Spelling
+pub mod ItemText
+pub mod Sentences
 pub mod Outcome
 pub mod NumberValue
 pub mod Words

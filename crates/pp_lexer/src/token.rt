@@ -12,6 +12,8 @@ mod copies;
 mod equality;
 mod error;
 mod list;
+mod sentence;
+mod spelling;
 mod text;
 
 pub use error::out_of_memory;
