@@ -23,6 +23,7 @@ pub mod Punctuators
 pub mod Spelling
 pub mod ItemText
 pub mod Sentences
+pub mod PlacedErrors
 pub mod Outcome
 pub mod NumberValue
 pub mod Words
