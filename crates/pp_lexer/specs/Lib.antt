@@ -12,6 +12,8 @@ pub mod Cursor
 pub mod Lines
 pub mod Continuations
 pub mod Comments
+pub mod CommentPlaces
+pub mod Positions
 pub mod PhaseLaws
 pub mod Reading
 pub mod Spots
