@@ -47,10 +47,10 @@ leaf_spelled (Version _) = refl
 leaf_spelled (Extension _) = refl
 leaf_spelled (Pragma _) = refl
 
-abbrev entry_word : Entry → List ℕ
+abbrev pub entry_word : Entry → List ℕ
 entry_word e = 32 ∷ leaf_spelling e.leaf
 
-abbrev token_word : Token → List ℕ
+abbrev pub token_word : Token → List ℕ
 token_word t = 32 ∷ spelling t.value
 
 -- each token of a list after a space, as characters
@@ -64,7 +64,7 @@ abbrev pub token_bytes : Token → List ℕ
 token_bytes t = 32 ∷ encode_utf8_all (spelling t.value)
 
 -- a space and the text after it
-spaced : (text : List ℕ) → encode_utf8_all (32 ∷ text) ≡ 32 ∷ encode_utf8_all text
+pub spaced : (text : List ℕ) → encode_utf8_all (32 ∷ text) ≡ 32 ∷ encode_utf8_all text
 spaced text = ap (λ space. space ++ encode_utf8_all text) (encode_ascii 32 (lit< tt))
 
 bytes_of_words : (ts : List Token) → encode_utf8_all (flat_map token_word ts) ≡ flat_map token_bytes ts
