@@ -14,4 +14,5 @@ pub mod SpacesLemmas
 pub mod StraightLemmas
 pub mod NewlinesLemmas
 pub mod PlainPhasesLemmas
+pub mod PositionsLemmas
 pub mod CharactersLemmas

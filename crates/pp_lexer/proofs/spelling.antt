@@ -4,3 +4,4 @@ pub mod SpelledTextLemmas
 pub mod RespellingLemmas
 pub mod NumberSpelledLemmas
 pub mod SpelledValuesLemmas
+pub mod ItemTextLemmas

@@ -12,6 +12,8 @@ pub mod Cursor
 pub mod Lines
 pub mod Continuations
 pub mod Comments
+pub mod CommentPlaces
+pub mod Positions
 pub mod PhaseLaws
 pub mod Reading
 pub mod Spots
@@ -21,6 +23,9 @@ pub mod Identifiers
 pub mod Numbers
 pub mod Punctuators
 pub mod Spelling
+pub mod ItemText
+pub mod Sentences
+pub mod PlacedErrors
 pub mod Outcome
 pub mod NumberValue
 pub mod Words

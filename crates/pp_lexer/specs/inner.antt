@@ -10,3 +10,4 @@ pub mod Fronts
 pub mod Scan
 pub mod Passing
 pub mod PlainWords
+pub mod Positions

@@ -3,7 +3,7 @@
 //! [`CharsAndLine`], [`SkipBackslashNewline`] and [`ReplaceComments`] give the characters after phases 4 and 5, 6 and 7,
 //! each with its line. [`Lexer`] gives the tokens. The rules are those of docs/RULES.md, Characters and Tokens.
 
-ghost use Rattle.std.specs.Prelude.{◌≡◌, ◌-◌, ◌^◌, ◌<◌, ◌+◌, length, false, if◌then◌else◌, ⊤, OnOk, IfOk, MatchOption};
+ghost use Rattle.std.specs.Prelude.{◌≡◌, ◌-◌, ◌^◌, ◌<◌, ◌+◌, ◌↔◌, length, false, if◌then◌else◌, ⊤, OnOk, IfOk, IsSome, IfSome, MatchOption};
 ghost use Rattle.std.specs.Iterator.{at_most};
 ghost use Rattle.pp_lexer.specs.Reading.{first_char};
 ghost use Rattle.pp_lexer.specs.Spots.{spots_of};
@@ -18,12 +18,14 @@ use std::marker::Model;
 
 mod char_iterator;
 mod chars_and_line;
+mod comments;
 mod identifier;
 mod item;
 pub mod laws;
 mod look_ahead;
 mod number;
 mod plain;
+mod position;
 mod punctuation;
 mod replace_comments;
 mod skip_backslash_newline;
@@ -33,11 +35,16 @@ pub use char_iterator::NONE_CONSUMED_SENTINEL_VALUE;
 use char_iterator::{LexerCharIterator, Spot};
 pub use chars_and_line::CharsAndLine;
 use chars_and_line::Left;
+pub use comments::Comments;
 pub use item::{LexerItem, Token, TokenValue};
 use plain::{newline_length, plain_value, plain_word, spaces_length};
+pub use position::line_column;
 pub use replace_comments::{COMMENT_SENTINEL_VALUE, ReplaceComments};
 pub use skip_backslash_newline::SkipBackslashNewline;
 use word::parse_word;
+
+/// A source, and a content that is added, has fewer bytes than this.
+pub const SOURCE_LIMIT: usize = 4294967295;
 
 // What the flags of the next token will be, and whether a comment was passed.
 #[derive(Clone, Copy)]
@@ -370,6 +377,17 @@ impl<'a> Lexer<'a> {
             spent: false,
             place: NOWHERE,
         }
+    }
+
+    /// The same, or `None` for a source that is longer.
+    pub fn try_new(alloc: Global, input: &'a str) -> Option<Lexer<'a>>
+        ensures short { IsSome result ↔ (length input.now < 2 ^ 32 - 1) }
+        ensures value { IfSome result (λ lexer. lexer ≡ start_of (spots_of input.now)) }
+    {
+        if input.len() >= SOURCE_LIMIT {
+            return None;
+        }
+        Some(Lexer::new(alloc, input))
     }
 
     /// Whether a comment has been passed as a blank so far: before the item given last, or anywhere in the source once

@@ -12,10 +12,14 @@ mod copies;
 mod equality;
 mod error;
 mod list;
+mod placed_error;
+mod sentence;
+mod spelling;
 mod text;
 
 pub use error::out_of_memory;
 pub(crate) use error::refused;
+pub use placed_error::PlacedError;
 pub use text::Text;
 
 /// Where a token stands in its source.

@@ -5,7 +5,7 @@ use Rattle.std.specs.List.{flat_map}
 use Rattle.std.proofs.lemmas.List.Elements.{All-nil, All-cons, All-head, All-tail}
 use Rattle.pp_rs.specs.TokenValue.{is_ordinary}
 use Rattle.pp_rs.specs.declared.token.Token.{Token}
-use Rattle.pp_print.specs.Output.{AllOrdinary, begins_ordinary, put_before, lines_of}
+use Rattle.pp_rs.specs.Output.{AllOrdinary, begins_ordinary, put_before, lines_of}
 use Rattle.pp_print.specs.OutputLaws.{IsLine, AreApart, IsCut, LinesAreTheCut}
 
 abbrev IsOrdinaryToken : Token → Type 0

@@ -2,9 +2,6 @@ pub mod SeparatorLemmas
 pub mod TextLemmas
 pub mod ReadLemmas
 pub mod WriteLemmas
-pub mod OrdinaryLemmas
-pub mod OutputLemmas
-pub mod DirectiveLemmas
 pub mod GivesLemmas
 pub mod AddsLemmas
 pub mod NextLemmas

@@ -7,12 +7,12 @@ use Rattle.pp_rs.specs.Comes.{State, Comes, Gives}
 use Rattle.pp_rs.specs.Kept.{Preprocessing, Stands}
 use Rattle.pp_rs.specs.declared.token.Token.{Token}
 use Rattle.pp_rs.proofs.runs.ComesLemmas.{gives_nothing, gives_more}
-use Rattle.pp_print.specs.Output.{output_lines, written_lines, output}
-use Rattle.pp_print.specs.inner.Printing.{begun_line, line_after, ended_lines, lines_from}
+use Rattle.pp_rs.specs.Output.{output_lines, written_lines, output}
+use Rattle.pp_rs.specs.inner.OutputLines.{begun_line, line_after, ended_lines, lines_from}
 use Rattle.pp_print.specs.Runs.{IsPrinted, IsBegun}
 use Rattle.pp_print.specs.SourceRuns.{last_outcome, AreFirstFrom, EndsFrom}
 use Rattle.pp_print.specs.declared.ends.RunEnd.{RunEnd}
-use Rattle.pp_print.proofs.OutputLemmas.{output_lines-from}
+use Rattle.pp_rs.proofs.OutputLemmas.{output_lines-from}
 use Rattle.pp_print.proofs.WriteLemmas.{appends_nothing, appends_more}
 
 -- Some tokens came first and are printed, but for the line that has been begun. The items to come are those of the state after

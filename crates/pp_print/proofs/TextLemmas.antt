@@ -6,7 +6,7 @@ use Rattle.std.proofs.lemmas.Str.{encodes-append, encodes-chars}
 use Rattle.pp_rs.specs.declared.token.TokenValue.{TokenValue}
 use Rattle.pp_rs.specs.Spelling.{spelling}
 use Rattle.pp_rs.specs.TokenValue.{is_ordinary}
-use Rattle.pp_print.specs.inner.Printing.{line_after}
+use Rattle.pp_rs.specs.inner.OutputLines.{line_after}
 
 -- a text that is one list is another, where the two are equal
 pub IfOk-equal : {A E B : Type 0} (f : A → B) (r : Result A E) (a b : B) → a ≡ b → IfOk r (λ x. f x ≡ a) → IfOk r (λ x. f x ≡ b)

@@ -1,6 +1,5 @@
 pub mod Words
 pub mod Ends
-pub mod Output
 pub mod SourceRuns
 pub mod Runs
 pub mod OutputLaws

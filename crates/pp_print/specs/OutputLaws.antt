@@ -1,11 +1,12 @@
 -- What the lines of tokens are, without saying how they are found
-use Rattle.std.specs.Prelude.{◌≡◌, ◌&&◌, ◌↔◌, false, List, [], ◌∷◌, All, MatchBool, ⊤}
+use Rattle.std.specs.Prelude.{◌≡◌, ◌&&◌, ◌↔◌, false, ℕ, List, [], ◌∷◌, ◌++◌, All, MatchBool, ⊤}
 use Rattle.std.specs.List.{flat_map}
 use Rattle.pp_rs.specs.declared.token.Token.{Token}
+use Rattle.pp_rs.specs.ItemText.{with_tokens}
 use Rattle.pp_rs.specs.Preorder.{preorder}
 use Rattle.pp_rs.specs.Spelling.{spelled_text, values_of}
 use Rattle.pp_rs.specs.TokenValue.{is_ordinary}
-use Rattle.pp_print.specs.Output.{AllOrdinary, begins_ordinary, lines_of, spelled_entries}
+use Rattle.pp_rs.specs.Output.{AllOrdinary, begins_ordinary, lines_of}
 
 -- ordinary tokens, or one item that is no ordinary token
 abbrev pub IsLine : List Token → Type 0
@@ -28,6 +29,8 @@ pub record IsCut (tokens : List Token) (lines : List (List Token)) : Type 0 wher
 abbrev pub LinesAreTheCut : Type 0
 LinesAreTheCut = (tokens : List Token) (lines : List (List Token)) → IsCut tokens lines ↔ (lines ≡ lines_of tokens)
 
--- the tokens that a directive item holds are spelled as on a line of their own
+-- the tokens that a directive item holds are spelled, after its word and a space, as on a line of their own
 abbrev pub HeldTokensAreSpelledAlike : Type 0
-HeldTokensAreSpelledAlike = (tokens : List Token) → AllOrdinary tokens → spelled_entries (preorder tokens) ≡ spelled_text (values_of tokens)
+HeldTokensAreSpelledAlike =
+    (word : List ℕ) (token : Token) (tokens : List Token)
+    → with_tokens word (preorder (token ∷ tokens)) ≡ word ++ (32 ∷ spelled_text (values_of (token ∷ tokens)))

@@ -5,11 +5,9 @@ ghost use Rattle.pp_print.specs.inner.Defining.{AreAdded, IsAddingFault};
 ghost use Rattle.pp_print.specs.Runs.{IsRefused};
 
 use super::ends::RunFault;
+use pp_rs::SOURCE_LIMIT;
 use pp_rs::pp::Preprocessor;
 use pp_rs::token::PreprocessorError;
-
-// The length from which on a content is too long.
-const LIMIT: usize = 4294967295;
 
 /// Adds the definitions in order, each a name and its content. Gives up at the first whose content is too
 /// long, or is refused.
@@ -29,7 +27,7 @@ fn add_definition(items: &mut Preprocessor<'_>, definition: &(&str, &str)) -> Re
     ensures err { IfErr result (λ fault. IsAddingFault fault (IsRefused definition.now)) }
 {
     let (name, content) = *definition;
-    if content.len() >= LIMIT {
+    if content.len() >= SOURCE_LIMIT {
         return Err(RunFault::BadWord);
     }
     match items.add_define(name, content) {

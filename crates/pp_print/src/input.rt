@@ -7,10 +7,8 @@ ghost use Rattle.pp_print.specs.inner.Input.{IsReadFault, IsDeviceFault};
 
 use super::devices::Source;
 use super::ends::RunFault;
+use pp_rs::SOURCE_LIMIT;
 use std::alloc::Global;
-
-// The length from which on a source is too long.
-const LIMIT: usize = 4294967295;
 
 // How many bytes are asked for at a time, at most.
 const CHUNK: usize = 16384;
@@ -45,8 +43,8 @@ fn read_bytes<R: Source>(alloc: Global, reader: &mut R) -> Result<Vec<u8>, RunFa
 {
     let mut bytes = Vec::new(alloc);
     let mut chunk = [0u8; CHUNK];
-    while bytes.len() < LIMIT {
-        let room = CHUNK.min(LIMIT - bytes.len());
+    while bytes.len() < SOURCE_LIMIT {
+        let room = CHUNK.min(SOURCE_LIMIT - bytes.len());
         if read_some(reader, &mut chunk[..room], &mut bytes)? == 0 {
             return Ok(bytes);
         }

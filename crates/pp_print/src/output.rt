@@ -1,23 +1,21 @@
 //! Printing items as lines.
 
-ghost use Rattle.std.specs.Prelude.{◌≡◌, true, false, All, IsTrue, OnOk, IfOk, IfErr, IsErrOf, string_bytes};
+ghost use Rattle.std.specs.Prelude.{◌≡◌, true, false, IsTrue, OnOk, IfOk, IfErr, IsErrOf, string_bytes};
 ghost use Rattle.std.specs.Option.{option_map};
-ghost use Rattle.std.specs.Str.{chars, encode_utf8_all};
 ghost use Rattle.std.specs.Io.KnownBytes.{Appends};
 ghost use Rattle.pp_rs.specs.TokenValue.{is_ordinary};
 ghost use Rattle.pp_rs.specs.Kept.{is_spent};
-ghost use Rattle.pp_rs.specs.Held.{HoldsOrdinary, is_ordinary_leaf};
-ghost use Rattle.pp_rs.specs.Spelling.{spelled_text, values_of};
 ghost use Rattle.pp_print.specs.inner.Input.{IsDeviceFault};
-ghost use Rattle.pp_print.specs.Output.{AllOrdinary, with_tokens, directive_text, written_lines};
-ghost use Rattle.pp_print.specs.inner.Printing.{begun_line, line_after, ended_lines, ArePrinted, AreBegun};
+ghost use Rattle.pp_rs.specs.Output.{written_lines};
+ghost use Rattle.pp_rs.specs.inner.OutputLines.{begun_line, line_after, ended_lines};
+ghost use Rattle.pp_print.specs.inner.Printing.{ArePrinted, AreBegun};
 ghost use Rattle.pp_print.specs.Runs.{IsStoppedBySource};
 ghost use Rattle.pp_print.specs.declared.ends.RunEnd.TheVariants.{Stopped};
 
 use super::devices::Sink;
 use super::ends::{RunEnd, RunFault};
-use pp_rs::pp::{Preprocessor, push_value, spell_tokens};
-use pp_rs::token::{Location, PreprocessorError, Token, TokenValue, Tokens};
+use pp_rs::pp::{Preprocessor, push_value};
+use pp_rs::token::{Location, PreprocessorError, Token, TokenValue};
 use std::alloc::{AllocError, Global};
 
 /// Prints the items up to the first error item, which it gives with its place: each longest run of
@@ -115,7 +113,6 @@ fn print_token<W: Sink>(
     line: &mut Option<String>,
     writer: &mut W,
 ) -> Result<(), RunFault>
-    requires item { HoldsOrdinary token.value }
     requires ready { W.failed writer.old ≡ false }
     ensures line { OnOk result (option_map string_bytes line.new
         ≡ line_after (option_map string_bytes line.old) token.value) }
@@ -145,7 +142,6 @@ fn print_directive<W: Sink>(
     writer: &mut W,
 ) -> Result<(), RunFault>
     requires directive { is_ordinary value.now ≡ false }
-    requires item { HoldsOrdinary value.now }
     requires ready { W.failed writer.old ≡ false }
     ensures line { OnOk result (option_map string_bytes line.new
         ≡ line_after (option_map string_bytes line.old) value.now) }
@@ -156,9 +152,8 @@ fn print_directive<W: Sink>(
     ensures err { IfErr result (λ fault. IsDeviceFault RunFault.WriteFailed fault
         (W.failed writer.new)) }
 {
-    let directive = spell_directive(alloc, value)?;
     let mut lines = end_line(alloc, line.take())?;
-    lines.push_str(directive.as_str())?;
+    write!(lines, "{value}")?;
     lines.push('\n')?;
     write_all(lines.as_bytes(), writer)
 }
@@ -207,54 +202,6 @@ fn end_line(alloc: Global, line: Option<String>) -> Result<String, AllocError>
     };
     text.push('\n')?;
     Ok(text)
-}
-
-// A directive item as text.
-fn spell_directive(alloc: Global, value: &TokenValue) -> Result<String, RunFault>
-    requires directive { is_ordinary value.now ≡ false }
-    requires item { HoldsOrdinary value.now }
-    ensures ok { IfOk result (λ text. string_bytes text
-        ≡ encode_utf8_all (directive_text value.now)) }
-    ensures err { IfErr result (λ fault. fault ≡ RunFault.OutOfMemory) }
-{
-    match value {
-        TokenValue::Version(version) => with_tokens(alloc, "#version", &version.tokens),
-        TokenValue::Extension(extension) => with_tokens(alloc, "#extension", &extension.tokens),
-        TokenValue::Pragma(pragma) => with_tokens(alloc, "#pragma", &pragma.tokens),
-        _ => unreachable!(),
-    }
-}
-
-// The word, and after it a space and the spelled tokens if there are any.
-fn with_tokens(alloc: Global, word: &str, tokens: &Tokens) -> Result<String, RunFault>
-    requires { All (λ entry. IsTrue (is_ordinary_leaf entry.leaf)) tokens.now }
-    ensures ok { IfOk result (λ text. string_bytes text
-        ≡ encode_utf8_all (with_tokens (chars word.now) tokens.now)) }
-    ensures err { IfErr result (λ fault. fault ≡ RunFault.OutOfMemory) }
-{
-    let tokens = tokens.as_slice();
-    let mut text = String::new(alloc);
-    text.push_str(word)?;
-    if tokens.is_empty() {
-        return Ok(text);
-    }
-    let spelled = spell(alloc, tokens)?;
-    text.push(' ')?;
-    text.push_str(spelled.as_str())?;
-    Ok(text)
-}
-
-// The tokens as text, with one space between two.
-fn spell(alloc: Global, tokens: &[Token]) -> Result<String, RunFault>
-    requires { AllOrdinary tokens.now }
-    ensures ok { IfOk result (λ text. string_bytes text
-        ≡ encode_utf8_all (spelled_text (values_of tokens.now))) }
-    ensures err { IfErr result (λ fault. fault ≡ RunFault.OutOfMemory) }
-{
-    match spell_tokens(alloc, tokens) {
-        Ok(text) => Ok(text),
-        Err(_) => Err(RunFault::OutOfMemory),
-    }
 }
 
 // Writes all the bytes.

@@ -1,3 +1,5 @@
 pub mod blocks
 pub mod runs
 pub mod source
+pub mod OutputLemmas
+pub mod ItemsTextLemmas

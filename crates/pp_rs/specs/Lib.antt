@@ -5,6 +5,11 @@ pub use Rattle.pp_lexer.specs.TokenValue
 pub use Rattle.pp_lexer.specs.PreprocessorError
 pub use Rattle.pp_lexer.specs.Punctuators
 pub use Rattle.pp_lexer.specs.Spelling
+pub use Rattle.pp_lexer.specs.ItemText
+pub use Rattle.pp_lexer.specs.Sentences
+pub use Rattle.pp_lexer.specs.PlacedErrors
+pub use Rattle.pp_lexer.specs.CommentPlaces
+pub use Rattle.pp_lexer.specs.Positions
 pub use Rattle.pp_lexer.specs.Spots
 pub use Rattle.pp_lexer.specs.Lexed
 pub use Rattle.pp_lexer.specs.PhaseLaws
@@ -14,7 +19,9 @@ pub mod Kept
 pub mod Preprocessing
 pub mod LiveBranch
 pub mod Adding
+pub mod Trying
 pub mod Afresh
 pub mod Comes
 pub mod Collecting
+pub mod Output
 pub mod inner

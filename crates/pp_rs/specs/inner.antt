@@ -4,3 +4,5 @@ pub mod ItemValues
 pub mod Answering
 pub mod SourceTurns
 pub mod Fit
+pub mod OutputLines
+pub mod ItemsText

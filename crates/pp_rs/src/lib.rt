@@ -1,6 +1,7 @@
 //! A preprocessor for GLSL: source text becomes preprocessed tokens.
 #![tactic(auto)]
 
+pub use pp_lexer::lexer::SOURCE_LIMIT;
 pub use pp_lexer::{lexer, token};
 
 pub mod laws;

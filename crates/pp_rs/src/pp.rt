@@ -3,14 +3,17 @@
 mod afresh;
 mod all_items;
 mod call_list;
+mod items_text;
 mod preprocessor;
 mod preprocessor_step;
 mod source_turn;
 mod spelling;
+mod trying;
 
 pub use afresh::are_read_afresh;
 pub use all_items::{append_all, drain, preprocess_all};
 pub use call_list::replies;
+pub use items_text::{push_token, spell_items};
 pub use pp_expansion::step::{Step, StepExit};
 pub use pp_model::call::{Call, Reply};
 pub use pp_model::outcome::Outcome;
@@ -18,3 +21,4 @@ pub use pp_source::convert::{convert_lexer_token, convert_lexer_token_to_step};
 pub use pp_source::limit::EXPANSION_LIMIT;
 pub use preprocessor::{Preprocessor, PreprocessorItem};
 pub use spelling::{push_value, spell_tokens};
+pub use trying::AddError;

@@ -1,5 +1,5 @@
 -- The tokens can be known by their entries.
-use Rattle.std.proofs.Common.{◌≡◌, ℕ, ◌+◌, ◌-◌, ◌==◌, List, [], ◌∷◌, ◌++◌, map, false, refl, sym, ◌∙◌, ap, arith, cond, count_by, length}
+use Rattle.std.proofs.Common.{◌≡◌, ℕ, ◌+◌, ◌-◌, ◌==◌, List, [], ◌∷◌, ◌++◌, map, filter, false, refl, sym, ◌∙◌, ap, arith, cond, count_by, length}
 use Rattle.std.proofs.lemmas.List.Sums.{sum_by-cons}
 use Rattle.std.proofs.lemmas.Bool.{ne_eqb, eqb-true}
 use Rattle.std.specs.Bool.{Decides}
@@ -94,6 +94,11 @@ tokens_answer ts us =
     same_from_decides _ _
     (pointwise_decides token_decides ts us)
     (Decides-like _ (preorder_same ts us) (ap preorder) (entries_decide (preorder ts) (preorder us)))
+
+-- the entries inside a token are no outermost ones
+pub none_kept : (es : List Entry) (ts : List Token) → filter is_outermost (map deeper es ++ preorder ts) ≡ filter is_outermost (preorder ts)
+none_kept [] ts = refl
+none_kept (e ∷ es) ts = rw (deeper-is_outermost e) (none_kept es ts)
 
 count_by-deeper : (e : Entry) (es : List Entry) → count_by is_outermost (deeper e ∷ es) ≡ count_by is_outermost es
 count_by-deeper e es =

@@ -9,14 +9,12 @@ ghost use Rattle.pp_rs.specs.Afresh.{AreReadAfresh, IsOutput};
 ghost use Rattle.pp_rs.specs.Collecting.{AreItemsFrom};
 ghost use Rattle.pp_rs.specs.inner.ItemValues.{value_of_item};
 
+use crate::SOURCE_LIMIT;
 use crate::pp::all_items::preprocess_all;
 use crate::pp::preprocessor::{Preprocessor, PreprocessorItem};
 use crate::pp::spelling::spell_tokens;
 use crate::token::{Location, PreprocessorError, Token};
 use std::alloc::Global;
-
-// A source has fewer bytes than this.
-const SOURCE_LIMIT: usize = 4294967295;
 
 // Whether the item is a token with the value of this one.
 fn has_value(item: &PreprocessorItem, token: &Token) -> bool

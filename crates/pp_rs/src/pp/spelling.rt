@@ -4,10 +4,9 @@ ghost use Rattle.std.specs.Prelude.{◌≡◌, ◌++◌, IsTrue, All, OnOk, IfOk
 ghost use Rattle.std.specs.Str.{chars};
 ghost use Rattle.pp_lexer.specs.TokenValue.{is_ordinary};
 ghost use Rattle.pp_lexer.specs.PreprocessorError.{out_of_memory};
-ghost use Rattle.pp_lexer.specs.Punctuators.{punctuator};
 ghost use Rattle.pp_lexer.specs.Spelling.{integer_literal, spelling, spelled_text, values_of};
 
-use crate::token::{Integer, Location, PreprocessorError, Punct, Token, TokenValue, out_of_memory};
+use crate::token::{Integer, Location, PreprocessorError, Token, TokenValue, out_of_memory};
 use std::alloc::{AllocError, Global};
 
 /// The text of ordinary tokens, with one space between each two and none at the ends.
@@ -59,7 +58,7 @@ pub fn push_value(text: &mut String, value: &TokenValue) -> Result<(), AllocErro
         TokenValue::Ident(name) => text.push_str(name.as_str()),
         TokenValue::Integer(integer) => push_integer(text, *integer),
         TokenValue::Float(float) => text.push_str(float.text.as_str()),
-        TokenValue::Punct(punct) => text.push_str(punct_text(*punct)),
+        TokenValue::Punct(punct) => text.push_str(punct.spelling()),
         TokenValue::Version(_) | TokenValue::Extension(_) | TokenValue::Pragma(_) => {
             unreachable!()
         }
@@ -75,56 +74,4 @@ fn push_integer(text: &mut String, integer: Integer) -> Result<(), AllocError>
         text.push('u')?;
     }
     Ok(())
-}
-
-fn punct_text(punct: Punct) -> &'static str
-    ensures { result.now ≡ punctuator punct }
-{
-    match punct {
-        Punct::AddAssign => "+=",
-        Punct::SubAssign => "-=",
-        Punct::MulAssign => "*=",
-        Punct::DivAssign => "/=",
-        Punct::ModAssign => "%=",
-        Punct::LeftShiftAssign => "<<=",
-        Punct::RightShiftAssign => ">>=",
-        Punct::AndAssign => "&=",
-        Punct::XorAssign => "^=",
-        Punct::OrAssign => "|=",
-        Punct::Increment => "++",
-        Punct::Decrement => "--",
-        Punct::LogicalAnd => "&&",
-        Punct::LogicalOr => "||",
-        Punct::LogicalXor => "^^",
-        Punct::LessEqual => "<=",
-        Punct::GreaterEqual => ">=",
-        Punct::EqualEqual => "==",
-        Punct::NotEqual => "!=",
-        Punct::LeftShift => "<<",
-        Punct::RightShift => ">>",
-        Punct::LeftBrace => "{",
-        Punct::RightBrace => "}",
-        Punct::LeftParen => "(",
-        Punct::RightParen => ")",
-        Punct::LeftBracket => "[",
-        Punct::RightBracket => "]",
-        Punct::LeftAngle => "<",
-        Punct::RightAngle => ">",
-        Punct::Semicolon => ";",
-        Punct::Comma => ",",
-        Punct::Colon => ":",
-        Punct::Dot => ".",
-        Punct::Equal => "=",
-        Punct::Bang => "!",
-        Punct::Minus => "-",
-        Punct::Tilde => "~",
-        Punct::Plus => "+",
-        Punct::Star => "*",
-        Punct::Slash => "/",
-        Punct::Percent => "%",
-        Punct::Pipe => "|",
-        Punct::Caret => "^",
-        Punct::Ampersand => "&",
-        Punct::Question => "?",
-    }
 }

@@ -1,5 +1,5 @@
-use Rattle.pp_print.proofs.DirectiveLemmas.{spelled-entries}
+use Rattle.pp_rs.proofs.ItemsTextLemmas.{held_tokens_spelled}
 use Rattle.pp_print.proofs.laws.held_tokens.Goals as goal
 
 pub returns : goal.returns
-returns c = spelled-entries
+returns c = held_tokens_spelled

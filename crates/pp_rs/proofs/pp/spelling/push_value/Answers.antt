@@ -15,4 +15,4 @@ returns-in-Float c =
 pub returns-in-Punct : goal.returns-in-Punct
 returns-in-Punct c =
     let h = chars-pushed c.push_str-in-Punct.result _ _ _ (IsUtf8-string_bytes c.args.text.now) c.push_str-in-Punct.ensures.bytes in
-    rw (c.in-Punct.is, ← chars-punctuator c.in-Punct.punct, ← c.punct_text.ensures) h
+    rw (c.in-Punct.is, ← chars-punctuator c.in-Punct.punct, ← c.spelling.ensures) h

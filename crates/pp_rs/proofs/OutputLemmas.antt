@@ -1,12 +1,14 @@
 -- The lines of tokens, as they come of the tokens one by one
-use Rattle.std.proofs.Common.{◌≡◌, ℕ, Bool, true, false, if◌then◌else◌, List, [], ◌∷◌, ◌++◌, map, Some, None, refl, sym, ap, ◌∙◌, append_assoc, lit<}
+use Rattle.std.proofs.Common.{◌≡◌, ℕ, Bool, true, false, if◌then◌else◌, List, [], ◌∷◌, ◌++◌, map, Some, None, refl, sym, ap, ◌∙◌, append_assoc}
 use Rattle.std.specs.Str.{encode_utf8_all}
-use Rattle.std.proofs.lemmas.Str.{encodes-append, encode_ascii}
-use Rattle.pp_rs.specs.Spelling.{spelling, spelled_text, values_of}
-use Rattle.pp_rs.specs.TokenValue.{is_ordinary}
-use Rattle.pp_rs.specs.declared.token.Token.{Token}
-use Rattle.pp_print.specs.Output.{begins_ordinary, put_before, lines_of, directive_text, line_text, output_lines}
-use Rattle.pp_print.specs.inner.Printing.{lines_from}
+use Rattle.std.proofs.lemmas.Str.{encodes-append}
+use Rattle.pp_lexer.specs.Spelling.{spelling, spelled_text, values_of}
+use Rattle.pp_lexer.specs.TokenValue.{is_ordinary}
+use Rattle.pp_lexer.specs.declared.token.Token.{Token}
+use Rattle.pp_lexer.specs.ItemText.{item_text}
+use Rattle.pp_lexer.proofs.spelling.ItemTextLemmas.{spaced}
+use Rattle.pp_rs.specs.Output.{begins_ordinary, put_before, lines_of, line_text, output_lines}
+use Rattle.pp_rs.specs.inner.OutputLines.{lines_from}
 
 abbrev bytes_of : List Token → List ℕ
 bytes_of line = encode_utf8_all (line_text line)
@@ -19,10 +21,6 @@ abbrev after_line : List ℕ → List (List Token) → List (List ℕ)
 after_line begun [] = begun ∷ []
 after_line begun (line ∷ lines) =
     if begins_ordinary line then (begun ++ (32 ∷ bytes_of line)) ∷ map bytes_of lines else begun ∷ bytes_of line ∷ map bytes_of lines
-
--- a space and the text after it
-pub spaced : (text : List ℕ) → encode_utf8_all (32 ∷ text) ≡ 32 ∷ encode_utf8_all text
-spaced text = ap (λ space. space ++ encode_utf8_all text) (encode_ascii 32 (lit< tt))
 
 -- an ordinary token in front of others
 in_front : (t u : Token) (us : List Token) → encode_utf8_all (spelled_text (values_of (t ∷ u ∷ us))) ≡ word_of t ++ (32 ∷ encode_utf8_all
@@ -58,13 +56,13 @@ module _ (t : Token) (ordinary : is_ordinary t.value ≡ true) where
 
 module _ (t : Token) (directive : is_ordinary t.value ≡ false) where
   -- an item that is no ordinary token is a line by itself
-  stands : (lines : List (List Token)) → map bytes_of (put_before t lines) ≡ encode_utf8_all (directive_text t.value) ∷ map bytes_of lines
+  stands : (lines : List (List Token)) → map bytes_of (put_before t lines) ≡ encode_utf8_all (item_text t.value) ∷ map bytes_of lines
   stands [] = simp directive
   stands (line ∷ lines) = simp directive
 
   -- and ends the line that has been begun
   ends : (begun : List ℕ) (lines : List (List Token)) → after_line begun (put_before t lines) ≡ begun ∷ encode_utf8_all
-      (directive_text t.value) ∷ map bytes_of lines
+      (item_text t.value) ∷ map bytes_of lines
   ends begun [] = simp directive
   ends begun (line ∷ lines) = simp directive
 
@@ -78,7 +76,7 @@ come_with t ts true e (after, alone) = (
   rw e (after (word_of t) ∙ begins t e (lines_of ts)),
 )
 come_with t ts false e (after, alone) =
-    let text = encode_utf8_all (directive_text t.value) in (
+    let text = encode_utf8_all (item_text t.value) in (
       λ begun. rw e (ap (λ lines. begun ∷ text ∷ lines) alone ∙ sym (ends t e begun (lines_of ts))),
       rw e (ap (λ lines. text ∷ lines) alone ∙ sym (stands t e (lines_of ts))),
     )

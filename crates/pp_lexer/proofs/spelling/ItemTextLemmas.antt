@@ -1,0 +1,89 @@
+-- The text of an item, as it is written piece by piece.
+use Rattle.std.proofs.Common.{◌≡◌, ℕ, ◌^◌, ◌<◌, true, false, List, [], ◌∷◌, ◌++◌, filter, codes, get_or, length, take, ◌+◌, refl, sym, ap, ◌∙◌, lit<}
+use Rattle.std.specs.Fmt.{decimal}
+use Rattle.std.specs.List.{flat_map}
+use Rattle.std.specs.Str.{chars, encode_utf8_all, IsUtf8}
+use Rattle.std.proofs.lemmas.Fmt.{IsAscii-decimal}
+use Rattle.std.proofs.lemmas.List.{append-nil, flat_map_more, take_more}
+use Rattle.std.proofs.lemmas.Str.{encodes-append, encodes-chars, encodes-IsAscii, encode_ascii}
+use Rattle.pp_lexer.specs.Entry.{Entry, is_outermost}
+use Rattle.pp_lexer.specs.ItemText.{leaf_spelling, with_tokens}
+use Rattle.pp_lexer.specs.Preorder.{leaf_of, inner, preorder}
+use Rattle.pp_lexer.specs.Punctuators.{punctuator}
+use Rattle.pp_lexer.specs.Spelling.{integer_literal, spelling}
+use Rattle.pp_lexer.specs.declared.token.Integer.{Integer as IntegerLiteral}
+use Rattle.pp_lexer.specs.declared.token.Punct.{Punct as Punctuator}
+use Rattle.pp_lexer.specs.declared.token.Punct.TheVariants.{AddAssign}
+use Rattle.pp_lexer.specs.declared.token.Token.{Token}
+use Rattle.pp_lexer.specs.declared.token.TokenValue.{TokenValue}
+use Rattle.pp_lexer.specs.declared.token.TokenValue.TheVariants.{Ident, Integer, Float, Punct, Version, Extension, Pragma}
+use Rattle.pp_lexer.proofs.values.PreorderLemmas.{none_kept}
+
+-- a punctuator is ASCII, and its bytes are its characters
+pub punctuator_bytes : (p : Punctuator) → encode_utf8_all (punctuator p) ≡ punctuator p
+unfolding lib.Utf8.encode
+punctuator_bytes AddAssign = refl
+punctuator_bytes _ = refl
+
+-- so it is with the digits of an integer, and with a `u` after them
+module _ (i : IntegerLiteral) (fits : i.value < 2 ^ 64) where
+  digits_bytes : encode_utf8_all (decimal i.value) ≡ decimal i.value
+  digits_bytes = encodes-IsAscii (decimal i.value) (IsAscii-decimal i.value fits)
+
+  pub signed_bytes : i.signed ≡ true → decimal i.value ≡ encode_utf8_all (integer_literal i)
+  signed_bytes e = rw (e, append-nil (decimal i.value)) (sym digits_bytes)
+
+  pub unsigned_bytes : i.signed ≡ false → decimal i.value ++ codes "u" ≡ encode_utf8_all (integer_literal i)
+  unfolding lib.Utf8.encode
+  unsigned_bytes e = rw e (sym (encodes-append (decimal i.value) (codes "u") ∙ ap (λ digits. digits ++ codes "u") digits_bytes))
+
+-- the entry of a token is spelled as the token is
+pub leaf_spelled : (value : TokenValue) → leaf_spelling (leaf_of value) ≡ spelling value
+leaf_spelled (Ident _) = refl
+leaf_spelled (Integer _) = refl
+leaf_spelled (Float _) = refl
+leaf_spelled (Punct _) = refl
+leaf_spelled (Version _) = refl
+leaf_spelled (Extension _) = refl
+leaf_spelled (Pragma _) = refl
+
+abbrev pub entry_word : Entry → List ℕ
+entry_word e = 32 ∷ leaf_spelling e.leaf
+
+abbrev pub token_word : Token → List ℕ
+token_word t = 32 ∷ spelling t.value
+
+-- each token of a list after a space, as characters
+pub words_of_entries : (ts : List Token) → flat_map entry_word (filter is_outermost (preorder ts)) ≡ flat_map token_word ts
+words_of_entries [] = refl
+words_of_entries (t ∷ ts) =
+    rw (none_kept (inner t.value) ts, leaf_spelled t.value) (ap (λ rest. (32 ∷ spelling t.value) ++ rest) (words_of_entries ts))
+
+-- each token of a list after a space, as bytes
+abbrev pub token_bytes : Token → List ℕ
+token_bytes t = 32 ∷ encode_utf8_all (spelling t.value)
+
+-- a space and the text after it
+pub spaced : (text : List ℕ) → encode_utf8_all (32 ∷ text) ≡ 32 ∷ encode_utf8_all text
+spaced text = ap (λ space. space ++ encode_utf8_all text) (encode_ascii 32 (lit< tt))
+
+bytes_of_words : (ts : List Token) → encode_utf8_all (flat_map token_word ts) ≡ flat_map token_bytes ts
+bytes_of_words [] = refl
+bytes_of_words (t ∷ ts) =
+    encodes-append (32 ∷ spelling t.value) (flat_map token_word ts) ∙ ap (λ word. word ++ encode_utf8_all (flat_map token_word ts)) (spaced (spelling t.value))
+    ∙ ap (λ rest. token_bytes t ++ rest) (bytes_of_words ts)
+
+-- a directive's word, and each of its tokens after a space
+pub directive_bytes : (word : List ℕ) (ts : List Token) (entries : List Entry) → IsUtf8 word → preorder ts ≡ entries
+    → word ++ flat_map token_bytes ts ≡ encode_utf8_all (with_tokens (chars word) entries)
+directive_bytes word ts entries u e =
+    sym (ap (λ es. encode_utf8_all (with_tokens (chars word) es)) (sym e) ∙ encodes-append (chars word) (flat_map entry_word (filter is_outermost (preorder ts)))
+    ∙ ap (λ start. start ++ encode_utf8_all (flat_map entry_word (filter is_outermost (preorder ts)))) (encodes-chars word u)
+    ∙ ap (λ rest. word ++ rest) (ap encode_utf8_all (words_of_entries ts) ∙ bytes_of_words ts))
+
+-- one more of the tokens after a space
+pub one_more : (word : List ℕ) (ts : List Token) (i : ℕ) (t : Token) → i < length ts → t ≡ get_or ts i t
+    → (word ++ flat_map token_bytes (take i ts)) ++ ((32 ∷ []) ++ encode_utf8_all (spelling t.value)) ≡ word ++ flat_map token_bytes (take (i + 1) ts)
+one_more word ts i t low is = flat_map_more token_bytes word (take i ts) t
+    ∙ ap (λ x. word ++ flat_map token_bytes (take i ts ++ (x ∷ []))) is
+    ∙ ap (λ front. word ++ flat_map token_bytes front) (sym (take_more ts i t low))

@@ -1,0 +1,27 @@
+use Rattle.std.proofs.Common.{◌++◌, refl, ap, ◌∙◌, arith, sym}
+use Rattle.std.specs.List.{flat_map}
+use Rattle.std.proofs.lemmas.List.{append-nil, take_all}
+use Rattle.std.proofs.Output.{has_written_append, has_written_of_eq}
+use Rattle.pp_lexer.proofs.spelling.ItemTextLemmas.{token_bytes, directive_bytes, one_more}
+use Rattle.pp_lexer.proofs.token.spelling.write_directive.Goals as goal
+
+pub loop-token-init : goal.loop-token-init
+loop-token-init g c = λ plain.
+    has_written_of_eq _ _ _ _ _ (sym (append-nil c.args.word.now)) (c.in_ok-write_str.ensures.writes plain refl)
+
+pub loop-token-preserved : goal.loop-token-preserved
+loop-token-preserved g c = λ plain.
+    let so_far = c.loop-token.invariant plain in
+    let space = c.in_ok-write_str-2.ensures.writes so_far.plain refl in
+    let word = c.in_ok-write_word.ensures space.plain refl in
+    has_written_of_eq _ _ _ _ _
+    (one_more c.args.word.now c.as_slice-token-items.result.now c.loop-token.token-index c.token-item.result (omega arith) c.token-item.is)
+    (has_written_append _ _ _ _ _ _ so_far (has_written_append _ _ _ _ _ _ space word))
+
+pub returns : goal.returns
+returns g c = λ plain ok.
+    let tokens = c.as_slice-token-items.result.now in
+    has_written_of_eq _ _ _ _ _
+    (ap (λ ts. c.args.word.now ++ flat_map token_bytes ts) (take_all c.loop-token.token-index tokens (omega arith))
+    ∙ directive_bytes c.args.word.now tokens c.args.tokens.now c.utf8.word c.as_slice-token-items.ensures)
+    (c.loop-token.invariant plain)

@@ -1,0 +1,46 @@
+-- What is said of each error.
+use Rattle.std.specs.Prelude.{ℕ, List, [], ◌++◌, codes, if◌then◌else◌}
+use Rattle.std.specs.Fmt.{decimal}
+use Rattle.std.specs.Str.{encode_utf8_all}
+use Rattle.pp_lexer.specs.ItemText.{item_text}
+use Rattle.pp_lexer.specs.declared.token.PreprocessorError.{PreprocessorError}
+use Rattle.pp_lexer.specs.declared.token.PreprocessorError.TheVariants.{IntegerOverflow, FloatParsingError, UnexpectedCharacter, UnexpectedToken, UnexpectedHash, UnexpectedNewLine, UnexpectedEndOfInput, TooFewDefineArguments, TooManyDefineArguments, ErrorDirective, DuplicateParameter, UnknownDirective, DefineRedefined, ElifOutsideOfBlock, ElseOutsideOfBlock, EndifOutsideOfBlock, ElifAfterElse, MoreThanOneElse, UnfinishedBlock, LineOverflow, NotSupported16BitLiteral, NotSupported64BitLiteral, MacroNotDefined, RecursionLimitReached, DivisionByZero, RemainderByZero, OutOfMemory}
+
+-- the sentence of an error as ASCII text, in lower case and without a full stop
+abbrev pub plain_sentence : PreprocessorError → List ℕ
+plain_sentence IntegerOverflow = codes "integer out of range"
+plain_sentence FloatParsingError = codes "malformed number"
+plain_sentence UnexpectedCharacter = codes "unexpected character"
+plain_sentence (UnexpectedToken v) = codes "unexpected token"
+plain_sentence UnexpectedHash = codes "unexpected `#`"
+plain_sentence UnexpectedNewLine = codes "the directive ends before its name"
+plain_sentence UnexpectedEndOfInput = codes "a macro call or an expression doesn't end"
+plain_sentence TooFewDefineArguments = codes "too few arguments in a macro call"
+plain_sentence TooManyDefineArguments = codes "too many arguments in a macro call"
+plain_sentence ErrorDirective = codes "`#error` directive"
+plain_sentence DuplicateParameter = codes "the macro has this parameter already"
+plain_sentence UnknownDirective = codes "unknown directive"
+plain_sentence DefineRedefined = codes "the macro is defined already, in another way"
+plain_sentence ElifOutsideOfBlock = codes "`#elif` without `#if`"
+plain_sentence ElseOutsideOfBlock = codes "`#else` without `#if`"
+plain_sentence EndifOutsideOfBlock = codes "`#endif` without `#if`"
+plain_sentence ElifAfterElse = codes "`#elif` after `#else`"
+plain_sentence MoreThanOneElse = codes "second `#else` of a block"
+plain_sentence UnfinishedBlock = codes "block without `#endif`"
+plain_sentence LineOverflow = codes "line number out of range"
+plain_sentence NotSupported16BitLiteral = codes "literals of 16 bits aren't supported"
+plain_sentence NotSupported64BitLiteral = codes "literals of 64 bits aren't supported"
+plain_sentence MacroNotDefined = codes "the macro isn't defined"
+plain_sentence RecursionLimitReached = codes "macro calls are nested too deep"
+plain_sentence DivisionByZero = codes "division by zero"
+plain_sentence RemainderByZero = codes "remainder by zero"
+plain_sentence OutOfMemory = codes "out of memory"
+
+-- what an error holds: the text of a token, between backquotes
+abbrev pub quoted : PreprocessorError → List ℕ
+quoted (UnexpectedToken v) = codes " `" ++ (encode_utf8_all (item_text v) ++ codes "`")
+quoted _ = []
+
+-- what is said of an error, as UTF-8: its sentence, with what it holds
+abbrev pub sentence_of : PreprocessorError → List ℕ
+sentence_of error = plain_sentence error ++ quoted error

@@ -1,0 +1,148 @@
+//! Tokens as text: `{}` writes the spelling of a token, and a directive with the tokens of its line.
+
+ghost use Rattle.std.specs.Prelude.{◌≡◌, Some};
+ghost use Rattle.std.specs.Fmt.{WritesOnOk};
+ghost use Rattle.std.specs.Str.{chars, encode_utf8_all};
+ghost use Rattle.pp_lexer.specs.ItemText.{item_text, with_tokens};
+ghost use Rattle.pp_lexer.specs.Punctuators.{punctuator};
+ghost use Rattle.pp_lexer.specs.Spelling.{integer_literal, spelling};
+
+use crate::token::{Integer, Punct, Text, Token, TokenValue, Tokens};
+use std::fmt;
+
+impl Punct {
+    /// Its characters.
+    pub fn spelling(self) -> &'static str
+        ensures { result.now ≡ punctuator self }
+    {
+        match self {
+            Punct::AddAssign => "+=",
+            Punct::SubAssign => "-=",
+            Punct::MulAssign => "*=",
+            Punct::DivAssign => "/=",
+            Punct::ModAssign => "%=",
+            Punct::LeftShiftAssign => "<<=",
+            Punct::RightShiftAssign => ">>=",
+            Punct::AndAssign => "&=",
+            Punct::XorAssign => "^=",
+            Punct::OrAssign => "|=",
+            Punct::Increment => "++",
+            Punct::Decrement => "--",
+            Punct::LogicalAnd => "&&",
+            Punct::LogicalOr => "||",
+            Punct::LogicalXor => "^^",
+            Punct::LessEqual => "<=",
+            Punct::GreaterEqual => ">=",
+            Punct::EqualEqual => "==",
+            Punct::NotEqual => "!=",
+            Punct::LeftShift => "<<",
+            Punct::RightShift => ">>",
+            Punct::LeftBrace => "{",
+            Punct::RightBrace => "}",
+            Punct::LeftParen => "(",
+            Punct::RightParen => ")",
+            Punct::LeftBracket => "[",
+            Punct::RightBracket => "]",
+            Punct::LeftAngle => "<",
+            Punct::RightAngle => ">",
+            Punct::Semicolon => ";",
+            Punct::Comma => ",",
+            Punct::Colon => ":",
+            Punct::Dot => ".",
+            Punct::Equal => "=",
+            Punct::Bang => "!",
+            Punct::Minus => "-",
+            Punct::Tilde => "~",
+            Punct::Plus => "+",
+            Punct::Star => "*",
+            Punct::Slash => "/",
+            Punct::Percent => "%",
+            Punct::Pipe => "|",
+            Punct::Caret => "^",
+            Punct::Ampersand => "&",
+            Punct::Question => "?",
+        }
+    }
+}
+
+impl fmt::Display for Punct {
+    ghost output = { λ punct. Some (punctuator punct) };
+
+    fn fmt<W: fmt::Write>(&self, f: &mut fmt::Formatter<W>) -> fmt::Result {
+        f.write_str(self.spelling())
+    }
+}
+
+impl fmt::Display for Text {
+    ghost output = { λ text. Some (encode_utf8_all text) };
+
+    fn fmt<W: fmt::Write>(&self, f: &mut fmt::Formatter<W>) -> fmt::Result {
+        f.write_str(self.as_str())
+    }
+}
+
+// The digits of an integer, and a `u` if it is unsigned.
+fn write_integer<W: fmt::Write>(integer: Integer, f: &mut fmt::Formatter<W>) -> fmt::Result
+    ensures { WritesOnOk W.write_str_gives f.old result
+        (encode_utf8_all (integer_literal integer)) f.new }
+{
+    write!(f, "{}", integer.value)?;
+    if !integer.signed {
+        f.write_str("u")?;
+    }
+    Ok(())
+}
+
+// The spelling of an ordinary token, and nothing of a directive.
+fn write_word<W: fmt::Write>(value: &TokenValue, f: &mut fmt::Formatter<W>) -> fmt::Result
+    ensures { WritesOnOk W.write_str_gives f.old result
+        (encode_utf8_all (spelling value.now)) f.new }
+{
+    match value {
+        TokenValue::Ident(name) => f.write_str(name.as_str()),
+        TokenValue::Integer(integer) => write_integer(*integer, f),
+        TokenValue::Float(float) => f.write_str(float.text.as_str()),
+        TokenValue::Punct(punct) => f.write_str(punct.spelling()),
+        TokenValue::Version(_) | TokenValue::Extension(_) | TokenValue::Pragma(_) => f.write_str(
+            "",
+        ),
+    }
+}
+
+// The word of a directive, and each token of its line after a space.
+fn write_directive<W: fmt::Write>(
+    word: &str,
+    tokens: &Tokens,
+    f: &mut fmt::Formatter<W>,
+) -> fmt::Result
+    ensures { WritesOnOk W.write_str_gives f.old result
+        (encode_utf8_all (with_tokens (chars word.now) tokens.now)) f.new }
+{
+    f.write_str(word)?;
+    for token in tokens.as_slice() {
+        f.write_str(" ")?;
+        write_word(&token.value, f)?;
+    }
+    Ok(())
+}
+
+impl fmt::Display for TokenValue {
+    ghost output = { λ value. Some (encode_utf8_all (item_text value)) };
+
+    fn fmt<W: fmt::Write>(&self, f: &mut fmt::Formatter<W>) -> fmt::Result {
+        match self {
+            TokenValue::Version(version) => write_directive("#version", &version.tokens, f),
+            TokenValue::Extension(extension) => write_directive("#extension", &extension.tokens, f),
+            TokenValue::Pragma(pragma) => write_directive("#pragma", &pragma.tokens, f),
+            _ => write_word(self, f),
+        }
+    }
+}
+
+impl fmt::Display for Token {
+    ghost output = { λ token. Some (encode_utf8_all (item_text token.value)) };
+
+    fn fmt<W: fmt::Write>(&self, f: &mut fmt::Formatter<W>) -> fmt::Result {
+        fmt::Display::fmt(&self.value, f)
+    }
+}
