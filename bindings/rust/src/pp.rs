@@ -36,8 +36,8 @@ pub struct Preprocessor<'a> {
     words: String,
     definitions: Vec<raw::Definition>,
     items: Option<Items>,
-    // How many items were given, and the number of the next in the list.
-    given: u64,
+    // How often an item was asked for, also at the end, and the number of the next in the list.
+    asked: u64,
     at: usize,
 }
 
@@ -48,7 +48,7 @@ impl<'a> Preprocessor<'a> {
             words: String::new(),
             definitions: Vec::new(),
             items: None,
-            given: 0,
+            asked: 0,
             at: 0,
         }
     }
@@ -74,7 +74,7 @@ impl<'a> Preprocessor<'a> {
         }
         definition.name_start += name_start as u64;
         definition.content_start += name_start as u64;
-        definition.after = self.given;
+        definition.after = self.asked;
         self.definitions.push(definition);
         self.items = None;
         Ok(())
@@ -88,9 +88,8 @@ impl<'a> Iterator for Preprocessor<'a> {
         if self.items.is_none() {
             self.items = Some(all_items(self.input, &self.words, &mut self.definitions));
         }
-        let item = self.items.as_ref()?.item(&mut self.at)?;
-        self.given += 1;
-        Some(item)
+        self.asked += 1;
+        self.items.as_ref()?.item(&mut self.at)
     }
 }
 

@@ -97,8 +97,8 @@ typedef struct pp_item {
 /* A macro without parameters. Its name and its content are words[start .. start + length].
  *
  * It is added as soon as `after` items were given, those that others hold not counted, and the definitions before it in the
- * list were added; if there are fewer items, after the last. To add one between items call again with one more definition:
- * the items up to it stay the same. */
+ * list were added; if there are fewer items, after the end was reached. To add one between items call again with one more
+ * definition: the items up to it stay the same. */
 typedef struct pp_definition {
     uint64_t name_start;
     uint64_t name_length;
