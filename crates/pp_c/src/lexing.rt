@@ -1,6 +1,6 @@
 //! The items of the lexer.
 
-ghost use Rattle.std.specs.Prelude.{◌-◌, ◌^◌, ◌<◌, length};
+ghost use Rattle.std.specs.Prelude.{◌≡◌, ◌≤◌, ◌-◌, ◌^◌, length, IsOk, IsUtf8};
 
 use crate::definitions::LIMIT;
 use crate::items::{Kind, LEADING_WHITESPACE, START_OF_LINE, bit_if};
@@ -13,7 +13,10 @@ use std::alloc::Global;
 use std::str;
 
 /// Gives the items of the lexer of a source.
-pub(crate) fn lex(alloc: Global, source: &[u8], output: &mut Output<'_>) -> Result<(), Refusal> {
+pub(crate) fn lex(alloc: Global, source: &[u8], output: &mut Output<'_>) -> Result<(), Refusal>
+    ensures text { IsOk result → IsUtf8 source.now }
+    ensures too_long { 2 ^ 32 - 1 ≤ length source.now → result ≡ Err Refusal.TooLong }
+{
     if source.len() >= LIMIT {
         return Err(Refusal::TooLong);
     }

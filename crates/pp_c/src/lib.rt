@@ -2,7 +2,7 @@
 //! declares what is here, and says what a caller in C has to uphold.
 #![tactic(auto)]
 
-ghost use Rattle.std.specs.Prelude.{◌≡◌, length};
+ghost use Rattle.std.specs.Prelude.{◌≡◌, ◌<◌, ◌≤◌, ◌-◌, ◌^◌, length, IsUtf8};
 ghost use Rattle.pp_c.specs.Ends.{HasRoom};
 
 mod definitions;
@@ -50,8 +50,11 @@ pub extern "C" fn pp_preprocess(
     texts: &mut [u8],
     sizes: &mut Sizes,
 ) -> u32
+    ensures answer { result < 6 }
     ensures done { result ≡ 0 → HasRoom (length items.old) (length texts.old) sizes.new }
     ensures too_small { result ≡ 1 → ¬ (HasRoom (length items.old) (length texts.old) sizes.new) }
+    ensures text { result < 2 → IsUtf8 source.now × IsUtf8 words.now }
+    ensures too_long { 2 ^ 32 - 1 ≤ length source.now → result ≡ 3 }
 {
     let room = room_of(items, texts);
     let mut output = Output::new(items, texts);
@@ -70,8 +73,11 @@ pub extern "C" fn pp_lex(
     texts: &mut [u8],
     sizes: &mut Sizes,
 ) -> u32
+    ensures answer { result < 6 }
     ensures done { result ≡ 0 → HasRoom (length items.old) (length texts.old) sizes.new }
     ensures too_small { result ≡ 1 → ¬ (HasRoom (length items.old) (length texts.old) sizes.new) }
+    ensures text { result < 2 → IsUtf8 source.now }
+    ensures too_long { 2 ^ 32 - 1 ≤ length source.now → result ≡ 3 }
 {
     let room = room_of(items, texts);
     let mut output = Output::new(items, texts);

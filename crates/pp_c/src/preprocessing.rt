@@ -1,6 +1,6 @@
 //! The items of a preprocessed source.
 
-ghost use Rattle.std.specs.Prelude.{◌-◌, ◌^◌, ◌<◌, length};
+ghost use Rattle.std.specs.Prelude.{◌≡◌, ◌≤◌, ◌-◌, ◌^◌, length, IsOk, IsUtf8};
 
 use crate::definitions::{LIMIT, add_due};
 use crate::items::{
@@ -21,7 +21,10 @@ pub(crate) fn preprocess(
     words: &[u8],
     definitions: &mut [Definition],
     output: &mut Output<'_>,
-) -> Result<(), Refusal> {
+) -> Result<(), Refusal>
+    ensures text { IsOk result → IsUtf8 source.now × IsUtf8 words.now }
+    ensures too_long { 2 ^ 32 - 1 ≤ length source.now → result ≡ Err Refusal.TooLong }
+{
     if source.len() >= LIMIT {
         return Err(Refusal::TooLong);
     }

@@ -1,6 +1,6 @@
 //! How a call ends.
 
-ghost use Rattle.std.specs.Prelude.{◌≡◌};
+ghost use Rattle.std.specs.Prelude.{◌≡◌, ◌⊎◌, IsOk};
 ghost use Rattle.pp_c.specs.Ends.{HasRoom};
 
 use crate::items::Sizes;
@@ -45,6 +45,8 @@ impl From<AllocError> for Refusal {
 
 /// How a call ends, once all items came or it was refused, if they take so much room.
 pub(crate) fn status_after(end: Result<(), Refusal>, sizes: Sizes, room: Sizes) -> Status
+    ensures given { (result ≡ Status.Done) ⊎ (result ≡ Status.TooSmall) → IsOk end }
+    ensures too_long { end ≡ Err Refusal.TooLong → result ≡ Status.TooLong }
     ensures done { result ≡ Status.Done → HasRoom room.items room.texts sizes }
     ensures too_small { result ≡ Status.TooSmall → ¬ (HasRoom room.items room.texts sizes) }
 {
