@@ -54,11 +54,11 @@ def newest_source(crate):
     return newest
 
 
-def build(crate, path):
-    """Proves and builds the crate's program."""
+def build(crate, path, how="run"):
+    """Proves and builds the crate's program, or its library."""
     print(f"proving and building {crate}", file=sys.stderr)
     done = subprocess.run(
-        ["rt", "run"], cwd=folder_of(crate), stdin=subprocess.DEVNULL, stdout=subprocess.PIPE, stderr=subprocess.STDOUT
+        ["rt", how], cwd=folder_of(crate), stdin=subprocess.DEVNULL, stdout=subprocess.PIPE, stderr=subprocess.STDOUT
     )
     if done.returncode != 0 or not os.path.exists(path):
         sys.exit(done.stdout.decode(errors="replace")[-2000:] + f"{crate} could not be built")
@@ -72,6 +72,14 @@ def program(crate):
     path = os.path.join(folder_of(crate), "out", crate)
     if not os.path.exists(path) or os.path.getmtime(path) < newest_source(crate):
         build(crate, path)
+    return path
+
+
+def library(crate):
+    """The path of the crate's static library, which is proved and built first where it isn't, or its sources are newer."""
+    path = os.path.join(folder_of(crate), "out", f"lib{crate}.a")
+    if not os.path.exists(path) or os.path.getmtime(path) < newest_source(crate):
+        build(crate, path, "lib")
     return path
 
 

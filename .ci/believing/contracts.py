@@ -126,7 +126,7 @@ class Source:
             return number
 
     def take_function(self, number, line):
-        function = re.match(VISIBLE + r'(?:const |unsafe )*fn\s+(\w+)', line.strip())
+        function = re.match(VISIBLE + r'(?:const |unsafe |extern "C" )*fn\s+(\w+)', line.strip())
         if function:
             end = self.end_of_head(number)
             is_declared = self.trait is not None and self.trait == self.owner

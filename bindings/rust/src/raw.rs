@@ -1,0 +1,74 @@
+//! pp.h in Rust.
+
+#[repr(C)]
+#[derive(Clone, Copy)]
+pub struct Item {
+    pub kind: u16,
+    pub error: u16,
+    pub flags: u32,
+    pub children: u32,
+    pub width: i32,
+    pub start: u32,
+    pub end: u32,
+    pub line: u32,
+    pub text_length: u32,
+    pub value: u64,
+}
+
+#[repr(C)]
+#[derive(Clone, Copy, Default)]
+pub struct Definition {
+    pub name_start: u64,
+    pub name_length: u64,
+    pub content_start: u64,
+    pub content_length: u64,
+    pub after: u64,
+    pub error: u32,
+    pub start: u32,
+    pub end: u32,
+    pub line: u32,
+}
+
+#[repr(C)]
+#[derive(Clone, Copy, Default)]
+pub struct Sizes {
+    pub items: u64,
+    pub texts: u64,
+}
+
+pub const DONE: u32 = 0;
+pub const TOO_SMALL: u32 = 1;
+pub const TOO_LONG: u32 = 3;
+pub const OUT_OF_MEMORY: u32 = 5;
+
+pub const ERROR: u16 = 0;
+pub const IDENT: u16 = 2;
+pub const INTEGER: u16 = 3;
+pub const FLOAT: u16 = 4;
+pub const VERSION: u16 = 5;
+pub const EXTENSION: u16 = 6;
+pub const PRAGMA: u16 = 7;
+pub const FIRST_PUNCTUATOR: u16 = 16;
+
+pub const SIGNED: u32 = 1;
+pub const FIRST_DIRECTIVE: u32 = 2;
+pub const COMMENTS_BEFORE: u32 = 4;
+pub const NON_DIRECTIVE_BEFORE: u32 = 8;
+
+pub const UNEXPECTED_TOKEN: u16 = 4;
+
+extern "C" {
+    pub fn pp_preprocess(
+        source: *const u8,
+        source_length: usize,
+        words: *const u8,
+        words_length: usize,
+        definitions: *mut Definition,
+        definitions_length: usize,
+        items: *mut Item,
+        items_length: usize,
+        texts: *mut u8,
+        texts_length: usize,
+        sizes: *mut Sizes,
+    ) -> u32;
+}

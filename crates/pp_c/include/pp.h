@@ -1,0 +1,133 @@
+/* A preprocessor and a lexer for GLSL: source text becomes tokens with exact places.
+ *
+ * One call gives all items, in memory of the caller's. If there is too little room it says how much is needed:
+ *
+ *     pp_sizes sizes = {0, 0};
+ *     while (pp_preprocess(source, length, words, words_length, definitions, count,
+ *                          items, items_room, texts, texts_room, &sizes) == PP_TOO_SMALL) {
+ *         ... get room for sizes.items items and sizes.texts bytes ...
+ *     }
+ *
+ * What is proved of these calls holds as long as the caller upholds this:
+ *
+ * - No pointer is null or badly aligned, also if its length is 0.
+ * - Each pointer leads to at least as many elements as the length after it says.
+ * - Nothing that a call writes (definitions, items, texts, sizes) overlaps anything else that it is given.
+ * - No other thread writes to any of this during a call, or reads what the call writes.
+ * - malloc, realloc and free are one allocator's and align as C says, and no call is made from a signal handler or in a
+ *   forked child of a process with threads.
+ *
+ * Any bytes may be handed in as source and words. Calls share nothing and keep nothing: each thread may make its own. */
+#ifndef PP_H
+#define PP_H
+
+#include <stddef.h>
+#include <stdint.h>
+
+#ifdef __cplusplus
+extern "C" {
+#endif
+
+/* What a call answers. */
+enum {
+    PP_DONE = 0,           /* all items and texts are there */
+    PP_TOO_SMALL = 1,      /* there was too little room: `sizes` says how much is needed */
+    PP_NOT_UTF8 = 2,       /* the source or the words are no UTF-8 */
+    PP_TOO_LONG = 3,       /* the source or a content has 2^32 - 1 bytes or more */
+    PP_BAD_DEFINITION = 4, /* a name or a content doesn't lie in the words, or cuts a character of theirs */
+    PP_OUT_OF_MEMORY = 5   /* an allocation failed */
+};
+
+/* What an item is. */
+enum {
+    PP_ERROR = 0, /* it holds a PP_PLACE, and after it the token that it carries, if it is PP_UNEXPECTED_TOKEN */
+    PP_PLACE,     /* where the error stands in the source. The item of a lexer's error says 0..0 on line 1 */
+    PP_IDENT,
+    PP_INTEGER,
+    PP_FLOAT,
+    PP_VERSION, /* #version: it holds the tokens of its line, unexpanded */
+    PP_EXTENSION,
+    PP_PRAGMA,
+    PP_NEW_LINE, /* the last two are pp_lex's alone */
+    PP_HASH,
+    PP_ADD_ASSIGN = 16, PP_SUB_ASSIGN, PP_MUL_ASSIGN, PP_DIV_ASSIGN, PP_MOD_ASSIGN, PP_LEFT_SHIFT_ASSIGN,
+    PP_RIGHT_SHIFT_ASSIGN, PP_AND_ASSIGN, PP_XOR_ASSIGN, PP_OR_ASSIGN, PP_INCREMENT, PP_DECREMENT, PP_LOGICAL_AND,
+    PP_LOGICAL_OR, PP_LOGICAL_XOR, PP_LESS_EQUAL, PP_GREATER_EQUAL, PP_EQUAL_EQUAL, PP_NOT_EQUAL, PP_LEFT_SHIFT,
+    PP_RIGHT_SHIFT, PP_LEFT_BRACE, PP_RIGHT_BRACE, PP_LEFT_PAREN, PP_RIGHT_PAREN, PP_LEFT_BRACKET, PP_RIGHT_BRACKET,
+    PP_LEFT_ANGLE, PP_RIGHT_ANGLE, PP_SEMICOLON, PP_COMMA, PP_COLON, PP_DOT, PP_EQUAL, PP_BANG, PP_MINUS, PP_TILDE,
+    PP_PLUS, PP_STAR, PP_SLASH, PP_PERCENT, PP_PIPE, PP_CARET, PP_AMPERSAND, PP_QUESTION
+};
+
+/* Which error it is. */
+enum {
+    PP_INTEGER_OVERFLOW = 1, PP_FLOAT_PARSING_ERROR, PP_UNEXPECTED_CHARACTER, PP_UNEXPECTED_TOKEN, PP_UNEXPECTED_HASH,
+    PP_UNEXPECTED_NEW_LINE, PP_UNEXPECTED_END_OF_INPUT, PP_TOO_FEW_DEFINE_ARGUMENTS, PP_TOO_MANY_DEFINE_ARGUMENTS,
+    PP_ERROR_DIRECTIVE, PP_DUPLICATE_PARAMETER, PP_UNKNOWN_DIRECTIVE, PP_DEFINE_REDEFINED, PP_ELIF_OUTSIDE_OF_BLOCK,
+    PP_ELSE_OUTSIDE_OF_BLOCK, PP_ENDIF_OUTSIDE_OF_BLOCK, PP_ELIF_AFTER_ELSE, PP_MORE_THAN_ONE_ELSE, PP_UNFINISHED_BLOCK,
+    PP_LINE_OVERFLOW, PP_NOT_SUPPORTED_16_BIT_LITERAL, PP_NOT_SUPPORTED_64_BIT_LITERAL, PP_MACRO_NOT_DEFINED,
+    PP_RECURSION_LIMIT_REACHED, PP_DIVISION_BY_ZERO, PP_REMAINDER_BY_ZERO
+};
+
+/* Bits of `flags`. */
+enum {
+    PP_SIGNED = 1,               /* an integer without a suffix `u` */
+    PP_FIRST_DIRECTIVE = 2,      /* a #version before all other directives and tokens */
+    PP_COMMENTS_BEFORE = 4,      /* a #version after a comment */
+    PP_NON_DIRECTIVE_BEFORE = 8, /* an #extension after an ordinary token */
+    PP_LEADING_WHITESPACE = 16,  /* pp_lex: first on its line, or after a blank or a comment */
+    PP_START_OF_LINE = 32        /* pp_lex: only blanks and comments are before it on its line */
+};
+
+typedef struct pp_item {
+    uint16_t kind;
+    uint16_t error; /* 0 unless it is a PP_ERROR */
+    uint32_t flags;
+    uint32_t children; /* how many of the items that follow it holds, with those that these hold */
+    int32_t width;     /* of a number, in bits: 32 */
+    uint32_t start;    /* byte offsets in the source, or in the content of a definition */
+    uint32_t end;
+    uint32_t line; /* from 1 */
+    uint32_t text_length;
+    uint64_t value; /* the value of a PP_INTEGER; of any other, where its text begins in `texts` */
+} pp_item;
+
+/* Its text is texts[value .. value + text_length], UTF-8 without a NUL after it: the name of an identifier, the digits of a
+   float without suffix, the characters of a punctuator. An integer and a directive have none. */
+
+/* A macro without parameters. Its name and its content are words[start .. start + length].
+ *
+ * It is added as soon as `after` items were given, those that others hold not counted, and the definitions before it in the
+ * list were added; if there are fewer items, after the end was reached. To add one between items call again with one more
+ * definition: the items up to it stay the same. */
+typedef struct pp_definition {
+    uint64_t name_start;
+    uint64_t name_length;
+    uint64_t content_start;
+    uint64_t content_length;
+    uint64_t after;
+    uint32_t error; /* written: 0 if it was added, else which error its content has, and where */
+    uint32_t start;
+    uint32_t end;
+    uint32_t line;
+} pp_definition;
+
+/* How many items there are, with those that others hold, and how many bytes their texts have. */
+typedef struct pp_sizes {
+    uint64_t items;
+    uint64_t texts;
+} pp_sizes;
+
+/* Preprocesses `source`. After an error the items go on. */
+uint32_t pp_preprocess(const uint8_t *source, size_t source_length, const uint8_t *words, size_t words_length,
+                       pp_definition *definitions, size_t definitions_length, pp_item *items, size_t items_length,
+                       uint8_t *texts, size_t texts_length, pp_sizes *sizes);
+
+/* Gives the tokens of `source` before preprocessing, newlines and number signs among them. */
+uint32_t pp_lex(const uint8_t *source, size_t source_length, pp_item *items, size_t items_length, uint8_t *texts,
+                size_t texts_length, pp_sizes *sizes);
+
+#ifdef __cplusplus
+}
+#endif
+
+#endif

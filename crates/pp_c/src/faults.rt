@@ -1,0 +1,36 @@
+//! Errors as numbers of the header.
+
+use pp_rs::token::PreprocessorError;
+
+/// The number of an error: from 1 in the order of `PreprocessorError`.
+pub(crate) fn number_of(error: &PreprocessorError) -> u16 {
+    match error {
+        PreprocessorError::IntegerOverflow => 1,
+        PreprocessorError::FloatParsingError => 2,
+        PreprocessorError::UnexpectedCharacter => 3,
+        PreprocessorError::UnexpectedToken(_) => 4,
+        PreprocessorError::UnexpectedHash => 5,
+        PreprocessorError::UnexpectedNewLine => 6,
+        PreprocessorError::UnexpectedEndOfInput => 7,
+        PreprocessorError::TooFewDefineArguments => 8,
+        PreprocessorError::TooManyDefineArguments => 9,
+        PreprocessorError::ErrorDirective => 10,
+        PreprocessorError::DuplicateParameter => 11,
+        PreprocessorError::UnknownDirective => 12,
+        PreprocessorError::DefineRedefined => 13,
+        PreprocessorError::ElifOutsideOfBlock => 14,
+        PreprocessorError::ElseOutsideOfBlock => 15,
+        PreprocessorError::EndifOutsideOfBlock => 16,
+        PreprocessorError::ElifAfterElse => 17,
+        PreprocessorError::MoreThanOneElse => 18,
+        PreprocessorError::UnfinishedBlock => 19,
+        PreprocessorError::LineOverflow => 20,
+        PreprocessorError::NotSupported16BitLiteral => 21,
+        PreprocessorError::NotSupported64BitLiteral => 22,
+        PreprocessorError::MacroNotDefined => 23,
+        PreprocessorError::RecursionLimitReached => 24,
+        PreprocessorError::DivisionByZero => 25,
+        PreprocessorError::RemainderByZero => 26,
+        PreprocessorError::OutOfMemory => 27,
+    }
+}

@@ -1,0 +1,88 @@
+//! The preprocessor and its lexer for C: one call gives all items of a source, in the caller's memory. `include/pp.h`
+//! declares what is here, and says what a caller in C has to uphold.
+#![tactic(auto)]
+
+ghost use Rattle.std.specs.Prelude.{◌≡◌, ◌<◌, ◌≤◌, ◌-◌, ◌^◌, length, IsUtf8};
+ghost use Rattle.pp_c.specs.Ends.{HasRoom};
+
+mod definitions;
+mod faults;
+mod items;
+mod lexing;
+mod output;
+mod preprocessing;
+mod status;
+mod words;
+
+pub use items::{Definition, Item, Sizes};
+use lexing::lex;
+use output::Output;
+use preprocessing::preprocess;
+use status::status_after;
+use std::alloc::Global;
+
+// The room that the caller gives.
+fn room_of(items: &[Item], texts: &[u8]) -> Sizes
+    ensures items { result.items ≡ length items.now }
+    ensures texts { result.texts ≡ length texts.now }
+{
+    Sizes {
+        items: items.len() as u64,
+        texts: texts.len() as u64,
+    }
+}
+
+/// Preprocesses `source`, and writes its items into `items` and their texts into `texts`. Error items are among them, and
+/// after one the items go on.
+///
+/// Each of `definitions` is added once so many items were given as it says, and the definitions before it were added; one
+/// whose number isn't reached, after the last item. What its content is answered is written into it.
+///
+/// The answer is a [`Status`] as a number. `sizes` says how much room all items take. If there is less, the answer is
+/// `PP_TOO_SMALL`, and a call with so much room gives them.
+#[unsafe(no_mangle)]
+pub extern "C" fn pp_preprocess(
+    alloc: Global,
+    source: &[u8],
+    words: &[u8],
+    definitions: &mut [Definition],
+    items: &mut [Item],
+    texts: &mut [u8],
+    sizes: &mut Sizes,
+) -> u32
+    ensures answer { result < 6 }
+    ensures done { result ≡ 0 → HasRoom (length items.old) (length texts.old) sizes.new }
+    ensures too_small { result ≡ 1 → ¬ (HasRoom (length items.old) (length texts.old) sizes.new) }
+    ensures text { result < 2 → IsUtf8 source.now × IsUtf8 words.now }
+    ensures too_long { 2 ^ 32 - 1 ≤ length source.now → result ≡ 3 }
+{
+    let room = room_of(items, texts);
+    let mut output = Output::new(items, texts);
+    let end = preprocess(alloc, source, words, definitions, &mut output);
+    let wanted = output.sizes();
+    *sizes = wanted;
+    status_after(end, wanted, room) as u32
+}
+
+/// Lexes `source`, and writes the items of its lexer into `items` and their texts into `texts`, as [`pp_preprocess`] does.
+#[unsafe(no_mangle)]
+pub extern "C" fn pp_lex(
+    alloc: Global,
+    source: &[u8],
+    items: &mut [Item],
+    texts: &mut [u8],
+    sizes: &mut Sizes,
+) -> u32
+    ensures answer { result < 6 }
+    ensures done { result ≡ 0 → HasRoom (length items.old) (length texts.old) sizes.new }
+    ensures too_small { result ≡ 1 → ¬ (HasRoom (length items.old) (length texts.old) sizes.new) }
+    ensures text { result < 2 → IsUtf8 source.now }
+    ensures too_long { 2 ^ 32 - 1 ≤ length source.now → result ≡ 3 }
+{
+    let room = room_of(items, texts);
+    let mut output = Output::new(items, texts);
+    let end = lex(alloc, source, &mut output);
+    let wanted = output.sizes();
+    *sizes = wanted;
+    status_after(end, wanted, room) as u32
+}

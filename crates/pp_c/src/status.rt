@@ -1,0 +1,61 @@
+//! How a call ends.
+
+ghost use Rattle.std.specs.Prelude.{◌≡◌, ◌⊎◌, IsOk};
+ghost use Rattle.pp_c.specs.Ends.{HasRoom};
+
+use crate::items::Sizes;
+use std::alloc::AllocError;
+
+/// How a call ends. Its number is that of the header.
+#[derive(Clone, Copy)]
+pub(crate) enum Status {
+    /// All items and texts are there.
+    Done,
+    /// There was too little room. The sizes say how much is needed.
+    TooSmall,
+    /// The source or the words are no UTF-8.
+    NotUtf8,
+    /// The source or a content has 2^32 - 1 bytes or more.
+    TooLong,
+    /// A definition doesn't lie in the words.
+    BadDefinition,
+    /// An allocation failed.
+    OutOfMemory,
+}
+
+/// Why a call can't give the items.
+#[derive(Clone, Copy)]
+pub(crate) enum Refusal {
+    NotUtf8,
+    TooLong,
+    BadDefinition,
+    OutOfMemory,
+}
+
+impl From<AllocError> for Refusal {
+    ghost use Rattle.std.specs.Prelude.{◌≡◌};
+    ghost use Rattle.pp_c.specs.declared.status.Refusal.TheVariants.{OutOfMemory as out_of_memory};
+
+    ghost from_gives = { λ _ refusal. refusal ≡ out_of_memory };
+
+    fn from(_: AllocError) -> Self {
+        Refusal::OutOfMemory
+    }
+}
+
+/// How a call ends, once all items came or it was refused, if they take so much room.
+pub(crate) fn status_after(end: Result<(), Refusal>, sizes: Sizes, room: Sizes) -> Status
+    ensures given { (result ≡ Status.Done) ⊎ (result ≡ Status.TooSmall) → IsOk end }
+    ensures too_long { end ≡ Err Refusal.TooLong → result ≡ Status.TooLong }
+    ensures done { result ≡ Status.Done → HasRoom room.items room.texts sizes }
+    ensures too_small { result ≡ Status.TooSmall → ¬ (HasRoom room.items room.texts sizes) }
+{
+    match end {
+        Ok(()) if sizes.items <= room.items && sizes.texts <= room.texts => Status::Done,
+        Ok(()) => Status::TooSmall,
+        Err(Refusal::NotUtf8) => Status::NotUtf8,
+        Err(Refusal::TooLong) => Status::TooLong,
+        Err(Refusal::BadDefinition) => Status::BadDefinition,
+        Err(Refusal::OutOfMemory) => Status::OutOfMemory,
+    }
+}

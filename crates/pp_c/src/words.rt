@@ -1,0 +1,74 @@
+//! The items of words, numbers, punctuators and errors.
+
+use crate::faults::number_of;
+use crate::items::{FIRST_PUNCTUATOR, Item, Kind, SIGNED, bit_if};
+use crate::output::Output;
+use crate::status::Refusal;
+use pp_rs::pp::push_value;
+use pp_rs::token::{Float, Integer, Location, PreprocessorError, Punct, TokenValue};
+
+// An item without a text and a number, that holds no other.
+fn numbered_item_at(place: Location, kind: u16, flags: u32) -> Item {
+    Item {
+        kind,
+        error: 0,
+        flags,
+        children: 0,
+        width: 0,
+        start: place.start,
+        end: place.end,
+        line: place.line,
+        text_length: 0,
+        value: 0,
+    }
+}
+
+/// An item of a kind without a text and a number, that holds no other.
+pub(crate) fn item_at(place: Location, kind: Kind, flags: u32) -> Item {
+    numbered_item_at(place, kind as u16, flags)
+}
+
+/// Gives an integer literal.
+pub(crate) fn give_integer(place: Location, flags: u32, integer: Integer, output: &mut Output<'_>) {
+    let mut item = item_at(place, Kind::Integer, flags | bit_if(integer.signed, SIGNED));
+    item.width = integer.width;
+    item.value = integer.value;
+    output.take(item);
+}
+
+/// Gives a float literal.
+pub(crate) fn give_float(place: Location, flags: u32, float: &Float, output: &mut Output<'_>) {
+    let mut item = item_at(place, Kind::Float, flags);
+    item.width = float.width;
+    output.take_text(item, float.text.as_str());
+}
+
+/// Gives a punctuator. Its text is made in `spelling`.
+pub(crate) fn give_punctuator(
+    place: Location,
+    flags: u32,
+    punct: Punct,
+    spelling: &mut String,
+    output: &mut Output<'_>,
+) -> Result<(), Refusal> {
+    spelling.clear();
+    push_value(spelling, &TokenValue::Punct(punct))?;
+    let item = numbered_item_at(place, FIRST_PUNCTUATOR + punct as u16, flags);
+    output.take_text(item, spelling.as_str());
+    Ok(())
+}
+
+/// Gives an error and its true place. Besides this place it holds so many items, which follow.
+pub(crate) fn give_error(
+    error: &PreprocessorError,
+    location: Location,
+    place: Location,
+    others: u32,
+    output: &mut Output<'_>,
+) {
+    let mut item = item_at(location, Kind::Error, 0);
+    item.error = number_of(error);
+    item.children = others.saturating_add(1);
+    output.take(item);
+    output.take(item_at(place, Kind::Place, 0));
+}

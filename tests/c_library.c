@@ -1,0 +1,172 @@
+/* Calls the library at its edges, and prints a line for each case. Run by tests/c_library, with sanitizers. */
+#define _DEFAULT_SOURCE
+#include "pp.h"
+
+#include <stdbool.h>
+#include <stdio.h>
+#include <stdlib.h>
+#include <string.h>
+#include <sys/mman.h>
+
+/* The library's heap, of which one allocation can fail. */
+typedef struct {
+    bool ok;
+    void *block;
+} tried;
+
+static uint64_t asked, failing;
+
+static tried answer(void *block) {
+    static char nothing[16];
+    tried it = {block != NULL, block ? block : nothing};
+    return it;
+}
+
+static bool fails(void) {
+    return ++asked == failing;
+}
+
+tried rattle_alloc(size_t size, size_t alignment) {
+    return answer(fails() ? NULL : malloc(size ? size : alignment));
+}
+
+tried rattle_realloc(void *block, size_t kept, size_t size, size_t alignment) {
+    (void)kept;
+    return answer(fails() ? NULL : realloc(block, size ? size : alignment));
+}
+
+void rattle_dealloc(void *block) {
+    free(block);
+}
+
+static void check(const char *name, bool holds) {
+    printf("%s: %s\n", name, holds ? "passed" : "it doesn't hold");
+}
+
+/* What is handed to a call. Behind the room lies a guard of one element. */
+#define MOST 64
+enum { GUARD = 0xA5 };
+
+static const char *source = "#version 300 es\nA B(1.5f) = 7u; @ #extension x\n#define B(x) [x\nB(2.5)]";
+static const char *words = "A12B3@";
+static pp_definition definitions[3];
+static pp_item items[MOST + 1];
+static uint8_t texts[4 * MOST + 1];
+static pp_sizes sizes;
+
+static void define(size_t number, uint64_t name, uint64_t content, uint64_t length, uint64_t after) {
+    memset(&definitions[number], GUARD, sizeof definitions[number]);
+    definitions[number].name_start = name;
+    definitions[number].name_length = 1;
+    definitions[number].content_start = content;
+    definitions[number].content_length = length;
+    definitions[number].after = after;
+}
+
+static void define_all(void) {
+    define(0, 0, 1, 2, 0);
+    define(1, 3, 5, 1, 1);
+    define(2, 3, 4, 1, 2);
+}
+
+static uint32_t call_over(const char *text, size_t length, size_t count, size_t items_room, size_t texts_room) {
+    memset(items, GUARD, sizeof items);
+    memset(texts, GUARD, sizeof texts);
+    memset(&sizes, GUARD, sizeof sizes);
+    return pp_preprocess((const uint8_t *)text, length, (const uint8_t *)words, strlen(words), definitions, count, items,
+                         items_room, texts, texts_room, &sizes);
+}
+
+static uint32_t call(size_t items_room, size_t texts_room) {
+    return call_over(source, strlen(source), 3, items_room, texts_room);
+}
+
+/* Whether nothing lies behind the room. */
+static bool is_kept(size_t items_room, size_t texts_room) {
+    for (const uint8_t *at = (const uint8_t *)(items + items_room); at < (const uint8_t *)(items + MOST + 1); at++)
+        if (*at != GUARD) return false;
+    for (size_t at = texts_room; at < sizeof texts; at++)
+        if (texts[at] != GUARD) return false;
+    return true;
+}
+
+/* Each room that is too small: the answer, the sizes, and that nothing is written beyond it. */
+static void check_rooms(void) {
+    define_all();
+    check("there is room", call(MOST, 4 * MOST) == PP_DONE);
+    pp_sizes needed = sizes;
+    check("only what the sizes say is written", is_kept(needed.items, needed.texts));
+    bool answers = true, same = true, kept = true;
+    for (size_t i = 0; i <= needed.items; i++)
+        for (size_t t = 0; t <= needed.texts; t++) {
+            bool fits = i == needed.items && t == needed.texts;
+            answers &= call(i, t) == (fits ? PP_DONE : PP_TOO_SMALL);
+            same &= sizes.items == needed.items && sizes.texts == needed.texts;
+            kept &= is_kept(i, t);
+        }
+    check("too little room is answered", answers);
+    check("with too little room the sizes are the same", same);
+    check("nothing is written beyond the room", kept);
+}
+
+static void check_definitions(void) {
+    define_all();
+    bool done = call(MOST, 4 * MOST) == PP_DONE;
+    check("a definition is added", done && definitions[0].error == 0);
+    check("a definition is refused",
+          definitions[1].error == PP_UNEXPECTED_CHARACTER && definitions[1].end == 0 && definitions[1].line == 1);
+    check("a definition after another is added", definitions[2].error == 0);
+    define(0, 0, 1, 2, 1000);
+    check("a definition after the end is added", call(MOST, 4 * MOST) == PP_DONE && definitions[0].error == 0);
+    define(0, 0, 1, 7, 0);
+    check("a content beyond the words", call(MOST, 4 * MOST) == PP_BAD_DEFINITION);
+    define(0, UINT64_MAX, 1, 1, 0);
+    check("a name whose end has no number", call(MOST, 4 * MOST) == PP_BAD_DEFINITION);
+    define(0, 7, 1, 1, 0);
+    check("a name beyond the words", call(MOST, 4 * MOST) == PP_BAD_DEFINITION);
+    words = "A\xc3\xa9";
+    define(0, 0, 1, 1, 0);
+    check("a content that cuts a character", call_over(source, 1, 1, MOST, MOST) == PP_BAD_DEFINITION);
+    define(0, 0, 1, 2, 0);
+    check("a content of one character", call_over(source, 1, 1, MOST, MOST) == PP_DONE);
+    words = "A\xc3";
+    check("words that are no UTF-8", call_over(source, 1, 0, MOST, MOST) == PP_NOT_UTF8);
+    words = "A12B3@";
+}
+
+static void check_sources(void) {
+    check("an empty source", call_over("", 0, 0, 0, 0) == PP_DONE && sizes.items == 0 && sizes.texts == 0);
+    check("a source that is no UTF-8", call_over("a\xff", 2, 0, MOST, MOST) == PP_NOT_UTF8);
+    check("a source of a NUL", call_over("\0", 1, 0, MOST, MOST) == PP_DONE && items[0].error == PP_UNEXPECTED_CHARACTER);
+    size_t most = UINT32_MAX;
+    void *long_source = mmap(NULL, most, PROT_READ, MAP_PRIVATE | MAP_ANONYMOUS | MAP_NORESERVE, -1, 0);
+    if (long_source == MAP_FAILED) return;
+    check("a source that is too long", call_over((const char *)long_source, most, 0, MOST, MOST) == PP_TOO_LONG);
+    check("a source that is too long, lexed",
+          pp_lex((const uint8_t *)long_source, most, items, MOST, texts, MOST, &sizes) == PP_TOO_LONG);
+    munmap(long_source, most);
+}
+
+/* Each allocation fails in turn. */
+static void check_refused(void) {
+    define_all();
+    bool answered = true;
+    uint64_t number = 0;
+    do {
+        asked = 0;
+        failing = ++number;
+        uint32_t status = call(MOST, 4 * MOST);
+        answered &= status == (asked < failing ? PP_DONE : PP_OUT_OF_MEMORY);
+    } while (asked >= failing && number < 10000);
+    failing = 0;
+    check("an allocation that fails is answered", answered);
+    check("several allocations can fail", number > 10 && number < 10000);
+}
+
+int main(void) {
+    check_rooms();
+    check_definitions();
+    check_sources();
+    check_refused();
+    return 0;
+}

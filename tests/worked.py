@@ -1,0 +1,199 @@
+"""The book of cases and the sheet of calls, as data, and the items of bindings in their words."""
+
+import os
+import re
+import sys
+
+sys.dont_write_bytecode = True
+sys.path.insert(0, os.path.dirname(os.path.abspath(__file__)))
+import lexer_model
+import programs
+
+TOKENS = os.path.join(programs.folder_of("pp_lexer"), "src", "token.rt")
+NOWHERE = "0..0 L1"
+
+
+def variants(enum):
+    """The variants of an enum of token.rt, in their order."""
+    with open(TOKENS, encoding="utf-8") as file:
+        body = re.search(r"pub enum " + enum + r" \{\n(.*?)\n\}", file.read(), re.S).group(1)
+    return re.findall(r"^    (\w+)", body, re.M)
+
+
+PUNCTUATORS = variants("Punct")
+ERRORS = variants("PreprocessorError")
+
+
+class Case:
+    """A source, the words of the calls over it, and what these and the items that are left are answered, up to the first
+    error and after it. Of a case of the sheet `places` says where each error stands, and `lexed` what the lexer gives."""
+
+    def __init__(self, name):
+        self.name, self.lines, self.calls, self.replies = name, [], [], []
+        self.places = self.lexed = None
+        self.has_replies = False
+
+    @property
+    def source(self):
+        return "\n".join(self.lines)
+
+    def more(self, text):
+        self.lines[-1:] = [(self.lines[-1] if self.lines else "") + text]
+
+
+def split(items):
+    """The items of a list of the book."""
+    found, depth, start = [], 0, 0
+    for i, c in enumerate(items):
+        depth += (c == "[") - (c == "]")
+        if depth == 0 and items.startswith(", ", i):
+            found.append(items[start:i])
+            start = i + 2
+    return [*found, items[start:]]
+
+
+def book():
+    """The cases of crates/pp_cases/stdin."""
+    cases, heading = [], ""
+    with open(os.path.join(programs.folder_of("pp_cases"), "stdin"), encoding="utf-8") as file:
+        lines = file.read().split("\n")
+    for line in lines:
+        mark, _, rest = line.partition(" ")
+        if mark == "#":
+            heading = rest
+        elif mark == "##":
+            cases.append(Case(f"{heading}: {rest}"))
+        elif not cases:
+            continue
+        elif mark == "|":
+            cases[-1].lines.append(rest)
+        elif mark == "&":
+            cases[-1].more(rest)
+        elif mark == "*":
+            times, _, text = rest.partition(" ")
+            cases[-1].more(int(times) * text)
+        elif mark == ">":
+            cases[-1].calls.append(rest)
+        elif mark == ">|":
+            cases[-1].calls[-1] += "\n" + rest
+        elif mark in ("=", "~"):
+            cases[-1].replies += split(rest)
+            cases[-1].has_replies = True
+    return cases
+
+
+ESCAPES = {"n": "\n", "r": "\r", "t": "\t"}
+
+
+def unescaped(text):
+    return re.sub(r"\\(.)", lambda it: ESCAPES.get(it.group(1), it.group(1)), text, flags=re.S)
+
+
+# What a binding can't do, or what changes what comes after it.
+OTHERS = ("all", "drain")
+
+
+def calls_of(case, answers):
+    """Takes what a binding can be asked for: the calls of `add_define` and `next` up to `rest`, or where the errors stand;
+    and what the lexer gives."""
+    is_open = True
+    for word, lines in answers:
+        if word == "lexer":
+            case.lexed = lines[:-1]
+        elif word in OTHERS:
+            is_open = False
+        elif not is_open:
+            continue
+        elif word == "errors" and not case.calls:
+            case.places = [re.fullmatch(r"Error \w+(?:\(.*\))? (.*)", line).group(1) for line in lines]
+            is_open = False
+        elif word == "rest":
+            case.replies += lines[:-2]
+            case.has_replies, is_open = True, False
+        elif word == "next" or "=" in word:
+            case.calls.append(word)
+            case.replies += lines
+
+
+def sheet():
+    """The cases of crates/pp_calls/stdin whose calls a binding can make, with what crates/pp_calls/stdout says."""
+    cases, answers = [], []
+    with open(os.path.join(programs.folder_of("pp_calls"), "stdout"), encoding="utf-8") as file:
+        printed = file.read().split("\n")[:-1]
+    for line in printed:
+        mark, _, rest = line.partition(" ")
+        if mark in ("#", "=", "*") and (not cases or answers[-1]):
+            cases.append(Case(f"the sheet, {rest[:60]}"))
+            answers.append([])
+        if mark == "=":
+            cases[-1].more(unescaped(rest))
+        elif mark == "*":
+            times, _, text = rest.partition(" ")
+            cases[-1].more(int(times) * unescaped(text))
+        elif mark == ">":
+            answers[-1].append((rest, []))
+        elif mark != "#":
+            answers[-1][-1][1].append(line)
+    for case, answered in zip(cases, answers):
+        calls_of(case, answered)
+    return [it for it in cases if it.has_replies or it.places is not None or it.lexed is not None]
+
+
+def truth(text):
+    return "true" if text == "1" else "false"
+
+
+def value_of(words):
+    """The value of an item that examples/c/show.c printed, in the words of the book."""
+    kind, *rest = words
+    if kind in ("identifier", "integer"):
+        return rest[0]
+    if kind == "float":
+        return f"Float {rest[0]}"
+    if kind == "punctuator":
+        name = PUNCTUATORS[int(rest[0]) - 16]
+        return name if lexer_model.PUNCTUATORS[rest[1]] == name else f"{name} with the text {rest[1]}"
+    if kind in ("version", "extension"):
+        return " ".join([kind.title(), *[re.sub("[01]$", lambda it: truth(it.group()), word) for word in rest]])
+    return {"pragma": "Pragma", "newline": "NL", "hash": "Hash"}[kind]
+
+
+def part_of(printed):
+    """An item or one that it holds: its value, its place, and what follows that."""
+    words = printed.split(" ")
+    at = next(i for i, word in enumerate(words) if re.fullmatch(r"\d+\.\.\d+", word))
+    return words[:at], " ".join(words[at : at + 2]), words[at + 2 :]
+
+
+def items_of(printed):
+    """The items of the lines that show printed, in the words of the book, and of each error where it stands."""
+    found = []
+    for line in printed:
+        if line.startswith("  "):
+            found[-1].append(line.strip(" "))
+        else:
+            found.append([line])
+    return [item_of(lines) for lines in found]
+
+
+def item_of(lines):
+    """An item with those that it holds, in the words of the book, and of an error where it stands."""
+    if lines == ["added"]:
+        return "Added", None
+    (words, place, flags), *held = map(part_of, lines)
+    if words[0] == "refused":
+        return f"Refused {ERRORS[int(words[1]) - 1]} {place}", None
+    if words[0] == "error":
+        name = ERRORS[int(words[1]) - 1]
+        (mark, at, _), *carried = held
+        assert mark == ["place"] and len(carried) == (name == "UnexpectedToken"), lines
+        if carried:
+            assert carried[0][1] == place, lines
+            name += f"({value_of(carried[0][0])})"
+        return f"Error {name} {place}", at
+    value = value_of(words)
+    if words[0] in ("version", "extension", "pragma"):
+        value += f" [{', '.join(f'{value_of(w)} {p}' for w, p, _ in held)}]"
+    else:
+        assert not held, lines
+    return " ".join([value, place, *[re.sub("[01]$", lambda it: truth(it.group()), word) for word in flags]]), None
