@@ -8,6 +8,7 @@ use glslpp_parts::definitions::add_definitions;
 use glslpp_parts::diagnostics::Reporter;
 use glslpp_parts::failure::Failure;
 use glslpp_parts::output::Output;
+use glslpp_parts::place::{Place, is_on_if_line};
 use glslpp_parts::texts::Texts;
 use glslpp_parts::version::declared_version;
 use pp_rs::pp::Preprocessor;
@@ -70,6 +71,8 @@ struct Run<'a> {
     reports: String,
     errors: usize,
     fault_line: Option<FaultLine>,
+    // How many blocks a fault in their `#if` kept from being opened, which were not ended yet.
+    unopened: usize,
 }
 
 impl<'a> Run<'a> {
@@ -81,6 +84,7 @@ impl<'a> Run<'a> {
             reports: String::new(reporter.alloc),
             errors: 0,
             fault_line: None,
+            unopened: 0,
         }
     }
 
@@ -123,7 +127,21 @@ impl<'a> Run<'a> {
         self.output.push_token(texts, &token, call_line)
     }
 
-    // Reports an error, unless it comes of what a fault left of its line.
+    // Whether the error is only that the `#if` of a block was at fault.
+    fn is_of_unopened(&mut self, error: &PreprocessorError) -> bool {
+        match error {
+            PreprocessorError::ElifOutsideOfBlock | PreprocessorError::ElseOutsideOfBlock => {
+                self.unopened > 0
+            }
+            PreprocessorError::EndifOutsideOfBlock if self.unopened > 0 => {
+                self.unopened = self.unopened.saturating_sub(1);
+                true
+            }
+            _ => false,
+        }
+    }
+
+    // Reports an error, unless it comes of what a fault left of its line, or of an `#if` at fault.
     fn take_error(
         &mut self,
         texts: &Texts<'_>,
@@ -138,12 +156,31 @@ impl<'a> Run<'a> {
             return Ok(());
         }
         self.fault_line = Some(here);
+        if self.is_of_unopened(&error) {
+            return Ok(());
+        }
+        if is_at_if(texts, location) {
+            self.unopened = self.unopened.saturating_add(1);
+        }
         self.errors = self.errors.saturating_add(1);
         let message = self.reporter.message(texts, &error, location)?;
         self.output
             .push_error(texts, &error, location, message.as_str())?;
         self.reporter
             .push_error(&mut self.reports, texts, &error, location)
+    }
+}
+
+// Whether a fault at the place kept a block from being opened. What is in a definition of the command line is only read on
+// such lines.
+fn is_at_if(texts: &Texts<'_>, location: Location) -> bool {
+    match texts.spot(location) {
+        Some(spot) if spot.is_in_source => match Place::find(spot) {
+            Some(place) => is_on_if_line(place),
+            None => false,
+        },
+        Some(_) => true,
+        None => false,
     }
 }
 

@@ -7,8 +7,7 @@ use crate::arguments::Form;
 use crate::json;
 use crate::layout::{Gap, Layout};
 use crate::texts::Texts;
-use crate::words::{push_directive, push_made_word, written_word};
-use pp_rs::pp::push_value;
+use crate::words::{push_directive, push_made_word, push_spelled_word, written_word};
 use pp_rs::token::{Location, PreprocessorError, Token, TokenValue};
 use std::alloc::{AllocError, Global};
 
@@ -48,7 +47,7 @@ impl Output {
         }
         match self.form {
             Form::Lines => self.push_on_its_line(texts, token, call_line),
-            Form::Compact => self.push_on_last_line(token),
+            Form::Compact => self.push_on_last_line(texts, token),
             Form::Tokens => self.push_item(texts, token, call_line),
             Form::Directives => Ok(()),
         }
@@ -72,7 +71,7 @@ impl Output {
             return Ok(());
         }
         let mut word = String::new(self.alloc);
-        push_made_word(&mut word, &token.value, spot)?;
+        push_made_word(&mut word, self.alloc, &token.value, spot)?;
         self.end = None;
         self.layout.push_word(line, Gap::Space, word.as_str())
     }
@@ -86,11 +85,12 @@ impl Output {
         }
     }
 
-    fn push_on_last_line(&mut self, token: &Token) -> Result<(), AllocError>
+    fn push_on_last_line(&mut self, texts: &Texts<'_>, token: &Token) -> Result<(), AllocError>
         requires { IsTrue (is_ordinary token.now.value) }
     {
         let mut word = String::new(self.alloc);
-        push_value(&mut word, &token.value)?;
+        let spot = texts.spot(token.location);
+        push_spelled_word(&mut word, self.alloc, &token.value, spot)?;
         let line = self.layout.line();
         self.layout.push_word(line, Gap::Space, word.as_str())
     }
@@ -107,7 +107,7 @@ impl Output {
         let mut word = String::new(self.alloc);
         match written_word(spot) {
             Some(written) => word.push_str(written)?,
-            None => push_made_word(&mut word, &token.value, spot)?,
+            None => push_made_word(&mut word, self.alloc, &token.value, spot)?,
         }
         json::push_token(
             &mut self.lines,

@@ -25,7 +25,7 @@ impl<'a> Place<'a> {
             .text
             .len()
             .saturating_sub(after_continuations(rest).len());
-        let end = spot.end.max(start);
+        let end = spot.end.max(first_char_end(spot.text, start));
         let before = spot.text.get(..start)?;
         let here = spot.text.get(start..end)?;
         let behind = spot.text.get(end..)?;
@@ -77,8 +77,29 @@ fn first_line(text: &str) -> &str {
     }
 }
 
-// The text without the continuations that it begins with.
-fn after_continuations(text: &str) -> &str {
+// Where the character ends that begins at the place.
+fn first_char_end(text: &str, start: usize) -> usize {
+    match text.get(start..).unwrap_or("").chars().next() {
+        Some(c) if !is_line_end(c) => start.saturating_add(c.len_utf8()),
+        _ => start,
+    }
+}
+
+/// Whether a fault at a place keeps an `#if` from opening its block.
+pub fn is_on_if_line(place: Place<'_>) -> bool {
+    let Some(rest) = place.before.trim_start().strip_prefix('#') else {
+        return false;
+    };
+    let rest = rest.trim_start();
+    if rest.is_empty() {
+        place.here.starts_with("if")
+    } else {
+        rest.starts_with("if")
+    }
+}
+
+/// The text without the continuations that it begins with.
+pub fn after_continuations(text: &str) -> &str {
     let mut rest = text;
     for _ in 0..text.len() {
         match after_continuation(rest) {

@@ -60,6 +60,9 @@ pub fn push_sentence(
             text.push_str("`#` and `##` are no operators in GLSL")
         }
         PreprocessorError::UnexpectedCharacter => push_unexpected_character(text, place.here),
+        PreprocessorError::UnexpectedEndOfInput if place.before.trim_end().ends_with('#') => {
+            text.push_str("the line ends too early")
+        }
         PreprocessorError::TooFewDefineArguments | PreprocessorError::TooManyDefineArguments => {
             push_argument_counts(text, alloc, texts, location, place, error)
         }
