@@ -284,6 +284,13 @@ impl Caller {
         self.held.is_none() && self.processor.is_idle()
     }
 
+    /// The line of the outermost macro that is open: that of its name, or of the `)` of its call.
+    pub fn outermost_line(&self) -> Option<u32>
+        ensures { result ≡ outermost_frame_line self.now.frames }
+    {
+        self.processor.outermost_line()
+    }
+
     /// Holds a token that was taken, which is then the next step.
     pub fn hold(&mut self, token: Token)
         requires { HoldsOrdinary token.value }

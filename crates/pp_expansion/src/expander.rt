@@ -114,9 +114,9 @@ impl MacroProcessor {
         self.open_names.is_open(name)
     }
 
-    // The line of the outermost macro that is open.
+    /// The line of the outermost macro that is open: that of its name, or of the `)` of its call.
     #[inline(always)]
-    fn outermost_line(&self) -> Option<u32>
+    pub fn outermost_line(&self) -> Option<u32>
         ensures { result ≡ outermost_frame_line self.now }
     {
         match self.frames.first() {

@@ -17,6 +17,7 @@ pub use Rattle.pp_lexer.specs.ItemLaws
 pub use Rattle.pp_expansion.specs.Held
 pub mod Kept
 pub mod Preprocessing
+pub mod CallLine
 pub mod LiveBranch
 pub mod Adding
 pub mod Trying

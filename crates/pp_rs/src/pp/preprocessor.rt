@@ -6,6 +6,7 @@ ghost use Rattle.pp_lexer.specs.Location.{nowhere};
 ghost use Rattle.pp_lexer.specs.PreprocessorError.{out_of_memory};
 ghost use Rattle.pp_model.specs.Run.{items_of, start};
 ghost use Rattle.pp_rs.specs.Adding.{IsAdded};
+ghost use Rattle.pp_rs.specs.CallLine.{IsCallLine};
 ghost use Rattle.pp_expansion.specs.Item.{is_out_of_memory};
 ghost use Rattle.pp_rs.specs.Kept.{Stands, is_spent, most_items, errors_left, error_place};
 ghost use Rattle.pp_expansion.specs.LexerErrors.{lexer_errors};
@@ -88,6 +89,18 @@ impl<'a> Preprocessor<'a> {
         ensures { result ≡ error_place self.now }
     {
         self.place
+    }
+
+    /// The line of the macro call from which the token comes that `next` gave last, as a token's place has it.
+    ///
+    /// It is that of the outermost macro that is open: the line of its name, or of the `)` of its call. `None` if no macro is
+    /// open, as after a token of the source itself; so too after the name of a macro with parameters that ends the body of
+    /// another, if no `(` follows. The place of a token that a macro gives is in that macro's definition, or in the content
+    /// that `add_define` was given. It is as `next` left it, and after an error nothing is said of it.
+    pub fn call_line(&self) -> Option<u32>
+        ensures { IsCallLine result self.now }
+    {
+        self.caller.outermost_line()
     }
 
     /// Lets the name stand for an object-like macro from now on, whatever it stood for, as `Preprocessor::add_define` of

@@ -1,0 +1,65 @@
+//! What `-D` and `-U` leave.
+
+ghost use Rattle.std.specs.Prelude.{◌≡◌, ◌++◌, OnOk, IfOk};
+ghost use Rattle.std.specs.List.{list_any};
+ghost use Rattle.glslpp_parts.specs.Changes.{kept, kept_of, takes_back};
+
+use std::alloc::{AllocError, Global};
+
+/// A `-D` or a `-U` of the command line.
+#[derive(Clone, Copy)]
+pub enum Change<'a> {
+    /// A macro's name and content.
+    Define(&'a str, &'a str),
+    /// The name of a macro that isn't defined any more.
+    Undefine(&'a str),
+}
+
+/// A macro that is defined before a source: its name and its content.
+pub type Definition<'a> = (&'a str, &'a str);
+
+/// The definitions that no later `-U` takes back, in order.
+pub fn kept_definitions<'a>(
+    alloc: Global,
+    changes: &[Change<'a>],
+) -> Result<Vec<Definition<'a>>, AllocError>
+    ensures { IfOk result (λ definitions. definitions.items ≡ kept changes.now) }
+{
+    let mut definitions = Vec::new(alloc);
+    for index in 0..changes.len() {
+        push_kept(changes[index], &changes[index + 1..], &mut definitions)?;
+    }
+    Ok(definitions)
+}
+
+// Puts the definition of a change, unless one of the later changes takes it back.
+fn push_kept<'a>(
+    change: Change<'a>,
+    later: &[Change<'a>],
+    definitions: &mut Vec<Definition<'a>>,
+) -> Result<(), AllocError>
+    ensures { OnOk result (definitions.new.items ≡ definitions.old.items
+        ++ kept_of change.entry later.now) }
+{
+    match change {
+        Change::Define(name, content) if !is_taken_back(name, later) => {
+            definitions.push((name, content))?;
+            Ok(())
+        }
+        _ => Ok(()),
+    }
+}
+
+// Whether one of the changes takes the name back.
+fn is_taken_back(name: &str, changes: &[Change<'_>]) -> bool
+    ensures { result ≡ list_any (takes_back name.now) changes.now }
+{
+    for change in changes {
+        if let Change::Undefine(other) = change
+            && *other == name
+        {
+            return true;
+        }
+    }
+    false
+}

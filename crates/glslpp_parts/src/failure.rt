@@ -1,0 +1,33 @@
+//! Why the program ends with status 2.
+
+use std::alloc::{AllocError, AllocFailed, Global};
+use std::fmt::Display;
+
+/// Why no source could be read to its end, or nothing could be written.
+#[derive(Drop)]
+pub enum Failure {
+    /// What is wrong, as a sentence.
+    Told(String),
+    /// Memory was refused.
+    OutOfMemory,
+}
+
+impl From<AllocError> for Failure {
+    fn from(_refused: AllocError) -> Failure {
+        Failure::OutOfMemory
+    }
+}
+
+impl<T: Drop> From<AllocFailed<T>> for Failure {
+    fn from(_refused: AllocFailed<T>) -> Failure {
+        Failure::OutOfMemory
+    }
+}
+
+/// What is wrong with a subject, as a file: `subject: cause`.
+pub fn failure_of<C: Display + Drop>(alloc: Global, subject: &str, cause: C) -> Failure {
+    match format!(in alloc; "{subject}: {cause}") {
+        Ok(text) => Failure::Told(text),
+        Err(_) => Failure::OutOfMemory,
+    }
+}

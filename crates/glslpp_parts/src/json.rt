@@ -1,0 +1,105 @@
+//! Items as JSON, one a line.
+
+use crate::diagnostics::COMMAND_LINE;
+use crate::place::Place;
+use crate::texts::Spot;
+use pp_rs::token::{Location, PreprocessorError, TokenValue};
+use std::alloc::AllocError;
+
+/// Puts a token: its kind and text, its place, and of a macro's token the line of its call.
+pub fn push_token(
+    output: &mut String,
+    value: &TokenValue,
+    spot: Option<Spot<'_>>,
+    location: Location,
+    call_line: Option<u32>,
+    text: &str,
+) -> Result<(), AllocError> {
+    let kind = kind_of(value);
+    write!(output, "{{\"kind\":\"{kind}\",\"text\":")?;
+    push_string(output, text)?;
+    push_place(output, spot, location)?;
+    if let Some(line) = call_line {
+        write!(output, ",\"call\":{line}")?;
+    }
+    if let TokenValue::Integer(integer) = value {
+        let (value, signed, width) = (integer.value, integer.signed, integer.width);
+        write!(
+            output,
+            ",\"value\":{value},\"signed\":{signed},\"width\":{width}"
+        )?;
+    }
+    output.push_str("}\n")
+}
+
+/// Puts an error: its name and what is said of it, and its place.
+pub fn push_error(
+    output: &mut String,
+    error: &PreprocessorError,
+    spot: Option<Spot<'_>>,
+    location: Location,
+    message: &str,
+) -> Result<(), AllocError> {
+    let name = error.name();
+    write!(
+        output,
+        "{{\"kind\":\"error\",\"error\":\"{name}\",\"message\":"
+    )?;
+    push_string(output, message)?;
+    push_place(output, spot, location)?;
+    output.push_str("}\n")
+}
+
+// Puts a text in quotes, with the escapes of JSON (RFC 8259, section 7).
+fn push_string(output: &mut String, text: &str) -> Result<(), AllocError> {
+    output.push('"')?;
+    for c in text.chars() {
+        push_escaped(output, c)?;
+    }
+    output.push('"')
+}
+
+fn push_escaped(output: &mut String, c: char) -> Result<(), AllocError> {
+    match c {
+        '"' => output.push_str("\\\""),
+        '\\' => output.push_str("\\\\"),
+        '\0'..='\x1f' => write!(output, "\\u{:04x}", c as u32),
+        _ => output.push(c),
+    }
+}
+
+// The place in its text, in bytes, and its line and column if that is the source.
+fn push_place(
+    output: &mut String,
+    spot: Option<Spot<'_>>,
+    location: Location,
+) -> Result<(), AllocError> {
+    let Some(spot) = spot else {
+        return Ok(());
+    };
+    let (start, end) = (spot.start, spot.end);
+    if !spot.is_in_source {
+        return write!(
+            output,
+            ",\"in\":\"{COMMAND_LINE}\",\"start\":{start},\"end\":{end}"
+        );
+    }
+    let line = location.line;
+    write!(output, ",\"start\":{start},\"end\":{end},\"line\":{line}")?;
+    match Place::find(spot) {
+        Some(place) => write!(output, ",\"column\":{}", place.column()),
+        None => Ok(()),
+    }
+}
+
+fn kind_of(value: &TokenValue) -> &'static str {
+    match value {
+        TokenValue::Ident(_) => "identifier",
+        TokenValue::Integer(_) => "integer",
+        TokenValue::Float(_) => "float",
+        TokenValue::Punct(_) => "punctuator",
+        TokenValue::Version(_) => "version",
+        TokenValue::Extension(_) => "extension",
+        TokenValue::Pragma(_) => "pragma",
+    }
+}

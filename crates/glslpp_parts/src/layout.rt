@@ -1,0 +1,122 @@
+//! Words on their lines.
+
+ghost use Rattle.std.specs.Prelude.{◌≡◌, ◌<◌, ◌≤◌, ◌++◌, ◌∷◌, [], false, if◌then◌else◌, OnOk, IfOk, string_bytes};
+ghost use Rattle.std.proofs.Math.ListN.{replicate};
+ghost use Rattle.glslpp_parts.specs.Layout.{Laid, gap_text, moved, with_word};
+ghost use Rattle.glslpp_parts.specs.declared.layout.Gap.TheVariants.{Space};
+
+use std::alloc::{AllocError, Global};
+use std::marker::Model;
+
+/// Whether a space is put between a word and the one before it.
+#[derive(Clone, Copy, PartialEq, Eq)]
+pub enum Gap {
+    /// A space.
+    Space,
+    /// Nothing.
+    Nothing,
+}
+
+/// A text that grows by words, each on its line, as far as lines rise.
+#[derive(Drop)]
+pub struct Layout {
+    text: String,
+    line: u32,
+    is_line_begun: bool,
+}
+
+impl Model for Layout {
+    ghost use Rattle.std.specs.Prelude.{string_bytes};
+    ghost use Rattle.glslpp_parts.specs.Layout.{Laid};
+
+    ghost Value = { Laid };
+
+    ghost view = { λ l. record { text = string_bytes l.text; line = l.line; is_line_begun = l.is_line_begun } };
+}
+
+impl Layout {
+    /// No text, on line 1.
+    pub fn new(alloc: Global) -> Layout
+        ensures { result ≡ record { text = []; line = 1; is_line_begun = false } }
+    {
+        Layout {
+            text: String::new(alloc),
+            line: 1,
+            is_line_begun: false,
+        }
+    }
+
+    /// The line that the text ends on.
+    pub fn line(&self) -> u32
+        ensures { result ≡ self.now.line }
+    {
+        self.line
+    }
+
+    /// Puts a word on its line, or after the last word if that line is past.
+    pub fn push_word(&mut self, line: u32, gap: Gap, word: &str) -> Result<(), AllocError>
+        ensures ahead { OnOk result (self.old.line < line
+            → self.new ≡ with_word (moved self.old line) gap word.now) }
+        ensures past { OnOk result (line ≤ self.old.line
+            → self.new ≡ with_word self.old gap word.now) }
+    {
+        self.go_to(line)?;
+        self.append(gap, word)
+    }
+
+    // Puts a word at the end.
+    fn append(&mut self, gap: Gap, word: &str) -> Result<(), AllocError>
+        ensures { OnOk result (self.new ≡ with_word self.old gap word.now) }
+    {
+        if self.is_line_begun && gap == Gap::Space {
+            self.text.push(' ')?;
+        }
+        self.text.push_str(word)?;
+        self.is_line_begun = true;
+        Ok(())
+    }
+
+    /// Puts a directive on a line of its own.
+    pub fn push_directive(&mut self, line: u32, word: &str) -> Result<(), AllocError>
+        ensures { OnOk result (self.old.line ≤ self.new.line) }
+    {
+        if self.is_line_begun {
+            self.go_to(self.line.saturating_add(1))?;
+        }
+        self.push_word(line, Gap::Space, word)?;
+        self.go_to(self.line.saturating_add(1))
+    }
+
+    // Goes to the line, if it lies ahead.
+    fn go_to(&mut self, line: u32) -> Result<(), AllocError>
+        ensures ahead { OnOk result (self.old.line < line → self.new ≡ moved self.old line) }
+        ensures past { OnOk result (line ≤ self.old.line → self.new ≡ self.old) }
+    {
+        if line > self.line {
+            push_line_ends(&mut self.text, line - self.line)?;
+            self.line = line;
+            self.is_line_begun = false;
+        }
+        Ok(())
+    }
+
+    /// The text, with a last line end if a word is on its last line.
+    pub fn finish(mut self) -> Result<String, AllocError>
+        ensures { IfOk result (λ text. string_bytes text
+            ≡ self.text ++ (if self.is_line_begun then 10 ∷ [] else [])) }
+    {
+        if self.is_line_begun {
+            self.text.push('\n')?;
+        }
+        Ok(self.text)
+    }
+}
+
+fn push_line_ends(text: &mut String, count: u32) -> Result<(), AllocError>
+    ensures { OnOk result (string_bytes text.new ≡ string_bytes text.old ++ replicate count 10) }
+{
+    for done in 0..count {
+        text.push('\n')?;
+    }
+    Ok(())
+}

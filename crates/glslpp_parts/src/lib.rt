@@ -1,0 +1,19 @@
+//! The parts of the program `glslpp`, for which contracts say what they give: its command line, the definitions that are left
+//! of it, places of a source, the layout of its tokens, and what is said of its errors.
+#![tactic(auto)]
+
+pub mod arguments;
+pub mod changes;
+pub mod definitions;
+pub mod diagnostics;
+pub mod failure;
+pub mod json;
+pub mod layout;
+pub mod output;
+pub mod place;
+pub mod quoting;
+pub mod search;
+pub mod sentences;
+pub mod texts;
+pub mod version;
+pub mod words;
