@@ -113,10 +113,11 @@ fn check(
     }
 }
 
-// All items of a source, with the definitions added at their numbers. The first room is a guess.
+// All items of a source, with the definitions added at their numbers. The first room is a guess: what isn't used of it takes
+// no memory.
 fn all_items(source: &str, words: &str, definitions: &mut [raw::Definition]) -> Items {
-    let mut items = Vec::with_capacity(source.len() / 3 + 16);
-    let mut texts = Vec::with_capacity(source.len() + 64);
+    let mut items = Vec::with_capacity(source.len() + 16);
+    let mut texts = Vec::with_capacity(2 * source.len() + 64);
     while let Some(sizes) = call(source, words, definitions, &mut items, &mut texts) {
         items = Vec::with_capacity(sizes.items as usize);
         texts = Vec::with_capacity(sizes.texts as usize);
