@@ -4,13 +4,11 @@
 
 ghost use Rattle.std.specs.Prelude.{◌-◌, ◌^◌, ◌<◌, length};
 
+use pp_rs::SOURCE_LIMIT;
 use pp_rs::pp::Preprocessor;
 use pp_rs::token::{Location, PreprocessorError, Token, TokenValue};
 use std::alloc::Global;
 use std::io;
-
-// A source has fewer bytes than this.
-const SOURCE_LIMIT: usize = 4294967295;
 
 fn main(rt: HostRuntime) -> io::Result<()> {
     let source = io::read_to_string(rt.alloc(), rt.stdin())?;
