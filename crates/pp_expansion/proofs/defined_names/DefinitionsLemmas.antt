@@ -52,8 +52,9 @@ module _ {K : Type 0} (name_of : K → Name) (eq : K → K → Bool) (same : (x 
   are_apart : (other : Name) → is_same_name other name ≡ false → AreApart test (has_name name_of other)
   are_apart other apart k h = ap (is_same_name other) (sym (names_same name (name_of k) (sym (tests k) ∙ h))) ∙ apart
 
-  pub lookup_changed : {X : Type 0} (old new : List (K × X)) (change : Option X) → lookup test new ≡ change → KeepsOthers eq test old new → (other : Name) (b : Bool)
-      → is_same_name other name ≡ b → lookup (has_name name_of other) new ≡ (if b then change else lookup (has_name name_of other) old)
+  pub lookup_changed : {X : Type 0} (old new : List (K × X)) (change : Option X) → lookup test new ≡ change → KeepsOthers eq test old new
+      → (other : Name) (b : Bool) → is_same_name other name ≡ b
+      → lookup (has_name name_of other) new ≡ (if b then change else lookup (has_name name_of other) old)
   unfolding KeepsOthers
   lookup_changed old new change found keeps other true e =
       rw (names_same other name e) (sym (lookup_alike test (has_name name_of name) tests new) ∙ found)

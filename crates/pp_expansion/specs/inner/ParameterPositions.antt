@@ -10,7 +10,9 @@ use Rattle.pp_model.specs.SpliceList.{parameter_of}
 
 -- each name is found at its position among the parameters
 abbrev pub FindsEach : {Z : Type 0} → List (String Z × ℕ) → List Name → Type 0
-FindsEach {Z} entries parameters = (name : Name) → lookup (λ (key : String Z). is_same_name name (chars (string_bytes key))) entries ≡ position (is_same_name name) parameters
+FindsEach {Z} entries parameters = (name : Name)
+    → lookup (λ (key : String Z). is_same_name name (chars (string_bytes key))) entries
+    ≡ position (is_same_name name) parameters
 
 -- the position of the parameter that a token is, if there is a token, and it is a parameter
 abbrev pub parameter_at : List Name → Option Token → Option ℕ
@@ -19,4 +21,5 @@ parameter_at parameters (Some token) = parameter_of parameters token.value
 
 -- each token of the body has the position of the parameter that it is
 abbrev pub PlacesEach : List Name → List Token → List (Option ℕ) → Type 0
-PlacesEach parameters body positions = (k : ℕ) → option_flatten (slice_get positions k) ≡ parameter_at parameters (slice_get body k)
+PlacesEach parameters body positions = (k : ℕ)
+    → option_flatten (slice_get positions k) ≡ parameter_at parameters (slice_get body k)
