@@ -1,2 +1,3 @@
 pub mod DefineLemmas
 pub mod DefinitionsLemmas
+pub mod ParameterNamesLemmas

@@ -26,3 +26,4 @@ pub mod CallNesting
 pub mod Seeking
 pub mod Finishing
 pub mod ParameterReading
+pub mod ParameterPositions

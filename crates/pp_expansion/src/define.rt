@@ -1,32 +1,39 @@
 //! Macros.
 
-ghost use Rattle.std.specs.Prelude.{◌≡◌, ◌↔◌, true, IsTrue, All};
+ghost use Rattle.std.specs.Prelude.{◌≡◌, ◌↔◌, true, IsTrue, All, IfOk, map, slice_get};
 ghost use Rattle.pp_lexer.specs.TokenValue.{is_ordinary};
 ghost use Rattle.pp_lexer.specs.Spelling.{values_of};
 ghost use Rattle.pp_model.specs.Definitions.{IsSameDefinition, object_like};
+ghost use Rattle.pp_model.specs.SpliceList.{parameter_of};
+ghost use Rattle.pp_expansion.specs.inner.ParameterPositions.{parameter_at};
 
+use crate::parameter_names::ParameterNames;
 use pp_lexer::token::{Text, Token};
-use std::alloc::Global;
+use std::alloc::{AllocError, Global};
 use std::marker::Model;
 
-/// What a macro's name stands for.
+/// What a macro's name stands for. A token of its body that is a parameter has the position of that beside it.
 #[derive(Drop)]
 pub struct Define {
     function_like: bool,
     parameters: Vec<Text>,
     body: Vec<Token>,
+    // for each token of the body the position of the parameter that it is; nothing in a macro without parentheses
+    positions: Vec<Option<usize>>,
 }
 
 impl Model for Define {
     ghost use Rattle.std.specs.Prelude.{All, IsTrue};
     ghost use Rattle.pp_lexer.specs.TokenValue.{is_ordinary};
     ghost use Rattle.pp_model.specs.Definitions.{Definition};
+    ghost use Rattle.pp_expansion.specs.inner.ParameterPositions.{PlacesEach};
 
     ghost Value = { Definition };
 
     ghost view = { λ d. record { function_like = d.function_like; parameters = d.parameters.items; body = d.body.items } };
 
-    ghost invariant = { λ d. All (λ token. IsTrue (is_ordinary token.value)) d.body.items };
+    ghost invariant = { λ d. All (λ token. IsTrue (is_ordinary token.value)) d.body.items
+        × PlacesEach d.parameters.items d.body.items d.positions.items };
 }
 
 // Whether both lists have equal values, places aside.
@@ -44,6 +51,22 @@ fn are_same_names(old: &[Text], new: &[Text]) -> bool
     old == new
 }
 
+// For each token of a body the position of the parameter that it is.
+fn positions_in(
+    alloc: Global,
+    parameters: &ParameterNames,
+    body: &[Token],
+) -> Result<Vec<Option<usize>>, AllocError>
+    ensures { IfOk result (λ positions. positions.items
+        ≡ map (λ token. parameter_of parameters.now token.value) body.now) }
+{
+    let mut positions = Vec::with_capacity(alloc, body.len())?;
+    for token in body {
+        positions.push(parameters.position_of(&token.value))?;
+    }
+    Ok(positions)
+}
+
 impl Define {
     /// A macro without parameters.
     pub fn object_like(alloc: Global, body: Vec<Token>) -> Define
@@ -54,23 +77,30 @@ impl Define {
             function_like: false,
             parameters: Vec::new(alloc),
             body,
+            positions: Vec::new(alloc),
         }
     }
 
     /// A macro with these parameters.
-    pub fn function_like(parameters: Vec<Text>, body: Vec<Token>) -> Define
+    pub fn function_like(
+        alloc: Global,
+        parameters: ParameterNames,
+        body: Vec<Token>,
+    ) -> Result<Define, AllocError>
         requires { All (λ token. IsTrue (is_ordinary token.value)) body.items }
-        ensures { result ≡ record {
+        ensures { IfOk result (λ define. define ≡ record {
           function_like = true;
-          parameters = parameters.items;
+          parameters = parameters;
           body = body.items;
-        } }
+        }) }
     {
-        Define {
+        let positions = positions_in(alloc, &parameters, &body)?;
+        Ok(Define {
             function_like: true,
-            parameters,
+            parameters: parameters.into_names(),
             body,
-        }
+            positions,
+        })
     }
 
     /// Whether the macro has parameters in parentheses.
@@ -93,6 +123,16 @@ impl Define {
         ensures ordinary { All (λ token. IsTrue (is_ordinary token.value)) result.now }
     {
         &self.body
+    }
+
+    /// The position of the parameter that the body's token at this position is.
+    pub fn parameter_at(&self, position: usize) -> Option<usize>
+        ensures { result ≡ parameter_at self.now.parameters (slice_get self.now.body position) }
+    {
+        match self.positions.get(position) {
+            Some(parameter) => *parameter,
+            None => None,
+        }
     }
 
     /// Whether the name may be defined again so: kind, parameters and the values of the body are equal.

@@ -1,9 +1,7 @@
 //! Frames: macros that are open, each with how far its body and its arguments are read.
 
-ghost use Rattle.std.specs.Prelude.{◌≡◌, ◌⊎◌, ◌<◌, ◌^◌, IfOk, IfSome, Some, None, Ok, Err, option_map, slice_get, position, is_none};
+ghost use Rattle.std.specs.Prelude.{◌≡◌, ◌⊎◌, ◌<◌, ◌^◌, IfOk, IfSome, Some, None, Ok, Err, option_map, slice_get, is_none};
 ghost use Rattle.pp_lexer.specs.PreprocessorError.{out_of_memory};
-ghost use Rattle.pp_model.specs.Names.{is_same_name};
-ghost use Rattle.pp_model.specs.SpliceList.{parameter_of};
 ghost use Rattle.pp_expansion.specs.inner.Frames.{layer, argument_at, advance};
 ghost use Rattle.pp_expansion.specs.Held.{HoldsOrdinary, AllHoldOrdinary};
 ghost use Rattle.pp_expansion.specs.inner.Ahead.{given_by, frame_after};
@@ -126,25 +124,6 @@ impl Model for Frame {
     } };
 }
 
-// The position of the name among the names. It stands apart, since most tokens are no names.
-#[inline(never)]
-fn position_of(names: &[Text], name: &Text) -> Option<usize>
-    ensures { result ≡ position (is_same_name name.now) names.now }
-{
-    names.iter().position(|other| *name == *other)
-}
-
-// The position of the parameter that the value names.
-#[inline(always)]
-fn parameter_of(parameters: &[Text], value: &TokenValue) -> Option<usize>
-    ensures { result ≡ parameter_of parameters.now value.now }
-{
-    match value {
-        TokenValue::Ident(name) => position_of(parameters, name),
-        _ => None,
-    }
-}
-
 /// The token at the position.
 pub fn token_at(tokens: &[Token], position: usize) -> Option<&Token>
     requires { AllHoldOrdinary tokens.now }
@@ -261,7 +240,7 @@ impl Frame {
         let Some(token) = token_at(self.define.body(), self.position) else {
             return None;
         };
-        match parameter_of(self.define.parameters(), &token.value) {
+        match self.define.parameter_at(self.position) {
             Some(_) => None,
             None => Some(Ahead {
                 token,
@@ -282,11 +261,12 @@ impl Frame {
             }
             return;
         }
-        let Some(token) = token_at(self.define.body(), self.position) else {
+        let Some(_) = token_at(self.define.body(), self.position) else {
             return;
         };
+        let parameter = self.define.parameter_at(self.position);
         self.position += 1;
-        if let Some(index) = parameter_of(self.define.parameters(), &token.value) {
+        if let Some(index) = parameter {
             self.expanding = Some(index);
             self.argument_position = 0;
         }

@@ -13,5 +13,6 @@ pub mod list_lexer;
 pub mod list_step;
 pub mod open_around;
 pub mod open_names;
+pub mod parameter_names;
 pub mod reader;
 pub mod step;

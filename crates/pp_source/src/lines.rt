@@ -266,7 +266,7 @@ fn function_after(
 {
     let names = parameters(alloc, word, lexer)?;
     let body = rest_of_line(alloc, lexer)?;
-    Ok(Define::function_like(names, body))
+    Ok(Define::function_like(alloc, names, body)?)
 }
 
 // The definition after a macro's name.

@@ -1,6 +1,6 @@
 //! The parameters of a macro, read token by token.
 
-ghost use Rattle.std.specs.Prelude.{◌≡◌, ◌++◌, ◌∷◌, [], false};
+ghost use Rattle.std.specs.Prelude.{◌≡◌, ◌++◌, ◌∷◌, [], false, IfOk};
 ghost use Rattle.pp_model.specs.DefineLines.{parameters};
 ghost use Rattle.pp_model.specs.Names.{is_in};
 ghost use Rattle.pp_expansion.specs.inner.LineReading as spec;
@@ -12,22 +12,21 @@ ghost use Rattle.pp_source.specs.inner.ReadNames.{parameters_to};
 use crate::lines::{first_token, refused_token};
 use crate::source_lexer::SourceLexer;
 use pp_expansion::halt::Halt;
+use pp_expansion::parameter_names::ParameterNames;
 use pp_lexer::lexer;
 use pp_lexer::token::{Location, PreprocessorError, Punct, Text};
 use std::alloc::Global;
 
-// Whether the name is one of these.
-fn is_among(names: &[Text], name: &Text) -> bool
-    ensures { result ≡ is_in name.now names.now }
-{
-    names.iter().any(|other| *name == *other)
-}
-
 // The name of one more parameter, which comes next.
-fn one_parameter(names: &[Text], word: Location, lexer: &mut SourceLexer<'_>) -> Result<Text, Halt>
+fn one_parameter(
+    names: &ParameterNames,
+    word: Location,
+    lexer: &mut SourceLexer<'_>,
+) -> Result<Text, Halt>
     requires { lexer.old.spent ≡ false }
     ensures is { spec.Meets (λ name. names.now ++ name ∷ []) result
         (one_parameter word names.now lexer.old.rest) }
+    ensures new { IfOk result (λ name. is_in name names.now ≡ false) }
     ensures takes { spec.TakesItems 1 lexer.old result lexer.new }
     ensures errors { Reports result (unreported_at lexer.old) (unreported_at lexer.new) }
 {
@@ -35,7 +34,7 @@ fn one_parameter(names: &[Text], word: Location, lexer: &mut SourceLexer<'_>) ->
     let location = token.location;
     match token.value {
         lexer::TokenValue::Ident(name) => {
-            if is_among(names, &name) {
+            if names.contains(&name) {
                 drop(name);
                 return Err(Halt::Fault((PreprocessorError::DuplicateParameter, location)));
             }
@@ -75,43 +74,26 @@ fn ends_parameters(word: Location, lexer: &mut SourceLexer<'_>) -> Result<bool, 
     }
 }
 
-// Reads the parameters of a macro after its `(` into a list that is empty.
-fn read_parameters(
-    word: Location,
-    lexer: &mut SourceLexer<'_>,
-    names: &mut Vec<Text>,
-) -> Result<(), Halt>
-    requires unspent { lexer.old.spent ≡ false }
-    requires empty { names.old.items ≡ [] }
-    ensures is { spec.Meets (λ t. parameters_to names.new.items lexer.new) result
-        (parameters word lexer.old.rest) }
-    ensures goes { GoesOn result lexer.old lexer.new }
-    ensures errors { Reports result (unreported_at lexer.old) (unreported_at lexer.new) }
-{
-    let Some(first) = first_parameter(word, lexer)? else {
-        return Ok(());
-    };
-    names.push(first)?;
-    'parameters: while !ends_parameters(word, lexer)? {
-        let name = one_parameter(&*names, word, lexer)?;
-        names.push(name)?;
-    }
-    Ok(())
-}
-
 /// The parameters of a macro, after its `(`.
 pub fn parameters(
     alloc: Global,
     word: Location,
     lexer: &mut SourceLexer<'_>,
-) -> Result<Vec<Text>, Halt>
+) -> Result<ParameterNames, Halt>
     requires { lexer.old.spent ≡ false }
-    ensures is { spec.Meets (λ names. parameters_to names.items lexer.new) result
+    ensures is { spec.Meets (λ names. parameters_to names lexer.new) result
         (parameters word lexer.old.rest) }
     ensures goes { GoesOn result lexer.old lexer.new }
     ensures errors { Reports result (unreported_at lexer.old) (unreported_at lexer.new) }
 {
-    let mut names = Vec::new(alloc);
-    read_parameters(word, lexer, &mut names)?;
+    let none = ParameterNames::new(alloc);
+    let Some(first) = first_parameter(word, lexer)? else {
+        return Ok(none);
+    };
+    let mut names = none.with(alloc, first)?;
+    'parameters: while !ends_parameters(word, lexer)? {
+        let name = one_parameter(&names, word, lexer)?;
+        names = names.with(alloc, name)?;
+    }
     Ok(names)
 }

@@ -43,6 +43,23 @@ one_more None before after e = omega arith
 abbrev pub has_name : {K : Type 0} → (K → Name) → Name → K → Bool
 has_name name_of name key = is_same_name name (name_of key)
 
+-- a change at the keys of one name, in what names find
+module _ {K : Type 0} (name_of : K → Name) (eq : K → K → Bool) (same : (x y : K) → eq x y ≡ is_same_name (name_of x) (name_of y))
+    (name : Name) (test : K → Bool) (tests : (k : K) → test k ≡ has_name name_of name k) where
+  tests_keys : (other : Name) → IsKeyTest eq (has_name name_of other)
+  tests_keys other x y h = ap (λ n. is_same_name n (name_of y)) (names_same other (name_of x) h) ∙ sym (same x y)
+
+  are_apart : (other : Name) → is_same_name other name ≡ false → AreApart test (has_name name_of other)
+  are_apart other apart k h = ap (is_same_name other) (sym (names_same name (name_of k) (sym (tests k) ∙ h))) ∙ apart
+
+  pub lookup_changed : {X : Type 0} (old new : List (K × X)) (change : Option X) → lookup test new ≡ change → KeepsOthers eq test old new
+      → (other : Name) (b : Bool) → is_same_name other name ≡ b
+      → lookup (has_name name_of other) new ≡ (if b then change else lookup (has_name name_of other) old)
+  unfolding KeepsOthers
+  lookup_changed old new change found keeps other true e =
+      rw (names_same other name e) (sym (lookup_alike test (has_name name_of name) tests new) ∙ found)
+  lookup_changed old new change found keeps other false e = keeps (has_name name_of other) (tests_keys other) (are_apart other e)
+
 module _ {K X : Type 0} (name_of : K → Name) (value_of : X → Definition) where
   -- what the entries of a map define
   abbrev pub defined : List (K × X) → List Defined
@@ -68,19 +85,15 @@ module _ {K X : Type 0} (name_of : K → Name) (value_of : X → Definition) whe
   -- a change at the keys of one name
   module _ (eq : K → K → Bool) (same : (x y : K) → eq x y ≡ is_same_name (name_of x) (name_of y))
       (name : Name) (test : K → Bool) (tests : (k : K) → test k ≡ has_name name_of name k) where
-    tests_keys : (other : Name) → IsKeyTest eq (has_name name_of other)
-    tests_keys other x y h = ap (λ n. is_same_name n (name_of y)) (names_same other (name_of x) h) ∙ sym (same x y)
-
-    are_apart : (other : Name) → is_same_name other name ≡ false → AreApart test (has_name name_of other)
-    are_apart other apart k h = ap (is_same_name other) (sym (names_same name (name_of k) (sym (tests k) ∙ h))) ∙ apart
-
     module _ (old new : List (K × X)) (change : Option X) (found : lookup test new ≡ change) (keeps : KeepsOthers eq test old new) where
       changed_if : (other : Name) (b : Bool) → is_same_name other name ≡ b
           → meaning_of (defined new) other ≡ (if b then option_map value_of change else meaning_of (defined old) other)
-      unfolding KeepsOthers
-      changed_if other true e = rw (names_same other name e) (found_by name test tests new ∙ ap (option_map value_of) found)
+      changed_if other true e =
+          meaning_of-defined new other
+          ∙ ap (option_map value_of) (lookup_changed name_of eq same name test tests old new change found keeps other true e)
       changed_if other false e =
-          meaning_of-defined new other ∙ ap (option_map value_of) (keeps (has_name name_of other) (tests_keys other) (are_apart other e))
+          meaning_of-defined new other
+          ∙ ap (option_map value_of) (lookup_changed name_of eq same name test tests old new change found keeps other false e)
           ∙ sym (meaning_of-defined old other)
 
       pub meaning_of-changed : meaning_of (defined new) ≡ changed (meaning_of (defined old)) name (option_map value_of change)

@@ -1,4 +1,4 @@
-use Rattle.std.proofs.Common.{◌≡◌, ◌∙◌, ◌+◌, [], ◌∷◌, Some, None, drop, ap, sym, refl}
+use Rattle.std.proofs.Common.{◌≡◌, ◌∙◌, ◌+◌, [], ◌∷◌, Some, None, drop, ap, sym, refl, slice_get}
 use Rattle.pp_model.specs.Painting.{unpainted}
 use Rattle.pp_model.specs.SpliceList.{parameter_of}
 use Rattle.pp_expansion.specs.inner.Frames.{argument_at, advance}
@@ -28,22 +28,24 @@ returns-in_default-token_at-clause-step c =
     (rw (c.body.ensures.is, c.deref-2.ensures) at (sym c.in_default-token_at.ensures.token)) in
     stays _ _ (ap advance (sym c.self.view_is) ∙ (rw (c.in_default.is, e) refl))
 
-pub returns-in-Some-parameter_of-clause-step : goal.returns-in-Some-parameter_of-clause-step
-returns-in-Some-parameter_of-clause-step c =
-    let e : drop c.self.inside.position c.self.inside.define.value.body ≡ c.in-Some-token_at.token.now ∷ drop
+pub returns-in-Some-parameter-clause-step : goal.returns-in-Some-parameter-clause-step
+returns-in-Some-parameter-clause-step c =
+    let at : slice_get c.self.inside.define.value.body c.self.inside.position ≡ Some c.in-Some-token_at.field-0.now
+    = rw (c.body.ensures.is, c.deref-2.ensures) at (sym c.in-Some-token_at.ensures.token) in
+    let e : drop c.self.inside.position c.self.inside.define.value.body ≡ c.in-Some-token_at.field-0.now ∷ drop
     (c.self.inside.position + 1) c.self.inside.define.value.body
-    = drop-some c.self.inside.define.value.body c.self.inside.position c.in-Some-token_at.token.now
-    (rw (c.body.ensures.is, c.deref-2.ensures) at (sym c.in-Some-token_at.ensures.token)) in
-    let p : parameter_of c.self.inside.define.value.parameters c.in-Some-token_at.token.now.value ≡ Some c.in-Some-parameter_of.index
-    = rw (c.parameters.ensures, c.deref-3.ensures) at (sym c.in-Some-parameter_of.ensures) in
+    = drop-some c.self.inside.define.value.body c.self.inside.position c.in-Some-token_at.field-0.now at in
+    let p : parameter_of c.self.inside.define.value.parameters c.in-Some-token_at.field-0.now.value ≡ Some c.in-Some-parameter.index
+    = rw (c.deref-3.ensures, at, c.in-Some-parameter.is) at (sym c.parameter_at-parameter.ensures) in
     passes_to _ _ None _ (ap advance (sym c.self.view_is) ∙ (rw (c.in_default.is, e, p) refl))
 
-pub returns-in_default-parameter_of-clause-step : goal.returns-in_default-parameter_of-clause-step
-returns-in_default-parameter_of-clause-step c =
-    let e : drop c.self.inside.position c.self.inside.define.value.body ≡ c.in-Some-token_at.token.now ∷ drop
+pub returns-in_default-parameter-clause-step : goal.returns-in_default-parameter-clause-step
+returns-in_default-parameter-clause-step c =
+    let at : slice_get c.self.inside.define.value.body c.self.inside.position ≡ Some c.in-Some-token_at.field-0.now
+    = rw (c.body.ensures.is, c.deref-2.ensures) at (sym c.in-Some-token_at.ensures.token) in
+    let e : drop c.self.inside.position c.self.inside.define.value.body ≡ c.in-Some-token_at.field-0.now ∷ drop
     (c.self.inside.position + 1) c.self.inside.define.value.body
-    = drop-some c.self.inside.define.value.body c.self.inside.position c.in-Some-token_at.token.now
-    (rw (c.body.ensures.is, c.deref-2.ensures) at (sym c.in-Some-token_at.ensures.token)) in
-    let p : parameter_of c.self.inside.define.value.parameters c.in-Some-token_at.token.now.value ≡ None
-    = rw (c.parameters.ensures, c.deref-3.ensures) at (sym c.in_default-parameter_of.ensures) in
-    passes_to _ _ (Some (unpainted c.in-Some-token_at.token.now)) _ (ap advance (sym c.self.view_is) ∙ (rw (c.in_default.is, e, p) refl))
+    = drop-some c.self.inside.define.value.body c.self.inside.position c.in-Some-token_at.field-0.now at in
+    let p : parameter_of c.self.inside.define.value.parameters c.in-Some-token_at.field-0.now.value ≡ None
+    = rw (c.deref-3.ensures, at, c.in_default-parameter.is) at (sym c.parameter_at-parameter.ensures) in
+    passes_to _ _ (Some (unpainted c.in-Some-token_at.field-0.now)) _ (ap advance (sym c.self.view_is) ∙ (rw (c.in_default.is, e, p) refl))

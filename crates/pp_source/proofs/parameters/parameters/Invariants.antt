@@ -1,12 +1,12 @@
 use Rattle.std.proofs.Common.{◌≡◌, false, ◌≤◌, length}
 use Rattle.pp_model.specs.DefineLines.{parameters, after_parameter}
 use Rattle.pp_expansion.specs.inner.SourceLexed.{unreported_at}
-use Rattle.pp_source.proofs.parameters.read_parameters.Given as goal
+use Rattle.pp_source.proofs.parameters.parameters.Given as goal
 
 -- what goes on after these parameters is the whole
 abbrev pub invariant-parameters : goal.invariant-parameters
 invariant-parameters l = record {
-  whole : parameters l.fn.word l.fn.lexer.rest ≡ after_parameter l.fn.word l.names.items l.lexer.rest;
+  whole : parameters l.fn.word l.fn.lexer.rest ≡ after_parameter l.fn.word l.names l.lexer.rest;
   fewer : length l.lexer.rest ≤ length l.fn.lexer.rest;
   unspent : l.lexer.spent ≡ false;
   errors : unreported_at l.lexer ≡ unreported_at l.fn.lexer;

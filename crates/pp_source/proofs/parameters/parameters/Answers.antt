@@ -1,10 +1,10 @@
-use Rattle.std.proofs.Common.{◌∙◌, ap, Err, arith}
+use Rattle.std.proofs.Common.{◌∙◌, ap, refl, Err, arith}
 use Rattle.std.proofs.lemmas.Result.{err_from_is_err_and}
 use Rattle.pp_expansion.specs.inner.ParameterReading.{alone}
 use Rattle.pp_expansion.proofs.work.ParameterLemmas.{meets_first, meets_refused}
 use Rattle.pp_source.proofs.LineReadingLemmas.{drop_fewer}
 use Rattle.pp_source.proofs.ParametersLemmas.{none_first, one_first, names_end, one_more, no_more}
-use Rattle.pp_source.proofs.parameters.read_parameters.Goals as goal
+use Rattle.pp_source.proofs.parameters.parameters.Goals as goal
 
 pub returns-in_err-first-clause-is : goal.returns-in_err-first-clause-is
 returns-in_err-first-clause-is c =
@@ -20,13 +20,13 @@ returns-in_err-ends_parameters-clause-is c =
 pub returns-in_default-clause-is : goal.returns-in_default-clause-is
 returns-in_default-clause-is c =
     let e = c.in_ok-first.ensures in
-    none_first c.args.word _ c.args.lexer.now.rest _ _ e.is c.in_default.is c.requires.empty e.takes.rest
+    none_first c.args.word _ c.args.lexer.now.rest _ _ e.is c.in_default.is c.new-none.ensures e.takes.rest
 
 pub parameters-init : goal.parameters-init
 parameters-init c =
     let e = c.in_ok-first.ensures in
     record {
-      whole = one_first c.args.word _ _ _ c.args.lexer.now.rest _ _ e.is c.in-Some.is c.requires.empty c.in_ok-push.ensures.items e.takes.rest;
+      whole = one_first c.args.word _ _ _ c.args.lexer.now.rest _ _ e.is c.in-Some.is c.new-none.ensures c.in_ok-names.ensures e.takes.rest;
       fewer = omega (arith, drop_fewer c.args.lexer.now.rest c.first_parameter.new.lexer.rest 1 e.takes.rest);
       unspent = e.takes.spent;
       errors = e.errors;
@@ -37,7 +37,7 @@ returns-in_err-name-clause-is c =
     let e = err_from_is_err_and c.from_residual-in_err-name.result c.from_residual-in_err-name.ensures.1 in
     let n = c.in_ok-ends_parameters.ensures in
     no_more _ _ c.in_err-name.field-0.0 _ _ _ _ _ _ _ (e.1 ∙ ap Err e.2) c.parameters.invariant.whole n.is c.if-not-branch.true n.takes.rest
-    c.deref.ensures.value c.in_err-name.ensures.is
+    refl c.in_err-name.ensures.is
 
 pub parameters-preserved : goal.parameters-preserved
 parameters-preserved c =
@@ -45,8 +45,8 @@ parameters-preserved c =
     let n = c.in_ok-ends_parameters.ensures in
     let o = c.in_ok-name.ensures in
     record {
-      whole = one_more _ _ _ _ _ _ _ _ _ _ before.whole n.is c.if-not-branch.true n.takes.rest c.deref.ensures.value o.is
-          c.in_ok-push-2.ensures.items o.takes.rest;
+      whole = one_more _ _ _ _ _ _ _ _ _ _ before.whole n.is c.if-not-branch.true n.takes.rest refl o.is
+          c.in_ok-names-2.ensures o.takes.rest;
       fewer = omega (
         arith,
         drop_fewer c.parameters.lexer.rest c.ends_parameters.new.lexer.rest 1 n.takes.rest,

@@ -1,0 +1,25 @@
+-- Where the parameters of a macro are, in its list of parameters and in its body.
+use Rattle.std.specs.Prelude.{◌≡◌, ℕ, List, Option, Some, None, slice_get, position, string_bytes}
+use Rattle.std.specs.Map.{lookup}
+use Rattle.std.specs.Option.{option_flatten}
+use Rattle.std.specs.Str.{chars}
+use Rattle.std.specs.declared.string.String.{String}
+use Rattle.pp_lexer.specs.declared.token.Token.{Token}
+use Rattle.pp_model.specs.Names.{Name, is_same_name}
+use Rattle.pp_model.specs.SpliceList.{parameter_of}
+
+-- each name is found at its position among the parameters
+abbrev pub FindsEach : {Z : Type 0} → List (String Z × ℕ) → List Name → Type 0
+FindsEach {Z} entries parameters = (name : Name)
+    → lookup (λ (key : String Z). is_same_name name (chars (string_bytes key))) entries
+    ≡ position (is_same_name name) parameters
+
+-- the position of the parameter that a token is, if there is a token, and it is a parameter
+abbrev pub parameter_at : List Name → Option Token → Option ℕ
+parameter_at parameters None = None
+parameter_at parameters (Some token) = parameter_of parameters token.value
+
+-- each token of the body has the position of the parameter that it is
+abbrev pub PlacesEach : List Name → List Token → List (Option ℕ) → Type 0
+PlacesEach parameters body positions = (k : ℕ)
+    → option_flatten (slice_get positions k) ≡ parameter_at parameters (slice_get body k)
