@@ -9,8 +9,7 @@ use crate::shown::{
 use pp_plain::run::run;
 use pp_rs::pp::{
     self, Call, Preprocessor, PreprocessorItem, Reply, append_all, are_read_afresh, drain,
-    preprocess_all,
-    spell_tokens,
+    preprocess_all, spell_tokens,
 };
 use pp_rs::token::{Location, PreprocessorError, Token};
 use std::alloc::Global;
