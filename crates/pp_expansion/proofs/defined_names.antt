@@ -1,3 +1,7 @@
+pub mod NameKeysLemmas
 pub mod DefineLemmas
+pub mod DistinctNamesLemmas
+pub mod NamePlacesLemmas
+pub mod FoundNamesLemmas
 pub mod DefinitionsLemmas
 pub mod ParameterNamesLemmas

@@ -1,6 +1,7 @@
 pub mod PauseLemmas
 pub mod TakingLemmas
 pub mod StepLemmas
+pub mod PartLemmas
 pub mod PieceLemmas
 pub mod PlainLemmas
 pub mod Walk
@@ -12,4 +13,5 @@ pub mod ListLeadsLemmas
 pub mod AnswerLemmas
 pub mod SeekLemmas
 pub mod FrameTurnLemmas
+pub mod GivingLemmas
 pub mod ListedLemmas

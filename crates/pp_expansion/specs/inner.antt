@@ -10,6 +10,10 @@ pub mod Source
 pub mod Reader
 pub mod Reading
 pub mod Frames
+pub mod NamePlaces
+pub mod NameTable
+pub mod Giving
+pub mod Parts
 pub mod OpenNames
 pub mod OpenAround
 pub mod Turns

@@ -7,25 +7,25 @@ ghost use Rattle.pp_model.specs.Emitting.{Alone, Each, answers_at};
 ghost use Rattle.pp_expansion.specs.inner.Defined.{meaning_of};
 ghost use Rattle.pp_expansion.specs.inner.Finishing.{Finishes, IsAtStart, IsShort, AreShort, AreOfCall, read_to_end, site_at};
 ghost use Rattle.pp_expansion.specs.inner.Frames.{names_of};
+ghost use Rattle.pp_expansion.specs.inner.Parts.{added, lists_of, AreInOrder};
 ghost use Rattle.pp_expansion.specs.inner.Reading.{AllReadOrdinary};
 ghost use Rattle.pp_expansion.specs.inner.Machine.{Satisfies};
 ghost use Rattle.pp_expansion.specs.inner.Plain.{is_plain};
 ghost use Rattle.pp_expansion.specs.declared.step.StepExit.TheVariants.{Error};
 
-use crate::calls::{Call, Caller, ExpandedArguments, Taken, is_left_paren, is_right_paren};
+use crate::argument_lists::{ArgumentLists, Part};
+use crate::calls::{Call, Caller, Taken, is_left_paren, is_right_paren};
 use crate::define::Define;
 use crate::definitions::Definitions;
 use crate::expander::is_line_name;
-use crate::frames::ReadList;
 use crate::halt::{Halt, halt_of};
-use crate::list_lexer::ListLexer;
+use crate::list_lexer::{ListLexer, take_out};
 use crate::list_step::step_list;
 use crate::open_around::OpenAround;
 use crate::step::StepExit;
 use pp_lexer::token::{PreprocessorError, Punct, TokenValue};
 use pp_model::read::Read;
 use std::alloc::{AllocError, Global};
-use std::mem;
 
 // Whether it is a comma.
 fn is_comma(value: &TokenValue) -> bool
@@ -55,62 +55,45 @@ fn nesting_after(depth: usize, value: &TokenValue) -> usize
     }
 }
 
-// Cuts the tokens at the commas that stand outside inner parentheses. The last piece stands apart.
-fn cut_at_commas(
-    alloc: Global,
-    tokens: Vec<Read>,
-    pieces: &mut Vec<ReadList>,
-    piece: &mut Vec<Read>,
-) -> Result<(), AllocError>
-    requires holds { AllReadOrdinary tokens.items }
-    requires none { pieces.old.items ≡ [] }
-    requires empty { piece.old.items ≡ [] }
-    ensures cut { OnOk result (arguments_of tokens.items
-        ≡ pieces.new.items ++ piece.new.items ∷ []) }
-    ensures holds { OnOk result (AllReadOrdinary piece.new.items) }
+// The parts between the commas that are outside inner parentheses.
+fn parts_of(alloc: Global, tokens: &[Read]) -> Result<Vec<Part>, AllocError>
+    ensures cut { IfOk result (λ parts. lists_of tokens.now parts.items ≡ arguments_of tokens.now) }
+    ensures order { IfOk result (λ parts. AreInOrder 0 parts.items (length tokens.now)) }
 {
+    let mut parts = Vec::with_capacity(alloc, 4)?;
+    let mut start = 0;
     let mut depth: usize = 0;
-    for read in tokens {
+    for (at, read) in tokens.iter().enumerate() {
         if ends_argument(depth, &read.token.value) {
-            drop(read);
-            pieces.push(ReadList::new(mem::replace(piece, Vec::new(alloc))))?;
+            parts.push(Part { start, end: at })?;
+            start = at + 1;
             continue;
         }
         depth = nesting_after(depth, &read.token.value);
-        piece.push(read)?;
     }
-    Ok(())
+    parts.push(Part {
+        start,
+        end: tokens.len(),
+    })?;
+    Ok(parts)
 }
 
 // The arguments of a call whose tokens are these.
-fn arguments_of(alloc: Global, tokens: Vec<Read>) -> Result<ExpandedArguments, AllocError>
+fn arguments_of(alloc: Global, tokens: Vec<Read>) -> Result<ArgumentLists, AllocError>
     requires { AllReadOrdinary tokens.items }
     ensures { IfOk result (λ arguments. arguments ≡ arguments_of tokens.items) }
 {
-    let mut pieces = Vec::new(alloc);
-    let mut piece = Vec::new(alloc);
-    cut_at_commas(alloc, tokens, &mut pieces, &mut piece)?;
-    pieces.push(ReadList::new(piece))?;
-    Ok(ExpandedArguments::new(pieces))
-}
-
-// Whether there is one list, without a token.
-fn is_one_empty(arguments: &[ReadList]) -> bool
-    ensures { result ≡ is_one_empty arguments.now }
-{
-    match arguments {
-        [only] => only.as_slice().is_empty(),
-        _ => false,
-    }
+    let parts = parts_of(alloc, &tokens)?;
+    Ok(ArgumentLists::new(tokens, parts))
 }
 
 // What is wrong with the number of arguments.
-fn misfit(define: &Define, arguments: &ExpandedArguments) -> Option<PreprocessorError>
+fn misfit(define: &Define, arguments: &ArgumentLists) -> Option<PreprocessorError>
     ensures { result ≡ misfit define.now.parameters arguments.now }
 {
     let wanted = define.parameters().len();
-    let given = arguments.as_slice().len();
-    if wanted == 0 && is_one_empty(arguments.as_slice()) {
+    let given = arguments.len();
+    if wanted == 0 && arguments.is_one_empty() {
         None
     } else if wanted < given {
         Some(PreprocessorError::TooManyDefineArguments)
@@ -147,7 +130,7 @@ fn expand_call(
     definitions: &Definitions,
     hidden: &OpenAround<'_>,
     levels: u32,
-) -> Result<ExpandedArguments, Halt>
+) -> Result<ArgumentLists, Halt>
     ensures answers { Satisfies result (λ out. answers_at levels call.old.definition
         (site_at call.old definitions.now (names_of caller.now.frames ++ hidden.now)) out) }
     ensures least { IfOk result (λ outs. AreOfCall levels definitions.now call.old outs) }
@@ -169,11 +152,11 @@ fn expand_call(
 fn expand_within(
     alloc: Global,
     caller: &Caller,
-    arguments: ExpandedArguments,
+    arguments: ArgumentLists,
     definitions: &Definitions,
     hidden: &OpenAround<'_>,
     levels: u32,
-) -> Result<ExpandedArguments, Halt>
+) -> Result<ArgumentLists, Halt>
     ensures each { Satisfies result (λ out. Each (Alone levels) (meaning_of definitions.now)
         (names_of caller.now.frames ++ hidden.now) arguments out) }
     ensures least { IfOk result (λ outs. AreShort levels definitions.now arguments outs) }
@@ -186,21 +169,51 @@ fn expand_within(
 #[cycle(answers)]
 fn expand_arguments(
     alloc: Global,
-    arguments: ExpandedArguments,
+    arguments: ArgumentLists,
     definitions: &Definitions,
     hidden: &OpenAround<'_>,
     levels: u32,
-) -> Result<ExpandedArguments, Halt>
+) -> Result<ArgumentLists, Halt>
     ensures each { Satisfies result (λ out. Each (Alone levels)
         (meaning_of definitions.now) hidden.now arguments out) }
     ensures least { IfOk result (λ outs. AreShort levels definitions.now arguments outs) }
 {
-    let mut expanded = Vec::new(alloc);
-    for argument in arguments.into_lists() {
-        let list = expand_argument(alloc, argument, definitions, hidden, levels)?;
-        expanded.push(list)?;
+    let (mut tokens, parts) = arguments.into_parts();
+    if are_plain(&tokens, definitions, hidden) {
+        return Ok(ArgumentLists::new(tokens, parts));
     }
-    Ok(ExpandedArguments::new(expanded))
+    expand_parts(alloc, &mut tokens, &parts, definitions, hidden, levels)
+}
+
+// The parts of the tokens, each expanded alone, or the first fault. The tokens are taken out.
+#[cycle(answers)]
+fn expand_parts(
+    alloc: Global,
+    tokens: &mut [Read],
+    parts: &[Part],
+    definitions: &Definitions,
+    hidden: &OpenAround<'_>,
+    levels: u32,
+) -> Result<ArgumentLists, Halt>
+    requires holds { AllReadOrdinary tokens.old }
+    requires order { AreInOrder 0 parts.now (length tokens.old) }
+    ensures each { Satisfies result (λ out. Each (Alone levels) (meaning_of definitions.now)
+        hidden.now (lists_of tokens.old parts.now) out) }
+    ensures least { IfOk result (λ outs. AreShort levels definitions.now
+        (lists_of tokens.old parts.now) outs) }
+{
+    let mut items = Vec::with_capacity(alloc, tokens.len())?;
+    let mut expanded = Vec::with_capacity(alloc, parts.len())?;
+    for part in parts {
+        let start = items.len();
+        let argument = &mut tokens[part.start..part.end];
+        expand_argument(alloc, argument, &mut items, definitions, hidden, levels)?;
+        expanded.push(Part {
+            start,
+            end: items.len(),
+        })?;
+    }
+    Ok(ArgumentLists::new(items, expanded))
 }
 
 // Whether the token gives itself, with its paint: it isn't `__LINE__`, and is painted, or no name
@@ -229,44 +242,64 @@ fn are_plain(tokens: &[Read], definitions: &Definitions, hidden: &OpenAround<'_>
         .all(|read| is_plain(read, definitions, hidden))
 }
 
-// What a list of tokens comes to alone.
+// Moves the tokens to the end of the items.
+fn append(tokens: &mut [Read], items: &mut Vec<Read>) -> Result<(), AllocError>
+    ensures { OnOk result (items.new.items ≡ items.old.items ++ tokens.old) }
+{
+    for at in 0..tokens.len() {
+        items.push(take_out(&mut tokens[at]))?;
+    }
+    Ok(())
+}
+
+// Expands a list of tokens alone, and adds what that gives to the items. The tokens are taken out.
 #[cycle(answers)]
 fn expand_argument(
     alloc: Global,
-    tokens: ReadList,
-    definitions: &Definitions,
-    hidden: &OpenAround<'_>,
-    levels: u32,
-) -> Result<ReadList, Halt>
-    ensures alone { Satisfies result (λ out. Alone levels tokens
-        (meaning_of definitions.now) hidden.now out) }
-    ensures least { IfOk result (λ out. IsShort levels definitions.now (length tokens) out) }
-{
-    if are_plain(tokens.as_slice(), definitions, hidden) {
-        return Ok(tokens);
-    }
-    let mut items = Vec::with_capacity(alloc, 16)?;
-    expand_tokens(alloc, tokens, &mut items, definitions, hidden, levels)?;
-    Ok(ReadList::new(items))
-}
-
-// Gathers what a list of tokens comes to alone.
-#[cycle(answers)]
-fn expand_tokens(
-    alloc: Global,
-    tokens: ReadList,
+    tokens: &mut [Read],
     items: &mut Vec<Read>,
     definitions: &Definitions,
     hidden: &OpenAround<'_>,
     levels: u32,
 ) -> Result<(), Halt>
-    requires { items.old.items ≡ [] }
-    ensures alone { Satisfies result (λ end. Alone levels tokens
-        (meaning_of definitions.now) hidden.now (read_to_end items.new.items end)) }
-    ensures least { OnOk result (IsShort levels definitions.now (length tokens) items.new.items) }
+    requires ordinary { AllReadOrdinary tokens.old }
+    requires before { AllReadOrdinary items.old.items }
+    ensures keeps { OnOk result (items.new.items
+        ≡ items.old.items ++ added items.old.items items.new.items) }
+    ensures alone { Satisfies result (λ end. Alone levels tokens.old (meaning_of definitions.now)
+        hidden.now (read_to_end (added items.old.items items.new.items) end)) }
+    ensures least { OnOk result (IsShort levels definitions.now (length tokens.old)
+        (added items.old.items items.new.items)) }
     ensures holds { OnOk result (AllReadOrdinary items.new.items) }
 {
-    let mut lexer = ListLexer::argument(tokens.into_tokens(), definitions, &*hidden);
+    if are_plain(&*tokens, definitions, hidden) {
+        append(tokens, items)?;
+        return Ok(());
+    }
+    expand_tokens(alloc, tokens, items, definitions, hidden, levels)
+}
+
+// Expands such a list step by step.
+#[cycle(answers)]
+fn expand_tokens(
+    alloc: Global,
+    tokens: &mut [Read],
+    items: &mut Vec<Read>,
+    definitions: &Definitions,
+    hidden: &OpenAround<'_>,
+    levels: u32,
+) -> Result<(), Halt>
+    requires ordinary { AllReadOrdinary tokens.old }
+    requires before { AllReadOrdinary items.old.items }
+    ensures keeps { OnOk result (items.new.items
+        ≡ items.old.items ++ added items.old.items items.new.items) }
+    ensures alone { Satisfies result (λ end. Alone levels tokens.old (meaning_of definitions.now)
+        hidden.now (read_to_end (added items.old.items items.new.items) end)) }
+    ensures least { OnOk result (IsShort levels definitions.now (length tokens.old)
+        (added items.old.items items.new.items)) }
+    ensures holds { OnOk result (AllReadOrdinary items.new.items) }
+{
+    let mut lexer = ListLexer::argument(tokens, definitions, &*hidden);
     let mut caller = Caller::new(alloc);
     let ended = expand_list(
         alloc,
@@ -282,7 +315,7 @@ fn expand_tokens(
     ended
 }
 
-// Expands the tokens of a list to its end.
+// Expands the tokens of a list to its end, and adds what that gives to the items.
 #[cycle(answers)]
 fn expand_list(
     alloc: Global,
@@ -293,14 +326,19 @@ fn expand_list(
     hidden: &OpenAround<'_>,
     levels: u32,
 ) -> Result<(), Halt>
-    requires { IsAtStart definitions.now hidden.now caller.old lexer.old items.old.items }
+    requires start { IsAtStart definitions.now hidden.now caller.old lexer.old }
+    requires before { AllReadOrdinary items.old.items }
+    ensures keeps { OnOk result (items.new.items
+        ≡ items.old.items ++ added items.old.items items.new.items) }
     ensures alone { Satisfies result (λ end. Alone levels lexer.old.tokens
-        (meaning_of definitions.now) hidden.now (read_to_end items.new.items end)) }
+        (meaning_of definitions.now) hidden.now
+        (read_to_end (added items.old.items items.new.items) end)) }
     ensures least { OnOk result (IsShort levels definitions.now (length lexer.old.tokens)
-        items.new.items) }
+        (added items.old.items items.new.items)) }
     ensures holds { OnOk result (AllReadOrdinary items.new.items) }
 {
     'items: loop {
+        caller.give_frames(&*lexer, items)?;
         match step_list(&mut *caller, &mut *lexer) {
             Ok(Taken::Token(read)) => items.push(read)?,
             Ok(Taken::Call(call)) => {

@@ -3,23 +3,27 @@
 ghost use Rattle.std.specs.Prelude.{◌≡◌, ◌⊎◌, ◌∷◌, ◌++◌, [], OnOk, true, false, IfOk, IfSome, Ok, Err, Some, None, IsSome, is_some, option_map};
 ghost use Rattle.pp_lexer.specs.PreprocessorError.{out_of_memory};
 ghost use Rattle.pp_model.specs.Calls.{is_left_paren, is_right_paren, nesting};
-ghost use Rattle.pp_model.specs.Painting.{unpainted};
+ghost use Rattle.pp_model.specs.Painting.{unpainted, painted_among};
 ghost use Rattle.pp_expansion.specs.inner.CallNesting.{nesting_named};
 ghost use Rattle.pp_expansion.specs.inner.Seeking.{FindsBy, Enters, FollowsToken};
 ghost use Rattle.pp_expansion.specs.inner.Frames.{layer, names_of, outermost_frame_line};
 ghost use Rattle.pp_expansion.specs.Held.{HoldsOrdinary};
 ghost use Rattle.pp_expansion.specs.inner.Reading.{AllReadOrdinary};
+ghost use Rattle.pp_expansion.specs.inner.Giving.{GivesEach, GivesNext, PausesEach, is_at_pause};
 ghost use Rattle.pp_expansion.specs.inner.Idle.{is_idle};
 ghost use Rattle.pp_expansion.specs.inner.CallTurns.{TurnsOrRefuses, is_refusal, paren_of, TakenHoldsOrdinary};
 ghost use Rattle.pp_expansion.specs.inner.Machine.{StepsFetching, StepsTaking, TakesNext, GathersNext, Satisfies, gathered_to, taken_as, is_pause};
-ghost use Rattle.pp_expansion.specs.inner.Turns.{opens};
+ghost use Rattle.pp_expansion.specs.inner.Reader.{of_list};
+ghost use Rattle.pp_expansion.specs.inner.Turns.{opens, masks};
 ghost use Rattle.pp_lexer.specs.declared.token.TokenValue.TheVariants as value;
 ghost use Rattle.pp_expansion.specs.declared.step.StepExit.TheVariants.{Error, Continue};
 
+use crate::argument_lists::ArgumentLists;
 use crate::define::Define;
 use crate::expander::{MacroProcessor, gives_line_name, is_line_name};
-use crate::frames::ReadList;
+use crate::frames::Ahead;
 use crate::halt::{Halt, halt_of};
+use crate::list_lexer::ListLexer;
 use crate::open_around::OpenAround;
 use crate::reader::MeLexer;
 use crate::step::{Step, StepExit, is_out_of_memory};
@@ -73,44 +77,6 @@ impl Call {
         ensures { result ≡ self.now.paren }
     {
         self.paren
-    }
-}
-
-/// Lists of tokens, one for each argument.
-#[derive(Drop)]
-pub struct ExpandedArguments {
-    items: Vec<ReadList>,
-}
-
-impl Model for ExpandedArguments {
-    ghost use Rattle.std.specs.Prelude.{List};
-    ghost use Rattle.pp_model.specs.declared.read.Read.{Read};
-
-    ghost Value = { List (List Read) };
-
-    ghost view = { λ e. e.items.items };
-}
-
-impl ExpandedArguments {
-    /// These lists.
-    pub fn new(items: Vec<ReadList>) -> Self
-        ensures { result ≡ items.items }
-    {
-        ExpandedArguments { items }
-    }
-
-    /// The lists.
-    pub fn as_slice(&self) -> &[ReadList]
-        ensures { result.now ≡ self.now }
-    {
-        &self.items
-    }
-
-    /// The lists as a vector.
-    pub fn into_lists(self) -> Vec<ReadList>
-        ensures { result.items ≡ self }
-    {
-        self.items
     }
 }
 
@@ -264,6 +230,22 @@ fn refused() -> Step<Taken>
     Err(StepExit::Error(out_of_memory()))
 }
 
+// Whether a token that a frame gives opens a macro once it is taken, painted or not.
+fn opens_macro(list: &ListLexer<'_>, ahead: &Ahead<'_>, painted: bool) -> bool
+    ensures { result ≡ is_some (opens (of_list list.now) (record {
+      token = ahead.now.token;
+      painted = painted;
+    })) }
+{
+    if painted {
+        return false;
+    }
+    match ahead.value() {
+        TokenValue::Ident(name) => list.get_define(name.as_str()).is_some(),
+        _ => false,
+    }
+}
+
 impl Caller {
     /// An expander in which nothing is open or held.
     pub fn new(alloc: Global) -> Caller
@@ -313,10 +295,11 @@ impl Caller {
         ensures steps { StepsTaking self.old (reader lexer.old) result self.new (reader lexer.new) }
         ensures holds { IfOk result (λ read. HoldsOrdinary read.token.value) }
     {
-        match self.fetch(lexer) {
-            Ok(read) => Ok(self.processor.paint(&*lexer, read)),
-            Err(exit) => Err(exit),
+        let mut step = self.fetch(lexer);
+        if let Ok(read) = &mut step {
+            self.processor.paint(&*lexer, read);
         }
+        step
     }
 
     // What comes first.
@@ -457,7 +440,7 @@ impl Caller {
             ⊎ (result ≡ Err (Error out_of_memory)) }
         ensures holds { IfOk result TakenHoldsOrdinary }
     {
-        let arguments = Vec::new(self.alloc);
+        let arguments = ArgumentLists::nothing(self.alloc);
         match self.processor.open(name, line, define, arguments) {
             Ok(()) => Err(StepExit::Continue),
             Err(_) => Err(StepExit::Error(out_of_memory())),
@@ -580,12 +563,83 @@ impl Caller {
         if is_line_name(ahead.value()) {
             return self.step_any(lexer);
         }
-        let Ok(copy) = ahead.copied(self.alloc) else {
+        let Ok(mut read) = ahead.copied(self.alloc) else {
             return refused();
         };
         self.processor.pass();
-        let read = self.processor.paint(&*lexer, copy);
+        self.processor.paint(&*lexer, &mut read);
         self.follow(lexer, read)
+    }
+
+    // Whether a macro is open whose next step is a pause, and nothing is held.
+    #[inline(always)]
+    fn is_at_pause(&self) -> bool
+        ensures { result ≡ is_at_pause self.now }
+    {
+        self.held.is_none() && !self.processor.is_idle() && self.processor.token().is_none()
+    }
+
+    /// Passes the pauses of the open macros: parameters, and ends of arguments and of bodies.
+    pub fn pass_pauses(&mut self)
+        ensures { PausesEach self.old self.new }
+    {
+        'pauses: while self.is_at_pause() {
+            self.processor.pass();
+        }
+    }
+
+    // Whether a token that a frame gives is painted once it is taken.
+    fn paints(&self, list: &ListLexer<'_>, ahead: &Ahead<'_>) -> bool
+        ensures { result ≡ (painted_among (masks self.now.frames (of_list list.now)) ahead.now).painted }
+    {
+        match ahead.value() {
+            TokenValue::Ident(name) => {
+                ahead.is_painted()
+                    || self.processor.is_open(name.as_str())
+                    || list.is_hidden(name.as_str())
+            }
+            _ => ahead.is_painted(),
+        }
+    }
+
+    // One step of the innermost frame, if it pauses or its token is given. Whether it was made.
+    #[inline(always)]
+    fn give_next(&mut self, list: &ListLexer<'_>, items: &mut Vec<Read>) -> Result<bool, AllocError>
+        requires { AllReadOrdinary items.old.items }
+        ensures gives { IfOk result (λ made. GivesNext (of_list list.now) self.old items.old.items
+            made self.new items.new.items) }
+        ensures holds { IfOk result (λ made. AllReadOrdinary items.new.items) }
+    {
+        if self.held.is_some() || self.processor.is_idle() {
+            return Ok(false);
+        }
+        let Some(ahead) = self.processor.token() else {
+            self.processor.pass();
+            return Ok(true);
+        };
+        let painted = self.paints(list, &ahead);
+        if is_line_name(ahead.value()) || opens_macro(list, &ahead, painted) {
+            return Ok(false);
+        }
+        items.push(ahead.copied_as(self.alloc, painted)?)?;
+        self.processor.pass();
+        Ok(true)
+    }
+
+    /// Puts at the end of the items what the open macros give, if a list is read after them: up to
+    /// `__LINE__`, to a name that opens a macro, or to the end of them all.
+    pub fn give_frames(
+        &mut self,
+        list: &ListLexer<'_>,
+        items: &mut Vec<Read>,
+    ) -> Result<(), AllocError>
+        requires { AllReadOrdinary items.old.items }
+        ensures gives { OnOk result (GivesEach (of_list list.now) self.old items.old.items self.new
+            items.new.items) }
+        ensures holds { OnOk result (AllReadOrdinary items.new.items) }
+    {
+        'steps: while self.give_next(list, items)? {}
+        Ok(())
     }
 
     /// One step: a token is taken, and is given, or opens its macro, or begins a call that is gathered.
@@ -609,7 +663,7 @@ impl Caller {
     }
 
     /// Opens the frame of a call.
-    pub fn open_call(&mut self, call: Call, arguments: ExpandedArguments) -> Result<(), AllocError>
+    pub fn open_call(&mut self, call: Call, arguments: ArgumentLists) -> Result<(), AllocError>
         ensures { OnOk result (self.new
             ≡ record self.old {
               frames = layer call.name call.closing.line call.definition arguments
@@ -623,7 +677,6 @@ impl Caller {
             closing,
             tokens: _,
         } = call;
-        self.processor
-            .open(name, closing.line, define, arguments.into_lists())
+        self.processor.open(name, closing.line, define, arguments)
     }
 }

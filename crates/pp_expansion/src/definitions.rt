@@ -5,26 +5,31 @@ ghost use Rattle.std.specs.Str.{chars};
 ghost use Rattle.pp_expansion.specs.inner.Defined.{meaning_of, IsChanged};
 
 use crate::define::Define;
+use crate::names::Names;
 use pp_lexer::token::Text;
 use std::alloc::{AllocError, Global};
-use std::collections::BTreeMap;
 use std::marker::Model;
 use std::rc::Rc;
 
-/// The names that are defined, and what each stands for.
+/// The names that are defined, and what each stands for. A name gets its number when it is first
+/// defined, and keeps it for good.
 #[derive(Drop)]
 pub struct Definitions {
-    defines: BTreeMap<String, Rc<Define>>,
+    names: Names,
+    // at each name's number what it stands for; nothing if it isn't defined any more
+    defines: Vec<Option<Rc<Define>>>,
 }
 
 impl Model for Definitions {
-    ghost use Rattle.std.specs.Prelude.{List, map, string_bytes};
-    ghost use Rattle.std.specs.Str.{chars};
-    ghost use Rattle.pp_expansion.specs.inner.Defined.{Defined};
+    ghost use Rattle.std.specs.Prelude.{◌≡◌, List, map, length, option_map};
+    ghost use Rattle.pp_model.specs.ApartMarks.{AreApart};
+    ghost use Rattle.pp_expansion.specs.inner.Defined.{Defined, defined_among};
 
     ghost Value = { List Defined };
 
-    ghost view = { λ d. map (λ e. record { name = chars (string_bytes e.0); definition = e.1.value }) d.defines.entries };
+    ghost view = { λ d. defined_among d.names (map (λ define. option_map (λ m. m.value) define) d.defines.items) };
+
+    ghost invariant = { λ d. AreApart d.names × (length d.defines.items ≡ length d.names) };
 }
 
 impl Definitions {
@@ -33,7 +38,8 @@ impl Definitions {
         ensures { result ≡ [] }
     {
         Definitions {
-            defines: BTreeMap::new(alloc),
+            names: Names::new(alloc),
+            defines: Vec::new(alloc),
         }
     }
 
@@ -41,7 +47,8 @@ impl Definitions {
     pub fn find(&self, name: &str) -> Option<&Rc<Define>>
         ensures { option_map (λ d. d.now.value) result ≡ meaning_of self.now (chars name.now) }
     {
-        self.defines.get(name)
+        let id = self.names.find(name)?;
+        self.defines[id.number()].as_ref()
     }
 
     /// Lets the name stand for this from now on. Where memory is refused, nothing changes.
@@ -49,7 +56,13 @@ impl Definitions {
         ensures ok { OnOk result (IsChanged name (Some define.value) self.old self.new) }
         ensures err { OnErr result (self.new ≡ self.old) }
     {
-        self.defines.insert(name.into_string(), define)?;
+        if let Some(id) = self.names.find(name.as_str()) {
+            self.defines[id.number()] = Some(define);
+            return Ok(());
+        }
+        self.defines.reserve(1)?;
+        self.names.push(name)?;
+        self.defines.push_reserved(Some(define));
         Ok(())
     }
 
@@ -57,6 +70,8 @@ impl Definitions {
     pub fn remove(&mut self, name: &str)
         ensures { IsChanged (chars name.now) None self.old self.new }
     {
-        self.defines.remove(name);
+        if let Some(id) = self.names.find(name) {
+            self.defines[id.number()] = None;
+        }
     }
 }

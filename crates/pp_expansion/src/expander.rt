@@ -1,20 +1,24 @@
 //! The expander: open macros over a reader.
 
-ghost use Rattle.std.specs.Prelude.{◌≡◌, ◌∷◌, [], drop, IfOk, IfSome, OnOk, MatchResult, Ok, Err, option_map, is_some, not, pos, false};
+ghost use Rattle.std.specs.Prelude.{◌≡◌, ◌≤◌, ◌<◌, ◌-◌, ◌∷◌, [], drop, take, IfOk, IfSome, OnErr, OnOk, MatchResult, Ok, Err, option_map, is_some, not, pos, false};
+ghost use Rattle.std.specs.List.{list_any};
 ghost use Rattle.std.specs.Str.{chars};
 ghost use Rattle.pp_lexer.specs.declared.token.PreprocessorError.TheVariants.{LineOverflow};
 ghost use Rattle.pp_lexer.specs.declared.token.TokenValue.TheVariants as value;
-ghost use Rattle.pp_model.specs.Names.{is_in, is_identifier, line_name};
+ghost use Rattle.pp_model.specs.Names.{is_in, is_identifier, is_same_name, line_name};
 ghost use Rattle.pp_model.specs.Painting.{is_one_of, painted_among};
 ghost use Rattle.pp_model.specs.declared.read.Taken.TheVariants as given;
 ghost use Rattle.pp_expansion.specs.inner.Frames.{layer, names_of, outermost_frame_line};
 ghost use Rattle.pp_expansion.specs.Held.{HoldsOrdinary};
 ghost use Rattle.pp_expansion.specs.inner.Ahead.{given_next, frames_after};
+ghost use Rattle.pp_expansion.specs.inner.OpenNames.{closed, opened};
 ghost use Rattle.pp_expansion.specs.inner.Turns.{Moves, taken_in, masks, gives_line_name, opens_value};
 ghost use Rattle.pp_expansion.specs.declared.step.StepExit.TheVariants.{Error, Continue};
 
+use crate::argument_lists::ArgumentLists;
 use crate::define::Define;
-use crate::frames::{Ahead, Frame, ReadList, give};
+use crate::frames::{Ahead, Frame, give};
+use crate::names::is_text;
 use crate::open_names::OpenNames;
 use crate::reader::MeLexer;
 use crate::step::{Step, StepExit};
@@ -25,24 +29,67 @@ use std::alloc::{AllocError, Global};
 use std::marker::Model;
 use std::rc::Rc;
 
+// The names of so many macros, the outermost, are compared one by one.
+const FEW: usize = 8;
+
 /// Macros that are open, the innermost last.
 #[derive(Drop)]
 pub struct MacroProcessor {
     alloc: Global,
     frames: Vec<Frame>,
+    // the names of the macros that are open in the first few
     open_names: OpenNames,
 }
 
 impl Model for MacroProcessor {
-    ghost use Rattle.std.specs.Prelude.{List, reverse};
+    ghost use Rattle.std.specs.Prelude.{◌≡◌, List, reverse};
     ghost use Rattle.pp_expansion.specs.inner.Frames.{Layer, names_of};
-    ghost use Rattle.pp_expansion.specs.inner.OpenNames.{AreNamesOf};
+    ghost use Rattle.pp_expansion.specs.inner.OpenNames.{deeper, outermost};
 
     ghost Value = { List Layer };
 
     ghost view = { λ p. reverse p.frames.items };
 
-    ghost invariant = { λ p. AreNamesOf p.open_names (names_of (reverse p.frames.items)) };
+    ghost invariant = { λ p. p.open_names ≡ outermost (deeper (names_of (reverse p.frames.items))) };
+}
+
+// Whether the frame is one of this macro.
+#[inline(always)]
+fn has_name(frame: &Frame, name: &str) -> bool
+    ensures { result ≡ is_same_name (chars name.now) frame.now.name }
+{
+    is_text(frame.name(), name)
+}
+
+// Whether one of the first few frames is one of this macro.
+#[inline(always)]
+fn is_name_of(frames: &[Frame], name: &str) -> bool
+    ensures { result ≡ list_any (λ frame. is_same_name (chars name.now) frame.name) (take 8 frames.now) }
+{
+    frames.iter().take(FEW).any(|frame| has_name(frame, name))
+}
+
+// Notes the name of a frame that opens inside so many others, unless it is one of the first few.
+fn note_name(names: &mut OpenNames, name: &str, frames: usize) -> Result<(), AllocError>
+    ensures few { frames < 8 → OnOk result (names.new ≡ names.old) }
+    ensures many { 8 ≤ frames
+        → OnOk result (names.new ≡ opened (chars name.now) (frames - 8) names.old) }
+    ensures err { OnErr result (names.new ≡ names.old) }
+{
+    if frames < FEW {
+        return Ok(());
+    }
+    names.open(name, frames - FEW)
+}
+
+// Forgets the name of a frame that closes inside so many others, unless it is one of the first few.
+fn free_name(names: &mut OpenNames, frames: usize)
+    ensures few { frames < 8 → names.new ≡ names.old }
+    ensures many { 8 ≤ frames → names.new ≡ closed (frames - 8) names.old }
+{
+    if frames >= FEW {
+        names.close(frames - FEW);
+    }
 }
 
 /// Whether the token is `__LINE__`.
@@ -111,7 +158,7 @@ impl MacroProcessor {
     pub fn is_open(&self, name: &str) -> bool
         ensures { result ≡ is_in (chars name.now) (names_of self.now) }
     {
-        self.open_names.is_open(name)
+        is_name_of(&self.frames, name) || self.open_names.is_open(name)
     }
 
     /// The line of the outermost macro that is open: that of its name, or of the `)` of its call.
@@ -130,11 +177,8 @@ impl MacroProcessor {
     fn close(&mut self)
         ensures { self.new ≡ drop 1 self.old }
     {
-        let Some(frame) = self.frames.pop() else {
-            return;
-        };
-        self.open_names
-            .close(frame.name().as_str(), self.frames.len());
+        self.frames.pop();
+        free_name(&mut self.open_names, self.frames.len());
     }
 
     /// The token that the innermost frame gives next: none where that is a pause.
@@ -212,14 +256,12 @@ impl MacroProcessor {
         }
     }
 
-    /// A token that is taken: the name of a macro that is open here or around is painted.
-    pub fn paint(&self, lexer: &dyn MeLexer, read: Read) -> Read
-        ensures { result ≡ painted_among (masks self.now (reader lexer.now)) read }
+    /// Paints a token that is taken, if it is the name of a macro that is open here or around.
+    pub fn paint(&self, lexer: &dyn MeLexer, read: &mut Read)
+        ensures { read.new ≡ painted_among (masks self.now (reader lexer.now)) read.old }
     {
-        let painted = read.painted || self.is_masked(lexer, &read.token.value);
-        Read {
-            token: read.token,
-            painted,
+        if !read.painted {
+            read.painted = self.is_masked(lexer, &read.token.value);
         }
     }
 
@@ -244,12 +286,12 @@ impl MacroProcessor {
         name: Text,
         line: u32,
         define: Rc<Define>,
-        arguments: Vec<ReadList>,
+        arguments: ArgumentLists,
     ) -> Result<(), AllocError>
-        ensures { OnOk result (self.new ≡ layer name line define.value arguments.items ∷ self.old) }
+        ensures { OnOk result (self.new ≡ layer name line define.value arguments ∷ self.old) }
     {
         self.frames.reserve(1)?;
-        self.open_names.open(name.as_str(), self.frames.len())?;
+        note_name(&mut self.open_names, name.as_str(), self.frames.len())?;
         let frame = Frame::new(name, line, define, arguments);
         self.frames.push_reserved(frame);
         Ok(())

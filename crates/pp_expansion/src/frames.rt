@@ -5,9 +5,9 @@ ghost use Rattle.pp_lexer.specs.PreprocessorError.{out_of_memory};
 ghost use Rattle.pp_expansion.specs.inner.Frames.{layer, argument_at, advance};
 ghost use Rattle.pp_expansion.specs.Held.{HoldsOrdinary, AllHoldOrdinary};
 ghost use Rattle.pp_expansion.specs.inner.Ahead.{given_by, frame_after};
-ghost use Rattle.pp_expansion.specs.inner.Reading.{AllReadOrdinary};
 ghost use Rattle.pp_expansion.specs.declared.step.StepExit.TheVariants.{Error};
 
+use crate::argument_lists::ArgumentLists;
 use crate::define::Define;
 use crate::step::{Step, StepExit};
 use pp_lexer::token::{Text, Token, TokenValue, out_of_memory};
@@ -15,51 +15,6 @@ use pp_model::read::Read;
 use std::alloc::{AllocError, Global};
 use std::marker::Model;
 use std::rc::Rc;
-
-/// Tokens that an argument of a call comes to, with their paint. A directive item among them holds
-/// ordinary tokens.
-#[derive(Drop)]
-pub struct ReadList {
-    items: Vec<Read>,
-}
-
-impl Model for ReadList {
-    ghost use Rattle.std.specs.Prelude.{List};
-    ghost use Rattle.pp_model.specs.declared.read.Read.{Read};
-    ghost use Rattle.pp_expansion.specs.inner.Reading.{AllReadOrdinary};
-
-    ghost Value = { List Read };
-
-    ghost view = { λ list. list.items.items };
-
-    ghost invariant = { λ list. AllReadOrdinary list.items.items };
-}
-
-impl ReadList {
-    /// The list of these tokens.
-    pub fn new(items: Vec<Read>) -> ReadList
-        requires { AllReadOrdinary items.items }
-        ensures { result ≡ items.items }
-    {
-        ReadList { items }
-    }
-
-    /// The tokens as a vector.
-    pub fn into_tokens(self) -> Vec<Read>
-        ensures is { result.items ≡ self }
-        ensures holds { AllReadOrdinary result.items }
-    {
-        self.items
-    }
-
-    /// The tokens.
-    pub fn as_slice(&self) -> &[Read]
-        ensures is { result.now ≡ self.now }
-        ensures holds { AllReadOrdinary result.now }
-    {
-        &self.items
-    }
-}
 
 /// A token that a frame gives, where it stands, and whether it is painted.
 #[derive(Drop)]
@@ -84,14 +39,28 @@ impl<'a> Ahead<'a> {
         &self.token.value
     }
 
+    /// Whether it is painted.
+    pub fn is_painted(&self) -> bool
+        ensures { result ≡ self.now.painted }
+    {
+        self.painted
+    }
+
+    /// A copy of the token, painted or not.
+    pub fn copied_as(&self, alloc: Global, painted: bool) -> Result<Read, AllocError>
+        ensures { IfOk result (λ copy. copy ≡ record { token = self.now.token; painted = painted }) }
+    {
+        Ok(Read {
+            token: copy_of(alloc, self.token)?,
+            painted,
+        })
+    }
+
     /// A copy of the token, with its paint.
     pub fn copied(&self, alloc: Global) -> Result<Read, AllocError>
         ensures { IfOk result (λ copy. copy ≡ self.now) }
     {
-        Ok(Read {
-            token: copy_of(alloc, self.token)?,
-            painted: self.painted,
-        })
+        self.copied_as(alloc, self.painted)
     }
 }
 
@@ -102,7 +71,7 @@ pub struct Frame {
     line: u32,
     define: Rc<Define>,
     position: usize,
-    arguments: Vec<ReadList>,
+    arguments: ArgumentLists,
     expanding: Option<usize>,
     argument_position: usize,
 }
@@ -118,9 +87,9 @@ impl Model for Frame {
       line = f.line;
       parameters = f.define.value.parameters;
       body = drop f.position f.define.value.body;
-      arguments = f.arguments.items;
+      arguments = f.arguments;
       reading = option_map (λ k. drop f.argument_position
-          (argument_at f.arguments.items k)) f.expanding;
+          (argument_at f.arguments k)) f.expanding;
     } };
 }
 
@@ -135,13 +104,12 @@ pub fn token_at(tokens: &[Token], position: usize) -> Option<&Token>
 }
 
 // The token of the argument with this index at the position.
-fn argument_token(arguments: &[ReadList], index: usize, position: usize) -> Option<Ahead<'_>>
+fn argument_token(arguments: &ArgumentLists, index: usize, position: usize) -> Option<Ahead<'_>>
     ensures token { result ≡ slice_get (argument_at arguments.now index) position }
     ensures small { IfSome result (λ _. position < 2 ^ 63) }
     ensures holds { IfSome result (λ ahead. HoldsOrdinary ahead.token.value) }
 {
-    let argument = arguments.get(index)?;
-    let read = argument.as_slice().get(position)?;
+    let read = arguments.token_at(index, position)?;
     Some(Ahead {
         token: &read.token,
         painted: read.painted,
@@ -190,8 +158,8 @@ fn refused_token() -> Step<Read>
 
 impl Frame {
     /// The frame of a macro as it opens.
-    pub fn new(name: Text, line: u32, define: Rc<Define>, arguments: Vec<ReadList>) -> Frame
-        ensures { result ≡ layer name line define.value arguments.items }
+    pub fn new(name: Text, line: u32, define: Rc<Define>, arguments: ArgumentLists) -> Frame
+        ensures { result ≡ layer name line define.value arguments }
     {
         Frame {
             name,

@@ -1,6 +1,7 @@
 //! Macros: definitions, the expander over a reader of tokens, calls and their arguments; and the blocks that are open.
 #![tactic(auto)]
 
+pub mod argument_lists;
 pub mod arguments;
 pub mod blocks;
 pub mod calls;
@@ -11,6 +12,7 @@ pub mod frames;
 pub mod halt;
 pub mod list_lexer;
 pub mod list_step;
+pub mod names;
 pub mod open_around;
 pub mod open_names;
 pub mod parameter_names;

@@ -12,12 +12,12 @@ use crate::definitions::Definitions;
 use crate::open_around::OpenAround;
 use crate::reader::MeLexer;
 use crate::step::{Step, StepExit};
-use pp_lexer::token::{Location, Token};
+use pp_lexer::token::{Location, NOWHERE, Punct, Token, TokenValue};
 use pp_model::read::Read;
 use std::alloc::{AllocError, Global};
 use std::marker::Model;
+use std::mem;
 use std::rc::Rc;
-use std::vec::IntoIter;
 
 // Whether the name is the operator of a directive's line.
 fn is_reserved(is_line: bool, name: &str) -> bool
@@ -37,44 +37,58 @@ pub fn unpainted(alloc: Global, tokens: Vec<Token>) -> Result<Vec<Read>, AllocEr
     Ok(reads)
 }
 
-/// A list of tokens, with what is defined there and the names that are open around.
+/// Takes a token out of its place. A comma that is nowhere is left there.
+pub fn take_out(place: &mut Read) -> Read
+    ensures { result ≡ place.old }
+{
+    let nothing = Token {
+        value: TokenValue::Punct(Punct::Comma),
+        location: NOWHERE,
+    };
+    mem::replace(place, Read::unpainted(nothing))
+}
+
+/// A list of tokens, with what is defined there and the names that are open around. What it has
+/// read is taken out of the list.
 #[derive(Drop)]
 pub struct ListLexer<'a> {
-    tokens: IntoIter<Read>,
+    tokens: &'a mut [Read],
+    position: usize,
     definitions: &'a Definitions,
     hidden: &'a OpenAround<'a>,
     is_line: bool,
 }
 
 impl<'a> Model for ListLexer<'a> {
-    ghost use Rattle.std.specs.Vec.Iter.{into_iter_items};
+    ghost use Rattle.std.specs.Prelude.{drop};
     ghost use Rattle.pp_expansion.specs.inner.Reading.{AllReadOrdinary};
     ghost use Rattle.pp_expansion.specs.inner.Reader.{Listing};
 
     ghost Value = { Listing };
 
-    ghost view = { λ l. record { tokens = into_iter_items l.tokens; definitions = l.definitions.now; hidden = l.hidden.now; is_line = l.is_line } };
+    ghost view = { λ l. record { tokens = drop l.position l.tokens.now; definitions = l.definitions.now; hidden = l.hidden.now; is_line = l.is_line } };
 
-    ghost invariant = { λ l. AllReadOrdinary (into_iter_items l.tokens) };
+    ghost invariant = { λ l. AllReadOrdinary (drop l.position l.tokens.now) };
 }
 
 impl<'a> ListLexer<'a> {
     /// An argument of a call.
     pub fn argument(
-        tokens: Vec<Read>,
+        tokens: &'a mut [Read],
         definitions: &'a Definitions,
         hidden: &'a OpenAround<'a>,
     ) -> Self
-        requires { AllReadOrdinary tokens.items }
+        requires { AllReadOrdinary tokens.old }
         ensures { result ≡ record {
-          tokens = tokens.items;
+          tokens = tokens.old;
           definitions = definitions.now;
           hidden = hidden.now;
           is_line = false;
         } }
     {
         ListLexer {
-            tokens: tokens.into_iter(),
+            tokens,
+            position: 0,
             definitions,
             hidden,
             is_line: false,
@@ -82,17 +96,22 @@ impl<'a> ListLexer<'a> {
     }
 
     /// The line of an `#if`, `#elif` or `#line`, where `defined` is reserved.
-    pub fn line(tokens: Vec<Read>, definitions: &'a Definitions, hidden: &'a OpenAround<'a>) -> Self
-        requires { AllReadOrdinary tokens.items }
+    pub fn line(
+        tokens: &'a mut [Read],
+        definitions: &'a Definitions,
+        hidden: &'a OpenAround<'a>,
+    ) -> Self
+        requires { AllReadOrdinary tokens.old }
         ensures { result ≡ record {
-          tokens = tokens.items;
+          tokens = tokens.old;
           definitions = definitions.now;
           hidden = hidden.now;
           is_line = true;
         } }
     {
         ListLexer {
-            tokens: tokens.into_iter(),
+            tokens,
+            position: 0,
             definitions,
             hidden,
             is_line: true,
@@ -104,9 +123,11 @@ impl<'a> MeLexer for ListLexer<'a> {
     ghost reader = { λ list. of_list list };
 
     fn step(&mut self) -> Step<Read> {
-        let Some(read) = self.tokens.next() else {
+        if self.tokens.len() <= self.position {
             return Err(StepExit::Finished);
-        };
+        }
+        let read = take_out(&mut self.tokens[self.position]);
+        self.position += 1;
         Ok(read)
     }
 

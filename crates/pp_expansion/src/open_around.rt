@@ -54,7 +54,9 @@ impl<'a> OpenAround<'a> {
         ensures { IfOk result (λ names. names ≡ names_of expander.now ++ around.now) }
     {
         let mut expanders = Vec::new(alloc);
-        expanders.push(expander)?;
+        if !expander.is_idle() {
+            expanders.push(expander)?;
+        }
         expanders.extend_from_slice(&around.expanders)?;
         Ok(OpenAround { expanders })
     }

@@ -1,29 +1,35 @@
-//! Names that are open, found by their order.
+//! Names that are open, in the order in which they opened.
 
-ghost use Rattle.std.specs.Prelude.{◌≡◌, [], OnOk, OnErr, is_some};
+ghost use Rattle.std.specs.Prelude.{◌≡◌, [], OnOk, OnErr};
 ghost use Rattle.std.specs.Str.{chars};
-ghost use Rattle.pp_expansion.specs.inner.OpenNames.{position_at, IsOpenedAt, IsClosedAt};
+ghost use Rattle.pp_expansion.specs.inner.OpenNames.{is_open, opened, closed};
 
+use crate::names::Names;
+use pp_lexer::token::Text;
 use std::alloc::{AllocError, Global};
-use std::collections::BTreeMap;
 use std::marker::Model;
 
 /// Names that are open, each with the position of the outermost frame that has it. The outermost
 /// of all frames has the position 0.
+///
+/// Frames close in the order last opened, first closed, so names do too, and are a list that grows
+/// and shrinks at its end. Contracts see the name that opened last first.
 #[derive(Drop)]
 pub struct OpenNames {
     alloc: Global,
-    positions: BTreeMap<String, usize>,
+    names: Names,
+    positions: Vec<usize>,
 }
 
 impl Model for OpenNames {
-    ghost use Rattle.std.specs.Prelude.{List, map, string_bytes};
-    ghost use Rattle.std.specs.Str.{chars};
-    ghost use Rattle.pp_expansion.specs.inner.OpenNames.{Position};
+    ghost use Rattle.std.specs.Prelude.{◌≡◌, List, length};
+    ghost use Rattle.pp_expansion.specs.inner.OpenNames.{Position, last_first};
 
     ghost Value = { List Position };
 
-    ghost view = { λ o. map (λ e. record { name = chars (string_bytes e.0); position = e.1 }) o.positions.entries };
+    ghost view = { λ o. last_first o.names o.positions.items };
+
+    ghost invariant = { λ o. length o.positions.items ≡ length o.names };
 }
 
 impl OpenNames {
@@ -33,39 +39,44 @@ impl OpenNames {
     {
         OpenNames {
             alloc,
-            positions: BTreeMap::new(alloc),
+            names: Names::new(alloc),
+            positions: Vec::new(alloc),
         }
     }
 
     /// Whether the name is open.
+    #[inline(always)]
     pub fn is_open(&self, name: &str) -> bool
-        ensures { result ≡ is_some (position_at self.now (chars name.now)) }
+        ensures { result ≡ is_open self.now (chars name.now) }
     {
-        self.positions.contains_key(name)
+        !self.positions.is_empty() && self.names.find(name).is_some()
     }
 
     /// A frame of this name opens at the position. Where memory is refused, nothing changes.
     pub fn open(&mut self, name: &str, position: usize) -> Result<(), AllocError>
-        ensures ok { OnOk result (IsOpenedAt (chars name.now) position self.old self.new) }
+        ensures ok { OnOk result (self.new ≡ opened (chars name.now) position self.old) }
         ensures err { OnErr result (self.new ≡ self.old) }
     {
-        if self.positions.contains_key(name) {
+        if self.is_open(name) {
             return Ok(());
         }
-        let key = String::from_str(self.alloc, name)?;
-        self.positions.insert(key, position)?;
+        self.positions.reserve(1)?;
+        let text = Text::from(String::from_str(self.alloc, name)?);
+        self.names.push(text)?;
+        self.positions.push_reserved(position);
         Ok(())
     }
 
-    /// The frame of this name at the position closes.
-    pub fn close(&mut self, name: &str, position: usize)
-        ensures { IsClosedAt (chars name.now) position self.old self.new }
+    /// The innermost frame, at this position, closes.
+    pub fn close(&mut self, position: usize)
+        ensures { self.new ≡ closed position self.old }
     {
-        let Some(first) = self.positions.get(name) else {
+        let Some(last) = self.positions.last() else {
             return;
         };
-        if *first == position {
-            self.positions.remove(name);
+        if *last == position {
+            self.positions.pop();
+            self.names.pop();
         }
     }
 }

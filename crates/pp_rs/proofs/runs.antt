@@ -4,6 +4,7 @@ pub mod Leads
 pub mod LeftLemmas
 pub mod UnspentLemmas
 pub mod NextLemmas
+pub mod PausesLemmas
 pub mod StartLemmas
 pub mod RepliesLemmas
 pub mod AddingLemmas

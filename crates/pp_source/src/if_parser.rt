@@ -234,7 +234,8 @@ impl<'a> IfParser<'a> {
             (AreWordsOfLine self.now.kind self.now.directive self.now.levels tokens.items
             definitions.now) }
     {
-        let lexer = ListLexer::line(unpainted(self.alloc, tokens)?, definitions, &*around);
+        let mut reads = unpainted(self.alloc, tokens)?;
+        let lexer = ListLexer::line(&mut reads, definitions, &*around);
         let mut line = LineExpander {
             caller: Caller::new(self.alloc),
             lexer,

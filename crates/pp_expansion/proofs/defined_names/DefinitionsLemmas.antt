@@ -1,150 +1,201 @@
--- The names that are defined, kept as the entries of a map.
-use Rattle.std.proofs.Common.{Ordering, ◌≡◌, ℕ, ◌+◌, ◌≤◌, Bool, true, false, if◌then◌else◌, cond, Bor, List, [], ◌∷◌, map, length, Option, Some, None, refl, sym, ◌∙◌, ap, arith}
-use Rattle.std.specs.Prelude.{option_map, sum_by, is_some}
-use Rattle.std.specs.Cmp.Lexicographic.{bytes_decides}
-use Rattle.std.specs.BTreeMap as tree
-use Rattle.std.specs.BTreeMap.{BTreeMap, insert_entry, is_at}
-use Rattle.std.specs.Cmp.{IsTotalOrder}
-use Rattle.std.specs.Cmp.Lexicographic.{slice_cmp}
-use Rattle.std.specs.List.Sorted.{IsStrictlySortedBy}
-use Rattle.std.specs.Map.{keys_of, lookup, values_of, remove_entry, KeepsOthers, IsKeyTest, AreApart}
-use Rattle.std.specs.Ordering.{eq_by_cmp, is_eq, nat_cmp}
-use Rattle.std.specs.Option.{option_copied}
-use Rattle.std.specs.Str.{chars, IsUtf8}
-use Rattle.std.specs.declared.string.String.{String}
-use Rattle.std.specs.String.{string_bytes, string_cmp}
-use Rattle.std.proofs.lemmas.Map.Text.{is_eq-slice_cmp}
-use Rattle.std.proofs.lemmas.Str.{IsUtf8-string_bytes}
-use Rattle.pp_lexer.proofs.values.TextLemmas.{chars_tested}
-use Rattle.std.proofs.lemmas.List.{length-map}
-use Rattle.std.proofs.lemmas.List.Sums.{sum_by-cons}
-use Rattle.std.proofs.lemmas.Map.Entries.{sum_by-insert_entry, sum_by-remove_entry}
+-- Names each of which has a definition or none.
+use Rattle.std.proofs.Common.{◌≡◌, ◌∙◌, ℕ, zero, suc, ◌+◌, ◌<◌, Bool, true, false, ◌||◌, if◌then◌else◌, List, [], ◌∷◌, ◌++◌, Bor, map, length, get_or, set, Option, Some, None, refl, sym, ap, arith, length-append, length-set}
+use Rattle.std.proofs.lemmas.List.{length-map, map-append, map-set}
+use Rattle.std.specs.Prelude.{option_map, sum_by, slice_get}
+use Rattle.std.specs.Option.{option_copied, option_flatten}
+use Rattle.std.proofs.lemmas.Option.{slice_get-map, slice_get_read}
+use Rattle.std.proofs.lemmas.List.Sums.{sum_by-append, sum_by-cons, sum_by-set}
 use Rattle.pp_model.specs.Definitions.{Definition, changed}
-use Rattle.pp_model.specs.Names.{Name, is_same_name}
-use Rattle.pp_expansion.specs.inner.Defined.{Defined, meaning_of, body_tokens, IsChanged}
+use Rattle.pp_model.specs.Names.{Name, is_same_name, is_in}
+use Rattle.pp_model.specs.ApartMarks.{AreApart}
+use Rattle.pp_model.proofs.OpenNamesLemmas.{not_in_tail}
+use Rattle.pp_expansion.specs.inner.Defined.{defined_among, meaning_of, body_tokens, more_names, more_tokens, IsChanged}
+use Rattle.pp_expansion.proofs.defined_names.NameKeysLemmas.{names_same}
+use Rattle.pp_expansion.proofs.defined_names.FoundNamesLemmas.{apart_too, not_first, apart_more, IsFoundAt, found_within}
 
--- names of which `==` says so are the same
-pub names_same : (x y : Name) → is_same_name x y ≡ true → x ≡ y
-names_same x y h = (bytes_decides x y).0 h
+-- what the first of the names that is this one has
+abbrev definition_among : List Name → List (Option Definition) → Name → Option Definition
+definition_among [] ds name = None
+definition_among (n ∷ names) [] name = None
+definition_among (n ∷ names) (d ∷ ds) name = if is_same_name name n then d else definition_among names ds name
 
-found_or_later : {X : Type 0} (value_of : X → Definition) (here : Bool) (x : X) (m : Option Definition) (later : Option X) → m ≡ option_map value_of later
-    → (if here then Some (value_of x) else m) ≡ option_map value_of (cond here (Some x) later)
-found_or_later value_of true x m later e = refl
-found_or_later value_of false x m later e = e
+-- a name that is none of them has no definition
+none_among : (name : Name) (names : List Name) (ds : List (Option Definition)) → is_in name names ≡ false → definition_among names ds name ≡ None
+none_among name [] ds absent = refl
+none_among name (n ∷ names) [] absent = refl
+none_among name (n ∷ names) (d ∷ ds) absent = by (is_same_name name n) absent (λ h. none_among name names ds h)
+  where
+    by : (b : Bool) → (b || is_in name names) ≡ false → (is_in name names ≡ false → definition_among names ds name ≡ None)
+        → (if b then d else definition_among names ds name) ≡ None
+    by true h later = cc
+    by false h later = later h
 
-pub lookup_alike : {K X : Type 0} (f g : K → Bool) → ((k : K) → f k ≡ g k) → (es : List (K × X)) → lookup f es ≡ lookup g es
-lookup_alike f g h [] = refl
-lookup_alike f g h (e ∷ es) = rw (h e.0, lookup_alike f g h es) refl
+-- what the names that have a definition mean
+meaning_among : (names : List Name) (ds : List (Option Definition)) → AreApart names → (name : Name)
+    → meaning_of (defined_among names ds) name ≡ definition_among names ds name
+meaning_among [] ds apart name = refl
+meaning_among (n ∷ names) [] apart name = refl
+meaning_among (n ∷ names) (Some d ∷ ds) apart name =
+    ap (λ o. if is_same_name name n then Some d else o) (meaning_among names ds apart.1 name)
+meaning_among (n ∷ names) (None ∷ ds) apart name = meaning_among names ds apart.1 name ∙ by (is_same_name name n) refl
+  where
+    by : (b : Bool) → is_same_name name n ≡ b → definition_among names ds name ≡ (if b then None else definition_among names ds name)
+    by true e = none_among name names ds (rw (names_same name n e) apart.0)
+    by false e = refl
 
-one_more : {X : Type 0} (old : Option X) (before after : ℕ) → after ≡ before + (if is_some old then 0 else 1) → after ≤ before + 1
-one_more (Some x) before after e = omega arith
-one_more None before after e = omega arith
-
-abbrev pub has_name : {K : Type 0} → (K → Name) → Name → K → Bool
-has_name name_of name key = is_same_name name (name_of key)
-
--- a change at the keys of one name, in what names find
-module _ {K : Type 0} (name_of : K → Name) (eq : K → K → Bool) (same : (x y : K) → eq x y ≡ is_same_name (name_of x) (name_of y))
-    (name : Name) (test : K → Bool) (tests : (k : K) → test k ≡ has_name name_of name k) where
-  tests_keys : (other : Name) → IsKeyTest eq (has_name name_of other)
-  tests_keys other x y h = ap (λ n. is_same_name n (name_of y)) (names_same other (name_of x) h) ∙ sym (same x y)
-
-  are_apart : (other : Name) → is_same_name other name ≡ false → AreApart test (has_name name_of other)
-  are_apart other apart k h = ap (is_same_name other) (sym (names_same name (name_of k) (sym (tests k) ∙ h))) ∙ apart
-
-  pub lookup_changed : {X : Type 0} (old new : List (K × X)) (change : Option X) → lookup test new ≡ change → KeepsOthers eq test old new
-      → (other : Name) (b : Bool) → is_same_name other name ≡ b
-      → lookup (has_name name_of other) new ≡ (if b then change else lookup (has_name name_of other) old)
-  unfolding KeepsOthers
-  lookup_changed old new change found keeps other true e =
-      rw (names_same other name e) (sym (lookup_alike test (has_name name_of name) tests new) ∙ found)
-  lookup_changed old new change found keeps other false e = keeps (has_name name_of other) (tests_keys other) (are_apart other e)
-
-module _ {K X : Type 0} (name_of : K → Name) (value_of : X → Definition) where
-  -- what the entries of a map define
-  abbrev pub defined : List (K × X) → List Defined
-  defined es = map (λ (e : K × X). record { name = name_of e.0; definition = value_of e.1 }) es
-
-  pub meaning_of-defined : (es : List (K × X)) (name : Name) → meaning_of (defined es) name ≡ option_map value_of (lookup (has_name name_of name) es)
-  meaning_of-defined [] name = refl
-  meaning_of-defined (e ∷ es) name = found_or_later value_of (has_name name_of name e.0) e.1 (meaning_of (defined es) name)
-      (lookup (has_name name_of name) es) (meaning_of-defined es name)
-
-  -- what a test of the keys finds, where it finds those of this name
-  pub found_by : (name : Name) (test : K → Bool) → ((k : K) → test k ≡ has_name name_of name k) → (es : List (K × X))
-      → meaning_of (defined es) name ≡ option_map value_of (lookup test es)
-  found_by name test tests es = meaning_of-defined es name ∙ ap (option_map value_of) (sym (lookup_alike test (has_name name_of name) tests es))
-
-  abbrev body_length : X → ℕ
-  body_length x = length (value_of x).body
-
-  pub body_tokens-defined : (es : List (K × X)) → body_tokens (defined es) ≡ sum_by body_length (values_of es)
-  body_tokens-defined [] = refl
-  body_tokens-defined (e ∷ es) = rw (sum_by-cons body_length e.1 (values_of es)) (ap (λ n. body_length e.1 + n) (body_tokens-defined es))
-
-  -- a change at the keys of one name
-  module _ (eq : K → K → Bool) (same : (x y : K) → eq x y ≡ is_same_name (name_of x) (name_of y))
-      (name : Name) (test : K → Bool) (tests : (k : K) → test k ≡ has_name name_of name k) where
-    module _ (old new : List (K × X)) (change : Option X) (found : lookup test new ≡ change) (keeps : KeepsOthers eq test old new) where
-      changed_if : (other : Name) (b : Bool) → is_same_name other name ≡ b
-          → meaning_of (defined new) other ≡ (if b then option_map value_of change else meaning_of (defined old) other)
-      changed_if other true e =
-          meaning_of-defined new other
-          ∙ ap (option_map value_of) (lookup_changed name_of eq same name test tests old new change found keeps other true e)
-      changed_if other false e =
-          meaning_of-defined new other
-          ∙ ap (option_map value_of) (lookup_changed name_of eq same name test tests old new change found keeps other false e)
-          ∙ sym (meaning_of-defined old other)
-
-      pub meaning_of-changed : meaning_of (defined new) ≡ changed (meaning_of (defined old)) name (option_map value_of change)
-      meaning_of-changed = λ i other. changed_if other (is_same_name other name) refl i
-
-  module _ (cmp : K → K → Ordering) (same : (x y : K) → eq_by_cmp cmp x y ≡ is_same_name (name_of x) (name_of y)) (m n : BTreeMap K X) where
-    -- a key is set
-    pub is_set : IsTotalOrder cmp → IsStrictlySortedBy cmp (keys_of m.entries) → (k : K) (x : X) (old : Option X) → old ≡ tree.get cmp m k
-        → tree.Updates cmp m n k (Some x) → n.entries ≡ insert_entry cmp m.entries k x → length n.entries ≡ length m.entries + (if is_some old then 0 else 1)
-        → IsChanged (name_of k) (Some (value_of x)) (defined m.entries) (defined n.entries)
-    is_set total sorted k x old was updates puts len =
-        let sums = sum_by-insert_entry body_length total m.entries k x sorted in
-        let put = ap (λ (es : List (K × X)). sum_by body_length (values_of es)) puts in
-        let before = body_tokens-defined m.entries in
-        let after = body_tokens-defined n.entries in
-        let more : length n.entries ≤ length m.entries + 1 = one_more old (length m.entries) (length n.entries) len in
-        record {
-          meaning = meaning_of-changed (eq_by_cmp cmp) same (name_of k) (is_at (cmp k)) (same k) m.entries n.entries (Some x) updates.1 updates.3;
-          names = simp length-map more;
-          tokens = omega arith;
-        }
-
-    -- the keys of a name are removed
-    pub is_removed : (name : Name) (compare : K → Ordering) → ((k : K) → is_at compare k ≡ has_name name_of name k)
-        → tree.UpdatesBy cmp compare m n None → n.entries ≡ remove_entry (is_at compare) m.entries → length n.entries ≤ length m.entries
-        → IsChanged name None (defined m.entries) (defined n.entries)
-    is_removed name compare tests updates taken len =
-        let left = ap (λ (es : List (K × X)). sum_by body_length (values_of es)) taken in
-        let fewer = sum_by-remove_entry body_length (is_at compare) m.entries in
-        let before = body_tokens-defined m.entries in
-        let after = body_tokens-defined n.entries in
-        let kept : length n.entries ≤ length m.entries + 0 = omega (arith, len) in
-        record {
-          meaning = meaning_of-changed (eq_by_cmp cmp) same name (is_at compare) tests m.entries n.entries None updates.1 updates.3;
-          names = simp length-map kept;
-          tokens = omega arith;
-        }
-
--- keys that are texts: the bytes of two are equal where their characters are
-abbrev pub text_name : {Z : Type 0} → String Z → Name
-text_name key = chars (string_bytes key)
-
-pub texts_same : {Z : Type 0} (x y : String Z) → eq_by_cmp string_cmp x y ≡ is_same_name (text_name x) (text_name y)
-texts_same x y = is_eq-slice_cmp (string_bytes x) (string_bytes y)
-    ∙ chars_tested (string_bytes x) (string_bytes y) (IsUtf8-string_bytes x) (IsUtf8-string_bytes y)
-
-pub text_tests : {Z : Type 0} (bs : List ℕ) → IsUtf8 bs → (k : String Z) → is_eq (slice_cmp nat_cmp bs (string_bytes k)) ≡ has_name text_name (chars bs) k
-text_tests bs u k = is_eq-slice_cmp bs (string_bytes k) ∙ chars_tested bs (string_bytes k) u (IsUtf8-string_bytes k)
-
--- what is found of a map, shown as its definition
+-- what is found, and what is kept at the number of a name, shown as its definition
 pub shown : {X : Type 0} (value_of : X → Definition) (r : Option (Bor X)) (o : Option X) → option_copied r ≡ o
     → option_map (λ d. value_of d.now) r ≡ option_map value_of o
 shown value_of (Some d) o e = ap (option_map value_of) e
 shown value_of None o e = ap (option_map value_of) e
+
+pub kept_at : {X : Type 0} (shows : X → Option Definition) (xs : List X) (k : ℕ) (x : X) → k < length xs → x ≡ get_or xs k x
+    → option_flatten (slice_get (map shows xs) k) ≡ shows x
+kept_at shows xs k x within read = rw (slice_get-map shows xs k, slice_get_read xs (length xs) k x refl within read) refl
+
+pub meaning_found : (names : List Name) (ds : List (Option Definition)) → AreApart names → (name : Name) (k : ℕ) → IsFoundAt name names k
+    → meaning_of (defined_among names ds) name ≡ option_flatten (slice_get ds k)
+meaning_found names ds apart name k found = meaning_among names ds apart name ∙ found_among names ds name k found
+  where
+    found_among : (names : List Name) (ds : List (Option Definition)) (name : Name) (k : ℕ) → IsFoundAt name names k
+        → definition_among names ds name ≡ option_flatten (slice_get ds k)
+    found_among [] ds name k found = absurd found
+    found_among (n ∷ names) [] name k found = refl
+    found_among (n ∷ names) (d ∷ ds) name zero found = rw found refl
+    found_among (n ∷ names) (d ∷ ds) name (suc k) found = rw found.0 (found_among names ds name k found.1)
+
+pub meaning_absent : (names : List Name) (ds : List (Option Definition)) → AreApart names → (name : Name) → is_in name names ≡ false
+    → meaning_of (defined_among names ds) name ≡ None
+meaning_absent names ds apart name absent = meaning_among names ds apart name ∙ none_among name names ds absent
+
+-- how many of the names have a definition, and how many tokens the bodies have together
+number_among : (names : List Name) (ds : List (Option Definition)) → length ds ≡ length names → length (defined_among names ds) ≡ sum_by more_names ds
+number_among [] [] even = refl
+number_among [] (d ∷ ds) even = absurd (omega arith)
+number_among (n ∷ names) [] even = absurd (omega arith)
+number_among (n ∷ names) (Some d ∷ ds) even =
+    let h = number_among names ds (omega arith) in
+    rw (sum_by-cons more_names (Some d) ds) (omega arith)
+number_among (n ∷ names) (None ∷ ds) even = number_among names ds (omega arith)
+
+tokens_among : (names : List Name) (ds : List (Option Definition)) → length ds ≡ length names → body_tokens (defined_among names ds) ≡ sum_by more_tokens ds
+tokens_among [] [] even = refl
+tokens_among [] (d ∷ ds) even = absurd (omega arith)
+tokens_among (n ∷ names) [] even = absurd (omega arith)
+tokens_among (n ∷ names) (Some d ∷ ds) even =
+    rw (sum_by-cons more_tokens (Some d) ds) (ap (λ t. length d.body + t) (tokens_among names ds (omega arith)))
+tokens_among (n ∷ names) (None ∷ ds) even = tokens_among names ds (omega arith)
+
+-- a change of one name, in what the names mean
+module _ (names all : List Name) (ds es : List (Option Definition)) (name : Name) (change : Option Definition)
+    (apart : AreApart names) (all_apart : AreApart all)
+    (changes : (other : Name) → definition_among all es other ≡ (if is_same_name other name then change else definition_among names ds other)) where
+  changed_at : (other : Name) → meaning_of (defined_among all es) other ≡ changed (meaning_of (defined_among names ds)) name change other
+  changed_at other = meaning_among all es all_apart other ∙ changes other
+      ∙ ap (λ o. if is_same_name other name then change else o) (sym (meaning_among names ds apart other))
+
+  meaning_changed : meaning_of (defined_among all es) ≡ changed (meaning_of (defined_among names ds)) name change
+  meaning_changed = λ i other. changed_at other i
+
+-- of two names that differ either may be asked for first
+choices : (n name other : Name) (d change rest : Option Definition) → is_same_name n name ≡ false
+    → (if is_same_name other n then d else (if is_same_name other name then change else rest))
+    ≡ (if is_same_name other name then change else (if is_same_name other n then d else rest))
+choices n name other d change rest apart = by (is_same_name other n) refl
+  where
+    by : (b : Bool) → is_same_name other n ≡ b → (if b then d else (if is_same_name other name then change else rest))
+        ≡ (if is_same_name other name then change else (if b then d else rest))
+    by true e = rw (names_same other n e, apart) refl
+    by false e = refl
+
+-- the definition of a name that is found is another now
+set_among : (names : List Name) (ds : List (Option Definition)) (name : Name) (k : ℕ) (change : Option Definition) → length ds ≡ length names
+    → IsFoundAt name names k → (other : Name)
+    → definition_among names (set ds k change) other ≡ (if is_same_name other name then change else definition_among names ds other)
+set_among [] ds name k change even found other = absurd found
+set_among (n ∷ names) [] name k change even found other = absurd (omega arith)
+set_among (n ∷ names) (d ∷ ds) name zero change even found other =
+    ap (λ (m : Name). if is_same_name other m then change else definition_among names ds other) (sym (names_same name n found))
+    ∙ by (is_same_name other name) refl
+  where
+    by : (b : Bool) → is_same_name other name ≡ b → (if b then change else definition_among names ds other)
+        ≡ (if b then change else (if is_same_name other n then d else definition_among names ds other))
+    by true e = refl
+    by false e = rw (sym (names_same name n found), e) refl
+set_among (n ∷ names) (d ∷ ds) name (suc k) change even found other =
+    ap (λ o. if is_same_name other n then d else o) (set_among names ds name k change (omega arith) found.1 other)
+    ∙ choices n name other d change (definition_among names ds other) (apart_too name n found.0)
+
+is_set_among : (names : List Name) (ds : List (Option Definition)) (name : Name) (k : ℕ) (change : Option Definition) → AreApart names
+    → length ds ≡ length names → IsFoundAt name names k → IsChanged name change (defined_among names ds) (defined_among names (set ds k change))
+is_set_among names ds name k change apart even found =
+    let within : k < length ds = let h = found_within name names k found in omega arith in
+    let even_now : length (set ds k change) ≡ length names = length-set ds k change ∙ even in
+    let number : sum_by more_names (set ds k change) + more_names (get_or ds k change) ≡ sum_by more_names ds + more_names change =
+    sum_by-set more_names ds k change change within in
+    let tokens : sum_by more_tokens (set ds k change) + more_tokens (get_or ds k change) ≡ sum_by more_tokens ds + more_tokens change =
+    sum_by-set more_tokens ds k change change within in
+    record {
+      meaning = meaning_changed names names ds (set ds k change) name change apart apart (set_among names ds name k change even found);
+      names = rw (number_among names ds even, number_among names (set ds k change) even_now) (omega arith);
+      tokens = rw (tokens_among names ds even, tokens_among names (set ds k change) even_now) (omega arith);
+    }
+
+-- a name that is new gets a definition
+push_among : (names : List Name) (ds : List (Option Definition)) (name : Name) (change : Option Definition) → length ds ≡ length names
+    → is_in name names ≡ false → (other : Name)
+    → definition_among (names ++ name ∷ []) (ds ++ change ∷ []) other ≡ (if is_same_name other name then change else definition_among names ds other)
+push_among [] [] name change even new other = refl
+push_among [] (d ∷ ds) name change even new other = absurd (omega arith)
+push_among (n ∷ names) [] name change even new other = absurd (omega arith)
+push_among (n ∷ names) (d ∷ ds) name change even new other =
+    ap (λ o. if is_same_name other n then d else o) (push_among names ds name change (omega arith) (not_in_tail name n names new) other)
+    ∙ choices n name other d change (definition_among names ds other) (apart_too name n (not_first name n names new))
+
+is_pushed_among : (names : List Name) (ds : List (Option Definition)) (name : Name) (change : Option Definition) → AreApart names
+    → length ds ≡ length names → is_in name names ≡ false
+    → IsChanged name change (defined_among names ds) (defined_among (names ++ name ∷ []) (ds ++ change ∷ []))
+is_pushed_among names ds name change apart even new =
+    let even_now : length (ds ++ change ∷ []) ≡ length (names ++ name ∷ []) =
+    omega (arith, length-append ds (change ∷ []), length-append names (name ∷ [])) in
+    record {
+      meaning = meaning_changed names (names ++ name ∷ []) ds (ds ++ change ∷ []) name change apart (apart_more name names apart new)
+          (push_among names ds name change even new);
+      names = rw (
+        number_among names ds even,
+        number_among (names ++ name ∷ []) (ds ++ change ∷ []) even_now,
+        sum_by-append more_names ds (change ∷ []),
+      ) (omega arith);
+      tokens = rw (
+        tokens_among names ds even,
+        tokens_among (names ++ name ∷ []) (ds ++ change ∷ []) even_now,
+        sum_by-append more_tokens ds (change ∷ []),
+      ) (omega arith);
+    }
+
+-- a name that is none of them has no definition, and needs no change to have none
+pub is_absent : (names : List Name) (ds : List (Option Definition)) (name : Name) → AreApart names → is_in name names ≡ false
+    → IsChanged name None (defined_among names ds) (defined_among names ds)
+is_absent names ds name apart absent = record {
+  meaning = meaning_changed names names ds ds name None apart apart (λ other. by other (is_same_name other name) refl);
+  names = omega arith;
+  tokens = omega arith;
+}
+  where
+    by : (other : Name) (b : Bool) → is_same_name other name ≡ b → definition_among names ds other ≡ (if b then None else definition_among names ds other)
+    by other true e = rw (names_same other name e) (none_among name names ds absent)
+    by other false e = refl
+
+-- the same of what is kept at the number of each name, shown as its definition
+module _ {X : Type 0} (shows : X → Option Definition) (names : List Name) (xs : List X) (name : Name) (x : X)
+    (apart : AreApart names) (even : length xs ≡ length names) where
+  even_shown : length (map shows xs) ≡ length names
+  even_shown = length-map xs shows ∙ even
+
+  pub is_set : (k : ℕ) → IsFoundAt name names k
+      → IsChanged name (shows x) (defined_among names (map shows xs)) (defined_among names (map shows (set xs k x)))
+  is_set k found = rw (map-set shows xs k x) (is_set_among names (map shows xs) name k (shows x) apart even_shown found)
+
+  pub is_pushed : is_in name names ≡ false
+      → IsChanged name (shows x) (defined_among names (map shows xs)) (defined_among (names ++ name ∷ []) (map shows (xs ++ x ∷ [])))
+  is_pushed new = rw (map-append shows xs (x ∷ [])) (is_pushed_among names (map shows xs) name (shows x) apart even_shown new)

@@ -16,7 +16,7 @@ use Rattle.pp_lexer.specs.declared.token.TokenValue.TheVariants.{Ident}
 use Rattle.pp_model.specs.Names.{Name, is_same_name, is_in}
 use Rattle.pp_model.specs.SpliceList.{parameter_of}
 use Rattle.pp_expansion.specs.inner.ParameterPositions.{FindsEach, PlacesEach, parameter_at}
-use Rattle.pp_expansion.proofs.defined_names.DefinitionsLemmas.{names_same, lookup_changed, text_name, texts_same}
+use Rattle.pp_expansion.proofs.defined_names.NameKeysLemmas.{names_same, lookup_changed, text_name, texts_same}
 
 module _ {B : Type 0} (p : B → Bool) where
   -- a position among items that start at i, with one more item at their end
@@ -43,10 +43,10 @@ module _ {B : Type 0} (p : B → Bool) where
       by true later = refl
       by false later = later
 
-  position_kept : (xs : List B) (x : B) → p x ≡ false → position p (xs ++ x ∷ []) ≡ position p xs
+  pub position_kept : (xs : List B) (x : B) → p x ≡ false → position p (xs ++ x ∷ []) ≡ position p xs
   position_kept xs x e = position_from-zero p (xs ++ x ∷ []) ∙ from_kept 0 xs x e ∙ sym (position_from-zero p xs)
 
-  position_found : (xs : List B) (x : B) → list_any p xs ≡ false → p x ≡ true → position p (xs ++ x ∷ []) ≡ Some (length xs)
+  pub position_found : (xs : List B) (x : B) → list_any p xs ≡ false → p x ≡ true → position p (xs ++ x ∷ []) ≡ Some (length xs)
   position_found xs x none e = position_from-zero p (xs ++ x ∷ []) ∙ from_found 0 xs x none e ∙ ap (λ n. Some n) (omega arith)
 
   -- what is found tells whether there is one

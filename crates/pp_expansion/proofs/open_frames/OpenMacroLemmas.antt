@@ -1,15 +1,17 @@
 -- Open macros, which the expander keeps with the innermost last.
-use Rattle.std.proofs.Common.{◌≡◌, ◌∙◌, ℕ, ◌-◌, ◌+◌, ◌<◌, Bool, true, false, ◌||◌, List, [], ◌∷◌, ◌++◌, length, get_or, take, reverse, set, refl, ap, sym, arith, Option, Some, None, slice_get, get_or-set_same}
+use Rattle.std.proofs.Common.{◌≡◌, ◌∙◌, ◌⊎◌, inl, inr, ℕ, suc, ◌-◌, ◌<◌, ◌≤◌, Bool, true, false, ◌||◌, List, [], ◌∷◌, ◌++◌, length, get_or, take, drop, reverse, set, refl, ap, sym, arith, Option, Some, None, slice_get, get_or-set_same}
 use Rattle.std.specs.List.{list_any}
 use Rattle.std.specs.Prelude.{is_none}
-use Rattle.std.proofs.Math.Seq.{take-length}
-use Rattle.std.proofs.lemmas.List.{reverse-append, length-map, length-reverse, take_more, length-set, take-set}
+use Rattle.std.proofs.Math.Seq.{take-append_seam}
+use Rattle.std.proofs.lemmas.List.{reverse-append, length-map, length-reverse, length-take-le, length-drop, take-append-drop, length-set, take-set}
+use Rattle.std.proofs.lemmas.Bool.{cases_lt}
+use Rattle.std.proofs.lemmas.List.Folds.{list_any-append}
 use Rattle.pp_model.specs.Names.{Name, is_in, is_same_name}
 use Rattle.pp_expansion.specs.inner.Frames.{Layer, Advance, advance, names_of, outermost_frame_line}
 use Rattle.pp_expansion.specs.inner.Ahead.{frame_after, frames_after}
 use Rattle.pp_expansion.specs.inner.Turns.{frame_move}
-use Rattle.pp_expansion.specs.inner.OpenNames.{Position, AreNamesOf, IsClosedAt}
-use Rattle.pp_expansion.proofs.open_frames.OpenNamesLemmas.{names_close}
+use Rattle.pp_expansion.specs.inner.OpenNames.{Position, is_open, opened, closed, deeper, outermost}
+use Rattle.pp_expansion.proofs.open_frames.OpenNamesLemmas.{with_last, outermost-open, outermost-opened, outermost-closed}
 
 or_left_comm : (a b c : Bool) → (a || (b || c)) ≡ (b || (a || c))
 or_left_comm true true c = refl
@@ -51,13 +53,6 @@ outermost_first (g ∷ gs) f e =
     let same : g ≡ f = cc in
     rw (reverse-append (g ∷ []) gs) (outermost_at_end (reverse gs) g ∙ ap (λ h. Some h.line) same)
 
--- a list that is not empty is what is before its last item, and that
-with_last : {X : Type 0} (xs : List X) (d : X) → 0 < length xs → xs ≡ take (length xs - 1) xs ++ get_or xs (length xs - 1) d ∷ []
-with_last xs d some =
-    let within : length xs - 1 < length xs = omega arith in
-    let whole : length xs - 1 + 1 ≡ length xs = omega arith in
-    sym (take-length xs) ∙ (rw whole at (take_more xs (length xs - 1) d within))
-
 reverse_last : {X : Type 0} (xs : List X) (d : X) → 0 < length xs → reverse xs ≡ get_or xs (length xs - 1) d ∷ reverse (take (length xs - 1) xs)
 reverse_last xs d some = ap reverse (with_last xs d some) ∙ reverse-append (take (length xs - 1) xs) (get_or xs (length xs - 1) d ∷ [])
 
@@ -94,10 +89,117 @@ names_kept fs f v n e some last named =
 names_number : (fs : List Layer) → length (names_of (reverse fs)) ≡ length fs
 names_number fs = length-map (reverse fs) (λ (f : Layer). f.name) ∙ length-reverse fs
 
--- the last of them closes
-pub names_closed : (fs rest : List Layer) (f : Layer) (name : Name) (n : ℕ) (old new : List Position) → fs ≡ rest ++ f ∷ [] → name ≡ f.name → n ≡ length rest
-    → AreNamesOf old (names_of (reverse fs)) → IsClosedAt name n old new → AreNamesOf new (names_of (reverse rest))
-names_closed fs rest f name n old new e named number are closes =
-    let counted : n ≡ length (names_of (reverse rest)) = number ∙ sym (names_number rest) in
-    let before = rw (e, reverse-append rest (f ∷ []), ← named) at are in
-    names_close name (names_of (reverse rest)) old new before (rw counted at closes)
+-- one more opens
+number_of : (fs : List Layer) (n deep : ℕ) → n ≡ length fs → deep ≡ n - 8 → deep ≡ length (deeper (names_of (reverse fs)))
+number_of fs n deep number is =
+    let count = names_number fs in
+    omega (arith, count, length-take-le (length (names_of (reverse fs)) - 8) (names_of (reverse fs)) (omega arith))
+
+deeper-more : (name : Name) (names : List Name) → 8 ≤ length names → deeper (name ∷ names) ≡ name ∷ deeper names
+deeper-more name names many = ap (λ (n : ℕ). take n (name ∷ names)) (one_more (length names) many)
+  where
+    one_more : (n : ℕ) → 8 ≤ n → suc n - 8 ≡ suc (n - 8)
+    one_more n many = omega arith
+
+deeper-few : (names : List Name) → length names ≤ 8 → deeper names ≡ []
+deeper-few names few = ap (λ (n : ℕ). take n names) (none (length names) few)
+  where
+    none : (n : ℕ) → n ≤ 8 → n - 8 ≡ 0
+    none n few = omega arith
+
+names_opened : (fs : List Layer) (f : Layer) (name : Name) (n deep : ℕ) (positions : List Position) → name ≡ f.name → n ≡ length fs
+    → 8 ≤ n → deep ≡ n - 8 → positions ≡ outermost (deeper (names_of (reverse fs)))
+    → opened name deep positions ≡ outermost (deeper (names_of (reverse (fs ++ f ∷ []))))
+names_opened fs f name n deep positions named number many is are =
+    let names = names_of (reverse fs) in
+    let count = names_number fs in
+    rw (named, number_of fs n deep number is, are, reverse-append fs (f ∷ []), deeper-more f.name names (omega (arith, count, number, many)))
+    (outermost-opened f.name (deeper names))
+
+-- one of the first few opens
+names_opened-few : (fs : List Layer) (f : Layer) (n : ℕ) (positions : List Position) → n ≡ length fs → n < 8
+    → positions ≡ outermost (deeper (names_of (reverse fs))) → positions ≡ outermost (deeper (names_of (reverse (fs ++ f ∷ []))))
+names_opened-few fs f n positions number few are =
+    let names = names_of (reverse fs) in
+    let count = names_number fs in
+    are ∙ ap outermost (deeper-few names (omega (arith, count, number, few)))
+    ∙ sym (ap outermost (ap deeper (ap names_of (reverse-append fs (f ∷ []))) ∙ deeper-few (f.name ∷ names) (omega (arith, count, number, few))))
+
+-- the name is kept unless it is one of the first few
+pub names_noted : (fs : List Layer) (f : Layer) (name : Name) (n : ℕ) (positions noted : List Position) → name ≡ f.name → n ≡ length fs
+    → (n < 8 → noted ≡ positions) → (8 ≤ n → noted ≡ opened name (n - 8) positions) → positions ≡ outermost (deeper (names_of (reverse fs)))
+    → noted ≡ outermost (deeper (names_of (reverse (fs ++ f ∷ []))))
+names_noted fs f name n positions noted named number few many are = by (cases_lt n 8)
+  where
+    by : (n < 8) ⊎ (8 ≤ n) → noted ≡ outermost (deeper (names_of (reverse (fs ++ f ∷ []))))
+    by (inl h) = few h ∙ names_opened-few fs f n positions number h are
+    by (inr h) = many h ∙ names_opened fs f name n (n - 8) positions named number h refl are
+
+-- the last of them closes, if there is one
+names_closed : (fs : List Layer) (n deep : ℕ) (positions : List Position) → n ≡ length (take (length fs - 1) fs) → 8 ≤ n → deep ≡ n - 8
+    → positions ≡ outermost (deeper (names_of (reverse fs)))
+    → closed deep positions ≡ outermost (deeper (names_of (reverse (take (length fs - 1) fs))))
+names_closed [] n deep positions number many is are = absurd (omega (arith, number, many))
+names_closed (f ∷ fs) n deep positions number many is are =
+    let before = take (length (f ∷ fs) - 1) (f ∷ fs) in
+    let last = get_or (f ∷ fs) (length (f ∷ fs) - 1) f in
+    let names = names_of (reverse before) in
+    let count = names_number before in
+    let frames : reverse (f ∷ fs) ≡ last ∷ reverse before = reverse_last (f ∷ fs) f (omega arith) in
+    rw (number_of before n deep number is, are, frames, deeper-more last.name names (omega (arith, count, number, many)))
+    (outermost-closed last.name (deeper names))
+
+names_closed-few : (fs : List Layer) (n : ℕ) (positions : List Position) → n ≡ length (take (length fs - 1) fs) → n < 8
+    → positions ≡ outermost (deeper (names_of (reverse fs))) → positions ≡ outermost (deeper (names_of (reverse (take (length fs - 1) fs))))
+names_closed-few [] n positions number few are = are
+names_closed-few (f ∷ fs) n positions number few are =
+    let before = take (length (f ∷ fs) - 1) (f ∷ fs) in
+    let last = get_or (f ∷ fs) (length (f ∷ fs) - 1) f in
+    let names = names_of (reverse before) in
+    let count = names_number before in
+    let frames : reverse (f ∷ fs) ≡ last ∷ reverse before = reverse_last (f ∷ fs) f (omega arith) in
+    are ∙ ap outermost (ap deeper (ap names_of frames) ∙ deeper-few (last.name ∷ names) (omega (arith, count, number, few)))
+    ∙ sym (ap outermost (deeper-few names (omega (arith, count, number, few))))
+
+pub names_freed : (fs : List Layer) (n : ℕ) (positions freed : List Position) → n ≡ length (take (length fs - 1) fs)
+    → (n < 8 → freed ≡ positions) → (8 ≤ n → freed ≡ closed (n - 8) positions) → positions ≡ outermost (deeper (names_of (reverse fs)))
+    → freed ≡ outermost (deeper (names_of (reverse (take (length fs - 1) fs))))
+names_freed fs n positions freed number few many are = by (cases_lt n 8)
+  where
+    by : (n < 8) ⊎ (8 ≤ n) → freed ≡ outermost (deeper (names_of (reverse (take (length fs - 1) fs))))
+    by (inl h) = few h ∙ names_closed-few fs n positions number h are
+    by (inr h) = many h ∙ names_closed fs n (n - 8) positions number h refl are
+
+-- a name is open if one of the first few frames has it, or one of those inside them
+names_inside : (fs : List Layer) → deeper (names_of (reverse fs)) ≡ names_of (reverse (drop 8 fs))
+names_inside fs =
+    let outer = names_of (reverse (take 8 fs)) in
+    let inner = names_of (reverse (drop 8 fs)) in
+    let split : names_of (reverse fs) ≡ inner ++ outer =
+    ap (λ (gs : List Layer). names_of (reverse gs)) (sym (take-append-drop 8 fs))
+    ∙ ap names_of (reverse-append (take 8 fs) (drop 8 fs)) ∙ names_of-append (reverse (drop 8 fs)) (reverse (take 8 fs)) in
+    let whole = names_number fs in
+    let part : length inner ≡ length fs - 8 = names_number (drop 8 fs) ∙ length-drop 8 fs in
+    let number : length (names_of (reverse fs)) - 8 ≡ length inner = omega (arith, whole, part) in
+    ap (λ (n : ℕ). take n (names_of (reverse fs))) number ∙ ap (take (length inner)) split ∙ take-append_seam inner outer
+
+pub open_among : (name : Name) (fs : List Layer) (positions : List Position) → positions ≡ outermost (deeper (names_of (reverse fs)))
+    → (list_any (λ f. is_same_name name f.name) (take 8 fs) || is_open positions name) ≡ is_in name (names_of (reverse fs))
+open_among name fs positions are =
+    let test = λ (f : Layer). is_same_name name f.name in
+    let inside : is_open positions name ≡ list_any test (drop 8 fs) =
+    ap (λ (ps : List Position). is_open ps name) are ∙ outermost-open (deeper (names_of (reverse fs))) name
+    ∙ ap (is_in name) (names_inside fs) ∙ is_in-names name (drop 8 fs) in
+    ap (λ b. list_any test (take 8 fs) || b) inside ∙ sym (list_any-append test (take 8 fs) (drop 8 fs))
+    ∙ ap (list_any test) (take-append-drop 8 fs) ∙ sym (is_in-names name fs)
+
+pub open_first : (name : Name) (fs : List Layer) (positions : List Position) (first : Bool) → positions ≡ outermost (deeper (names_of (reverse fs)))
+    → first ≡ list_any (λ f. is_same_name name f.name) (take 8 fs) → first ≡ true → first ≡ is_in name (names_of (reverse fs))
+open_first name fs positions first are is same =
+    same ∙ sym (ap (λ b. b || is_open positions name) (sym is ∙ same)) ∙ open_among name fs positions are
+
+pub open_inside : (name : Name) (fs : List Layer) (positions : List Position) (first inside : Bool)
+    → positions ≡ outermost (deeper (names_of (reverse fs))) → first ≡ list_any (λ f. is_same_name name f.name) (take 8 fs) → first ≡ false
+    → inside ≡ is_open positions name → inside ≡ is_in name (names_of (reverse fs))
+open_inside name fs positions first inside are is same among =
+    among ∙ sym (ap (λ b. b || is_open positions name) (sym is ∙ same)) ∙ open_among name fs positions are

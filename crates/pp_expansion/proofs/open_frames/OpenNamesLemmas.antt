@@ -1,159 +1,133 @@
--- Names that are open, kept as the entries of a map.
-use Rattle.std.proofs.Common.{◌≡◌, ◌∙◌, ℕ, suc, ◌<◌, Bool, true, false, ◌||◌, eqb, if◌then◌else◌, cond, List, [], ◌∷◌, map, length, Option, Some, None, refl, sym, ap, arith}
-use Rattle.std.specs.Prelude.{is_some, unwrap_or}
-use Rattle.std.specs.Cmp.Lexicographic.{bytes_decides}
-use Rattle.std.specs.Map.{lookup, KeepsOthers}
+-- Names that are open, kept as a list of them and one of their positions.
+use Rattle.std.proofs.Common.{◌≡◌, ◌∙◌, ℕ, ◌-◌, ◌+◌, ◌<◌, ◌≤◌, Bool, true, false, ◌||◌, eqb, if◌then◌else◌, List, [], ◌∷◌, ◌++◌, map, reverse, length, get_or, take, Some, slice_get, refl, sym, ap, arith}
+use Rattle.std.specs.List.{list_any, zip}
+use Rattle.std.proofs.Math.Seq.{take-length}
 use Rattle.std.proofs.lemmas.Bool.{eq-eqb, ne_eqb}
+use Rattle.std.proofs.lemmas.List.{reverse-append, take_more, length-take-le}
+use Rattle.std.proofs.lemmas.Option.{slice_get_within, get_or_from_slice_get}
+use Rattle.std.proofs.lemmas.List.Folds.{list_any-append}
 use Rattle.pp_model.specs.Names.{Name, is_in, is_same_name}
-use Rattle.pp_expansion.specs.inner.OpenNames.{Position, position_at, IsOpenedAt, IsClosedAt, unless_at, at_or_within, outermost, AreNamesOf}
-use Rattle.pp_expansion.proofs.defined_names.DefinitionsLemmas.{names_same, has_name, lookup_alike}
+use Rattle.pp_expansion.specs.inner.OpenNames.{Position, last_first, is_open, placed_at, opened, closed, outermost}
+use Rattle.pp_expansion.proofs.defined_names.NameKeysLemmas.{names_same}
 
-found_or_later : (here : Bool) (n : ℕ) (m later : Option ℕ) → m ≡ later → (if here then Some n else m) ≡ cond here (Some n) later
-found_or_later true n m later e = refl
-found_or_later false n m later e = e
+-- a list that is not empty is what is before its last item, and that
+pub with_last : {X : Type 0} (xs : List X) (d : X) → 0 < length xs → xs ≡ take (length xs - 1) xs ++ get_or xs (length xs - 1) d ∷ []
+with_last xs d some =
+    let within : length xs - 1 < length xs = omega arith in
+    let whole : length xs - 1 + 1 ≡ length xs = omega arith in
+    sym (take-length xs) ∙ (rw whole at (take_more xs (length xs - 1) d within))
 
-module _ {K : Type 0} (name_of : K → Name) where
-  -- the positions that the entries of a map give
-  abbrev pub positions : List (K × ℕ) → List Position
-  positions es = map (λ (e : K × ℕ). record { name = name_of e.0; position = e.1 }) es
+-- the last name is the first to be seen
+abbrev in_order : List Name → List ℕ → List Position
+in_order names positions = map (λ e. record { name = e.0; position = e.1 }) (zip names positions)
 
-  position_at-positions : (es : List (K × ℕ)) (name : Name) → position_at (positions es) name ≡ lookup (has_name name_of name) es
-  position_at-positions [] name = refl
-  position_at-positions (e ∷ es) name = found_or_later (has_name name_of name e.0) e.1 (position_at (positions es) name)
-      (lookup (has_name name_of name) es) (position_at-positions es name)
+in_order-push : (names : List Name) (positions : List ℕ) (name : Name) (position : ℕ) → length positions ≡ length names
+    → in_order (names ++ name ∷ []) (positions ++ position ∷ []) ≡ in_order names positions ++ record { name = name; position = position } ∷ []
+in_order-push [] [] name position even = refl
+in_order-push [] (p ∷ positions) name position even = absurd (omega arith)
+in_order-push (n ∷ names) [] name position even = absurd (omega arith)
+in_order-push (n ∷ names) (p ∷ positions) name position even =
+    ap (λ (rest : List Position). record { name = n; position = p } ∷ rest) (in_order-push names positions name position (omega arith))
 
-  -- what a test of the keys finds, where it finds those of this name
-  pub position_found : (name : Name) (test : K → Bool) → ((k : K) → test k ≡ has_name name_of name k) → (es : List (K × ℕ))
-      → position_at (positions es) name ≡ lookup test es
-  position_found name test tests es = position_at-positions es name ∙ sym (lookup_alike test (has_name name_of name) tests es)
+pub last_first-push : (names : List Name) (positions : List ℕ) (name : Name) (position : ℕ) → length positions ≡ length names
+    → last_first (names ++ name ∷ []) (positions ++ position ∷ []) ≡ record { name = name; position = position } ∷ last_first names positions
+last_first-push names positions name position even =
+    ap reverse (in_order-push names positions name position even)
+    ∙ reverse-append (in_order names positions) (record { name = name; position = position } ∷ [])
 
-  -- a change at the keys of one name
-  module _ (eq : K → K → Bool) (same : (x y : K) → eq x y ≡ is_same_name (name_of x) (name_of y))
-      (name : Name) (test : K → Bool) (tests : (k : K) → test k ≡ has_name name_of name k) where
-    module _ (old new : List (K × ℕ)) (change : Option ℕ) (found : lookup test new ≡ change) (keeps : KeepsOthers eq test old new) where
-      changed_if : (other : Name) (b : Bool) → is_same_name other name ≡ b
-          → position_at (positions new) other ≡ (if b then change else position_at (positions old) other)
-      unfolding KeepsOthers
-      changed_if other true e = rw (names_same other name e) (position_found name test tests new ∙ found)
-      changed_if other false e =
-          position_at-positions new other ∙ keeps (has_name name_of other)
-          (λ x y h. ap (λ n. is_same_name n (name_of y)) (names_same other (name_of x) h) ∙ sym (same x y))
-          (λ k h. ap (is_same_name other) (sym (names_same name (name_of k) (sym (tests k) ∙ h))) ∙ e) ∙ sym (position_at-positions old other)
+last_first-split : (names rest : List Name) (positions before : List ℕ) (name : Name) (position : ℕ) → names ≡ rest ++ name ∷ []
+    → positions ≡ before ++ position ∷ [] → length before ≡ length rest
+    → last_first names positions ≡ record { name = name; position = position } ∷ last_first rest before
+last_first-split names rest positions before name position e f even = rw (e, f) (last_first-push rest before name position even)
 
-      pub position_at-changed : (other : Name) → position_at (positions new) other ≡ (if is_same_name other name then change else position_at
-          (positions old) other)
-      position_at-changed other = changed_if other (is_same_name other name) refl
+pub last_first-last : (names : List Name) (positions : List ℕ) (position : ℕ) → length positions ≡ length names
+    → slice_get positions (length positions - 1) ≡ Some position
+    → last_first names positions
+    ≡ record { name = get_or names (length names - 1) []; position = position }
+    ∷ last_first (take (length names - 1) names) (take (length positions - 1) positions)
+last_first-last names positions position even last =
+    let within = slice_get_within positions (length positions - 1) position last in
+    let fewer = length-take-le (length positions - 1) positions (omega arith) in
+    let fewer_names = length-take-le (length names - 1) names (omega arith) in
+    last_first-split names (take (length names - 1) names) positions (take (length positions - 1) positions) (get_or names (length names - 1) []) position
+    (with_last names [] (omega arith))
+    (with_last positions position (omega arith)
+    ∙ ap (λ (p : ℕ). take (length positions - 1) positions ++ p ∷ []) (get_or_from_slice_get positions (length positions - 1) position position last))
+    (omega arith)
 
--- what changes at one name, and keeps at the others
-pub changes_at : (f : Option ℕ → Option ℕ) (name : Name) (old new : List Position) → position_at new name ≡ f (position_at old name)
-    → ((other : Name) → is_same_name other name ≡ false → position_at new other ≡ position_at old other)
-    → (other : Name) → position_at new other ≡ (if is_same_name other name then f (position_at old other) else position_at old other)
-changes_at f name old new here others other = by_case (is_same_name other name) refl
+-- the names in order are those that are open
+in_order-open : (names : List Name) (positions : List ℕ) (name : Name) → length positions ≡ length names
+    → is_open (in_order names positions) name ≡ is_in name names
+in_order-open [] [] name even = refl
+in_order-open [] (p ∷ positions) name even = absurd (omega arith)
+in_order-open (n ∷ names) [] name even = absurd (omega arith)
+in_order-open (n ∷ names) (p ∷ positions) name even = ap (λ b. is_same_name name n || b) (in_order-open names positions name (omega arith))
+
+last_or_first : (a b : Bool) → (b || (a || false)) ≡ (a || b)
+last_or_first true true = refl
+last_or_first true false = refl
+last_or_first false true = refl
+last_or_first false false = refl
+
+reversed-any : {X : Type 0} (p : X → Bool) (xs : List X) → list_any p (reverse xs) ≡ list_any p xs
+reversed-any p [] = refl
+reversed-any p (x ∷ xs) =
+    ap (list_any p) (reverse-append (x ∷ []) xs) ∙ list_any-append p (reverse xs) (x ∷ []) ∙ ap (λ b. b || (p x || false)) (reversed-any p xs)
+    ∙ last_or_first (p x) (list_any p xs)
+
+pub last_first-open : (names : List Name) (positions : List ℕ) (name : Name) → length positions ≡ length names
+    → is_open (last_first names positions) name ≡ is_in name names
+last_first-open names positions name even =
+    reversed-any (λ (p : Position). is_same_name name p.name) (in_order names positions) ∙ in_order-open names positions name even
+
+-- a name that is open stays as it is, and a new one is seen first
+pub opens_again : (name : Name) (position : ℕ) (positions : List Position) → is_open positions name ≡ true → positions ≡ opened name position positions
+opens_again name position positions was = rw was refl
+
+pub opens_new : (name : Name) (position : ℕ) (positions : List Position) → is_open positions name ≡ false
+    → record { name = name; position = position } ∷ positions ≡ opened name position positions
+opens_new name position positions new = rw new refl
+
+-- what is last is closed if it is at the position
+pub closed_there : (name : Name) (position : ℕ) (rest : List Position) → closed position (record { name = name; position = position } ∷ rest) ≡ rest
+closed_there name position rest =
+    ap (λ (b : Bool). if b then rest else record { name = name; position = position } ∷ rest) (eq-eqb position position refl)
+
+pub closed_elsewhere : (name : Name) (position other : ℕ) (rest : List Position) → eqb other position ≡ false
+    → closed position (record { name = name; position = other } ∷ rest) ≡ record { name = name; position = other } ∷ rest
+closed_elsewhere name position other rest apart =
+    ap (λ (b : Bool). if b then rest else record { name = name; position = other } ∷ rest) apart
+
+-- The frames' names. A name has an outermost frame if it is among them.
+pub outermost-open : (names : List Name) (name : Name) → is_open (outermost names) name ≡ is_in name names
+outermost-open [] name = refl
+outermost-open (x ∷ names) name = by (is_in x names) refl (is_same_name name x) refl (outermost-open names name)
   where
-    by_case : (b : Bool) → is_same_name other name ≡ b → position_at new other ≡ (if b then f (position_at old other) else position_at old other)
-    by_case true e = rw (names_same other name e) here
-    by_case false e = others other e
-
-some_kept : (o : Option ℕ) (d : ℕ) → is_some o ≡ true → o ≡ Some (unwrap_or o d)
-some_kept (Some k) d e = refl
-some_kept None d e = cc
-
-none_filled : (o : Option ℕ) (d : ℕ) → is_some o ≡ false → Some d ≡ Some (unwrap_or o d)
-none_filled (Some k) d e = cc
-none_filled None d e = refl
-
--- a name that is open stays as it is
-pub opens_again : (name : Name) (position : ℕ) (old new : List Position) → is_some (position_at old name) ≡ true → new ≡ old → IsOpenedAt name position old new
-opens_again name position old new was same =
-    rw same (changes_at (λ o. Some (unwrap_or o position)) name old old (some_kept (position_at old name) position was) (λ other apart. refl))
-
-same_as_itself : (name : Name) (f : Bool → Option ℕ) (x : Option ℕ) → x ≡ f (is_same_name name name) → x ≡ f true
-same_as_itself name f x e = rw ((bytes_decides name name).1 refl) at e
-
-pub opens_new : (name : Name) (position : ℕ) (old new : List Position) → is_some (position_at old name) ≡ false
-    → ((other : Name) → position_at new other ≡ (if is_same_name other name then Some position else position_at old other)) → IsOpenedAt name position old new
-opens_new name position old new closed changes =
-    changes_at (λ o. Some (unwrap_or o position)) name old new
-    (same_as_itself name (λ b. if b then Some position else position_at old name) _ (changes name) ∙ none_filled (position_at old name) position closed)
-    (λ other apart. changes other ∙ ap (λ (b : Bool). if b then Some position else position_at old other) apart)
-
--- the name is closed where its outermost frame is at the position
-pub closes_outermost : (name : Name) (position : ℕ) (old new : List Position) → position_at old name ≡ Some position
-    → ((other : Name) → position_at new other ≡ (if is_same_name other name then None else position_at old other)) → IsClosedAt name position old new
-closes_outermost name position old new is changes =
-    changes_at (unless_at position) name old new
-    (same_as_itself name (λ b. if b then None else position_at old name) _ (changes name)
-    ∙ sym (ap (unless_at position) is ∙ ap (λ (b : Bool). if b then None else Some position) (eq-eqb position position refl)))
-    (λ other apart. changes other ∙ ap (λ (b : Bool). if b then None else position_at old other) apart)
-
-pub closes_inner : (name : Name) (position : ℕ) (old new : List Position) → position_at old name ≡ unless_at position (position_at old name)
-    → new ≡ old → IsClosedAt name position old new
-closes_inner name position old new inner same = rw same (changes_at (unless_at position) name old old inner (λ other apart. refl))
-
-pub none_inner : (position : ℕ) (o : Option ℕ) → o ≡ None → o ≡ unless_at position o
-none_inner position o e = rw e refl
-
-pub other_inner : (position first : ℕ) (o : Option ℕ) → o ≡ Some first → eqb first position ≡ false → o ≡ unless_at position o
-other_inner position first o e apart = rw (e, apart) refl
-
--- the frames' names
-
-at_or_within-some : (position : ℕ) (same : Bool) (o : Option ℕ) → is_some (at_or_within position same o) ≡ (same || is_some o)
-at_or_within-some position true (Some k) = refl
-at_or_within-some position false (Some k) = refl
-at_or_within-some position true None = refl
-at_or_within-some position false None = refl
-
--- a name has an outermost frame where it is among the names
-pub outermost-some : (name : Name) (names : List Name) → is_some (outermost name names) ≡ is_in name names
-outermost-some name [] = refl
-outermost-some name (x ∷ names) = at_or_within-some (length names) (is_same_name name x) (outermost name names)
-    ∙ ap (λ b. is_same_name name x || b) (outermost-some name names)
-
--- its position is within them
-within_more : (position first : ℕ) (o : Option ℕ) (b : Bool) → ((k : ℕ) → o ≡ Some k → k < position) → at_or_within position b o ≡ Some first
-    → first < suc position
-within_more position first (Some k) b within e =
-    let same : k ≡ first = cc in
-    let less = within k refl in
-    omega (arith, less, same)
-within_more position first None true within e =
-    let same : position ≡ first = cc in
-    omega (arith, same)
-within_more position first None false within e = cc
-
-outermost-within : (name : Name) (names : List Name) (first : ℕ) → outermost name names ≡ Some first → first < length names
-outermost-within name [] first e = cc
-outermost-within name (x ∷ names) first e = within_more (length names) first (outermost name names) (is_same_name name x) (λ k. outermost-within name names k) e
-
-opened_as : (position : ℕ) (o : Option ℕ) (b : Bool) → (if b then Some (unwrap_or o position) else o) ≡ at_or_within position b o
-opened_as position (Some k) true = refl
-opened_as position (Some k) false = refl
-opened_as position None true = refl
-opened_as position None false = refl
+    by : (b : Bool) → is_in x names ≡ b → (same : Bool) → is_same_name name x ≡ same → is_open (outermost names) name ≡ is_in name names
+        → is_open (placed_at b x (length names) (outermost names)) name ≡ (same || is_in name names)
+    by true e true s rest = rest ∙ rw (names_same name x s) e
+    by true e false s rest = rest
+    by false e same s rest = rw s (ap (λ b. same || b) rest)
 
 -- a frame opens
-pub names_open : (name : Name) (names : List Name) (old new : List Position) → AreNamesOf old names → IsOpenedAt name (length names) old new
-    → AreNamesOf new (name ∷ names)
-names_open name names old new are opened other =
-    opened other ∙ ap (λ o. if is_same_name other name then Some (unwrap_or o (length names)) else o) (are other)
-    ∙ opened_as (length names) (outermost other names) (is_same_name other name)
+pub outermost-opened : (name : Name) (names : List Name) → opened name (length names) (outermost names) ≡ outermost (name ∷ names)
+outermost-opened name names =
+    ap (λ b. placed_at b name (length names) (outermost names)) (outermost-open names name)
 
-closed_as : (position : ℕ) (o : Option ℕ) (b : Bool) → ((first : ℕ) → o ≡ Some first → first < position)
-    → (if b then unless_at position (at_or_within position b o) else at_or_within position b o) ≡ o
-closed_as position (Some k) true within = ap (λ (b : Bool). if b then None else Some k) (ne_eqb k position
-    (λ e. let less = within k refl in omega (arith, less, e)))
-closed_as position (Some k) false within = refl
-closed_as position None true within = ap (λ (b : Bool). if b then None else Some position) (eq-eqb position position refl)
-closed_as position None false within = refl
+-- no frame is at a position past them
+closed_past : (names : List Name) (position : ℕ) → length names ≤ position → closed position (outermost names) ≡ outermost names
+closed_past [] position past = refl
+closed_past (x ∷ names) position past = by (is_in x names) (closed_past names position (omega arith))
+  where
+    by : (b : Bool) → closed position (outermost names) ≡ outermost names
+        → closed position (placed_at b x (length names) (outermost names)) ≡ placed_at b x (length names) (outermost names)
+    by true rest = rest
+    by false rest = closed_elsewhere x position (length names) (outermost names) (ne_eqb (length names) position (λ e. omega (arith, past, e)))
 
 -- the innermost frame closes
-pub names_close : (name : Name) (names : List Name) (old new : List Position) → AreNamesOf old (name ∷ names)
-    → IsClosedAt name (length names) old new → AreNamesOf new names
-names_close name names old new are closed other =
-    closed other ∙ ap (λ o. if is_same_name other name then unless_at (length names) o else o) (are other)
-    ∙ closed_as (length names) (outermost other names) (is_same_name other name) (λ first e. outermost-within other names first e)
-
-pub is_open_name : (name : Name) (names : List Name) (positions : List Position) → AreNamesOf positions names
-    → is_some (position_at positions name) ≡ is_in name names
-is_open_name name names positions are = ap is_some (are name) ∙ outermost-some name names
+pub outermost-closed : (name : Name) (names : List Name) → closed (length names) (outermost (name ∷ names)) ≡ outermost names
+outermost-closed name names = by (is_in name names)
+  where
+    by : (b : Bool) → closed (length names) (placed_at b name (length names) (outermost names)) ≡ outermost names
+    by true = closed_past names (length names) (omega arith)
+    by false = closed_there name (length names) (outermost names)

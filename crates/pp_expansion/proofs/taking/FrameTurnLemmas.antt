@@ -1,21 +1,25 @@
 -- A turn of the innermost frame, as the code makes it.
-use Rattle.std.proofs.Common.{◌≡◌, ◌∙◌, ◌⊎◌, refl, sym, ap, subst, true, false, List, [], ◌∷◌, Option, Some, None, Ok, Err, inl, inr}
-use Rattle.std.specs.Prelude.{is_some}
+use Rattle.std.proofs.Common.{◌≡◌, ◌∙◌, ◌⊎◌, refl, sym, ap, subst, Bool, true, false, List, [], ◌∷◌, ◌++◌, Option, Some, None, Ok, Err, inl, inr}
+use Rattle.std.specs.Prelude.{IfSome, is_some, is_none}
+use Rattle.std.proofs.lemmas.Bool.{and_parts}
 use Rattle.pp_lexer.specs.PreprocessorError.{out_of_memory}
 use Rattle.pp_model.specs.declared.read.Read.{Read}
-use Rattle.pp_model.specs.Names.{is_identifier, line_name}
+use Rattle.pp_model.specs.Names.{Name, is_identifier, line_name}
 use Rattle.pp_expansion.specs.Item.{Step}
 use Rattle.pp_expansion.specs.inner.Ahead.{given_by, given_next, frames_after}
 use Rattle.pp_expansion.specs.inner.CallTurns.{TurnsOrRefuses}
 use Rattle.pp_expansion.specs.inner.Frames.{Layer, Advance, advance, outermost_frame_line}
 use Rattle.pp_expansion.specs.inner.Machine.{Machine, StepsFetching, StepsTaking, moved, taken_as}
-use Rattle.pp_expansion.specs.inner.Reader.{Reader}
+use Rattle.pp_expansion.specs.inner.Reader.{Reader, hidden_of}
 use Rattle.pp_expansion.specs.inner.Seeking.{FollowsToken}
 use Rattle.pp_expansion.specs.inner.Turns.{Moves, as_pause, frame_move, masks, opens}
 use Rattle.pp_expansion.specs.inner.Reading.{painted_step}
 use Rattle.pp_model.specs.Painting.{painted_among}
 use Rattle.pp_expansion.specs.declared.calls.Taken.{Taken}
 use Rattle.pp_expansion.specs.declared.step.StepExit.TheVariants.{Error, Continue}
+use Rattle.pp_expansion.specs.inner.Frames.{names_of}
+use Rattle.pp_expansion.specs.inner.Giving.{GivesOne, pause, token, is_at_pause}
+use Rattle.pp_expansion.proofs.open_frames.AdvanceLemmas.{Advances, advance_lowers}
 use Rattle.pp_expansion.proofs.taking.SeekLemmas.{turns_token, turns_exit}
 
 gives_alike : (fs : List Layer) (a : Option Advance) → as_pause (given_by a) ≡ (frame_move fs a).gives
@@ -27,6 +31,16 @@ pub frames_move : (frames : List Layer) (r : Reader) → is_some (outermost_fram
     → Moves frames r (as_pause (given_next frames)) (frames_after frames) r
 frames_move [] r some = cc
 frames_move (f ∷ fs) r some = (refl, inl (gives_alike fs (advance f), refl))
+
+-- a frame that gives a token stays open
+given_names : (fs : List Layer) (f : Layer) (a : Option Advance) (read : Read) → IfSome a (Advances f) → given_by a ≡ Some read
+    → names_of (frame_move fs a).after ≡ names_of (f ∷ fs)
+given_names fs f (Some a) read lowers is = rw lowers.name refl
+given_names fs f None read lowers is = cc
+
+names_stay : (frames : List Layer) (read : Read) → given_next frames ≡ Some read → names_of (frames_after frames) ≡ names_of frames
+names_stay [] read is = cc
+names_stay (f ∷ fs) read is = given_names fs f (advance f) read (advance_lowers f) is
 
 -- nothing is held, and a macro is open
 module _ (m : Machine) (r : Reader) (free : m.held ≡ None) (some : is_some (outermost_frame_line m.frames) ≡ true) where
@@ -70,3 +84,31 @@ module _ (m : Machine) (r : Reader) (free : m.held ≡ None) (some : is_some (ou
           record { step = Ok painted; after = passed; reader = r; takes = token_taken; goes = refl };
       fault = refused;
     })
+
+  -- it pauses, and gives no token
+  pub frame_gives_none : (items : List Read) → None ≡ given_next m.frames → GivesOne r m items passed items
+  frame_gives_none items is = pause (frame_takes None (Err Continue) is refl) refl
+
+  -- it gives a token that opens no macro
+  pub frame_gives : (read : Read) (painted : Bool) (items more : List Read) → Some read ≡ given_next m.frames
+      → is_identifier line_name read.token.value ≡ false → painted ≡ (painted_among (masks m.frames r) read).painted
+      → opens r (record { token = read.token; painted = painted }) ≡ None → more ≡ items ++ record { token = read.token; painted = painted } ∷ []
+      → GivesOne r m items passed more
+  frame_gives read painted items more is apart same plain put =
+      let names : masks (frames_after m.frames) r ≡ masks m.frames r =
+      ap (λ (names : List Name). names ++ hidden_of r) (names_stay m.frames read (sym is)) in
+      let whole : painted_among (masks (frames_after m.frames) r) read ≡ record { token = read.token; painted = painted } =
+      rw (names, same) refl in
+      token (record { token = read.token; painted = painted }) (rw whole at (token_taken read is apart)) plain put
+
+none_of : {A : Type 0} (o : Option A) → is_none o ≡ true → o ≡ None
+none_of None e = refl
+none_of (Some value) e = cc
+
+-- a pause of the frames, whatever is read after them
+pub pause_passes : (m : Machine) (fs : List Layer) → is_at_pause m ≡ true → fs ≡ frames_after m.frames → (r : Reader)
+    → StepsTaking m r (Err Continue) (record m { frames = fs }) r
+pause_passes m fs pauses is r =
+    let parts = and_parts (is_none m.held) _ pauses in
+    let others = and_parts (is_some (outermost_frame_line m.frames)) _ parts.1 in
+    rw is (frame_takes m r (none_of m.held parts.0) others.0 None (Err Continue) (sym (none_of (given_next m.frames) others.1)) refl)

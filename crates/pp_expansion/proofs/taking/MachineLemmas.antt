@@ -25,6 +25,10 @@ pub none_held : (o : Option (Step Read)) → is_some o ≡ false → o ≡ None
 none_held None e = refl
 none_held (Some step) e = cc
 
+pub none_opened : {A : Type 0} → (o : Option A) → is_some o ≡ false → o ≡ None
+none_opened None e = refl
+none_opened (Some value) e = cc
+
 -- a step of the frames or the reader that gives no `__LINE__`
 pub fetches_step : (m : Machine) (old new : Option (Step Read)) (frames after : List Layer) (move : Step Read) (r s : Reader)
     → m ≡ record { held = old; frames = frames } → old ≡ None → new ≡ None

@@ -1,8 +1,11 @@
 -- A list of tokens that give themselves comes to itself.
-use Rattle.std.proofs.Common.{◌≡◌, sym, ap, ◌||◌, ◌+◌, ◌≤◌, ℕ, Bool, true, false, not, ◌&&◌, List, [], ◌∷◌, length, refl, Option, Some, None, Ok}
+use Rattle.std.proofs.Common.{◌≡◌, ◌∙◌, sym, ap, take, drop, ◌-◌, le_trans, ◌||◌, ◌+◌, ◌≤◌, ℕ, Bool, true, false, not, ◌&&◌, List, [], ◌∷◌, length, refl, Option, Some, None, Ok}
 use Rattle.std.specs.Prelude.{if◌then◌else◌, is_none}
 use Rattle.std.proofs.Math.Bool.{or-false}
 use Rattle.std.proofs.lemmas.Bool.{and_parts, not-true}
+use Rattle.std.proofs.lemmas.List.{take-append-drop}
+use Rattle.std.proofs.lemmas.List.Elements.{All-weaker}
+use Rattle.std.proofs.lemmas.List.Folds.{list_all-append}
 use Rattle.std.specs.List.{list_all}
 use Rattle.pp_lexer.specs.declared.token.Token.{Token}
 use Rattle.pp_model.specs.declared.read.Read.{Read}
@@ -16,11 +19,14 @@ use Rattle.pp_model.specs.inner.Reading.{opening_by}
 use Rattle.pp_model.specs.Taking as taking
 use Rattle.pp_model.specs.Taking.{Takes}
 use Rattle.pp_model.specs.Calls.{Answers}
-use Rattle.pp_model.specs.Emitting.{itself, Collects, done, item, Alone, answers_at}
+use Rattle.pp_model.specs.Emitting.{itself, Collects, done, item, Alone, Each, none, more, answers_at}
 use Rattle.pp_model.specs.declared.read.Taken.TheVariants as given
 use Rattle.pp_model.proofs.CollectLemmas.{Alone-collects}
 use Rattle.pp_expansion.specs.inner.Defined.{Defined, meaning_of, body_tokens}
+use Rattle.pp_expansion.specs.declared.argument_lists.Part.{Part}
+use Rattle.pp_expansion.specs.inner.Finishing.{AreShort}
 use Rattle.pp_expansion.specs.inner.Left.{most_alone}
+use Rattle.pp_expansion.specs.inner.Parts.{list_of, lists_of}
 use Rattle.pp_expansion.specs.inner.Reach.{frame_steps, grown}
 use Rattle.pp_expansion.specs.inner.Plain.{is_plain, is_plain_value}
 use Rattle.pp_expansion.proofs.work.IterateLemmas.{iterate_up}
@@ -100,3 +106,31 @@ pub plain_short : (levels : ℕ) (definitions : List Defined) (n : ℕ) → n �
 plain_short levels definitions n =
     let frame : ℕ → ℕ = frame_steps (body_tokens definitions) (length definitions + 1) levels in
     iterate_up (grown frame (length definitions + 1)) n (grown_up frame (length definitions + 1)) n
+
+-- each part of such tokens has such tokens
+plain_part : (test : Read → Bool) (tokens : List Read) (part : Part) → list_all test tokens ≡ true → list_all test (list_of tokens part) ≡ true
+plain_part test tokens part e =
+    let start : (list_all test (take part.start tokens) && list_all test (drop part.start tokens)) ≡ true =
+    sym (list_all-append test (take part.start tokens) (drop part.start tokens)) ∙ ap (list_all test) (take-append-drop part.start tokens) ∙ e in
+    let after : list_all test (drop part.start tokens) ≡ true =
+    (and_parts (list_all test (take part.start tokens)) (list_all test (drop part.start tokens)) start).1 in
+    let within : (list_all test (list_of tokens part) && list_all test (drop (part.end - part.start) (drop part.start tokens))) ≡ true =
+    sym (list_all-append test (list_of tokens part) (drop (part.end - part.start) (drop part.start tokens)))
+    ∙ ap (list_all test) (take-append-drop (part.end - part.start) (drop part.start tokens)) ∙ after in
+    (and_parts (list_all test (list_of tokens part)) (list_all test (drop (part.end - part.start) (drop part.start tokens))) within).0
+
+-- parts of such tokens, each alone
+pub plain_each : (levels : ℕ) (definitions : List Defined) (hidden : List Name) (tokens : List Read) (parts : List Part)
+    → list_all (is_plain definitions hidden) tokens ≡ true
+    → Each (Alone levels) (meaning_of definitions) hidden (lists_of tokens parts) (Ok (lists_of tokens parts))
+plain_each levels definitions hidden tokens [] e = none (Ok []) refl
+plain_each levels definitions hidden tokens (part ∷ parts) e =
+    more (list_of tokens part) (list_of tokens part) (lists_of tokens parts) (Ok (lists_of tokens parts)) (Ok (lists_of tokens (part ∷ parts)))
+    (plain_alone levels definitions hidden (list_of tokens part) (plain_part (is_plain definitions hidden) tokens part e))
+    (plain_each levels definitions hidden tokens parts e) refl
+
+-- lists that come to themselves are no longer than they may be
+pub plain_are_short : (levels : ℕ) (definitions : List Defined) (lists : List (List Read)) → AreShort levels definitions lists lists
+plain_are_short levels definitions lists n all =
+    All-weaker (λ (list : List Read). length list ≤ n) (λ (list : List Read). length list ≤ most_alone levels definitions n)
+    (λ list few. le_trans few (plain_short levels definitions n)) lists all

@@ -1,5 +1,5 @@
 -- What the preprocessor keeps of the names that are defined: a list of them, in which no name stands twice.
-use Rattle.std.specs.Prelude.{◌≡◌, ℕ, ◌+◌, ◌≤◌, List, [], ◌∷◌, length, Option, Some, None}
+use Rattle.std.specs.Prelude.{◌≡◌, ℕ, ◌+◌, ◌≤◌, List, [], ◌∷◌, ◌++◌, length, Option, Some, None}
 use Rattle.pp_model.specs.Names.{Name}
 use Rattle.pp_model.specs.Definitions.{Definition, Definitions, changed}
 use Rattle.pp_model.specs.inner.Definitions.{nothing_defined}
@@ -8,6 +8,18 @@ use Rattle.pp_model.specs.inner.Definitions.{nothing_defined}
 pub record Defined : Type 0 where
   pub name : Name
   pub definition : Definition
+
+-- a name, if it has a definition
+abbrev pub defined_as : Name → Option Definition → List Defined
+defined_as name None = []
+defined_as name (Some definition) = record { name = name; definition = definition } ∷ []
+
+-- those of the names that have a definition, where each has its definition or none
+abbrev pub defined_among : List Name → List (Option Definition) → List Defined
+defined_among [] definitions = []
+defined_among (name ∷ names) [] = []
+defined_among (name ∷ names) (definition ∷ definitions) =
+    defined_as name definition ++ defined_among names definitions
 
 -- what each name stands for
 abbrev pub meaning_of : List Defined → Definitions

@@ -44,12 +44,10 @@ abbrev pub AreShort : ℕ → List Defined → List (List Read) → List (List R
 AreShort levels definitions arguments outs = (n : ℕ) → All (λ argument. length argument ≤ n) arguments
     → All (λ out. length out ≤ most_alone levels definitions n) outs
 
--- nothing is open or held, the list is an argument where these definitions and names stand, and it gave no item yet
-pub record IsAtStart (definitions : List Defined) (hidden : List Name) (m : Machine) (l : Listing) (items : List Read)
-    : Type 0 where
+-- nothing is open or held, and the list is an argument where these definitions and names stand
+pub record IsAtStart (definitions : List Defined) (hidden : List Name) (m : Machine) (l : Listing) : Type 0 where
   pub idle : m ≡ record { held = None; frames = [] }
   pub argument : l ≡ record { tokens = l.tokens; definitions = definitions; hidden = hidden; is_line = false }
-  pub empty : items ≡ []
 
 -- what a list comes to whose items are these, where it was read to its end
 abbrev pub read_to_end : List Read → Result (Unit {0}) Fault → Result (List Read) Fault

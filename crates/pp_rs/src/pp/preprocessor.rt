@@ -149,7 +149,7 @@ impl<'a> Iterator for Preprocessor<'a> {
                     return Some(Err(error));
                 }
                 Err(StepExit::Finished) => return None,
-                Err(StepExit::Continue) => {}
+                Err(StepExit::Continue) => self.caller.pass_pauses(),
             }
         }
     }

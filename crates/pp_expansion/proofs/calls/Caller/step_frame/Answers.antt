@@ -26,5 +26,5 @@ returns-clause-turns g c =
     (frame_follows (record { held = c.self.inside.held; frames = c.self.inside.processor }) _
     (ap (λ (m : Machine). m.held) c.self.view_is ∙ c.requires.free)
     (ap (λ (m : Machine). is_some (outermost_frame_line m.frames)) c.self.view_is ∙ c.requires.open) c.in-Some.ahead (c.in-Some.ensures.token)
-    (ap (is_identifier line_name) (sym c.value.ensures) ∙ sym c.if-is_line_name.ensures) c.paint-read.result c.pass-2.new.self _ _ _
-    (rw c.in-Ok.ensures at c.paint-read.ensures) c.pass-2.ensures c.follow.ensures.follows)
+    (ap (is_identifier line_name) (sym c.value.ensures) ∙ sym c.if-is_line_name.ensures) c.paint.new.read c.pass-2.new.self _ _ _
+    (rw c.in-Ok.ensures at c.paint.ensures) c.pass-2.ensures c.follow.ensures.follows)

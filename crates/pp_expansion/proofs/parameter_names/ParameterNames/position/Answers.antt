@@ -1,6 +1,6 @@
 use Rattle.std.proofs.Common.{◌∙◌}
 use Rattle.std.specs.Str.{chars}
-use Rattle.pp_expansion.proofs.defined_names.DefinitionsLemmas.{text_tests, lookup_alike}
+use Rattle.pp_expansion.proofs.defined_names.NameKeysLemmas.{text_tests, lookup_alike}
 use Rattle.pp_expansion.proofs.parameter_names.ParameterNames.position.Goals as goal
 
 pub returns : goal.returns

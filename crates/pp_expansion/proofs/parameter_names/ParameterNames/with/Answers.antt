@@ -2,7 +2,7 @@ use Rattle.std.proofs.Common.{◌≡◌, ◌∙◌, length, false, Some, vec_len
 use Rattle.std.specs.BTreeMap as tree
 use Rattle.std.specs.String.{string_cmp}
 use Rattle.pp_model.specs.Names.{is_in}
-use Rattle.pp_expansion.proofs.defined_names.DefinitionsLemmas.{text_name}
+use Rattle.pp_expansion.proofs.defined_names.NameKeysLemmas.{text_name}
 use Rattle.pp_expansion.proofs.defined_names.ParameterNamesLemmas.{finds_more}
 use Rattle.pp_expansion.proofs.parameter_names.ParameterNames.with.Goals as goal
 

@@ -1,7 +1,8 @@
-use Rattle.std.proofs.Common.{◌≡◌, ◌∙◌, refl, ap, sym, false, Option}
+use Rattle.std.proofs.Common.{◌≡◌, ◌∙◌, refl, ap, sym, false, Option, arith}
 use Rattle.std.specs.Prelude.{unwrap_or}
 use Rattle.pp_lexer.specs.declared.token.Location.{Location}
 use Rattle.pp_expansion.specs.Item.{Fault, is_out_of_memory}
+use Rattle.pp_rs.proofs.runs.PausesLemmas.{reached_on}
 use Rattle.pp_rs.proofs.runs.NextLemmas.{reached_first, reached_more, falls_more, token_fits, end_fits, fault_fits, next_token, next_end, next_error, next_none}
 use Rattle.pp_rs.proofs.pp.preprocessor.PreprocessorIterator.next.Goals as goal
 
@@ -13,13 +14,17 @@ loop-token-init c = record {
 }
 
 pub loop-token-smaller : goal.loop-token-smaller
-loop-token-smaller c = falls_more _ _ _ _ _ _ c.loop-token.invariant.reached (rw c.in-Err-Continue.field-0-is at c.in-Err-Continue.ensures.turns)
+loop-token-smaller c =
+    let turns = rw c.in-Err-Continue.field-0-is at c.in-Err-Continue.ensures.turns in
+    let on = reached_on _ _ _ _ (reached_more _ _ _ _ _ _ c.loop-token.invariant.reached turns) _ c.pass_pauses.ensures in
+    omega (arith, on.least, falls_more _ _ _ _ _ _ c.loop-token.invariant.reached turns)
 
 pub loop-token-preserved : goal.loop-token-preserved
 loop-token-preserved c = record {
   unspent = c.loop-token.invariant.unspent;
   placed = c.loop-token.invariant.placed;
-  reached = reached_more _ _ _ _ _ _ c.loop-token.invariant.reached (rw c.in-Err-Continue.field-0-is at c.in-Err-Continue.ensures.turns);
+  reached = (reached_on _ _ _ _ (reached_more _ _ _ _ _ _ c.loop-token.invariant.reached
+      (rw c.in-Err-Continue.field-0-is at c.in-Err-Continue.ensures.turns)) _ c.pass_pauses.ensures).reached;
 }
 
 pub invariant_of-self : goal.invariant_of-self
