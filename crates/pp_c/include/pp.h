@@ -117,12 +117,17 @@ typedef struct pp_sizes {
     uint64_t texts;
 } pp_sizes;
 
-/* Preprocesses `source`. After an error the items go on. */
+/* Preprocesses `source`. After an error the items go on.
+ *
+ * Proved of PP_DONE: up to and with the first error the items are those of the written rules, with each definition added
+ * at its number. Of those after it only this is proved: each error is where its PP_PLACE says, and none of the lexer's is
+ * missing. The texts follow one another from texts[0] on, and what `items` and `texts` held after them stays. */
 uint32_t pp_preprocess(const uint8_t *source, size_t source_length, const uint8_t *words, size_t words_length,
                        pp_definition *definitions, size_t definitions_length, pp_item *items, size_t items_length,
                        uint8_t *texts, size_t texts_length, pp_sizes *sizes);
 
-/* Gives the tokens of `source` before preprocessing, newlines and number signs among them. */
+/* Gives the tokens of `source` before preprocessing, newlines and number signs among them. Proved of PP_DONE: they are those
+ * of the written rules, errors and what comes after them too. */
 uint32_t pp_lex(const uint8_t *source, size_t source_length, pp_item *items, size_t items_length, uint8_t *texts,
                 size_t texts_length, pp_sizes *sizes);
 

@@ -1,18 +1,23 @@
 //! Definitions that C hands in.
 
-ghost use Rattle.std.specs.Prelude.{◌-◌, ◌^◌, ◌<◌, length};
+ghost use Rattle.std.specs.Prelude.{◌≡◌, IfOk, OnOk};
+ghost use Rattle.pp_c.specs.Calls.{part_of, with_answer};
+ghost use Rattle.pp_c.specs.inner.Making.{AddsOne};
 
 use crate::faults::number_of;
 use crate::items::Definition;
 use crate::status::Refusal;
+use pp_expansion::step::is_out_of_memory;
 use pp_rs::pp::Preprocessor;
-use pp_rs::token::{Location, PreprocessorError};
+use pp_rs::token::Location;
 
 /// The least length that is too long for a source or a content.
 pub(crate) const LIMIT: usize = 4294967295;
 
 // A part of the words, if it lies in them.
-fn part(words: &str, start: u64, length: u64) -> Result<&str, Refusal> {
+fn part(words: &str, start: u64, length: u64) -> Result<&str, Refusal>
+    ensures { IfOk result (λ part. part.now ≡ part_of words.now start length) }
+{
     let Some(end) = start.checked_add(length) else {
         return Err(Refusal::BadDefinition);
     };
@@ -23,15 +28,23 @@ fn part(words: &str, start: u64, length: u64) -> Result<&str, Refusal> {
 }
 
 // Writes an error and where it stands into a definition.
-fn answer(definition: &mut Definition, error: u32, place: Location) {
+fn answer(definition: &mut Definition, error: u32, place: Location)
+    ensures { definition.new ≡ with_answer definition.old error place }
+{
     definition.error = error;
     definition.start = place.start;
     definition.end = place.end;
     definition.line = place.line;
 }
 
-// Adds a definition, and writes into it what its content is answered.
-fn add(pp: &mut Preprocessor<'_>, words: &str, definition: &mut Definition) -> Result<(), Refusal> {
+/// Adds a definition, and writes into it what its content is answered.
+pub(crate) fn add(
+    pp: &mut Preprocessor<'_>,
+    words: &str,
+    definition: &mut Definition,
+) -> Result<(), Refusal>
+    ensures { OnOk result (AddsOne words.now definition.old definition.new pp.old pp.new) }
+{
     let name = part(words, definition.name_start, definition.name_length)?;
     let content = part(words, definition.content_start, definition.content_length)?;
     if content.len() >= LIMIT {
@@ -42,28 +55,12 @@ fn add(pp: &mut Preprocessor<'_>, words: &str, definition: &mut Definition) -> R
             answer(definition, 0, Location::default());
             Ok(())
         }
-        Err((PreprocessorError::OutOfMemory, _)) => Err(Refusal::OutOfMemory),
         Err((error, place)) => {
+            if is_out_of_memory(&error) {
+                return Err(Refusal::OutOfMemory);
+            }
             answer(definition, number_of(&error) as u32, place);
             Ok(())
         }
     }
-}
-
-/// Adds the definitions from a number on that are due once so many items were given. Returns the number of the first that
-/// isn't.
-pub(crate) fn add_due(
-    pp: &mut Preprocessor<'_>,
-    words: &str,
-    definitions: &mut [Definition],
-    first: usize,
-    given: u64,
-) -> Result<usize, Refusal> {
-    for i in first..definitions.len() {
-        if definitions[i].after > given {
-            return Ok(i);
-        }
-        add(pp, words, &mut definitions[i])?;
-    }
-    Ok(definitions.len())
 }

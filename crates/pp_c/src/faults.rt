@@ -1,9 +1,14 @@
 //! Errors as numbers of the header.
 
+ghost use Rattle.std.specs.Prelude.{◌≡◌};
+ghost use Rattle.pp_c.specs.Numbers.{error_number};
+
 use pp_rs::token::PreprocessorError;
 
 /// The number of an error: from 1 in the order of `PreprocessorError`.
-pub(crate) fn number_of(error: &PreprocessorError) -> u16 {
+pub(crate) fn number_of(error: &PreprocessorError) -> u16
+    ensures { result ≡ error_number error.now }
+{
     match error {
         PreprocessorError::IntegerOverflow => 1,
         PreprocessorError::FloatParsingError => 2,

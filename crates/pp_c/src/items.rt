@@ -1,5 +1,8 @@
 //! What C hands in and is given: items, definitions and sizes.
 
+ghost use Rattle.std.specs.Prelude.{◌≡◌};
+ghost use Rattle.pp_c.specs.Numbers.{bit_if};
+
 /// An item, or a token or a place that one holds.
 #[repr(C)]
 #[derive(Clone, Copy)]
@@ -108,6 +111,8 @@ pub(crate) const LEADING_WHITESPACE: u32 = 16;
 pub(crate) const START_OF_LINE: u32 = 32;
 
 /// The bit, if the condition holds.
-pub(crate) fn bit_if(condition: bool, bit: u32) -> u32 {
+pub(crate) fn bit_if(condition: bool, bit: u32) -> u32
+    ensures { result ≡ bit_if condition bit }
+{
     if condition { bit } else { 0 }
 }

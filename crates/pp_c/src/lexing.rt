@@ -1,19 +1,24 @@
 //! The items of the lexer.
 
-ghost use Rattle.std.specs.Prelude.{◌≡◌, ◌≤◌, ◌-◌, ◌^◌, length, IsOk, IsUtf8};
+ghost use Rattle.std.specs.Prelude.{◌≡◌, ◌≢◌, ◌≤◌, ◌-◌, ◌^◌, ◌∷◌, [], length, IsOk, OnOk, IsUtf8};
+ghost use Rattle.pp_rs.specs.PreprocessorError.{out_of_memory};
+ghost use Rattle.pp_c.specs.Lexing.{lexer_flags, lexer_entry, lexeme_entries, lexer_entries};
+ghost use Rattle.pp_c.specs.inner.Taking.{Takes};
 
 use crate::definitions::LIMIT;
 use crate::items::{Kind, LEADING_WHITESPACE, START_OF_LINE, bit_if};
 use crate::output::Output;
 use crate::status::Refusal;
-use crate::words::{give_error, give_float, give_integer, give_punctuator, item_at};
+use crate::words::{give_error, give_float, give_integer, give_name, give_punctuator, item_at};
+use pp_expansion::step::is_out_of_memory;
 use pp_rs::lexer::{Lexer, LexerItem, Token, TokenValue};
-use pp_rs::token::{Location, PreprocessorError};
+use pp_rs::token::Location;
 use std::alloc::Global;
 use std::str;
 
 /// Gives the items of the lexer of a source.
 pub(crate) fn lex(alloc: Global, source: &[u8], output: &mut Output<'_>) -> Result<(), Refusal>
+    ensures given { OnOk result (Takes output.old (lexer_entries source.now) output.new) }
     ensures text { IsOk result → IsUtf8 source.now }
     ensures too_long { 2 ^ 32 - 1 ≤ length source.now → result ≡ Err Refusal.TooLong }
 {
@@ -37,11 +42,16 @@ fn give_item(
     place: Location,
     spelling: &mut String,
     output: &mut Output<'_>,
-) -> Result<(), Refusal> {
+) -> Result<(), Refusal>
+    ensures given { OnOk result (Takes output.old (lexeme_entries item place) output.new) }
+    ensures reported { OnOk result (item ≢ Err out_of_memory) }
+{
     match item {
         Ok(token) => give_token(&token, spelling, output),
-        Err((PreprocessorError::OutOfMemory, _)) => Err(Refusal::OutOfMemory),
         Err((error, location)) => {
+            if is_out_of_memory(&error) {
+                return Err(Refusal::OutOfMemory);
+            }
             give_error(&error, location, place, 0, output);
             Ok(())
         }
@@ -49,20 +59,17 @@ fn give_item(
 }
 
 // Gives a token of the lexer.
-fn give_token(
-    token: &Token,
-    spelling: &mut String,
-    output: &mut Output<'_>,
-) -> Result<(), Refusal> {
+fn give_token(token: &Token, spelling: &mut String, output: &mut Output<'_>) -> Result<(), Refusal>
+    ensures { OnOk result (Takes output.old
+        (lexer_entry token.now.location (lexer_flags token.now) token.now.value ∷ []) output.new) }
+{
     let place = token.location;
     let flags = bit_if(token.leading_whitespace, LEADING_WHITESPACE)
         | bit_if(token.start_of_line, START_OF_LINE);
     match &token.value {
         TokenValue::Hash => output.take(item_at(place, Kind::Hash, flags)),
         TokenValue::NewLine => output.take(item_at(place, Kind::NewLine, flags)),
-        TokenValue::Ident(name) => {
-            output.take_text(item_at(place, Kind::Ident, flags), name.as_str())
-        }
+        TokenValue::Ident(name) => give_name(place, flags, name, output),
         TokenValue::Integer(integer) => give_integer(place, flags, *integer, output),
         TokenValue::Float(float) => give_float(place, flags, float, output),
         TokenValue::Punct(punct) => {

@@ -2,8 +2,11 @@
 //! declares what is here, and says what a caller in C has to uphold.
 #![tactic(auto)]
 
-ghost use Rattle.std.specs.Prelude.{◌≡◌, ◌<◌, ◌≤◌, ◌-◌, ◌^◌, length, IsUtf8};
+ghost use Rattle.std.specs.Prelude.{◌≡◌, ◌<◌, ◌≤◌, ◌-◌, ◌^◌, map, length, IsUtf8};
+ghost use Rattle.pp_c.specs.Calls.{answered};
 ghost use Rattle.pp_c.specs.Ends.{HasRoom};
+ghost use Rattle.pp_c.specs.Lexing.{lexer_entries};
+ghost use Rattle.pp_c.specs.Preprocessed.{AreWritten, Preprocesses};
 
 mod definitions;
 mod faults;
@@ -38,6 +41,9 @@ fn room_of(items: &[Item], texts: &[u8]) -> Sizes
 /// Each of `definitions` is added once so many items were given as it says, and the definitions before it were added; one
 /// whose number isn't reached, after the last item. What its content is answered is written into it.
 ///
+/// With `PP_DONE` the items are at the front of `items`, and their texts, one after another, at the front of `texts`; the
+/// rest of both is as it was.
+///
 /// The answer is a [`Status`] as a number. `sizes` says how much room all items take. If there is less, the answer is
 /// `PP_TOO_SMALL`, and a call with so much room gives them.
 #[unsafe(no_mangle)]
@@ -51,6 +57,9 @@ pub extern "C" fn pp_preprocess(
     sizes: &mut Sizes,
 ) -> u32
     ensures answer { result < 6 }
+    ensures given { result < 2 → Preprocesses source.now words.now definitions.old
+        items.old items.new texts.old texts.new sizes.new }
+    ensures answered { result < 2 → definitions.new ≡ map (answered words.now) definitions.old }
     ensures done { result ≡ 0 → HasRoom (length items.old) (length texts.old) sizes.new }
     ensures too_small { result ≡ 1 → ¬ (HasRoom (length items.old) (length texts.old) sizes.new) }
     ensures text { result < 2 → IsUtf8 source.now × IsUtf8 words.now }
@@ -74,6 +83,8 @@ pub extern "C" fn pp_lex(
     sizes: &mut Sizes,
 ) -> u32
     ensures answer { result < 6 }
+    ensures given { result < 2 → AreWritten (lexer_entries source.now)
+        items.old items.new texts.old texts.new sizes.new }
     ensures done { result ≡ 0 → HasRoom (length items.old) (length texts.old) sizes.new }
     ensures too_small { result ≡ 1 → ¬ (HasRoom (length items.old) (length texts.old) sizes.new) }
     ensures text { result < 2 → IsUtf8 source.now }

@@ -1,5 +1,9 @@
 //! Where items go.
 
+ghost use Rattle.std.specs.Prelude.{◌≡◌, ◌+◌, ◌<◌, ◌≤◌, ◌∷◌, [], length};
+ghost use Rattle.pp_c.specs.Entries.{bare, with_text};
+ghost use Rattle.pp_c.specs.inner.Taking.{Takes, written_over};
+
 use crate::items::{Item, Sizes};
 
 /// The caller's room for items and their texts, and how many came so far. What has no room is only counted.
@@ -12,7 +16,13 @@ pub(crate) struct Output<'a> {
 
 impl<'a> Output<'a> {
     /// Nothing came so far.
-    pub(crate) fn new(items: &'a mut [Item], texts: &'a mut [u8]) -> Self {
+    pub(crate) fn new(items: &'a mut [Item], texts: &'a mut [u8]) -> Self
+        ensures same_items { result.items.ghost_name ≡ items.entry.ghost_name }
+        ensures same_texts { result.texts.ghost_name ≡ texts.entry.ghost_name }
+        ensures items { result.items.now ≡ items.old }
+        ensures texts { result.texts.now ≡ texts.old }
+        ensures sizes { result.sizes ≡ record { items = 0; texts = 0 } }
+    {
         Output {
             items,
             texts,
@@ -21,36 +31,53 @@ impl<'a> Output<'a> {
     }
 
     /// How much room the items take that came so far.
-    pub(crate) fn sizes(&self) -> Sizes {
+    pub(crate) fn sizes(&self) -> Sizes
+        ensures { result ≡ self.now.sizes }
+    {
         self.sizes
     }
 
     /// Takes an item that has no text.
-    pub(crate) fn take(&mut self, item: Item) {
-        let at = self.sizes.items as usize;
-        if at < self.items.len() {
-            self.items[at] = item;
-        }
+    pub(crate) fn take(&mut self, item: Item)
+        ensures { Takes self.old (bare item ∷ []) self.new }
+    {
+        put(self.items, self.sizes.items as usize, item);
         self.sizes.items = self.sizes.items.saturating_add(1);
     }
 
     /// Takes an item with its text.
-    pub(crate) fn take_text(&mut self, item: Item, text: &str) {
+    pub(crate) fn take_text(&mut self, item: Item, text: &str)
+        ensures { Takes self.old (with_text item text.now ∷ []) self.new }
+    {
         let bytes = text.as_bytes();
         let start = self.sizes.texts;
         let mut item = item;
         item.value = start;
         item.text_length = u32::try_from(bytes.len()).unwrap_or(u32::MAX);
-        self.copy(start as usize, bytes);
+        copy(self.texts, start as usize, bytes);
         self.sizes.texts = start.saturating_add(bytes.len() as u64);
         self.take(item);
     }
+}
 
-    // Copies a text into the room for texts.
-    fn copy(&mut self, start: usize, bytes: &[u8]) {
-        let room = self.texts.len();
-        if start <= room && bytes.len() <= room - start {
-            self.texts[start..start + bytes.len()].copy_from_slice(bytes);
-        }
+// Puts an item there, if there is room.
+fn put(items: &mut [Item], at: usize, item: Item)
+    ensures room { length items.new ≡ length items.old }
+    ensures written { at < length items.old → items.new ≡ written_over at (item ∷ []) items.old }
+{
+    if at < items.len() {
+        items[at] = item;
+    }
+}
+
+// Copies a text there, if there is room.
+fn copy(texts: &mut [u8], start: usize, bytes: &[u8])
+    ensures room { length texts.new ≡ length texts.old }
+    ensures written { start + length bytes.now ≤ length texts.old
+        → texts.new ≡ written_over start bytes.now texts.old }
+{
+    let room = texts.len();
+    if start <= room && bytes.len() <= room - start {
+        texts[start..start + bytes.len()].copy_from_slice(bytes);
     }
 }

@@ -1,14 +1,25 @@
 //! The items of a preprocessed source.
 
-ghost use Rattle.std.specs.Prelude.{◌≡◌, ◌≤◌, ◌-◌, ◌^◌, length, IsOk, IsUtf8};
+ghost use Rattle.std.specs.Prelude.{◌≡◌, ◌<◌, ◌≤◌, ◌-◌, ◌^◌, ◌∷◌, [], true, false, map, length};
+ghost use Rattle.std.specs.Prelude.{IsOk, OnOk, IfOk, IsTrue, IsUtf8};
+ghost use Rattle.pp_expansion.specs.Item.{is_out_of_memory};
+ghost use Rattle.pp_rs.specs.Preorder.{preorder, inner, leaf_of};
+ghost use Rattle.pp_rs.specs.TokenValue.{is_ordinary};
+ghost use Rattle.pp_rs.specs.Kept.{is_spent, most_items};
+ghost use Rattle.pp_c.specs.Calls.{answered};
+ghost use Rattle.pp_c.specs.Entries.{in_32_bits};
+ghost use Rattle.pp_c.specs.Tokens.{item_at, leaf_entry, token_entries, error_entries};
+ghost use Rattle.pp_c.specs.inner.Kinds.{kind_number};
+ghost use Rattle.pp_c.specs.inner.Making.{NextIsWritten, IsUntil, GoesOn, HasRest, HasAll, Gives};
+ghost use Rattle.pp_c.specs.inner.Taking.{Takes};
 
-use crate::definitions::{LIMIT, add_due};
+use crate::definitions::{LIMIT, add};
 use crate::items::{
     COMMENTS_BEFORE, Definition, FIRST_DIRECTIVE, Item, Kind, NON_DIRECTIVE_BEFORE, bit_if,
 };
 use crate::output::Output;
 use crate::status::Refusal;
-use crate::words::{give_error, give_float, give_integer, give_punctuator, item_at};
+use crate::words::{give_error, give_float, give_integer, give_name, give_punctuator, item_at};
 use pp_rs::pp::Preprocessor;
 use pp_rs::token::{Location, PreprocessorError, Token, TokenValue};
 use std::alloc::Global;
@@ -22,6 +33,8 @@ pub(crate) fn preprocess(
     definitions: &mut [Definition],
     output: &mut Output<'_>,
 ) -> Result<(), Refusal>
+    ensures given { OnOk result (Gives source.now words.now definitions.old output.old output.new) }
+    ensures answered { OnOk result (definitions.new ≡ map (answered words.now) definitions.old) }
     ensures text { IsOk result → IsUtf8 source.now × IsUtf8 words.now }
     ensures too_long { 2 ^ 32 - 1 ≤ length source.now → result ≡ Err Refusal.TooLong }
 {
@@ -37,6 +50,13 @@ pub(crate) fn preprocess(
     end
 }
 
+// How many items were given so far, and whether the end was.
+#[derive(Clone, Copy)]
+struct Progress {
+    given: u64,
+    has_ended: bool,
+}
+
 // Gives all items, with the definitions added at their numbers.
 fn give_all(
     alloc: Global,
@@ -44,17 +64,65 @@ fn give_all(
     words: &str,
     definitions: &mut [Definition],
     output: &mut Output<'_>,
-) -> Result<(), Refusal> {
+) -> Result<(), Refusal>
+    requires { is_spent pp.old ≡ false }
+    ensures given { OnOk result (HasAll pp.old output.old words.now definitions.old pp.new output.new) }
+    ensures answered { OnOk result (definitions.new ≡ map (answered words.now) definitions.old) }
+{
     let mut spelling = String::new(alloc);
-    let mut added = 0;
-    for given in 0..u64::MAX {
-        added = add_due(pp, words, definitions, added, given)?;
-        if !give_next(pp, &mut spelling, output)? {
-            break;
+    let mut progress = Progress {
+        given: 0,
+        has_ended: false,
+    };
+    for i in 0..definitions.len() {
+        let after = definitions[i].after;
+        give_until(pp, after, &mut progress, &mut spelling, output)?;
+        add(pp, words, &mut definitions[i])?;
+    }
+    give_rest(pp, progress, &mut spelling, output)
+}
+
+// Gives items until so many were given, or to the end.
+fn give_until(
+    pp: &mut Preprocessor<'_>,
+    count: u64,
+    progress: &mut Progress,
+    spelling: &mut String,
+    output: &mut Output<'_>,
+) -> Result<(), Refusal>
+    requires { is_spent pp.old ≡ false }
+    ensures unspent { OnOk result (is_spent pp.new ≡ false) }
+    ensures until { OnOk result (IsUntil count progress.old progress.new) }
+    ensures given { OnOk result (GoesOn pp.old output.old progress.old pp.new output.new progress.new) }
+{
+    'items: while !progress.has_ended && progress.given < count {
+        if give_next(pp, spelling, output)? {
+            progress.given += 1;
+        } else {
+            progress.has_ended = true;
         }
     }
-    add_due(pp, words, definitions, added, u64::MAX)?;
     Ok(())
+}
+
+// Gives the items that are left.
+fn give_rest(
+    pp: &mut Preprocessor<'_>,
+    progress: Progress,
+    spelling: &mut String,
+    output: &mut Output<'_>,
+) -> Result<(), Refusal>
+    requires { is_spent pp.old ≡ false }
+    ensures { OnOk result (HasRest progress pp.old output.old pp.new output.new) }
+{
+    if progress.has_ended {
+        return Ok(());
+    }
+    'items: loop {
+        if !give_next(pp, spelling, output)? {
+            return Ok(());
+        }
+    }
 }
 
 // Gives the next item, if there is one.
@@ -62,7 +130,11 @@ fn give_next(
     pp: &mut Preprocessor<'_>,
     spelling: &mut String,
     output: &mut Output<'_>,
-) -> Result<bool, Refusal> {
+) -> Result<bool, Refusal>
+    requires { is_spent pp.old ≡ false }
+    ensures given { IfOk result (λ more. NextIsWritten pp.old pp.new output.old output.new more) }
+    ensures less { IfOk result (λ more. more ≡ true → most_items pp.new < most_items pp.old) }
+{
     match pp.next() {
         None => Ok(false),
         Some(Ok(token)) => {
@@ -83,18 +155,15 @@ fn give_fault(
     place: Location,
     spelling: &mut String,
     output: &mut Output<'_>,
-) -> Result<(), Refusal> {
+) -> Result<(), Refusal>
+    ensures given { OnOk result (Takes output.old (error_entries error.now location place) output.new) }
+    ensures reported { OnOk result (is_out_of_memory error.now ≡ false) }
+{
     match error {
         PreprocessorError::OutOfMemory => Err(Refusal::OutOfMemory),
         PreprocessorError::UnexpectedToken(value) => {
-            let held = tokens_of(value).len();
-            give_error(
-                error,
-                location,
-                place,
-                count(held).saturating_add(1),
-                output,
-            );
+            let held = count(tokens_of(value).len());
+            give_error(error, location, place, held.saturating_add(1), output);
             give_value(location, value, spelling, output)
         }
         _ => {
@@ -110,16 +179,22 @@ fn give_value(
     value: &TokenValue,
     spelling: &mut String,
     output: &mut Output<'_>,
-) -> Result<(), Refusal> {
-    give_word(place, value, spelling, output)?;
-    for token in tokens_of(value) {
-        give_word(token.location, &token.value, spelling, output)?;
+) -> Result<(), Refusal>
+    ensures { OnOk result (Takes output.old (token_entries place value.now) output.new) }
+{
+    let line = tokens_of(value);
+    give_word(place, value, count(line.len()), spelling, output)?;
+    for token in line {
+        give_word(token.location, &token.value, 0, spelling, output)?;
     }
     Ok(())
 }
 
 // The tokens of a directive's line.
-fn tokens_of(value: &TokenValue) -> &[Token] {
+fn tokens_of(value: &TokenValue) -> &[Token]
+    ensures held { preorder result.now ≡ inner value.now }
+    ensures ordinary { IsTrue (is_ordinary value.now) → result.now ≡ [] }
+{
     match value {
         TokenValue::Version(version) => version.tokens.as_slice(),
         TokenValue::Extension(extension) => extension.tokens.as_slice(),
@@ -129,52 +204,49 @@ fn tokens_of(value: &TokenValue) -> &[Token] {
 }
 
 // A count of tokens.
-fn count(tokens: usize) -> u32 {
+fn count(tokens: usize) -> u32
+    ensures { result ≡ in_32_bits tokens }
+{
     u32::try_from(tokens).unwrap_or(u32::MAX)
 }
 
-// Gives one item for a token.
+// Gives one item for a token, of which so many that follow are part if it is a directive.
 fn give_word(
     place: Location,
     value: &TokenValue,
+    children: u32,
     spelling: &mut String,
     output: &mut Output<'_>,
-) -> Result<(), Refusal> {
+) -> Result<(), Refusal>
+    requires { IsTrue (is_ordinary value.now) → children ≡ 0 }
+    ensures { OnOk result (Takes output.old (leaf_entry place 0 children (leaf_of value.now) ∷ []) output.new) }
+{
     match value {
-        TokenValue::Ident(name) => {
-            output.take_text(item_at(place, Kind::Ident, 0), name.as_str());
-            Ok(())
-        }
-        TokenValue::Integer(integer) => {
-            give_integer(place, 0, *integer, output);
-            Ok(())
-        }
-        TokenValue::Float(float) => {
-            give_float(place, 0, float, output);
-            Ok(())
-        }
-        TokenValue::Punct(punct) => give_punctuator(place, 0, *punct, spelling, output),
-        TokenValue::Version(_) | TokenValue::Extension(_) | TokenValue::Pragma(_) => {
-            output.take(directive_item(place, value));
-            Ok(())
-        }
-    }
-}
-
-// The item of a directive.
-fn directive_item(place: Location, value: &TokenValue) -> Item {
-    let mut item = match value {
+        TokenValue::Ident(name) => give_name(place, 0, name, output),
+        TokenValue::Integer(integer) => give_integer(place, 0, *integer, output),
+        TokenValue::Float(float) => give_float(place, 0, float, output),
+        TokenValue::Punct(punct) => return give_punctuator(place, 0, *punct, spelling, output),
         TokenValue::Version(version) => {
             let flags = bit_if(version.is_first_directive, FIRST_DIRECTIVE)
                 | bit_if(version.has_comments_before, COMMENTS_BEFORE);
-            item_at(place, Kind::Version, flags)
+            output.take(directive_item(place, Kind::Version, flags, children));
         }
         TokenValue::Extension(extension) => {
             let flags = bit_if(extension.has_non_directive_before, NON_DIRECTIVE_BEFORE);
-            item_at(place, Kind::Extension, flags)
+            output.take(directive_item(place, Kind::Extension, flags, children));
         }
-        _ => item_at(place, Kind::Pragma, 0),
-    };
-    item.children = count(tokens_of(value).len());
+        TokenValue::Pragma(_) => {
+            output.take(directive_item(place, Kind::Pragma, 0, children));
+        }
+    }
+    Ok(())
+}
+
+// The item of a directive.
+fn directive_item(place: Location, kind: Kind, flags: u32, children: u32) -> Item
+    ensures { result ≡ record (item_at place (kind_number kind) flags) { children = children } }
+{
+    let mut item = item_at(place, kind, flags);
+    item.children = children;
     item
 }

@@ -1,14 +1,25 @@
 //! The items of words, numbers, punctuators and errors.
 
+ghost use Rattle.std.specs.Prelude.{◌≡◌, ◌+◌, ◌∷◌, [], OnOk};
+ghost use Rattle.pp_rs.specs.Entry.{ident as ident_leaf, integer as integer_leaf};
+ghost use Rattle.pp_rs.specs.Entry.{float as float_leaf, punct as punct_leaf};
+ghost use Rattle.pp_c.specs.Entries.{in_32_bits};
+ghost use Rattle.pp_c.specs.Numbers.{punctuator_number};
+ghost use Rattle.pp_c.specs.Tokens.{item_at, leaf_entry, error_entry, place_entry};
+ghost use Rattle.pp_c.specs.inner.Kinds.{kind_number};
+ghost use Rattle.pp_c.specs.inner.Taking.{Takes};
+
 use crate::faults::number_of;
 use crate::items::{FIRST_PUNCTUATOR, Item, Kind, SIGNED, bit_if};
 use crate::output::Output;
 use crate::status::Refusal;
 use pp_rs::pp::push_value;
-use pp_rs::token::{Float, Integer, Location, PreprocessorError, Punct, TokenValue};
+use pp_rs::token::{Float, Integer, Location, PreprocessorError, Punct, Text, TokenValue};
 
 // An item without a text and a number, that holds no other.
-fn numbered_item_at(place: Location, kind: u16, flags: u32) -> Item {
+fn numbered_item_at(place: Location, kind: u16, flags: u32) -> Item
+    ensures { result ≡ item_at place kind flags }
+{
     Item {
         kind,
         error: 0,
@@ -24,23 +35,43 @@ fn numbered_item_at(place: Location, kind: u16, flags: u32) -> Item {
 }
 
 /// An item of a kind without a text and a number, that holds no other.
-pub(crate) fn item_at(place: Location, kind: Kind, flags: u32) -> Item {
+pub(crate) fn item_at(place: Location, kind: Kind, flags: u32) -> Item
+    ensures { result ≡ item_at place (kind_number kind) flags }
+{
     numbered_item_at(place, kind as u16, flags)
 }
 
 /// Gives an integer literal.
-pub(crate) fn give_integer(place: Location, flags: u32, integer: Integer, output: &mut Output<'_>) {
+pub(crate) fn give_integer(place: Location, flags: u32, integer: Integer, output: &mut Output<'_>)
+    ensures { Takes output.old (leaf_entry place flags 0 (integer_leaf integer) ∷ []) output.new }
+{
     let mut item = item_at(place, Kind::Integer, flags | bit_if(integer.signed, SIGNED));
     item.width = integer.width;
     item.value = integer.value;
     output.take(item);
 }
 
+/// Gives an identifier or a keyword.
+pub(crate) fn give_name(place: Location, flags: u32, name: &Text, output: &mut Output<'_>)
+    ensures { Takes output.old (leaf_entry place flags 0 (ident_leaf name.now) ∷ []) output.new }
+{
+    output.take_text(item_at(place, Kind::Ident, flags), name.as_str());
+}
+
 /// Gives a float literal.
-pub(crate) fn give_float(place: Location, flags: u32, float: &Float, output: &mut Output<'_>) {
+pub(crate) fn give_float(place: Location, flags: u32, float: &Float, output: &mut Output<'_>)
+    ensures { Takes output.old (leaf_entry place flags 0 (float_leaf float.now.text float.now.width) ∷ []) output.new }
+{
     let mut item = item_at(place, Kind::Float, flags);
     item.width = float.width;
     output.take_text(item, float.text.as_str());
+}
+
+// The number of a punctuator.
+fn number_of_punctuator(punct: Punct) -> u16
+    ensures { result ≡ punctuator_number punct }
+{
+    FIRST_PUNCTUATOR + punct as u16
 }
 
 /// Gives a punctuator. Its text is made in `spelling`.
@@ -50,10 +81,12 @@ pub(crate) fn give_punctuator(
     punct: Punct,
     spelling: &mut String,
     output: &mut Output<'_>,
-) -> Result<(), Refusal> {
+) -> Result<(), Refusal>
+    ensures { OnOk result (Takes output.old (leaf_entry place flags 0 (punct_leaf punct) ∷ []) output.new) }
+{
     spelling.clear();
     push_value(spelling, &TokenValue::Punct(punct))?;
-    let item = numbered_item_at(place, FIRST_PUNCTUATOR + punct as u16, flags);
+    let item = numbered_item_at(place, number_of_punctuator(punct), flags);
     output.take_text(item, spelling.as_str());
     Ok(())
 }
@@ -65,7 +98,10 @@ pub(crate) fn give_error(
     place: Location,
     others: u32,
     output: &mut Output<'_>,
-) {
+)
+    ensures { Takes output.old
+        (error_entry location (in_32_bits (others + 1)) error.now ∷ place_entry place ∷ []) output.new }
+{
     let mut item = item_at(location, Kind::Error, 0);
     item.error = number_of(error);
     item.children = others.saturating_add(1);

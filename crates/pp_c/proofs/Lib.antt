@@ -1,0 +1,14 @@
+pub mod OverLemmas
+pub mod TakingLemmas
+pub mod TextLemmas
+pub mod HeldLemmas
+pub mod ResultLemmas
+pub mod NextLemmas
+pub mod MadeLemmas
+pub mod ProgressLemmas
+pub mod RestLemmas
+pub mod AllLemmas
+pub mod WrittenLemmas
+pub mod PreprocessedLemmas
+pub mod StatusLemmas
+pub mod LexLemmas

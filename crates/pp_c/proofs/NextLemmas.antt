@@ -1,0 +1,66 @@
+-- One call of `next`, and one of `add_define`.
+use Rattle.std.proofs.Common.{◌≡◌, ◌∙◌, ℕ, inl, inr, Bool, true, false, List, [], refl, ap, sym, Option, Some, None, Ok, Err}
+use Rattle.std.specs.Prelude.{MatchBool}
+use Rattle.pp_expansion.specs.Item.{Item, is_out_of_memory}
+use Rattle.pp_model.specs.Calls.{Fault}
+use Rattle.pp_model.specs.Run.{items_of, content_tokens}
+use Rattle.pp_rs.specs.Adding.{IsAdded, refused, faulty, added}
+use Rattle.pp_rs.specs.Kept.{Preprocessing, is_spent, error_place}
+use Rattle.pp_rs.specs.Location.{nowhere}
+use Rattle.pp_rs.specs.Preprocessing.{is_refusal, IsGivenItem, IsNextItem}
+use Rattle.pp_rs.specs.PreprocessorError.{out_of_memory}
+use Rattle.pp_rs.specs.declared.token.Token.{Token}
+use Rattle.pp_c.specs.Calls.{name_in, content_in, with_answer, with_fault}
+use Rattle.pp_c.specs.Numbers.{error_number}
+use Rattle.pp_c.specs.Preprocessed.{token, error}
+use Rattle.pp_c.specs.inner.Making.{GivesNext, AddsOne}
+use Rattle.pp_c.specs.inner.Making as made
+use Rattle.pp_c.specs.declared.items.Definition.{Definition}
+
+unspent : (spent : Bool) (A B : Type 0) → spent ≡ false → MatchBool spent A B → B
+unspent true A B e h = cc
+unspent false A B e h = h
+
+module _ (old new : Preprocessing) (ready : is_spent old ≡ false) where
+  given_by : (answer : Option Item) → is_refusal answer ≡ false → IsNextItem old answer new → IsGivenItem old answer new
+  given_by answer reported h = elim (unspent (is_spent old) _ _ ready h.gives) [
+    | inl wants ↦ (let bad : true ≡ false = sym (ap is_refusal wants.item) ∙ reported in cc)
+    | inr given ↦ given
+  ]
+
+  pub next_token : (t : Token) → IsNextItem old (Some (Ok t)) new → GivesNext old (Some (token t)) new
+  next_token t h = record { given = given_by (Some (Ok t)) refl h; placed = tt }
+
+  pub next_end : IsNextItem old None new → GivesNext old None new
+  next_end h = record { given = given_by None refl h; placed = tt }
+
+  pub next_error : (fault : Fault) → is_out_of_memory fault.0 ≡ false → IsNextItem old (Some (Err fault)) new
+      → GivesNext old (Some (error fault (error_place new))) new
+  next_error fault reported h = record { given = given_by (Some (Err fault)) reported h; placed = refl }
+
+module _ (words : List ℕ) (definition after : Definition) (name content : List ℕ) (old new : Preprocessing)
+    (is_name : name ≡ name_in words definition) (is_content : content ≡ content_in words definition) where
+  pub adds_added : IsAdded old name content (Ok tt) new → after ≡ with_answer definition 0 nowhere → AddsOne words definition after old new
+  adds_added (refused given same) e = cc
+  adds_added (faulty fault has given same) e = cc
+  adds_added (added tokens has given h) e = record {
+    made = made.added name content tokens old new new [] _ [] has h (made.none new new [] [] refl refl refl) (rw (is_name, is_content));
+    spent = h.spent;
+    written = e ∙ ap (with_fault definition) (sym has ∙ ap (λ c. content_tokens (items_of c)) is_content);
+  }
+
+  pub adds_refused : (fault : Fault) → is_out_of_memory fault.0 ≡ false → IsAdded old name content (Err fault) new
+      → after ≡ with_answer definition (error_number fault.0) fault.1 → AddsOne words definition after old new
+  adds_refused fault reported (refused given same) e =
+      let wanted : fault ≡ out_of_memory = cc in
+      let bad : true ≡ false = sym (ap (λ (f : Fault). is_out_of_memory f.0) wanted) ∙ reported in
+      cc
+  adds_refused fault reported (faulty other has given same) e =
+      let this : other ≡ fault = cc in
+      let it : content_tokens (items_of content) ≡ Err fault = has ∙ ap (λ (f : Fault). Err f) this in
+      record {
+        made = made.refused name content fault old new [] _ [] it (made.none old new [] [] refl refl same) (rw (is_name, is_content));
+        spent = ap is_spent same;
+        written = e ∙ ap (with_fault definition) (sym it ∙ ap (λ c. content_tokens (items_of c)) is_content);
+      }
+  adds_refused fault reported (added tokens has given h) e = cc

@@ -1,0 +1,57 @@
+-- The items that are left after the last definition, and all of them together.
+use Rattle.std.proofs.Common.{◌≡◌, ◌+◌, true, false, [], ◌∷◌, ◌++◌, map, length, refl, Option, Some, None, is_some, MatchOption}
+use Rattle.std.proofs.lemmas.List.{replicate_more, map_push, length_push}
+use Rattle.std.proofs.Math.ListN.{replicate}
+use Rattle.pp_model.specs.Run.{next}
+use Rattle.pp_rs.specs.Kept.{Preprocessing, is_spent}
+use Rattle.pp_c.specs.Preprocessed.{Given, given_entries}
+use Rattle.pp_c.specs.inner.Making.{GivesNext, Made, NextIsWritten, answers_of, made_of, IsSmall, HasCome, IsUntil, GoesOn, HasRest, GivesRest, GivesToEnd, IsPossible, HasAdded, HasAll, AddsOne}
+use Rattle.pp_c.specs.inner.Making as made
+use Rattle.pp_c.specs.inner.Taking.{Takes}
+use Rattle.pp_c.specs.declared.output.Output.{Output}
+use Rattle.pp_c.specs.declared.preprocessing.Progress.{Progress}
+use Rattle.pp_c.proofs.MadeLemmas.{made_then}
+use Rattle.pp_c.proofs.ProgressLemmas.{takes_item, made_one}
+use Rattle.pp_c.proofs.TakingLemmas.{takes_none}
+
+-- none so far
+pub rest_none : (old : Preprocessing) (output : Output) → is_spent old ≡ false → GivesRest old output old output
+rest_none old output unspent = record {
+  more = [];
+  made = made.none old old [] [] refl refl refl;
+  takes = takes_none output;
+  unspent = unspent;
+}
+
+module _ (begun : Preprocessing) (first : Output) (old : Preprocessing) (output : Output) (new : Preprocessing) (after : Output)
+    (small : IsSmall output) (h : GivesRest begun first old output) where
+  rest_made : (answer : Option Given) → GivesNext old answer new → Made begun (replicate (length h.more + 1) next) (map Some h.more ++ answer ∷ []) new
+  rest_made answer gives =
+      rw (← replicate_more (length h.more) next)
+      (made_then begun old new (replicate (length h.more) next) (next ∷ []) (map Some h.more) (answer ∷ []) h.made (made_one answer old new gives))
+
+  rest_by : (answer : Option Given) → GivesNext old answer new → MatchOption answer (after ≡ output) (λ given. Takes output (given_entries given) after)
+      → true ≡ is_some answer → GivesRest begun first new after
+  rest_by None gives takes e = cc
+  rest_by (Some g) gives takes e = record {
+    more = h.more ++ g ∷ [];
+    made = rw (length_push h.more g, map_push Some h.more g) (rest_made (Some g) gives);
+    takes = takes_item first output after h.more g small h.takes takes;
+    unspent = gives.given.spent;
+  }
+
+  end_by : (answer : Option Given) → GivesNext old answer new → MatchOption answer (after ≡ output) (λ given. Takes output (given_entries given) after)
+      → false ≡ is_some answer → GivesToEnd begun first new after
+  end_by (Some g) gives takes e = cc
+  end_by None gives takes e = record { more = h.more; made = rest_made None gives; takes = rw takes h.takes }
+
+  -- one more
+  pub rest_more : NextIsWritten old new output after true → GivesRest begun first new after
+  rest_more w = rest_by w.answer w.gives w.takes w.is_more
+
+  -- the end
+  pub rest_end : (progress : Progress) → progress.has_ended ≡ false → NextIsWritten old new output after false → HasRest progress begun first new after
+  rest_end progress going w = record {
+    ended = λ e. cc;
+    rest = λ e. end_by w.answer w.gives w.takes w.is_more;
+  }

@@ -1,0 +1,51 @@
+use Rattle.std.proofs.Common.{◌<◌, length, get_or, refl, arith}
+use Rattle.std.proofs.lemmas.List.{drop_more}
+use Rattle.pp_c.proofs.AllLemmas.{none_added, one_added, all_given}
+use Rattle.pp_c.proofs.ResultLemmas.{on_ok}
+use Rattle.pp_c.proofs.WrittenLemmas.{next_same, written_more, written_all}
+use Rattle.pp_c.specs.Calls.{answered}
+use Rattle.pp_c.specs.declared.items.Definition.{Definition}
+use Rattle.pp_c.proofs.preprocessing.give_all.Goals as goal
+
+abbrev zeros : Definition
+zeros = record {
+  name_start = 0;
+  name_length = 0;
+  content_start = 0;
+  content_length = 0;
+  after = 0;
+  error = 0;
+  start = 0;
+  end = 0;
+  line = 0;
+}
+
+pub loop-i-init : goal.loop-i-init
+loop-i-init c = record {
+  added = none_added c.args.pp.now c.args.output.now c.args.words.now c.args.definitions.now _ refl c.requires (record { items = omega arith; texts = omega arith });
+  written = refl;
+}
+
+pub loop-i-preserved : goal.loop-i-preserved
+loop-i-preserved c =
+    let within : c.loop-i.i < length c.args.definitions.now = omega arith in
+    let now = c.loop-i.invariant.written in
+    let added = c.in_ok-add.ensures {u = tt} in
+    let until = c.in_ok-give_until.ensures {u = tt} in
+    let same = next_same (answered c.args.words.now) c.args.definitions.now c.loop-i.definitions c.loop-i.i zeros within now in
+    record {
+      added = one_added c.args.pp.now c.args.output.now c.args.words.now c.args.definitions.now c.loop-i.i c.loop-i.progress c.give_until.new.progress
+          c.loop-i.pp c.give_until.new.pp c.add.new.pp c.loop-i.output c.give_until.new.output (get_or c.args.definitions.now c.loop-i.i zeros) c.add.new.definition
+          (drop_more c.args.definitions.now c.loop-i.i zeros within) c.loop-i.invariant.added (rw same at until.until) until.unspent until.given (rw same at added);
+      written = written_more (answered c.args.words.now) c.args.definitions.now c.loop-i.definitions c.loop-i.i zeros within now c.add.new.definition added.written;
+    }
+
+pub returns-clause-given : goal.returns-clause-given
+returns-clause-given c =
+    on_ok c.give_rest.result (λ rest. all_given c.args.pp.now c.args.output.now c.args.words.now c.args.definitions.now c.loop-i.i c.loop-i.progress c.loop-i.pp
+    c.give_rest.new.pp c.loop-i.output c.give_rest.new.output (omega arith) c.loop-i.invariant.added rest) c.give_rest.ensures
+
+pub returns-clause-answered : goal.returns-clause-answered
+returns-clause-answered c =
+    on_ok c.give_rest.result (λ rest. written_all (answered c.args.words.now) c.args.definitions.now c.loop-i.definitions c.loop-i.i (omega arith) c.loop-i.invariant.written)
+    c.give_rest.ensures

@@ -1,0 +1,11 @@
+use Rattle.std.proofs.Common.{◌≡◌, ◌++◌, map, take, drop}
+use Rattle.pp_c.specs.Calls.{answered}
+use Rattle.pp_c.specs.inner.Making.{HasAdded}
+use Rattle.pp_c.proofs.preprocessing.give_all.Given as goal
+
+abbrev pub invariant-loop-i : goal.invariant-loop-i
+invariant-loop-i l =
+    record {
+      added : HasAdded l.fn.pp l.fn.output l.words l.fn.definitions l.i l.progress l.pp l.output;
+      written : l.definitions ≡ map (answered l.words) (take l.i l.fn.definitions) ++ drop l.i l.fn.definitions;
+    }

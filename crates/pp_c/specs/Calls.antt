@@ -1,0 +1,50 @@
+-- The definitions of a caller in C, and the calls of the preprocessor that they stand for.
+use Rattle.std.specs.Prelude.{ℕ, ◌+◌, ◌-◌, min, max, List, [], ◌∷◌, ◌++◌}
+use Rattle.std.specs.Prelude.{replicate, slice_range, Result, Ok, Err}
+use Rattle.pp_model.specs.Calls.{Fault}
+use Rattle.pp_model.specs.Run.{Call, add_define, next, items_of, content_tokens}
+use Rattle.pp_rs.specs.Location.{nowhere}
+use Rattle.pp_rs.specs.declared.token.Location.{Location}
+use Rattle.pp_rs.specs.declared.token.Token.{Token}
+use Rattle.pp_c.specs.Numbers.{error_number}
+use Rattle.pp_c.specs.declared.items.Definition.{Definition}
+
+-- a part of the words
+abbrev pub part_of : List ℕ → ℕ → ℕ → List ℕ
+part_of words start count = slice_range words start (start + count)
+
+abbrev pub name_in : List ℕ → Definition → List ℕ
+name_in words definition = part_of words definition.name_start definition.name_length
+
+abbrev pub content_in : List ℕ → Definition → List ℕ
+content_in words definition = part_of words definition.content_start definition.content_length
+
+-- the call that adds it
+abbrev pub adding : List ℕ → Definition → Call
+adding words definition = add_define (name_in words definition) (content_in words definition)
+
+-- The calls for definitions in these words, if there are so many of `next` in all, the last of which gives the end, and
+-- so many were made: before a definition is added, `next` is called until so many items were given as it says, or the
+-- end was.
+abbrev pub calls_from : List ℕ → ℕ → ℕ → List Definition → List Call
+calls_from words all made [] = replicate (all - made) next
+calls_from words all made (definition ∷ definitions) =
+    replicate (min definition.after all - made) next ++
+    adding words definition ∷ calls_from words all (max made (min definition.after all)) definitions
+
+-- the definition with an error and its place written into it
+abbrev pub with_answer : Definition → ℕ → Location → Definition
+with_answer definition error place = record definition {
+  error = error;
+  start = place.start;
+  end = place.end;
+  line = place.line;
+}
+
+-- with what its content is answered: nothing, or its first error
+abbrev pub with_fault : Definition → Result (List Token) Fault → Definition
+with_fault definition (Ok tokens) = with_answer definition 0 nowhere
+with_fault definition (Err fault) = with_answer definition (error_number fault.0) fault.1
+
+abbrev pub answered : List ℕ → Definition → Definition
+answered words definition = with_fault definition (content_tokens (items_of (content_in words definition)))

@@ -1,0 +1,98 @@
+-- What a call of `pp_preprocess` gives: the items of a run of the preprocessor.
+use Rattle.std.specs.Prelude.{◌≡◌, ℕ, ◌+◌, List, [], ◌∷◌, length, ⊤}
+use Rattle.std.specs.List.{flat_map, AllByRecursion as Each}
+use Rattle.pp_expansion.specs.LexerErrors.{ErrorAt, lexer_errors}
+use Rattle.pp_model.specs.Calls.{Fault}
+use Rattle.pp_model.specs.Run.{IsRun}
+use Rattle.pp_model.specs.declared.call.Reply.{Reply}
+use Rattle.pp_model.specs.declared.call.Reply.TheVariants as reply
+use Rattle.pp_model.specs.declared.outcome.Outcome.{Outcome}
+use Rattle.pp_model.specs.declared.outcome.Outcome.TheVariants as outcome
+use Rattle.pp_rs.specs.Held.{HoldsOrdinary}
+use Rattle.pp_rs.specs.declared.token.Location.{Location}
+use Rattle.pp_rs.specs.declared.token.Token.{Token}
+use Rattle.pp_c.specs.Calls.{calls_from}
+use Rattle.pp_c.specs.Ends.{HasRoom}
+use Rattle.pp_c.specs.Entries.{Entry, items_from, texts_of, room_of, put_over}
+use Rattle.pp_c.specs.Tokens.{token_entries, error_entries}
+use Rattle.pp_c.specs.declared.items.Definition.{Definition}
+use Rattle.pp_c.specs.declared.items.Item.{Item}
+use Rattle.pp_c.specs.declared.items.Sizes.{Sizes}
+
+-- an item of the preprocessor: a token, or an error with where it stands in the source
+pub data Given : Type 0 where
+  token : Token → Given
+  error : Fault → Location → Given
+
+-- how it is written
+abbrev pub given_entries : Given → List Entry
+given_entries (token t) = token_entries t.location t.value
+given_entries (error fault place) = error_entries fault.0 fault.1 place
+
+abbrev pub entries_of : List Given → List Entry
+entries_of given = flat_map given_entries given
+
+-- what comes of `next` in a run: these items up to and with the first error, or the end after all of them
+abbrev pub outcomes_of : List Given → List Outcome
+outcomes_of [] = outcome.End ∷ []
+outcomes_of (token t ∷ given) = outcome.Token t ∷ outcomes_of given
+outcomes_of (error fault place ∷ given) = outcome.Fault fault ∷ []
+
+-- the replies that are no answers to `add_define`
+abbrev pub replies_to_next : List Reply → List Outcome
+replies_to_next [] = []
+replies_to_next (reply.Given o ∷ replies) = o ∷ replies_to_next replies
+replies_to_next (reply.Added ∷ replies) = replies_to_next replies
+replies_to_next (reply.Refused fault ∷ replies) = replies_to_next replies
+
+-- Where errors stand, all of them, also after the first: one of the lexer where the first of those stands that were not
+-- given before, and any other at the place in its item. At the end all of the lexer's were given.
+pub data ErrorsStand : List Given → List ErrorAt → Type 0 where
+  none : (given : List Given) (left : List ErrorAt)
+      → given ≡ []
+      → left ≡ []
+      → ErrorsStand given left
+  after_token : (t : Token) (given rest : List Given) (left : List ErrorAt)
+      → given ≡ token t ∷ rest
+      → ErrorsStand rest left
+      → ErrorsStand given left
+  of_lexer : (fault : Fault) (place : Location) (given rest : List Given) (left others : List ErrorAt)
+      → given ≡ error fault place ∷ rest
+      → left ≡ record { item = fault; place = place } ∷ others
+      → ErrorsStand rest others
+      → ErrorsStand given left
+  of_its_own : (fault : Fault) (given rest : List Given) (left : List ErrorAt)
+      → given ≡ error fault fault.1 ∷ rest
+      → ErrorsStand rest left
+      → ErrorsStand given left
+
+-- the tokens of a directive's line are ordinary
+abbrev pub GivenHoldsOrdinary : Given → Type 0
+GivenHoldsOrdinary (token t) = HoldsOrdinary t.value
+GivenHoldsOrdinary (error fault place) = ⊤
+
+-- These are the items of a source to its end, with each definition added at its number: up to and with the first error
+-- those of the run.
+pub record AreItemsOf (source words : List ℕ) (definitions : List Definition) (given : List Given) : Type 0 where
+  pub replies : List Reply
+  pub run : IsRun source (calls_from words (length given + 1) 0 definitions) replies
+  pub gives : replies_to_next replies ≡ outcomes_of given
+  pub places : ErrorsStand given (lexer_errors source)
+  pub holds : Each GivenHoldsOrdinary given
+
+-- Entries take so much room. If it is there, their items are written over the front of the memory for items, their
+-- texts over that for texts, and the rest of both stays.
+pub record AreWritten (entries : List Entry) (items items_after : List Item) (texts texts_after : List ℕ)
+    (sizes : Sizes) : Type 0 where
+  pub room : sizes ≡ room_of entries
+  pub items_are : HasRoom (length items) (length texts) sizes
+      → items_after ≡ put_over (items_from 0 entries) items
+  pub texts_are : HasRoom (length items) (length texts) sizes
+      → texts_after ≡ put_over (texts_of entries) texts
+
+-- The items of a source are written.
+pub record Preprocesses (source words : List ℕ) (definitions : List Definition) (items items_after : List Item)
+    (texts texts_after : List ℕ) (sizes : Sizes) : Type 0 where
+  pub given : List Given
+  pub are_items : AreItemsOf source words definitions given
+  pub written : AreWritten (entries_of given) items items_after texts texts_after sizes

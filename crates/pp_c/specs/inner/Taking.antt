@@ -1,0 +1,46 @@
+-- How entries are written after those that came before. No contract of a public call cites this.
+use Rattle.std.specs.Prelude.{◌≡◌, ℕ, ◌+◌, ◌≤◌, List, [], ◌∷◌, ◌++◌, take, drop, length}
+use Rattle.pp_c.specs.Entries.{Entry, bare, with_text, in_64_bits, items_from, texts_of}
+use Rattle.pp_rs.specs.Preorder.{leaf_of}
+use Rattle.pp_rs.specs.declared.token.Token.{Token}
+use Rattle.pp_c.specs.Tokens.{leaf_entry}
+use Rattle.pp_c.specs.declared.items.Sizes.{Sizes}
+use Rattle.pp_c.specs.declared.output.Output.{Output}
+
+-- the list with others written over it from a place on
+abbrev pub written_over : {A : Type 0} → ℕ → List A → List A → List A
+written_over at more old = take at old ++ more ++ drop (at + length more) old
+
+-- the room of one entry more
+abbrev pub with_room : Sizes → Entry → Sizes
+with_room sizes (bare item) = record sizes { items = in_64_bits (sizes.items + 1) }
+with_room sizes (with_text item text) = record {
+  items = in_64_bits (sizes.items + 1);
+  texts = in_64_bits (sizes.texts + length text);
+}
+
+-- the room of entries after others
+abbrev pub room_after : Sizes → List Entry → Sizes
+room_after sizes [] = sizes
+room_after sizes (entry ∷ entries) = room_after (with_room sizes entry) entries
+
+-- entries have room after others
+pub record HaveRoom (output : Output) (more : List Entry) : Type 0 where
+  pub items : output.sizes.items + length more ≤ length output.items.now
+  pub texts : output.sizes.texts + length (texts_of more) ≤ length output.texts.now
+
+-- These entries are counted, and written after those that came before if there is room for all.
+pub record Takes (old : Output) (more : List Entry) (new : Output) : Type 0 where
+  pub same_items : new.items.ghost_name ≡ old.items.ghost_name
+  pub same_texts : new.texts.ghost_name ≡ old.texts.ghost_name
+  pub items_room : length new.items.now ≡ length old.items.now
+  pub texts_room : length new.texts.now ≡ length old.texts.now
+  pub sizes : new.sizes ≡ room_after old.sizes more
+  pub items : HaveRoom old more
+      → new.items.now ≡ written_over old.sizes.items (items_from old.sizes.texts more) old.items.now
+  pub texts : HaveRoom old more
+      → new.texts.now ≡ written_over old.sizes.texts (texts_of more) old.texts.now
+
+-- a token of a directive's line
+abbrev pub outer_entry : Token → Entry
+outer_entry token = leaf_entry token.location 0 0 (leaf_of token.value)
