@@ -9,7 +9,7 @@ use glslpp_parts::definitions::check_changes;
 use glslpp_parts::diagnostics::{Reporter, Style};
 use glslpp_parts::failure::{Failure, failure_of};
 use preprocess::{Found, preprocess};
-use std::io::{ErrorKind, IsTerminal, Read};
+use std::io::{ErrorKind, IsTerminal, Read, Write};
 use std::process::ExitCode;
 use std::{env, fs, io};
 
@@ -147,7 +147,7 @@ fn read_bytes(rt: &HostRuntime, file: &str) -> io::Result<Vec<u8>> {
 fn write_output(rt: &HostRuntime, file: Option<&str>, output: &str) -> Result<(), Failure> {
     let (name, end) = match file {
         Some(file) => (file, fs::write(rt, file, output)),
-        None => ("<stdout>", rt.print(output)),
+        None => ("<stdout>", rt.stdout().write_all(output.as_bytes())),
     };
     match end {
         Err(error) if error.kind() != ErrorKind::BrokenPipe => {

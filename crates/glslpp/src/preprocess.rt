@@ -1,6 +1,6 @@
 //! One source: its output and its errors.
 
-ghost use Rattle.std.specs.Prelude.{◌-◌, ◌^◌, ◌<◌, length};
+ghost use Rattle.std.specs.Prelude.{◌≡◌, ℕ, ◌-◌, ◌^◌, ◌<◌, ◌≤◌, List, [], ◌++◌, OnOk, length, string_bytes};
 
 use glslpp_parts::arguments::Arguments;
 use glslpp_parts::changes::kept_definitions;
@@ -26,7 +26,10 @@ pub struct Found {
 
 impl Found {
     /// Nothing yet.
-    pub fn new(alloc: Global) -> Found {
+    pub fn new(alloc: Global) -> Found
+        ensures output { string_bytes result.output ≡ [] }
+        ensures errors { result.errors ≡ 0 }
+    {
         Found {
             output: String::new(alloc),
             errors: 0,
@@ -42,10 +45,13 @@ pub fn preprocess(
     found: &mut Found,
 ) -> Result<String, Failure>
     requires { length source.now < 2 ^ 32 - 1 }
+    ensures output { OnOk result ((more : List ℕ)
+        × (string_bytes found.new.output ≡ string_bytes found.old.output ++ more)) }
+    ensures errors { OnOk result (found.old.errors ≤ found.new.errors) }
 {
     let mut texts = Texts::new(reporter.alloc, source);
     let mut items = Preprocessor::new(reporter.alloc, source);
-    let mut run = Run::new(reporter, arguments);
+    let mut run = Run::new(reporter, arguments, source);
     let end = define_and_read(arguments, source, &mut items, &mut texts, &mut run);
     drop(items);
     end?;
@@ -67,7 +73,7 @@ struct FaultLine {
 struct Run<'a> {
     reporter: Reporter<'a>,
     is_first_error_alone: bool,
-    output: Output,
+    output: Output<'a>,
     reports: String,
     errors: usize,
     fault_line: Option<FaultLine>,
@@ -76,11 +82,11 @@ struct Run<'a> {
 }
 
 impl<'a> Run<'a> {
-    fn new(reporter: Reporter<'a>, arguments: &Arguments<'_>) -> Run<'a> {
+    fn new(reporter: Reporter<'a>, arguments: &Arguments<'_>, source: &'a str) -> Run<'a> {
         Run {
             reporter,
             is_first_error_alone: arguments.is_first_error_alone,
-            output: Output::new(reporter.alloc, arguments.form),
+            output: Output::new(reporter.alloc, arguments.form, source),
             reports: String::new(reporter.alloc),
             errors: 0,
             fault_line: None,
@@ -215,7 +221,7 @@ fn define(
 ) -> Result<(), Failure>
     requires { length source.now < 2 ^ 32 - 1 }
 {
-    let version = declared_version(alloc, source);
+    let version = declared_version(alloc, source)?;
     let number = format!(in alloc; "{}", version.number)?;
     let mut changes = Vec::new(alloc);
     if arguments.is_predefining {

@@ -1,5 +1,5 @@
 -- Words on their lines. A text has bytes; a line ends with LF, byte 10, and a space is byte 32.
-use Rattle.std.specs.Prelude.{ℕ, Bool, true, false, List, [], ◌∷◌, ◌++◌, ◌-◌}
+use Rattle.std.specs.Prelude.{ℕ, Bool, true, false, List, [], ◌∷◌, ◌++◌, ◌+◌, ◌-◌, ◌^◌, nat_lt, if◌then◌else◌}
 use Rattle.std.proofs.Math.ListN.{replicate}
 use Rattle.glslpp_parts.specs.declared.layout.Gap.{Gap}
 use Rattle.glslpp_parts.specs.declared.layout.Gap.TheVariants.{Space, Nothing}
@@ -24,6 +24,10 @@ moved laid line = record {
   is_line_begun = false;
 }
 
+-- on the line, or as it is if that isn't ahead
+abbrev pub at_line : Laid → ℕ → Laid
+at_line laid line = if nat_lt laid.line line then moved laid line else laid
+
 -- a word at the end
 abbrev pub with_word : Laid → Gap → List ℕ → Laid
 with_word laid gap word = record {
@@ -31,3 +35,23 @@ with_word laid gap word = record {
   line = laid.line;
   is_line_begun = true;
 }
+
+-- a word on its line, or after the last word if that line is past
+abbrev pub on_line : Laid → ℕ → Gap → List ℕ → Laid
+on_line laid line gap word = with_word (at_line laid line) gap word
+
+-- on the next line, as far as lines of 32 bits go
+abbrev pub on_next_line : Laid → Laid
+on_next_line laid = if nat_lt laid.line (2 ^ 32 - 1) then moved laid (laid.line + 1) else laid
+
+-- no word is on the line
+abbrev pub on_free_line : Laid → Laid
+on_free_line laid = if laid.is_line_begun then on_next_line laid else laid
+
+-- a directive alone on its line, or on the next that is free
+abbrev pub with_directive : Laid → ℕ → List ℕ → Laid
+with_directive laid line word = on_next_line (on_line (on_free_line laid) line Space word)
+
+-- the text, with a last line end if a word is on its last line
+abbrev pub finished : Laid → List ℕ
+finished laid = laid.text ++ (if laid.is_line_begun then 10 ∷ [] else [])

@@ -1,2 +1,9 @@
 pub mod Changes
+pub mod Columns
+pub mod Definitions
 pub mod Layout
+pub mod Output
+pub mod Reading
+pub mod Spots
+pub mod Texts
+pub mod Version

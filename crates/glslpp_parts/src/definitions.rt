@@ -1,72 +1,92 @@
 //! Adding the definitions before a source.
 
+ghost use Rattle.std.specs.Prelude.{◌≡◌, All, Any, IsTrue, ◌↔◌, OnOk, IfOk, IfErr};
+ghost use Rattle.std.specs.List.{list_any};
+ghost use Rattle.pp_lexer.specs.Lines.{is_line_break};
+ghost use Rattle.glslpp_parts.specs.Definitions.{IsName, IsOneLine, IsDefinable, IsTold, IsWithDefinition, AreAdded};
+
 use crate::changes::{Change, Definition};
+use crate::columns::is_line_end_byte;
 use crate::failure::{Failure, failure_of};
-use crate::place::is_line_end;
-use crate::sentences::plain_sentence;
+use crate::reading::is_read_as;
 use crate::texts::Texts;
-use pp_rs::lexer::{Lexer, TokenValue};
+use pp_rs::SOURCE_LIMIT;
 use pp_rs::pp::Preprocessor;
-use pp_rs::token::PreprocessorError;
-use std::alloc::Global;
+use pp_rs::token::{PreprocessorError, Text, TokenValue};
+use std::alloc::{AllocError, Global};
 
-// A text that the library takes has fewer bytes than this.
-const LIMIT: usize = 4294967295;
-
-/// Refuses the first `-D` or `-U` that no macro has.
-pub fn check_changes(alloc: Global, changes: &[Change<'_>]) -> Result<(), Failure> {
+/// Refuses the first `-D` or `-U` that no macro has: whose name is none, or whose content has a line end.
+pub fn check_changes(alloc: Global, changes: &[Change<'_>]) -> Result<(), Failure>
+    ensures ok { OnOk result (All IsDefinable changes.now) }
+    ensures told { IfErr result (λ failure. IsTold failure
+        → Any (λ change. ¬ IsDefinable change) changes.now) }
+{
     for change in changes {
-        match change {
-            Change::Define(name, content) => {
-                check_name(alloc, "-D", name)?;
-                check_content(alloc, name, content)?;
-            }
-            Change::Undefine(name) => check_name(alloc, "-U", name)?,
+        check_change(alloc, *change)?;
+    }
+    Ok(())
+}
+
+fn check_change(alloc: Global, change: Change<'_>) -> Result<(), Failure>
+    ensures ok { OnOk result (IsDefinable change.entry) }
+    ensures told { IfErr result (λ failure. IsTold failure → ¬ IsDefinable change.entry) }
+{
+    match change {
+        Change::Define(name, content) => {
+            check_name(alloc, "-D", name)?;
+            check_content(alloc, name, content)
         }
+        Change::Undefine(name) => check_name(alloc, "-U", name),
+    }
+}
+
+fn check_name(alloc: Global, option: &str, name: &str) -> Result<(), Failure>
+    ensures ok { OnOk result (IsName name.now) }
+    ensures told { IfErr result (λ failure. IsTold failure → ¬ IsName name.now) }
+{
+    if is_name(alloc, name)? {
+        return Ok(());
+    }
+    let cause = if name.contains('(') {
+        "macros with parameters are defined in the source"
+    } else {
+        "this is no name"
+    };
+    Err(refusal(alloc, option, name, cause))
+}
+
+fn check_content(alloc: Global, name: &str, content: &str) -> Result<(), Failure>
+    ensures ok { OnOk result (IsOneLine content.now) }
+    ensures told { IfErr result (λ failure. IsTold failure → ¬ IsOneLine content.now) }
+{
+    if has_line_end(content) {
+        return Err(refusal(alloc, "-D", name, "the content has more than one line"));
     }
     Ok(())
 }
 
-fn check_name(alloc: Global, option: &str, name: &str) -> Result<(), Failure> {
-    if name.contains('(') {
-        return refuse(
-            alloc,
-            option,
-            name,
-            "macros with parameters are defined in the source",
-        );
-    }
-    if !is_name(alloc, name) {
-        return refuse(alloc, option, name, "this is no name");
-    }
-    Ok(())
+fn has_line_end(text: &str) -> bool
+    ensures { result ≡ list_any is_line_break text.now }
+{
+    text.as_bytes().iter().any(|byte| is_line_end_byte(*byte))
 }
 
-fn check_content(alloc: Global, name: &str, content: &str) -> Result<(), Failure> {
-    if content.contains(is_line_end) {
-        return refuse(alloc, "-D", name, "the content has more than one line");
+fn refusal(alloc: Global, option: &str, name: &str, cause: &str) -> Failure {
+    match format!(in alloc; "{option} {name}") {
+        Ok(subject) => failure_of(alloc, subject.as_str(), cause),
+        Err(_) => Failure::OutOfMemory,
     }
-    Ok(())
-}
-
-fn refuse(alloc: Global, option: &str, name: &str, cause: &str) -> Result<(), Failure> {
-    let subject = format!(in alloc; "{option} {name}")?;
-    Err(failure_of(alloc, subject.as_str(), cause))
 }
 
 // Whether the text is one identifier.
-fn is_name(alloc: Global, text: &str) -> bool {
-    if text.len() >= LIMIT || text.contains('\\') {
-        return false;
+fn is_name(alloc: Global, text: &str) -> Result<bool, AllocError>
+    ensures { IfOk result (λ is. IsTrue is ↔ IsName text.now) }
+{
+    if text.len() >= SOURCE_LIMIT {
+        return Ok(false);
     }
-    let mut lexer = Lexer::new(alloc, text);
-    match lexer.next() {
-        Some(Ok(token)) => match token.value {
-            TokenValue::Ident(name) => name.as_str().len() == text.len(),
-            _ => false,
-        },
-        _ => false,
-    }
+    let name = TokenValue::Ident(Text::from(String::from_str(alloc, text)?));
+    is_read_as(alloc, text, &name)
 }
 
 /// Adds the definitions, whose contents the texts take in.
@@ -75,7 +95,9 @@ pub fn add_definitions(
     items: &mut Preprocessor<'_>,
     texts: &mut Texts<'_>,
     definitions: &[Definition<'_>],
-) -> Result<(), Failure> {
+) -> Result<(), Failure>
+    ensures { OnOk result (AreAdded definitions.now texts.old items.old texts.new items.new) }
+{
     for definition in definitions {
         add_definition(alloc, items, texts, *definition)?;
     }
@@ -87,15 +109,24 @@ fn add_definition(
     items: &mut Preprocessor<'_>,
     texts: &mut Texts<'_>,
     definition: Definition<'_>,
-) -> Result<(), Failure> {
+) -> Result<(), Failure>
+    ensures { OnOk result (IsWithDefinition definition.entry texts.old items.old texts.new items.new) }
+{
     let (name, content) = definition;
     let padded = texts.pad(alloc, content)?;
-    if padded.len() >= LIMIT {
-        return refuse(alloc, "-D", name, "the content is too long");
+    if padded.len() >= SOURCE_LIMIT {
+        return Err(refusal(alloc, "-D", name, "the content is too long"));
     }
     match items.add_define(name, padded.as_str()) {
         Ok(()) => Ok(()),
         Err((PreprocessorError::OutOfMemory, _)) => Err(Failure::OutOfMemory),
-        Err((error, _)) => refuse(alloc, "-D", name, plain_sentence(&error)),
+        Err((error, _)) => Err(refused(alloc, name, &error)),
+    }
+}
+
+fn refused(alloc: Global, name: &str, error: &PreprocessorError) -> Failure {
+    match format!(in alloc; "{error}") {
+        Ok(cause) => refusal(alloc, "-D", name, cause.as_str()),
+        Err(_) => Failure::OutOfMemory,
     }
 }

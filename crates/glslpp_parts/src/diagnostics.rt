@@ -1,18 +1,20 @@
 //! Errors as compilers print them.
 
-use crate::place::{Place, count_chars, last_line, line_count};
+ghost use Rattle.std.specs.Prelude.{◌≡◌, ℕ, List, ◌++◌, IfOk, string_bytes};
+ghost use Rattle.pp_rs.specs.Sentences.{sentence_of};
+
+use crate::place::Place;
 use crate::search::last_define;
-use crate::sentences::{plain_sentence, push_sentence};
+use crate::sentences::push_more;
 use crate::texts::Texts;
+use pp_rs::SOURCE_LIMIT;
+use pp_rs::lexer::line_column;
 use pp_rs::token::{Location, PreprocessorError};
 use std::alloc::{AllocError, Global};
 use unicode_width::UnicodeWidthChar;
 
 /// What is said in place of a file and a line, if a place is in a definition of the command line.
-pub const COMMAND_LINE: &str = "<command line>";
-
-// A text that the library takes has fewer bytes than this.
-const LIMIT: usize = 4294967295;
+pub(crate) const COMMAND_LINE: &str = "<command line>";
 
 /// Whether colours are used.
 #[derive(Clone, Copy)]
@@ -75,21 +77,23 @@ pub struct Reporter<'a> {
 }
 
 impl<'a> Reporter<'a> {
-    /// What is said of an error at its place.
+    /// What is said of an error: the library's sentence, and what there is to add at its place.
     pub fn message(
         &self,
         texts: &Texts<'_>,
         error: &PreprocessorError,
         location: Location,
-    ) -> Result<String, AllocError> {
-        let mut sentence = String::new(self.alloc);
-        match place_of(texts, location) {
-            Some(place) => {
-                push_sentence(&mut sentence, self.alloc, texts, location, place, error)?;
-            }
-            None => sentence.push_str(plain_sentence(error))?,
+    ) -> Result<String, AllocError>
+        ensures { IfOk result (λ message. (more : List ℕ)
+            × (string_bytes message ≡ sentence_of error.now ++ more)) }
+    {
+        let mut more = String::new(self.alloc);
+        if let Some(place) = place_of(texts, location) {
+            push_more(&mut more, self.alloc, texts, location, place, error)?;
         }
-        Ok(sentence)
+        let mut message = format!(in self.alloc; "{error}")?;
+        message.push_str(more.as_str())?;
+        Ok(message)
     }
 
     /// Puts the lines on an error: `file:line:column: error: sentence`, its line with a caret under the place, and for some
@@ -117,10 +121,11 @@ impl<'a> Reporter<'a> {
 
     // Puts a line on an error at the end of a source.
     fn push_end(&self, text: &mut String, source: &str, message: &str) -> Result<(), AllocError> {
-        let line = line_count(source);
-        let column = count_chars(last_line(source)) + 1;
         self.push_bold(text)?;
-        write!(text, "{}:{line}:{column}: ", self.file)?;
+        match line_column(source, source.len()) {
+            Some((line, column)) => write!(text, "{}:{line}:{column}: ", self.file)?,
+            None => write!(text, "{}: ", self.file)?,
+        }
         self.push_kind(text, Kind::Error)?;
         writeln!(text, "{message}")
     }
@@ -135,7 +140,7 @@ impl<'a> Reporter<'a> {
         let Some(place) = place_of(texts, location) else {
             return Ok(());
         };
-        if texts.source.len() >= LIMIT {
+        if texts.source.len() >= SOURCE_LIMIT {
             return Ok(());
         }
         match last_define(self.alloc, texts.source, place.here, location.start) {

@@ -1,14 +1,16 @@
 //! Items as JSON, one a line.
 
+use crate::columns::Columns;
 use crate::diagnostics::COMMAND_LINE;
-use crate::place::Place;
+use crate::place::first_byte;
 use crate::texts::Spot;
 use pp_rs::token::{Location, PreprocessorError, TokenValue};
 use std::alloc::AllocError;
 
 /// Puts a token: its kind and text, its place, and of a macro's token the line of its call.
-pub fn push_token(
+pub(crate) fn push_token(
     output: &mut String,
+    columns: &mut Columns<'_>,
     value: &TokenValue,
     spot: Option<Spot<'_>>,
     location: Location,
@@ -18,7 +20,7 @@ pub fn push_token(
     let kind = kind_of(value);
     write!(output, "{{\"kind\":\"{kind}\",\"text\":")?;
     push_string(output, text)?;
-    push_place(output, spot, location)?;
+    push_place(output, columns, spot, location)?;
     if let Some(line) = call_line {
         write!(output, ",\"call\":{line}")?;
     }
@@ -33,8 +35,9 @@ pub fn push_token(
 }
 
 /// Puts an error: its name and what is said of it, and its place.
-pub fn push_error(
+pub(crate) fn push_error(
     output: &mut String,
+    columns: &mut Columns<'_>,
     error: &PreprocessorError,
     spot: Option<Spot<'_>>,
     location: Location,
@@ -46,7 +49,7 @@ pub fn push_error(
         "{{\"kind\":\"error\",\"error\":\"{name}\",\"message\":"
     )?;
     push_string(output, message)?;
-    push_place(output, spot, location)?;
+    push_place(output, columns, spot, location)?;
     output.push_str("}\n")
 }
 
@@ -71,6 +74,7 @@ fn push_escaped(output: &mut String, c: char) -> Result<(), AllocError> {
 // The place in its text, in bytes, and its line and column if that is the source.
 fn push_place(
     output: &mut String,
+    columns: &mut Columns<'_>,
     spot: Option<Spot<'_>>,
     location: Location,
 ) -> Result<(), AllocError> {
@@ -86,8 +90,8 @@ fn push_place(
     }
     let line = location.line;
     write!(output, ",\"start\":{start},\"end\":{end},\"line\":{line}")?;
-    match Place::find(spot) {
-        Some(place) => write!(output, ",\"column\":{}", place.column()),
+    match first_byte(spot) {
+        Some(start) => write!(output, ",\"column\":{}", columns.column(start)),
         None => Ok(()),
     }
 }

@@ -1,9 +1,8 @@
 //! Words on their lines.
 
-ghost use Rattle.std.specs.Prelude.{◌≡◌, ◌<◌, ◌≤◌, ◌++◌, ◌∷◌, [], false, if◌then◌else◌, OnOk, IfOk, string_bytes};
+ghost use Rattle.std.specs.Prelude.{◌≡◌, ◌++◌, [], false, OnOk, IfOk, string_bytes};
 ghost use Rattle.std.proofs.Math.ListN.{replicate};
-ghost use Rattle.glslpp_parts.specs.Layout.{Laid, gap_text, moved, with_word};
-ghost use Rattle.glslpp_parts.specs.declared.layout.Gap.TheVariants.{Space};
+ghost use Rattle.glslpp_parts.specs.Layout.{at_line, with_word, on_line, on_next_line, with_directive, finished};
 
 use std::alloc::{AllocError, Global};
 use std::marker::Model;
@@ -55,10 +54,7 @@ impl Layout {
 
     /// Puts a word on its line, or after the last word if that line is past.
     pub fn push_word(&mut self, line: u32, gap: Gap, word: &str) -> Result<(), AllocError>
-        ensures ahead { OnOk result (self.old.line < line
-            → self.new ≡ with_word (moved self.old line) gap word.now) }
-        ensures past { OnOk result (line ≤ self.old.line
-            → self.new ≡ with_word self.old gap word.now) }
+        ensures { OnOk result (self.new ≡ on_line self.old line gap word.now) }
     {
         self.go_to(line)?;
         self.append(gap, word)
@@ -78,19 +74,28 @@ impl Layout {
 
     /// Puts a directive on a line of its own.
     pub fn push_directive(&mut self, line: u32, word: &str) -> Result<(), AllocError>
-        ensures { OnOk result (self.old.line ≤ self.new.line) }
+        ensures { OnOk result (self.new ≡ with_directive self.old line word.now) }
     {
         if self.is_line_begun {
-            self.go_to(self.line.saturating_add(1))?;
+            self.go_on()?;
         }
         self.push_word(line, Gap::Space, word)?;
-        self.go_to(self.line.saturating_add(1))
+        self.go_on()
+    }
+
+    // Goes to the next line.
+    fn go_on(&mut self) -> Result<(), AllocError>
+        ensures { OnOk result (self.new ≡ on_next_line self.old) }
+    {
+        if self.line == u32::MAX {
+            return Ok(());
+        }
+        self.go_to(self.line + 1)
     }
 
     // Goes to the line, if it lies ahead.
     fn go_to(&mut self, line: u32) -> Result<(), AllocError>
-        ensures ahead { OnOk result (self.old.line < line → self.new ≡ moved self.old line) }
-        ensures past { OnOk result (line ≤ self.old.line → self.new ≡ self.old) }
+        ensures { OnOk result (self.new ≡ at_line self.old line) }
     {
         if line > self.line {
             push_line_ends(&mut self.text, line - self.line)?;
@@ -102,8 +107,7 @@ impl Layout {
 
     /// The text, with a last line end if a word is on its last line.
     pub fn finish(mut self) -> Result<String, AllocError>
-        ensures { IfOk result (λ text. string_bytes text
-            ≡ self.text ++ (if self.is_line_begun then 10 ∷ [] else [])) }
+        ensures { IfOk result (λ text. string_bytes text ≡ finished self) }
     {
         if self.is_line_begun {
             self.text.push('\n')?;

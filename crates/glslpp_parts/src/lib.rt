@@ -4,16 +4,18 @@
 
 pub mod arguments;
 pub mod changes;
+mod columns;
 pub mod definitions;
 pub mod diagnostics;
 pub mod failure;
-pub mod json;
-pub mod layout;
+mod json;
+mod layout;
 pub mod output;
 pub mod place;
-pub mod quoting;
-pub mod search;
-pub mod sentences;
+mod quoting;
+mod reading;
+mod search;
+mod sentences;
 pub mod texts;
 pub mod version;
-pub mod words;
+mod words;

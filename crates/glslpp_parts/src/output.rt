@@ -1,36 +1,57 @@
 //! What is printed of a source, in each form.
 
-ghost use Rattle.std.specs.Prelude.{IsTrue};
+ghost use Rattle.std.specs.Prelude.{◌≡◌, ◌≢◌, [], false, None, IsTrue, OnOk, IfOk, string_bytes, unwrap_or};
 ghost use Rattle.pp_rs.specs.TokenValue.{is_ordinary};
+ghost use Rattle.glslpp_parts.specs.Layout.{finished};
+ghost use Rattle.glslpp_parts.specs.Output.{PutsWord, PutsDirective, Puts};
 
 use crate::arguments::Form;
+use crate::columns::Columns;
 use crate::json;
 use crate::layout::{Gap, Layout};
-use crate::texts::Texts;
-use crate::words::{push_directive, push_made_word, push_spelled_word, written_word};
+use crate::texts::{Spot, Texts};
+use crate::words::{compact_word, made_word, written_word};
 use pp_rs::token::{Location, PreprocessorError, Token, TokenValue};
 use std::alloc::{AllocError, Global};
+use std::marker::Model;
 
 /// The output of a source, as far as it has come.
 #[derive(Drop)]
-pub struct Output {
+pub struct Output<'a> {
     alloc: Global,
     form: Form,
     layout: Layout,
     // The lines of JSON.
     lines: String,
+    // The columns of the source.
+    columns: Columns<'a>,
     // Where the last word ends in the source, if its text is from there.
     end: Option<u32>,
 }
 
-impl Output {
-    /// Nothing yet.
-    pub fn new(alloc: Global, form: Form) -> Output {
+impl<'a> Model for Output<'a> {
+    ghost use Rattle.glslpp_parts.specs.Output.{Printed};
+
+    ghost Value = { Printed };
+
+    ghost view = { λ o. record { form = o.form; laid = o.layout; end = o.end } };
+}
+
+impl<'a> Output<'a> {
+    /// Nothing yet of a source.
+    pub fn new(alloc: Global, form: Form, source: &'a str) -> Output<'a>
+        ensures { result ≡ record {
+          form = form;
+          laid = record { text = []; line = 1; is_line_begun = false };
+          end = None;
+        } }
+    {
         Output {
             alloc,
             form,
             layout: Layout::new(alloc),
             lines: String::new(alloc),
+            columns: Columns::new(source),
             end: None,
         }
     }
@@ -41,7 +62,11 @@ impl Output {
         texts: &Texts<'_>,
         token: &Token,
         call_line: Option<u32>,
-    ) -> Result<(), AllocError> {
+    ) -> Result<(), AllocError>
+        ensures form { self.new.form ≡ self.old.form }
+        ensures puts { OnOk result
+            (Puts self.old.form (is_ordinary token.now.value) self.old token.now call_line self.new) }
+    {
         if !token.is_ordinary() {
             return self.push_directive(texts, token);
         }
@@ -60,24 +85,28 @@ impl Output {
         call_line: Option<u32>,
     ) -> Result<(), AllocError>
         requires { IsTrue (is_ordinary token.now.value) }
+        ensures form { self.new.form ≡ self.old.form }
+        ensures puts { OnOk result (PutsWord self.old token.now
+            (unwrap_or call_line token.now.location.line) self.new) }
     {
         let place = token.location;
         let line = call_line.unwrap_or(place.line);
         let spot = texts.spot(place);
-        if let Some(word) = written_word(spot) {
+        if let Some(word) = written_word(self.alloc, &token.value, spot)? {
             let gap = self.gap_before(place);
             self.layout.push_word(line, gap, word)?;
             self.end = Some(place.end);
             return Ok(());
         }
-        let mut word = String::new(self.alloc);
-        push_made_word(&mut word, self.alloc, &token.value, spot)?;
+        let word = made_word(self.alloc, &token.value, spot)?;
         self.end = None;
         self.layout.push_word(line, Gap::Space, word.as_str())
     }
 
     // Words that are side by side in the source are so in the output.
-    fn gap_before(&self, place: Location) -> Gap {
+    fn gap_before(&self, place: Location) -> Gap
+        ensures { result ≡ Gap.Nothing → self.now.end ≡ Some place.start }
+    {
         if self.end == Some(place.start) {
             Gap::Nothing
         } else {
@@ -87,11 +116,13 @@ impl Output {
 
     fn push_on_last_line(&mut self, texts: &Texts<'_>, token: &Token) -> Result<(), AllocError>
         requires { IsTrue (is_ordinary token.now.value) }
+        ensures form { self.new.form ≡ self.old.form }
+        ensures puts { OnOk result (PutsWord self.old token.now self.old.laid.line self.new) }
     {
-        let mut word = String::new(self.alloc);
         let spot = texts.spot(token.location);
-        push_spelled_word(&mut word, self.alloc, &token.value, spot)?;
+        let word = compact_word(self.alloc, &token.value, spot)?;
         let line = self.layout.line();
+        self.end = None;
         self.layout.push_word(line, Gap::Space, word.as_str())
     }
 
@@ -102,26 +133,45 @@ impl Output {
         call_line: Option<u32>,
     ) -> Result<(), AllocError>
         requires { IsTrue (is_ordinary token.now.value) }
+        ensures form { self.new.form ≡ self.old.form }
+        ensures same { self.new.laid ≡ self.old.laid }
     {
         let spot = texts.spot(token.location);
-        let mut word = String::new(self.alloc);
-        match written_word(spot) {
-            Some(written) => word.push_str(written)?,
-            None => push_made_word(&mut word, self.alloc, &token.value, spot)?,
+        if let Some(word) = written_word(self.alloc, &token.value, spot)? {
+            return self.push_json(spot, token, call_line, word);
         }
+        let word = made_word(self.alloc, &token.value, spot)?;
+        self.push_json(spot, token, call_line, word.as_str())
+    }
+
+    fn push_json(
+        &mut self,
+        spot: Option<Spot<'_>>,
+        token: &Token,
+        call_line: Option<u32>,
+        text: &str,
+    ) -> Result<(), AllocError>
+        ensures form { self.new.form ≡ self.old.form }
+        ensures same { self.new.laid ≡ self.old.laid }
+    {
         json::push_token(
             &mut self.lines,
+            &mut self.columns,
             &token.value,
             spot,
             token.location,
             call_line,
-            word.as_str(),
+            text,
         )
     }
 
-    fn push_directive(&mut self, texts: &Texts<'_>, token: &Token) -> Result<(), AllocError> {
-        let mut line = String::new(self.alloc);
-        push_directive(&mut line, &token.value)?;
+    // Puts a directive: its word, and its tokens with spaces between.
+    fn push_directive(&mut self, texts: &Texts<'_>, token: &Token) -> Result<(), AllocError>
+        requires { is_ordinary token.now.value ≡ false }
+        ensures form { self.new.form ≡ self.old.form }
+        ensures puts { OnOk result (Puts self.old.form false self.old token.now None self.new) }
+    {
+        let line = format!(in self.alloc; "{}", token.value)?;
         self.end = None;
         match self.form {
             Form::Lines => self
@@ -131,14 +181,10 @@ impl Output {
                 let last = self.layout.line();
                 self.layout.push_directive(last, line.as_str())
             }
-            Form::Tokens => json::push_token(
-                &mut self.lines,
-                &token.value,
-                texts.spot(token.location),
-                token.location,
-                None,
-                line.as_str(),
-            ),
+            Form::Tokens => {
+                let spot = texts.spot(token.location);
+                self.push_json(spot, token, None, line.as_str())
+            }
         }
     }
 
@@ -149,16 +195,28 @@ impl Output {
         error: &PreprocessorError,
         location: Location,
         message: &str,
-    ) -> Result<(), AllocError> {
+    ) -> Result<(), AllocError>
+        ensures { self.new ≡ self.old }
+    {
         if self.form != Form::Tokens {
             return Ok(());
         }
         let spot = texts.spot(location);
-        json::push_error(&mut self.lines, error, spot, location, message)
+        json::push_error(
+            &mut self.lines,
+            &mut self.columns,
+            error,
+            spot,
+            location,
+            message,
+        )
     }
 
     /// The output as text.
-    pub fn finish(self) -> Result<String, AllocError> {
+    pub fn finish(self) -> Result<String, AllocError>
+        ensures { IfOk result (λ text. self.entry.form ≢ Form.Tokens
+            → string_bytes text ≡ finished self.entry.laid) }
+    {
         let lines = self.lines;
         if self.form == Form::Tokens {
             return Ok(lines);

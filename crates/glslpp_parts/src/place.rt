@@ -1,13 +1,19 @@
 //! Places of a text as compilers tell them.
 
-ghost use Rattle.std.specs.Prelude.{◌≡◌, ◌≤◌, ◌+◌, length};
-ghost use Rattle.std.specs.Str.{chars};
+ghost use Rattle.std.specs.Prelude.{◌≡◌, IfSome};
+ghost use Rattle.pp_lexer.specs.Lines.{is_line_break};
+ghost use Rattle.glslpp_parts.specs.Columns.{column_at};
 
+use crate::columns::column_at;
 use crate::texts::Spot;
 
 /// A place of a text: its line's text before it, there and after it.
 #[derive(Clone, Copy)]
 pub struct Place<'a> {
+    /// The text that it is in.
+    pub text: &'a str,
+    /// Where it begins, in bytes.
+    pub start: usize,
     /// The text of its line before it.
     pub before: &'a str,
     /// What is there, as far as the line goes.
@@ -18,18 +24,17 @@ pub struct Place<'a> {
 
 impl<'a> Place<'a> {
     /// The place of a spot, or `None` if its text has no such spot.
-    pub fn find(spot: Spot<'a>) -> Option<Place<'a>> {
-        // The place of what follows a continuation begins at its backslash.
-        let rest = spot.text.get(spot.start..)?;
-        let start = spot
-            .text
-            .len()
-            .saturating_sub(after_continuations(rest).len());
+    pub fn find(spot: Spot<'a>) -> Option<Place<'a>>
+        ensures { IfSome result (λ place. place.text.now ≡ spot.entry.text.now) }
+    {
+        let start = first_byte(spot)?;
         let end = spot.end.max(first_char_end(spot.text, start));
         let before = spot.text.get(..start)?;
         let here = spot.text.get(start..end)?;
         let behind = spot.text.get(end..)?;
         Some(Place {
+            text: spot.text,
+            start,
             before: last_line(before),
             here: first_line(here),
             behind: if here.contains(is_line_end) {
@@ -41,28 +46,30 @@ impl<'a> Place<'a> {
     }
 
     /// The column in characters, from 1.
-    pub fn column(&self) -> usize
-        ensures { result ≡ length (chars self.now.before.now) + 1 }
+    pub(crate) fn column(&self) -> usize
+        ensures { result ≡ column_at self.now.text.now self.now.start }
     {
-        count_chars(self.before) + 1
+        column_at(self.text, self.start)
     }
 }
 
-/// How many characters a text has.
-pub fn count_chars(text: &str) -> usize
-    ensures count { result ≡ length (chars text.now) }
-    ensures bound { result ≤ length text.now }
-{
-    text.chars().count()
+/// Where a spot begins in its text, in bytes, or `None` if its text has no such spot. That of what follows a continuation
+/// begins at its backslash, which is passed.
+pub(crate) fn first_byte(spot: Spot<'_>) -> Option<usize> {
+    let rest = spot.text.get(spot.start..)?;
+    let after = after_continuations(rest);
+    Some(spot.text.len().saturating_sub(after.len()))
 }
 
 /// Whether it is LF or CR, of which line ends are made.
-pub fn is_line_end(c: char) -> bool {
+pub(crate) fn is_line_end(c: char) -> bool
+    ensures { result ≡ is_line_break c }
+{
     c == '\n' || c == '\r'
 }
 
-/// What follows the last line end of a text.
-pub fn last_line(text: &str) -> &str {
+// What follows the last line end of a text.
+fn last_line(text: &str) -> &str {
     match text.rfind(is_line_end) {
         Some(end) => text.get(end.saturating_add(1)..).unwrap_or(""),
         None => text,
@@ -99,7 +106,7 @@ pub fn is_on_if_line(place: Place<'_>) -> bool {
 }
 
 /// The text without the continuations that it begins with.
-pub fn after_continuations(text: &str) -> &str {
+pub(crate) fn after_continuations(text: &str) -> &str {
     let mut rest = text;
     for _ in 0..text.len() {
         match after_continuation(rest) {
@@ -123,21 +130,4 @@ fn after_line_end(text: &str) -> Option<&str> {
         }
     }
     text.strip_prefix(is_line_end)
-}
-
-/// The number of the line on which a text ends, from 1.
-pub fn line_count(text: &str) -> usize {
-    let mut count = 1usize;
-    let mut before = None;
-    for c in text.chars() {
-        match (before, c) {
-            (Some('\r'), '\n') | (Some('\n'), '\r') => before = None,
-            (_, '\n' | '\r') => {
-                count = count.saturating_add(1);
-                before = Some(c);
-            }
-            _ => before = None,
-        }
-    }
-    count
 }

@@ -3,7 +3,7 @@
 use std::alloc::AllocError;
 
 /// Puts a character in backquotes, or by its number if it can't be seen.
-pub fn push_char(text: &mut String, c: char) -> Result<(), AllocError> {
+pub(crate) fn push_char(text: &mut String, c: char) -> Result<(), AllocError> {
     if c.is_control() || is_unseen(c) {
         write!(text, "U+{:04X}", c as u32)
     } else {
@@ -17,11 +17,11 @@ fn is_unseen(c: char) -> bool {
 }
 
 /// Whether it is a quote of typography, which word processors put in place of `"` and `'`.
-pub fn is_typographic_quote(c: char) -> bool {
+pub(crate) fn is_typographic_quote(c: char) -> bool {
     matches!(c, '\u{2018}'..='\u{201f}')
 }
 
 /// Whether it can be in a name of ASCII.
-pub fn is_name_char(c: char) -> bool {
+pub(crate) fn is_name_char(c: char) -> bool {
     c == '_' || c.is_ascii_alphanumeric()
 }

@@ -9,7 +9,7 @@ use std::alloc::Global;
 
 /// A `#define` of a source.
 #[derive(Clone, Copy)]
-pub struct Defined {
+pub(crate) struct Defined {
     /// Where its name is.
     pub location: Location,
     /// How many parameters it has, if it has a `(`.
@@ -27,7 +27,7 @@ enum Stage {
 }
 
 /// The last `#define` of the name before the place, whether it is live or not.
-pub fn last_define(alloc: Global, source: &str, name: &str, before: u32) -> Option<Defined>
+pub(crate) fn last_define(alloc: Global, source: &str, name: &str, before: u32) -> Option<Defined>
     requires { length source.now < 2 ^ 32 - 1 }
 {
     let mut lexer = Lexer::new(alloc, source);
@@ -77,7 +77,7 @@ fn count_parameter(last: &mut Option<Defined>, more: usize) {
 }
 
 /// The name that a text ends with, blanks aside.
-pub fn last_name(text: &str) -> &str {
+pub(crate) fn last_name(text: &str) -> &str {
     let text = text.trim_end();
     match text.rfind(|c| !is_name_char(c)) {
         Some(place) => last_char_cut(text, place),
@@ -94,7 +94,7 @@ fn last_char_cut(text: &str, place: usize) -> &str {
 }
 
 /// How many arguments are written in the parentheses that the text begins with.
-pub fn count_arguments(alloc: Global, text: &str) -> Option<usize>
+pub(crate) fn count_arguments(alloc: Global, text: &str) -> Option<usize>
     requires { length text.now < 2 ^ 32 - 1 }
 {
     let mut lexer = Lexer::new(alloc, text);

@@ -1,50 +1,15 @@
-//! What is said of each error.
+//! What is said of errors beside the library's sentences.
 
 use crate::place::Place;
 use crate::quoting::{is_typographic_quote, push_char};
 use crate::search::{count_arguments, last_define, last_name};
 use crate::texts::Texts;
+use pp_rs::SOURCE_LIMIT;
 use pp_rs::token::{Location, PreprocessorError};
 use std::alloc::{AllocError, Global};
 
-// A text that the library takes has fewer bytes than this.
-const LIMIT: usize = 4294967295;
-
-/// What is wrong, as one sentence without a full stop, wherever it is.
-pub fn plain_sentence(error: &PreprocessorError) -> &'static str {
-    match error {
-        PreprocessorError::IntegerOverflow => "the integer is too large",
-        PreprocessorError::FloatParsingError => "this is no number",
-        PreprocessorError::UnexpectedCharacter => "no token begins with this character",
-        PreprocessorError::UnexpectedToken(_) => "unexpected token",
-        PreprocessorError::UnexpectedHash => "unexpected `#`",
-        PreprocessorError::UnexpectedNewLine => "the line ends too early",
-        PreprocessorError::UnexpectedEndOfInput => "the text ends too early",
-        PreprocessorError::TooFewDefineArguments => "too few arguments",
-        PreprocessorError::TooManyDefineArguments => "too many arguments",
-        PreprocessorError::ErrorDirective => "#error",
-        PreprocessorError::DuplicateParameter => "two parameters have this name",
-        PreprocessorError::UnknownDirective => "unknown directive",
-        PreprocessorError::DefineRedefined => "the macro has another definition already",
-        PreprocessorError::ElifOutsideOfBlock => "`#elif` without `#if`",
-        PreprocessorError::ElseOutsideOfBlock => "`#else` without `#if`",
-        PreprocessorError::EndifOutsideOfBlock => "`#endif` without `#if`",
-        PreprocessorError::ElifAfterElse => "`#elif` after `#else`",
-        PreprocessorError::MoreThanOneElse => "a second `#else`",
-        PreprocessorError::UnfinishedBlock => "the source ends before `#endif`",
-        PreprocessorError::LineOverflow => "the line number is out of range",
-        PreprocessorError::NotSupported16BitLiteral => "literals of 16 bits are not supported",
-        PreprocessorError::NotSupported64BitLiteral => "literals of 64 bits are not supported",
-        PreprocessorError::MacroNotDefined => "the macro is not defined",
-        PreprocessorError::RecursionLimitReached => "the macro calls are nested too deep",
-        PreprocessorError::DivisionByZero => "division by zero",
-        PreprocessorError::RemainderByZero => "remainder by zero",
-        PreprocessorError::OutOfMemory => "out of memory",
-    }
-}
-
-/// Puts what is wrong, with what is written at its place.
-pub fn push_sentence(
+/// Puts what there is to add to the library's sentence: what is written at its place, and what may be meant.
+pub(crate) fn push_more(
     text: &mut String,
     alloc: Global,
     texts: &Texts<'_>,
@@ -53,31 +18,24 @@ pub fn push_sentence(
     error: &PreprocessorError,
 ) -> Result<(), AllocError> {
     match error {
-        PreprocessorError::UnexpectedToken(_) => push_unexpected(text, place.here),
-        PreprocessorError::ErrorDirective => write!(text, "#error{}", place.behind.trim_end()),
-        PreprocessorError::UnknownDirective => push_unknown_directive(text, place.here),
+        PreprocessorError::ErrorDirective => push_reason(text, place.behind.trim()),
+        PreprocessorError::UnknownDirective => push_directive_name(text, place.here),
         PreprocessorError::UnexpectedHash if is_in_define(place.before) => {
-            text.push_str("`#` and `##` are no operators in GLSL")
+            text.push_str(": GLSL has no operators `#` and `##`")
         }
-        PreprocessorError::UnexpectedCharacter => push_unexpected_character(text, place.here),
-        PreprocessorError::UnexpectedEndOfInput if place.before.trim_end().ends_with('#') => {
-            text.push_str("the line ends too early")
-        }
+        PreprocessorError::UnexpectedCharacter => push_character(text, place.here),
         PreprocessorError::TooFewDefineArguments | PreprocessorError::TooManyDefineArguments => {
             push_argument_counts(text, alloc, texts, location, place, error)
         }
-        PreprocessorError::DefineRedefined => {
-            write!(text, "`{}` has another definition already", place.here)
-        }
-        _ => text.push_str(plain_sentence(error)),
+        _ => Ok(()),
     }
 }
 
-fn push_unexpected(text: &mut String, here: &str) -> Result<(), AllocError> {
-    if here.is_empty() {
-        return text.push_str("the line ends too early");
+fn push_reason(text: &mut String, reason: &str) -> Result<(), AllocError> {
+    if reason.is_empty() {
+        return Ok(());
     }
-    write!(text, "unexpected token `{here}`")
+    write!(text, ": {reason}")
 }
 
 // Whether a line begins as that of a `#define`.
@@ -88,18 +46,18 @@ fn is_in_define(before: &str) -> bool {
     }
 }
 
-fn push_unexpected_character(text: &mut String, here: &str) -> Result<(), AllocError> {
-    match here.chars().next() {
-        Some('"') => text.push_str("GLSL has no strings"),
-        Some(c) if is_typographic_quote(c) => {
-            push_char(text, c)?;
-            text.push_str(" is a typographic quote, which GLSL doesn't have")
-        }
-        Some(c) => {
-            text.push_str("unexpected character ")?;
-            push_char(text, c)
-        }
-        None => text.push_str(plain_sentence(&PreprocessorError::UnexpectedCharacter)),
+fn push_character(text: &mut String, here: &str) -> Result<(), AllocError> {
+    let Some(c) = here.chars().next() else {
+        return Ok(());
+    };
+    text.push(' ')?;
+    push_char(text, c)?;
+    if c == '"' {
+        text.push_str(": GLSL has no strings")
+    } else if is_typographic_quote(c) {
+        text.push_str(", a typographic quote, which GLSL doesn't have")
+    } else {
+        Ok(())
     }
 }
 
@@ -120,11 +78,11 @@ const DIRECTIVES: [&str; 13] = [
     "if",
 ];
 
-fn push_unknown_directive(text: &mut String, name: &str) -> Result<(), AllocError> {
+fn push_directive_name(text: &mut String, name: &str) -> Result<(), AllocError> {
+    write!(text, " `#{name}`")?;
     if name == "include" {
-        return text.push_str("glslpp has no `#include`");
+        return text.push_str(", which glslpp doesn't have");
     }
-    write!(text, "unknown directive `#{name}`")?;
     match near_directive(name) {
         Some(near) => write!(text, ", did you mean `#{near}`?"),
         None => Ok(()),
@@ -183,10 +141,10 @@ fn push_argument_counts(
             let plural = if wanted == 1 { "" } else { "s" };
             write!(
                 text,
-                "`{name}` has {wanted} parameter{plural}, and the call gives {given}"
+                ": `{name}` has {wanted} parameter{plural}, and the call gives {given}"
             )
         }
-        _ => text.push_str(plain_sentence(error)),
+        _ => Ok(()),
     }
 }
 
@@ -198,12 +156,12 @@ fn argument_counts(
     name: &str,
 ) -> Option<(usize, usize)> {
     let source = texts.source;
-    if name.is_empty() || source.len() >= LIMIT {
+    if name.is_empty() || source.len() >= SOURCE_LIMIT {
         return None;
     }
     let wanted = last_define(alloc, source, name, location.start)?.parameters?;
     let call = source.get(location.start as usize..)?;
-    if call.len() >= LIMIT {
+    if call.len() >= SOURCE_LIMIT {
         return None;
     }
     Some((wanted, count_arguments(alloc, call)?))

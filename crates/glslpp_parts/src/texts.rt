@@ -4,9 +4,18 @@
 //! over behind as many blanks as the first line of the source has bytes, and one more: its tokens are then on line 1, and
 //! past the end of line 1 of the source.
 
-use crate::place::is_line_end;
+ghost use Rattle.std.specs.Prelude.{◌≡◌, ◌≤◌, ◌+◌, ◌-◌, ◌↔◌, ◌||◌, [], true, false, nat_lt, IsNone, IfSome, OnOk, IfOk, length, string_bytes};
+ghost use Rattle.std.proofs.Math.ListN.{replicate};
+ghost use Rattle.std.specs.List.{position_or_len};
+ghost use Rattle.pp_lexer.specs.Lines.{is_line_break};
+ghost use Rattle.pp_rs.specs.Location.{nowhere};
+ghost use Rattle.glslpp_parts.specs.Spots.{IsSpotOf};
+ghost use Rattle.glslpp_parts.specs.Texts.{padded, with_content};
+
+use crate::columns::is_line_end_byte;
 use pp_rs::token::{Location, NOWHERE};
 use std::alloc::{AllocError, Global};
+use std::marker::Model;
 
 /// A source, and the contents of the definitions before it.
 #[derive(Drop)]
@@ -17,6 +26,17 @@ pub struct Texts<'a> {
     blanks: usize,
     // The contents, each on a line.
     contents: String,
+}
+
+impl<'a> Model for Texts<'a> {
+    ghost use Rattle.std.specs.Prelude.{◌≤◌, ◌+◌, length, string_bytes};
+    ghost use Rattle.glslpp_parts.specs.Texts.{Texts};
+
+    ghost Value = { Texts };
+
+    ghost view = { λ t. record { source = t.source.now; blanks = t.blanks; contents = string_bytes t.contents } };
+
+    ghost invariant = { λ t. t.blanks ≤ length t.source.now + 1 };
 }
 
 /// A place in one of the texts.
@@ -34,21 +54,25 @@ pub struct Spot<'a> {
 
 impl<'a> Texts<'a> {
     /// A source before which nothing is defined yet.
-    pub fn new(alloc: Global, source: &'a str) -> Texts<'a> {
-        let first_line_end = source.find(is_line_end).unwrap_or(source.len());
+    pub fn new(alloc: Global, source: &'a str) -> Texts<'a>
+        ensures source { result.source ≡ source.now }
+        ensures contents { result.contents ≡ [] }
+        ensures blanks { result.blanks ≡ position_or_len is_line_break source.now + 1 }
+    {
         Texts {
             source,
-            blanks: first_line_end.saturating_add(1),
+            blanks: first_line_length(source) + 1,
             contents: String::new(alloc),
         }
     }
 
     /// Takes the content of a definition in, which has no line end, and gives it as it is to be handed to the library.
-    pub fn pad(&mut self, alloc: Global, content: &str) -> Result<String, AllocError> {
-        let mut padded = String::new(alloc);
-        for _ in 0..self.blanks.saturating_add(self.contents.len()) {
-            padded.push(' ')?;
-        }
+    pub(crate) fn pad(&mut self, alloc: Global, content: &str) -> Result<String, AllocError>
+        ensures text { IfOk result (λ text. string_bytes text ≡ padded self.old content.now) }
+        ensures taken_in { OnOk result (self.new ≡ with_content self.old content.now) }
+    {
+        let count = self.blanks + self.contents.len();
+        let mut padded = blanks(alloc, count)?;
         padded.push_str(content)?;
         self.contents.push_str(content)?;
         self.contents.push('\n')?;
@@ -56,7 +80,16 @@ impl<'a> Texts<'a> {
     }
 
     /// The place in its text, if it is one of an item of the source.
-    pub fn spot(&self, location: Location) -> Option<Spot<'_>> {
+    pub fn spot(&self, location: Location) -> Option<Spot<'_>>
+        ensures none { IsNone result ↔ (location ≡ nowhere) }
+        ensures told { IfSome result (λ spot. spot.is_in_source
+            ≡ (nat_lt 1 location.line || nat_lt location.start self.now.blanks)) }
+        ensures in_source { IfSome result (λ spot. spot.is_in_source ≡ true
+            → IsSpotOf spot self.now.source location.start location.end) }
+        ensures in_contents { IfSome result (λ spot. spot.is_in_source ≡ false
+            → IsSpotOf spot self.now.contents (location.start - self.now.blanks)
+            (location.end - self.now.blanks)) }
+    {
         if location == NOWHERE {
             return None;
         }
@@ -78,9 +111,34 @@ impl<'a> Texts<'a> {
     }
 }
 
+// That many blanks.
+fn blanks(alloc: Global, count: usize) -> Result<String, AllocError>
+    ensures { IfOk result (λ text. string_bytes text ≡ replicate count 32) }
+{
+    let mut text = String::new(alloc);
+    for done in 0..count {
+        text.push(' ')?;
+    }
+    Ok(text)
+}
+
+// How many bytes are before the first line end.
+fn first_line_length(text: &str) -> usize
+    ensures value { result ≡ position_or_len is_line_break text.now }
+    ensures bound { result ≤ length text.now }
+{
+    let bytes = text.as_bytes();
+    for index in 0..bytes.len() {
+        if is_line_end_byte(bytes[index]) {
+            return index;
+        }
+    }
+    bytes.len()
+}
+
 impl<'a> Spot<'a> {
     /// What is written there.
-    pub fn word(&self) -> Option<&'a str> {
+    pub(crate) fn word(&self) -> Option<&'a str> {
         self.text.get(self.start..self.end)
     }
 }

@@ -1,9 +1,14 @@
 //! The names that GLSL defines, by the `#version` of a source.
 
-ghost use Rattle.std.specs.Prelude.{◌-◌, ◌^◌, ◌<◌, length};
+ghost use Rattle.std.specs.Prelude.{◌≡◌, ◌-◌, ◌^◌, ◌<◌, ◌++◌, [], ◌∷◌, false, OnOk, IfOk, MatchOption, length};
+ghost use Rattle.std.specs.Str.{chars};
+ghost use Rattle.pp_lexer.specs.Respelling.{read_values};
+ghost use Rattle.glslpp_parts.specs.Reading.{values_ahead};
+ghost use Rattle.glslpp_parts.specs.Version.{after_newlines, version_line, after_hash, numbered, profile_of, is_word, version_of, is_es, has_high_precision, has_core, is_compatible, said, as_one, predefined};
 
 use crate::changes::Change;
-use pp_rs::lexer::{Lexer, TokenValue};
+use crate::reading::{Read, read_next};
+use pp_rs::lexer::{Lexer, TokenValue as Word};
 use std::alloc::{AllocError, Global};
 
 /// The profile that a `#version` names.
@@ -35,70 +40,134 @@ const DEFAULT_VERSION: Version = Version {
 };
 
 /// What the first tokens of the source say, if they are a `#version`.
-pub fn declared_version(alloc: Global, source: &str) -> Version
+pub fn declared_version(alloc: Global, source: &str) -> Result<Version, AllocError>
     requires { length source.now < 2 ^ 32 - 1 }
+    ensures { IfOk result (λ version. version ≡ version_of (read_values source.now)) }
 {
     let mut lexer = Lexer::new(alloc, source);
-    read_version(&mut lexer).unwrap_or(DEFAULT_VERSION)
+    let version = read_version(&mut lexer)?;
+    Ok(version.unwrap_or(DEFAULT_VERSION))
 }
 
-fn read_version(lexer: &mut Lexer<'_>) -> Option<Version> {
-    let TokenValue::Hash = first_value(lexer)? else {
-        return None;
-    };
-    if !is_word(&next_value(lexer)?, "version") {
-        return None;
+fn read_version(lexer: &mut Lexer<'_>) -> Result<Option<Version>, AllocError>
+    requires { lexer.old.spent ≡ false }
+    ensures { IfOk result (λ version. version
+        ≡ version_line (after_newlines (values_ahead lexer.old))) }
+{
+    match read_past_newlines(lexer)? {
+        Some(Ok(Word::Hash)) => read_after_hash(lexer),
+        _ => Ok(None),
     }
-    let TokenValue::Integer(integer) = next_value(lexer)? else {
-        return None;
+}
+
+// What is read after empty lines.
+fn read_past_newlines(lexer: &mut Lexer<'_>) -> Result<Option<Read>, AllocError>
+    requires { lexer.old.spent ≡ false }
+    ensures spent { OnOk result (lexer.new.spent ≡ false) }
+    ensures read { IfOk result (λ read. MatchOption read
+        (after_newlines (values_ahead lexer.old) ≡ [])
+        (λ value. after_newlines (values_ahead lexer.old) ≡ value ∷ values_ahead lexer.new)) }
+{
+    'lines: while let Some(read) = read_next(lexer)? {
+        match read {
+            Ok(Word::NewLine) => {}
+            _ => return Ok(Some(read)),
+        }
+    }
+    Ok(None)
+}
+
+// The word `version`, and what comes after it.
+fn read_after_hash(lexer: &mut Lexer<'_>) -> Result<Option<Version>, AllocError>
+    requires { lexer.old.spent ≡ false }
+    ensures { IfOk result (λ version. version ≡ after_hash (values_ahead lexer.old)) }
+{
+    match read_next(lexer)? {
+        Some(read) if is_word(&read, "version") => read_number(lexer),
+        _ => Ok(None),
+    }
+}
+
+fn read_number(lexer: &mut Lexer<'_>) -> Result<Option<Version>, AllocError>
+    requires { lexer.old.spent ≡ false }
+    ensures { IfOk result (λ version. version ≡ numbered (values_ahead lexer.old)) }
+{
+    let Some(Ok(Word::Integer(integer))) = read_next(lexer)? else {
+        return Ok(None);
     };
-    Some(Version {
+    Ok(Some(Version {
         number: integer.value,
-        profile: read_profile(lexer),
+        profile: read_profile(lexer)?,
+    }))
+}
+
+fn read_profile(lexer: &mut Lexer<'_>) -> Result<Profile, AllocError>
+    requires { lexer.old.spent ≡ false }
+    ensures { IfOk result (λ profile. profile ≡ profile_of (values_ahead lexer.old)) }
+{
+    let Some(read) = read_next(lexer)? else {
+        return Ok(Profile::Unnamed);
+    };
+    Ok(if is_word(&read, "es") {
+        Profile::Es
+    } else if is_word(&read, "core") {
+        Profile::Core
+    } else if is_word(&read, "compatibility") {
+        Profile::Compatibility
+    } else {
+        Profile::Unnamed
     })
 }
 
-fn read_profile(lexer: &mut Lexer<'_>) -> Profile {
-    match next_value(lexer) {
-        Some(word) if is_word(&word, "es") => Profile::Es,
-        Some(word) if is_word(&word, "core") => Profile::Core,
-        Some(word) if is_word(&word, "compatibility") => Profile::Compatibility,
-        _ => Profile::Unnamed,
+// Whether this word was read, which has ASCII alone.
+fn is_word(read: &Read, word: &str) -> bool
+    requires { chars word.now ≡ word.now }
+    ensures { result ≡ is_word word.now read.now }
+{
+    match read {
+        Ok(value) => is_named(value, word),
+        Err(_) => false,
     }
 }
 
-// The first token after empty lines.
-fn first_value(lexer: &mut Lexer<'_>) -> Option<TokenValue> {
-    'lines: while let Some(item) = lexer.next() {
-        let Ok(token) = item else {
-            return None;
-        };
-        match token.value {
-            TokenValue::NewLine => {}
-            value => return Some(value),
-        }
-    }
-    None
-}
-
-fn next_value(lexer: &mut Lexer<'_>) -> Option<TokenValue> {
-    match lexer.next() {
-        Some(Ok(token)) => Some(token.value),
-        _ => None,
-    }
-}
-
-fn is_word(value: &TokenValue, word: &str) -> bool {
+// Whether the value is the name, which has ASCII alone.
+fn is_named(value: &Word, name: &str) -> bool
+    requires { chars name.now ≡ name.now }
+    ensures { result ≡ is_word name.now (Ok value.now) }
+{
     match value {
-        TokenValue::Ident(name) => name.as_str() == word,
+        Word::Ident(text) => text.as_str() == name,
         _ => false,
     }
 }
 
 impl Version {
-    /// Whether it is a version of GLSL ES.
-    pub fn is_es(self) -> bool {
+    // Whether it is a version of GLSL ES.
+    fn is_es(self) -> bool
+        ensures { result ≡ is_es self }
+    {
         self.profile == Profile::Es || self.number == 100
+    }
+
+    // Whether it has high precision in fragments.
+    fn has_high_precision(self) -> bool
+        ensures { result ≡ has_high_precision self }
+    {
+        self.is_es() || self.number >= 130
+    }
+
+    // Whether it has a core profile.
+    fn has_core(self) -> bool
+        ensures { result ≡ has_core self }
+    {
+        !self.is_es() && self.number >= 150
+    }
+
+    // Whether it is of the compatibility profile.
+    fn is_compatible(self) -> bool
+        ensures { result ≡ is_compatible self }
+    {
+        self.profile == Profile::Compatibility && self.number >= 150
     }
 
     /// Puts the names that GLSL defines here, each as 1, but `__VERSION__` as `number`.
@@ -106,20 +175,34 @@ impl Version {
         self,
         number: &'a str,
         names: &mut Vec<Change<'a>>,
-    ) -> Result<(), AllocError> {
+    ) -> Result<(), AllocError>
+        ensures { OnOk result (said names.new.items
+            ≡ said names.old.items ++ predefined self number.now) }
+    {
         names.push(Change::Define("__VERSION__", number))?;
-        if self.is_es() {
-            names.push(Change::Define("GL_ES", "1"))?;
-        }
-        if self.is_es() || self.number >= 130 {
-            names.push(Change::Define("GL_FRAGMENT_PRECISION_HIGH", "1"))?;
-        }
-        if !self.is_es() && self.number >= 150 {
-            names.push(Change::Define("GL_core_profile", "1"))?;
-        }
-        if self.profile == Profile::Compatibility && self.number >= 150 {
-            names.push(Change::Define("GL_compatibility_profile", "1"))?;
-        }
+        push_if(self.is_es(), "GL_ES", names)?;
+        push_if(
+            self.has_high_precision(),
+            "GL_FRAGMENT_PRECISION_HIGH",
+            names,
+        )?;
+        push_if(self.has_core(), "GL_core_profile", names)?;
+        push_if(self.is_compatible(), "GL_compatibility_profile", names)?;
         Ok(())
     }
+}
+
+// Puts a name as 1, if it is to be.
+fn push_if(
+    is_defined: bool,
+    name: &'static str,
+    names: &mut Vec<Change<'_>>,
+) -> Result<(), AllocError>
+    ensures { OnOk result (said names.new.items
+        ≡ said names.old.items ++ as_one is_defined name.now) }
+{
+    if is_defined {
+        names.push(Change::Define(name, "1"))?;
+    }
+    Ok(())
 }

@@ -1,0 +1,20 @@
+-- Columns: how many characters a line has before a place, and one.
+use Rattle.std.specs.Prelude.{ℕ, Bool, ◌+◌, ◌&&◌, nat_lt, nat_le, if◌then◌else◌, List, [], ◌∷◌, take}
+use Rattle.pp_lexer.specs.Lines.{is_line_break}
+
+-- a byte of a character that isn't its first: 10xxxxxx in binary
+abbrev pub is_later_byte : ℕ → Bool
+is_later_byte b = nat_le 128 b && nat_lt b 192
+
+-- the column after one byte more: a line end begins anew, and each first byte is one character
+abbrev pub column_past : ℕ → ℕ → ℕ
+column_past column b = if is_line_break b then 1 else if is_later_byte b then column else column + 1
+
+-- the column after these bytes, which begin at this column
+abbrev pub column_after : ℕ → List ℕ → ℕ
+column_after column [] = column
+column_after column (b ∷ bs) = column_after (column_past column b) bs
+
+-- the column of a place of a text, that many bytes from its start
+abbrev pub column_at : List ℕ → ℕ → ℕ
+column_at text offset = column_after 1 (take offset text)

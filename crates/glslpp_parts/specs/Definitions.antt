@@ -1,0 +1,48 @@
+-- The definitions before a source, as they are checked and added.
+use Rattle.std.specs.Prelude.{◌≡◌, ℕ, ◌-◌, ◌^◌, ◌<◌, false, List, [], ◌∷◌, length, Ok, ⊤}
+use Rattle.std.specs.List.{list_any}
+use Rattle.std.specs.Str.{chars}
+use Rattle.pp_lexer.specs.Lines.{is_line_break}
+use Rattle.pp_lexer.specs.declared.token.TokenValue.TheVariants.{Ident}
+use Rattle.pp_rs.specs.Adding.{IsAdded}
+use Rattle.pp_rs.specs.Kept.{Preprocessing}
+use Rattle.glslpp_parts.specs.declared.changes.Change.{Change}
+use Rattle.glslpp_parts.specs.declared.changes.Change.TheVariants.{Define, Undefine}
+use Rattle.glslpp_parts.specs.declared.failure.Failure.{Failure}
+use Rattle.glslpp_parts.specs.declared.failure.Failure.TheVariants.{Told, OutOfMemory}
+use Rattle.glslpp_parts.specs.Changes.{Definition}
+use Rattle.glslpp_parts.specs.Reading.{IsReadAs}
+use Rattle.glslpp_parts.specs.Texts.{Texts, padded, with_content}
+
+-- a text that is read as one name, which is the text itself
+pub record IsName (text : List ℕ) : Type 0 where
+  pub short : length text < 2 ^ 32 - 1
+  pub read : IsReadAs (Ident (chars text)) text
+
+-- no line ends in it
+abbrev pub IsOneLine : List ℕ → Type 0
+IsOneLine content = list_any is_line_break content ≡ false
+
+-- a `-D` of a name with a content of one line, or a `-U` of a name
+abbrev pub IsDefinable : Change → Type 0
+IsDefinable (Define name content) = IsName name.now × IsOneLine content.now
+IsDefinable (Undefine name) = IsName name.now
+
+-- the failure is no refusal of memory
+abbrev pub IsTold : Failure → Type 0
+IsTold (Told text) = ⊤
+IsTold OutOfMemory = ⊥
+
+-- A definition is added as `add_define` does it. Its content is behind blanks, by which its places are told from those
+-- of the source.
+pub record IsWithDefinition (d : Definition) (texts : Texts) (old : Preprocessing)
+    (texts' : Texts) (new : Preprocessing) : Type 0 where
+  pub added : IsAdded old d.0.now (padded texts d.1.now) (Ok tt) new
+  pub taken_in : texts' ≡ with_content texts d.1.now
+
+-- the definitions are added one after another
+abbrev pub AreAdded : List Definition → Texts → Preprocessing → Texts → Preprocessing → Type 0
+AreAdded [] texts old texts' new = (texts' ≡ texts) × (new ≡ old)
+AreAdded (d ∷ ds) texts old texts' new =
+    (texts₁ : Texts) × ((items₁ : Preprocessing)
+    × (IsWithDefinition d texts old texts₁ items₁ × AreAdded ds texts₁ items₁ texts' new))

@@ -1,0 +1,44 @@
+-- What each item of a source adds to what is printed.
+use Rattle.std.specs.Prelude.{◌≡◌, ◌⊎◌, ℕ, Bool, true, false, List, Option, Some, None, unwrap_or}
+use Rattle.std.specs.Str.{encode_utf8_all}
+use Rattle.pp_lexer.specs.ItemText.{item_text}
+use Rattle.pp_lexer.specs.declared.token.Token.{Token}
+use Rattle.glslpp_parts.specs.declared.arguments.Form.{Form}
+use Rattle.glslpp_parts.specs.declared.arguments.Form.TheVariants.{Lines, Compact, Tokens, Directives}
+use Rattle.glslpp_parts.specs.declared.layout.Gap.{Gap}
+use Rattle.glslpp_parts.specs.declared.layout.Gap.TheVariants.{Nothing}
+use Rattle.glslpp_parts.specs.Layout.{Laid, on_line, with_directive}
+use Rattle.glslpp_parts.specs.Reading.{IsTextOf}
+
+-- the form, the words on their lines, and where the last word ends in the source if its text is from there
+pub record Printed : Type 0 where
+  pub form : Form
+  pub laid : Laid
+  pub end : Option ℕ
+
+-- A token's word is put on the line: a text that is read again as its value. No space is left out before it but where
+-- it begins in the source at the end of the word before.
+pub record PutsWord (old : Printed) (token : Token) (line : ℕ) (new : Printed) : Type 0 where
+  pub gap : Gap
+  pub word : List ℕ
+  pub is_text : IsTextOf token.value word
+  pub side_by_side : gap ≡ Nothing → old.end ≡ Some token.location.start
+  pub laid : new.laid ≡ on_line old.laid line gap word
+  pub end : (new.end ≡ None) ⊎ (new.end ≡ Some token.location.end)
+
+-- a directive is put on a line by itself
+pub record PutsDirective (old : Printed) (token : Token) (line : ℕ) (new : Printed) : Type 0 where
+  pub laid : new.laid ≡ with_directive old.laid line (encode_utf8_all (item_text token.value))
+  pub end : new.end ≡ None
+
+-- Of an ordinary token, or of a directive: what is printed by the form, where a token that a macro gives is on the line
+-- of the call.
+abbrev pub Puts : Form → Bool → Printed → Token → Option ℕ → Printed → Type 0
+Puts Lines true old token call new = PutsWord old token (unwrap_or call token.location.line) new
+Puts Compact true old token call new = PutsWord old token old.laid.line new
+Puts Tokens true old token call new = new.laid ≡ old.laid
+Puts Directives true old token call new = new ≡ old
+Puts Lines false old token call new = PutsDirective old token token.location.line new
+Puts Compact false old token call new = PutsDirective old token old.laid.line new
+Puts Tokens false old token call new = new.laid ≡ old.laid
+Puts Directives false old token call new = PutsDirective old token old.laid.line new

@@ -1,0 +1,27 @@
+-- What a lexer has ahead of it, and what it reads of a token's text.
+use Rattle.std.specs.Prelude.{◌≡◌, ℕ, ◌⊎◌, true, List, [], ◌∷◌, map, Result, Ok}
+use Rattle.pp_lexer.specs.declared.lexer.item.TokenValue.{TokenValue as LexerTokenValue}
+use Rattle.pp_lexer.specs.declared.lexer.item.TokenValue.TheVariants.{NewLine}
+use Rattle.pp_lexer.specs.declared.token.PreprocessorError.{PreprocessorError}
+use Rattle.pp_lexer.specs.declared.token.TokenValue.{TokenValue}
+use Rattle.pp_lexer.specs.declared.token.TokenValue.TheVariants.{Integer}
+use Rattle.pp_lexer.specs.Lexed.{Lexed}
+use Rattle.pp_lexer.specs.Respelling.{IsSpellable, item_value, lexer_value, read_values}
+
+-- the values of the items to come, or their errors
+abbrev pub values_ahead : Lexed → List (Result LexerTokenValue PreprocessorError)
+values_ahead lexer = map (λ s. item_value s.item) lexer.rest
+
+-- the text, read again, is one token of this value, with the newline that ends its line
+abbrev pub IsReadAs : TokenValue → List ℕ → Type 0
+IsReadAs value text = read_values text ≡ Ok (lexer_value value) ∷ Ok NewLine ∷ []
+
+-- the same number as an `int`
+abbrev pub as_signed : TokenValue → TokenValue
+as_signed (Integer i) = Integer (record i { signed = true })
+as_signed value = value
+
+-- A text that is written for a value which the lexer can give: read again, it's that value, or the same number as an
+-- `int`.
+abbrev pub IsTextOf : TokenValue → List ℕ → Type 0
+IsTextOf value text = IsSpellable value → (IsReadAs value text ⊎ IsReadAs (as_signed value) text)

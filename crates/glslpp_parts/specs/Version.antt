@@ -1,0 +1,106 @@
+-- The version that a source says in its first tokens: GLSL ES 3.20, section 3.4.
+use Rattle.std.specs.Prelude.{ℕ, Bool, true, false, not, ◌&&◌, ◌||◌, ◌==◌, nat_le, List, [], ◌∷◌, ◌++◌, map, Option, Some, None, Result, Ok, codes, nat_eq, if◌then◌else◌, unwrap_or, option_map}
+use Rattle.std.specs.Cmp.Lexicographic.{pointwise}
+use Rattle.pp_lexer.specs.declared.lexer.item.TokenValue.{TokenValue as LexerTokenValue}
+use Rattle.pp_lexer.specs.declared.lexer.item.TokenValue.TheVariants.{Hash, NewLine, Ident, Integer}
+use Rattle.pp_lexer.specs.declared.token.PreprocessorError.{PreprocessorError}
+use Rattle.glslpp_parts.specs.declared.changes.Change.{Change}
+use Rattle.glslpp_parts.specs.declared.changes.Change.TheVariants.{Define, Undefine}
+use Rattle.glslpp_parts.specs.declared.version.Profile.{Profile}
+use Rattle.glslpp_parts.specs.declared.version.Profile.TheVariants.{Unnamed, Es, Core, Compatibility}
+use Rattle.glslpp_parts.specs.declared.version.Version.{Version}
+
+-- what a lexer reads: a value, or an error
+abbrev pub Read : Type 0
+Read = Result LexerTokenValue PreprocessorError
+
+abbrev pub is_newline : Read → Bool
+is_newline (Ok NewLine) = true
+is_newline read = false
+
+abbrev pub is_hash : Read → Bool
+is_hash (Ok Hash) = true
+is_hash read = false
+
+-- a name of these characters
+abbrev pub is_word : List ℕ → Read → Bool
+is_word word (Ok (Ident name)) = pointwise nat_eq name word
+is_word word read = false
+
+abbrev pub number_of : Read → Option ℕ
+number_of (Ok (Integer i)) = Some i.value
+number_of read = None
+
+-- what comes after empty lines
+abbrev pub after_newlines : List Read → List Read
+after_newlines [] = []
+after_newlines (read ∷ reads) = if is_newline read then after_newlines reads else read ∷ reads
+
+-- the profile that the next word names
+abbrev pub profile_of : List Read → Profile
+profile_of [] = Unnamed
+profile_of (read ∷ reads) =
+    if is_word (codes "es") read then Es
+    else if is_word (codes "core") read then Core
+    else if is_word (codes "compatibility") read then Compatibility
+    else Unnamed
+
+-- a number, and then the profile
+abbrev pub numbered : List Read → Option Version
+numbered [] = None
+numbered (read ∷ reads) = option_map (λ n. record { number = n; profile = profile_of reads }) (number_of read)
+
+-- the word `version`, and then these
+abbrev pub after_hash : List Read → Option Version
+after_hash [] = None
+after_hash (read ∷ reads) = if is_word (codes "version") read then numbered reads else None
+
+-- the `#` of a `#version`, and then its word
+abbrev pub version_line : List Read → Option Version
+version_line [] = None
+version_line (read ∷ reads) = if is_hash read then after_hash reads else None
+
+-- what the first line that isn't empty says, or else version 100
+abbrev pub version_of : List Read → Version
+version_of reads = unwrap_or (version_line (after_newlines reads)) (record { number = 100; profile = Unnamed })
+
+abbrev pub is_profile : Profile → Profile → Bool
+is_profile Unnamed Unnamed = true
+is_profile Es Es = true
+is_profile Core Core = true
+is_profile Compatibility Compatibility = true
+is_profile wanted profile = false
+
+-- GLSL ES: by its profile, or as the version that has no profile
+abbrev pub is_es : Version → Bool
+is_es v = is_profile Es v.profile || (v.number == 100)
+
+abbrev pub has_high_precision : Version → Bool
+has_high_precision v = is_es v || nat_le 130 v.number
+
+abbrev pub has_core : Version → Bool
+has_core v = not (is_es v) && nat_le 150 v.number
+
+abbrev pub is_compatible : Version → Bool
+is_compatible v = is_profile Compatibility v.profile && nat_le 150 v.number
+
+abbrev pub said_of : Change → List ℕ × Option (List ℕ)
+said_of (Define name content) = (name.now, Some content.now)
+said_of (Undefine name) = (name.now, None)
+
+-- what changes say, as texts: a name and its content, or a name that is taken back
+abbrev pub said : List Change → List (List ℕ × Option (List ℕ))
+said changes = map said_of changes
+
+-- a name with the content 1, if it is defined
+abbrev pub as_one : Bool → List ℕ → List (List ℕ × Option (List ℕ))
+as_one is_defined name = if is_defined then (name, Some (codes "1")) ∷ [] else []
+
+-- the names that GLSL defines in a version whose number has these digits (docs/GLSLPP.md, Predefined names)
+abbrev pub predefined : Version → List ℕ → List (List ℕ × Option (List ℕ))
+predefined v digits =
+    ((codes "__VERSION__", Some digits) ∷ [])
+    ++ as_one (is_es v) (codes "GL_ES")
+    ++ as_one (has_high_precision v) (codes "GL_FRAGMENT_PRECISION_HIGH")
+    ++ as_one (has_core v) (codes "GL_core_profile")
+    ++ as_one (is_compatible v) (codes "GL_compatibility_profile")

@@ -1,0 +1,141 @@
+//! Columns of places: characters of the line before them, and one.
+
+ghost use Rattle.std.specs.Prelude.{◌≡◌, ◌<◌, ◌≤◌, length};
+ghost use Rattle.pp_lexer.specs.Lines.{is_line_break};
+ghost use Rattle.glslpp_parts.specs.Columns.{column_past, column_at};
+
+/// A place that was counted.
+#[derive(Clone, Copy)]
+struct Counted {
+    // How many bytes are before it.
+    offset: usize,
+    column: usize,
+}
+
+// The start of a text.
+const START: Counted = Counted {
+    offset: 0,
+    column: 1,
+};
+
+/// The columns of a text, which are counted on from the last place or the farthest one, so that all places of a long line are
+/// counted in the time of one.
+#[derive(Drop)]
+pub(crate) struct Columns<'a> {
+    text: &'a str,
+    last: Counted,
+    farthest: Counted,
+    ghost last_is_right: { last.column ≡ column_at text.now last.offset },
+    ghost farthest_is_right: { farthest.column ≡ column_at text.now farthest.offset },
+}
+
+impl<'a> Columns<'a> {
+    /// Nothing was counted yet.
+    pub(crate) fn new(text: &'a str) -> Columns<'a>
+        ensures { result.text.now ≡ text.now }
+    {
+        Columns {
+            text,
+            last: START,
+            farthest: START,
+        }
+    }
+
+    /// The column of a place in bytes, from 1. Past the end it's that of the end.
+    pub(crate) fn column(&mut self, offset: usize) -> usize
+        ensures value { result ≡ column_at self.old.text.now offset }
+        ensures text { self.new.text.now ≡ self.old.text.now }
+    {
+        let end = offset.min(self.text.len());
+        let column = count_from(self.text, self.known_before(end), end);
+        let counted = Counted {
+            offset: end,
+            column,
+        };
+        if end > self.farthest.offset {
+            self.farthest = counted;
+        }
+        self.last = counted;
+        column
+    }
+
+    // A place that was counted, at most this one.
+    fn known_before(&self, offset: usize) -> Counted
+        ensures before { result.offset ≤ offset }
+        ensures right { result.column ≡ column_at self.now.text.now result.offset }
+    {
+        if self.farthest.offset <= offset {
+            self.farthest
+        } else if self.last.offset <= offset {
+            self.last
+        } else {
+            START
+        }
+    }
+}
+
+/// The column of a place of a text in bytes, from 1. Past the end it's that of the end.
+pub(crate) fn column_at(text: &str, offset: usize) -> usize
+    ensures { result ≡ column_at text.now offset }
+{
+    let end = offset.min(text.len());
+    count_from(text, START, end)
+}
+
+// The column of a place, from one before it.
+fn count_from(text: &str, known: Counted, offset: usize) -> usize
+    requires within { offset ≤ length text.now }
+    requires before { known.offset ≤ offset }
+    requires right { known.column ≡ column_at text.now known.offset }
+    ensures { result ≡ column_at text.now offset }
+{
+    let bytes = text.as_bytes();
+    let near = nearest(bytes, known, offset);
+    let mut column = near.column;
+    for index in near.offset..offset {
+        column = past(column, bytes[index]);
+    }
+    column
+}
+
+// The start of the line that the place is on, or the known place if that is nearer.
+fn nearest(bytes: &[u8], known: Counted, offset: usize) -> Counted
+    requires within { offset ≤ length bytes.now }
+    requires before { known.offset ≤ offset }
+    requires right { known.column ≡ column_at bytes.now known.offset }
+    ensures before { result.offset ≤ offset }
+    ensures right { result.column ≡ column_at bytes.now result.offset }
+{
+    let mut start = offset;
+    'bytes: while start > known.offset {
+        if is_line_end_byte(bytes[start - 1]) {
+            return Counted {
+                offset: start,
+                column: 1,
+            };
+        }
+        start -= 1;
+    }
+    known
+}
+
+// The column after one byte more.
+fn past(column: usize, byte: u8) -> usize
+    requires { column < usize.MAX }
+    ensures { result ≡ column_past column byte }
+{
+    if is_line_end_byte(byte) {
+        1
+    } else if byte >= 128 && byte < 192 {
+        column
+    } else {
+        column + 1
+    }
+}
+
+/// Whether it is LF or CR, of which line ends are made.
+pub(crate) fn is_line_end_byte(byte: u8) -> bool
+    ensures { result ≡ is_line_break byte }
+{
+    byte == b'\n' || byte == b'\r'
+}

@@ -1,0 +1,61 @@
+//! Texts as the lexer reads them.
+
+ghost use Rattle.std.specs.Prelude.{◌≡◌, ◌-◌, ◌^◌, ◌<◌, ◌∷◌, [], ◌↔◌, IsTrue, false, length, IfOk, OnOk, MatchOption};
+ghost use Rattle.pp_lexer.specs.Respelling.{lexer_value};
+ghost use Rattle.pp_rs.specs.TokenValue.{is_ordinary};
+ghost use Rattle.glslpp_parts.specs.Reading.{values_ahead, IsReadAs};
+
+use pp_rs::lexer::{Lexer, TokenValue as Word};
+use pp_rs::token::{PreprocessorError, TokenValue};
+use std::alloc::{AllocError, Global};
+
+/// A value of the lexer, or the error in its place.
+pub(crate) type Read = Result<Word, PreprocessorError>;
+
+/// The value or the error that comes next, or `None` at the end.
+pub(crate) fn read_next(lexer: &mut Lexer<'_>) -> Result<Option<Read>, AllocError>
+    requires { lexer.old.spent ≡ false }
+    ensures next { IfOk result (λ read. MatchOption read (values_ahead lexer.old ≡ [])
+        (λ value. values_ahead lexer.old ≡ value ∷ values_ahead lexer.new)) }
+    ensures spent { OnOk result (lexer.new.spent ≡ false) }
+{
+    match lexer.next() {
+        Some(Ok(token)) => Ok(Some(Ok(token.value))),
+        Some(Err((PreprocessorError::OutOfMemory, _))) => Err(AllocError),
+        Some(Err((error, _))) => Ok(Some(Err(error))),
+        None => Ok(None),
+    }
+}
+
+/// Whether the text, read again, is one token of this value.
+pub(crate) fn is_read_as(alloc: Global, text: &str, value: &TokenValue) -> Result<bool, AllocError>
+    requires short { length text.now < 2 ^ 32 - 1 }
+    requires ordinary { IsTrue (is_ordinary value.now) }
+    ensures { IfOk result (λ is. IsTrue is ↔ IsReadAs value.now text.now) }
+{
+    let mut lexer = Lexer::new(alloc, text);
+    let Some(Ok(word)) = read_next(&mut lexer)? else {
+        return Ok(false);
+    };
+    if !is_same(&word, value) {
+        return Ok(false);
+    }
+    let Some(Ok(Word::NewLine)) = read_next(&mut lexer)? else {
+        return Ok(false);
+    };
+    Ok(read_next(&mut lexer)?.is_none())
+}
+
+// Whether the lexer's value is this one.
+fn is_same(word: &Word, value: &TokenValue) -> bool
+    requires { IsTrue (is_ordinary value.now) }
+    ensures { IsTrue result ↔ (word.now ≡ lexer_value value.now) }
+{
+    match (word, value) {
+        (Word::Ident(a), TokenValue::Ident(b)) => a == b,
+        (Word::Integer(a), TokenValue::Integer(b)) => a == b,
+        (Word::Float(a), TokenValue::Float(b)) => a == b,
+        (Word::Punct(a), TokenValue::Punct(b)) => a == b,
+        _ => false,
+    }
+}
