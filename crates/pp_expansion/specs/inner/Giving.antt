@@ -1,4 +1,5 @@
--- Steps of taking that give tokens that open no macro, or pause, the reader as it is: the tokens are put after those before.
+-- Steps of taking that give tokens that open no macro, or pause, the reader as it is: the tokens are put after those
+-- before.
 use Rattle.std.specs.Prelude.{◌≡◌, ◌&&◌, Bool, true, false, List, [], ◌∷◌, ◌++◌, None, Ok, Err, is_some, is_none}
 use Rattle.pp_model.specs.declared.read.Read.{Read}
 use Rattle.pp_expansion.specs.inner.Ahead.{given_next}

@@ -1,4 +1,5 @@
--- Names that are open, each with the position of the outermost frame that has it. Positions count from the outermost frame.
+-- Names that are open, each with the position of the outermost frame that has it. Positions count from the outermost
+-- frame.
 use Rattle.std.specs.Prelude.{◌==◌, ◌-◌, take, if◌then◌else◌, ℕ, Bool, List, [], ◌∷◌, length, map, reverse}
 use Rattle.std.specs.List.{list_any, zip}
 use Rattle.pp_model.specs.Names.{Name, is_same_name, is_in}
