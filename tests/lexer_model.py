@@ -80,7 +80,7 @@ def uncommented(source):
 
 
 def shown_characters(characters, source):
-    """What pp_calls prints of them."""
+    """What test_calls prints of them."""
     shown = [f"{ord(c)} {line} {offset}" for c, line, offset in characters]
     return ["from 0", *shown, f"None {len(source.encode())}"]
 
@@ -153,7 +153,7 @@ def word_at(text, i):
 
 
 def tokens(source):
-    """What pp_calls prints of the items of the lexer: Tokens 1 to 8."""
+    """What test_calls prints of the items of the lexer: Tokens 1 to 8."""
     characters = uncommented(source)
     text = "".join(c for c, _, _ in characters)
     begins = [0] + [offset for _, _, offset in characters]

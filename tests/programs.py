@@ -150,7 +150,7 @@ def run(path, words, source, seconds=SECONDS, environment=None):
 def worked_sources():
     """The sources of the book of cases."""
     found, lines = [], None
-    with open(os.path.join(folder_of("pp_cases"), "stdin"), encoding="utf-8") as book:
+    with open(os.path.join(folder_of("test_cases"), "stdin"), encoding="utf-8") as book:
         for line in book.read().split("\n"):
             if line.startswith("## "):
                 lines = []

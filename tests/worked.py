@@ -53,9 +53,9 @@ def split(items):
 
 
 def book():
-    """The cases of crates/pp_cases/stdin."""
+    """The cases of crates/test_cases/stdin."""
     cases, heading = [], ""
-    with open(os.path.join(programs.folder_of("pp_cases"), "stdin"), encoding="utf-8") as file:
+    with open(os.path.join(programs.folder_of("test_cases"), "stdin"), encoding="utf-8") as file:
         lines = file.read().split("\n")
     for line in lines:
         mark, _, rest = line.partition(" ")
@@ -116,9 +116,9 @@ def calls_of(case, answers):
 
 
 def sheet():
-    """The cases of crates/pp_calls/stdin whose calls a binding can make, with what crates/pp_calls/stdout says."""
+    """The cases of crates/test_calls/stdin whose calls a binding can make, with what crates/test_calls/stdout says."""
     cases, answers = [], []
-    with open(os.path.join(programs.folder_of("pp_calls"), "stdout"), encoding="utf-8") as file:
+    with open(os.path.join(programs.folder_of("test_calls"), "stdout"), encoding="utf-8") as file:
         printed = file.read().split("\n")[:-1]
     for line in printed:
         mark, _, rest = line.partition(" ")

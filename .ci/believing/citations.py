@@ -6,6 +6,32 @@ INNER = 'inner'
 CITED = re.compile(r'`([A-Z]\w*): ([^`]+)`')
 
 
+QUOTED = re.compile(r'`(crates/[\w/]+\.rt)`[^\n]*\n\n```rust\n(.*?)```', re.S)
+
+
+def renewed(text, tree):
+    """A page whose quotes of functions of a file are as the file has them. Any other quote is left as it is."""
+    return QUOTED.sub(lambda found: found[0].replace(found[2], quote(tree, found[1], found[2])), text)
+
+
+def quote(tree, path, code):
+    """The functions with the names of those in the code, as the file has them, or the code itself if one isn't there."""
+    crate, modules = re.fullmatch(r'crates/(\w+)/src/([\w/]+)\.rt', path).groups()
+    source = tree.source(crate, [] if modules == 'lib' else modules.split('/'))
+    by_name = {function.name: function for function in source.functions if not function.owner} if source else {}
+    names = re.findall(r'^(?:pub(?:\(\w+\))? )?fn (\w+)', code, re.M)
+    if not names or code.startswith('//!') or not all(name in by_name for name in names):
+        return code
+    return '\n\n'.join(whole_function(by_name[name]) for name in names) + '\n'
+
+
+def whole_function(function):
+    source, first = function.source, function.start
+    while first > 0 and source.lines[first - 1].startswith('//'):
+        first -= 1
+    return '\n'.join(source.lines[first : source.end_of_braces(function.end) + 1])
+
+
 class Docs:
     """The citations of a file of docs."""
 
@@ -31,7 +57,7 @@ class Docs:
 
     def quotes(self, text):
         """A block of code right after a line that names its file stands in that file so."""
-        for cited, code in re.findall(r'`(crates/[\w/]+\.rt)`[^\n]*\n\n```rust\n(.*?)```', text, re.S):
+        for cited, code in QUOTED.findall(text):
             file = self.root / cited
             if file.exists() and code not in file.read_text():
                 self.wrong.append(f'{self.path.name} quotes {cited} otherwise than it stands there')

@@ -1,4 +1,4 @@
-//! Preprocesses GLSL files, and says what is wrong with them as compilers do.
+//! Preprocesses GLSL files, and reports their errors as compilers do.
 #![tactic(auto)]
 
 mod preprocess;
@@ -13,13 +13,13 @@ use std::io::{ErrorKind, IsTerminal, Read, Write};
 use std::process::ExitCode;
 use std::{env, fs, io};
 
-// The name under which the standard input is spoken of.
+// The name of the standard input in messages.
 const STANDARD_INPUT_NAME: &str = "<stdin>";
 
-// The length from which on a source is too long.
+// The least number of bytes that is too many for a source.
 const LIMIT: usize = 4294967295;
 
-// The status if a word is wrong, or reading or writing failed.
+// The status if an argument is wrong, or reading or writing failed.
 const FAILED: u8 = 2;
 
 fn main(rt: HostRuntime) -> ExitCode {
@@ -40,7 +40,7 @@ fn report(rt: &HostRuntime, failure: &Failure) {
     let _ = eprintln!(rt; "glslpp: {text}");
 }
 
-// Reads the command line, and does what it asks for. Gives the exit status.
+// Reads the command line, and does what it asks for. Returns the exit status.
 fn work(rt: &HostRuntime) -> Result<u8, Failure> {
     let alloc = rt.alloc();
     let words: Vec<String> = match env::args(rt) {
@@ -60,7 +60,7 @@ fn work(rt: &HostRuntime) -> Result<u8, Failure> {
     }
 }
 
-// Refuses the word `-include`, which would else be read as letters.
+// Refuses the argument `-include`, which would otherwise be read as single-letter options.
 fn refuse_include(rt: &HostRuntime, words: &[String]) -> Result<(), Failure> {
     for word in words {
         match word.as_str() {
@@ -74,7 +74,7 @@ fn refuse_include(rt: &HostRuntime, words: &[String]) -> Result<(), Failure> {
 
 const NO_INCLUDE: &str = "glslpp has no #include";
 
-// Preprocesses the files, and writes what comes of them unless one has an error.
+// Preprocesses the files, and writes the output unless one has an error.
 fn preprocess_files(rt: &HostRuntime, matches: &ArgMatches<'_>) -> Result<u8, Failure> {
     let arguments = Arguments::from_matches(rt.alloc(), matches)?;
     if arguments.is_including {
@@ -91,7 +91,7 @@ fn preprocess_files(rt: &HostRuntime, matches: &ArgMatches<'_>) -> Result<u8, Fa
     Ok(if found.errors == 0 { 0 } else { 1 })
 }
 
-// Preprocesses one file, and says what is wrong with it.
+// Preprocesses one file, and reports its errors.
 fn preprocess_file(
     rt: &HostRuntime,
     arguments: &Arguments<'_>,
@@ -119,7 +119,7 @@ fn preprocess_file(
     Ok(())
 }
 
-// A file, or the standard input, as text.
+// Reads a file, or the standard input, as text.
 fn read_source(rt: &HostRuntime, file: &str, name: &str) -> Result<String, Failure> {
     let bytes = match read_bytes(rt, file) {
         Ok(bytes) => bytes,
@@ -143,7 +143,7 @@ fn read_bytes(rt: &HostRuntime, file: &str) -> io::Result<Vec<u8>> {
     Ok(bytes)
 }
 
-// Writes the file, or prints. That nobody reads the output to its end is no fault.
+// Writes the file, or prints. A reader that closes the output early is no failure.
 fn write_output(rt: &HostRuntime, file: Option<&str>, output: &str) -> Result<(), Failure> {
     let (name, end) = match file {
         Some(file) => (file, fs::write(rt, file, output)),
@@ -157,7 +157,7 @@ fn write_output(rt: &HostRuntime, file: Option<&str>, output: &str) -> Result<()
     }
 }
 
-// Colours where the standard error is a terminal and `NO_COLOR` isn't set.
+// Coloured if the standard error is a terminal and `NO_COLOR` isn't set, else plain.
 fn style_of(rt: &HostRuntime) -> Style {
     if rt.stderr().is_terminal() && env::var(rt, "NO_COLOR").is_err() {
         Style::Coloured

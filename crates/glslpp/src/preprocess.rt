@@ -15,17 +15,17 @@ use pp_rs::pp::Preprocessor;
 use pp_rs::token::{Location, PreprocessorError, Token};
 use std::alloc::{AllocError, Global};
 
-/// The output of all sources, and how many errors they have.
+/// The output of all sources, and the number of their errors.
 #[derive(Drop)]
 pub struct Found {
     /// The output so far.
     pub output: String,
-    /// The errors so far.
+    /// The number of errors so far.
     pub errors: usize,
 }
 
 impl Found {
-    /// Nothing yet.
+    /// Returns an empty output without errors.
     pub fn new(alloc: Global) -> Found
         ensures output { string_bytes result.output ≡ [] }
         ensures errors { result.errors ≡ 0 }
@@ -37,7 +37,7 @@ impl Found {
     }
 }
 
-/// Preprocesses a source. Gives what is said of its errors.
+/// Preprocesses a source, and returns the report on its errors.
 pub fn preprocess(
     reporter: Reporter<'_>,
     arguments: &Arguments<'_>,
@@ -77,7 +77,7 @@ struct Run<'a> {
     reports: String,
     errors: usize,
     fault_line: Option<FaultLine>,
-    // How many blocks a fault in their `#if` kept from being opened, which were not ended yet.
+    // The number of blocks that an error in their `#if` line kept from opening, and that haven't ended yet.
     unopened: usize,
 }
 
@@ -115,7 +115,7 @@ impl<'a> Run<'a> {
         Ok(())
     }
 
-    // Takes a token, unless it is what a fault left of its line.
+    // Takes a token, unless it is on the line of the last error.
     fn take_token(
         &mut self,
         texts: &Texts<'_>,
@@ -133,7 +133,7 @@ impl<'a> Run<'a> {
         self.output.push_token(texts, &token, call_line)
     }
 
-    // Whether the error is only that the `#if` of a block was at fault.
+    // Whether the error only follows from an error in the `#if` line of a block.
     fn is_of_unopened(&mut self, error: &PreprocessorError) -> bool {
         match error {
             PreprocessorError::ElifOutsideOfBlock | PreprocessorError::ElseOutsideOfBlock => {
@@ -147,7 +147,7 @@ impl<'a> Run<'a> {
         }
     }
 
-    // Reports an error, unless it comes of what a fault left of its line, or of an `#if` at fault.
+    // Reports an error, unless it is on the line of the last error or only follows from an error in an `#if` line.
     fn take_error(
         &mut self,
         texts: &Texts<'_>,
@@ -177,8 +177,8 @@ impl<'a> Run<'a> {
     }
 }
 
-// Whether a fault at the place kept a block from being opened. What is in a definition of the command line is only read on
-// such lines.
+// Whether an error at the place kept a block from opening. An error in a definition of the command line always does:
+// its content is only read on such lines.
 fn is_at_if(texts: &Texts<'_>, location: Location) -> bool {
     match texts.spot(location) {
         Some(spot) if spot.is_in_source => match Place::find(spot) {
@@ -211,7 +211,7 @@ fn define_and_read(
     run.read(items, texts)
 }
 
-// Adds the definitions of GLSL and of the command line, but for those that it takes back.
+// Adds the definitions of GLSL and of the command line, without those that the command line takes back.
 fn define(
     alloc: Global,
     arguments: &Arguments<'_>,

@@ -6,38 +6,38 @@ use crate::changes::Change;
 use clap::{Arg, ArgAction, ArgMatches, Command};
 use std::alloc::{AllocError, Global};
 
-/// The word for the standard input.
+/// The argument that names the standard input.
 pub const STANDARD_INPUT: &str = "-";
 
-/// What is printed of a source.
+/// How the preprocessed source is printed.
 #[derive(Clone, Copy, PartialEq, Eq)]
 pub enum Form {
-    /// Its tokens, each on its line.
+    /// Its tokens, each on its line of the source.
     Lines,
-    /// Each run of its tokens as one line.
+    /// Each longest run of its ordinary tokens as one line.
     Compact,
     /// Its items as JSON, one a line.
     Tokens,
-    /// Its directive items alone.
+    /// Only its directive items.
     Directives,
 }
 
 /// What the command line asks for.
 #[derive(Drop)]
 pub struct Arguments<'a> {
-    /// What `-D` and `-U` say, in order.
+    /// The `-D` and `-U` options, in order.
     pub changes: Vec<Change<'a>>,
-    /// The file that is written, in place of the standard output.
+    /// The file to write instead of the standard output.
     pub output: Option<&'a str>,
-    /// What is printed.
+    /// How the preprocessed source is printed.
     pub form: Form,
-    /// Whether the names are defined that GLSL defines.
+    /// Whether the names that GLSL predefines are defined.
     pub is_predefining: bool,
     /// Whether reading ends at the first error.
     pub is_first_error_alone: bool,
-    /// Whether a folder for `#include` is named.
+    /// Whether an option names a folder for `#include`.
     pub is_including: bool,
-    /// The files that are read, [`STANDARD_INPUT`] if none is named.
+    /// The files to read: [`STANDARD_INPUT`] if none is named.
     pub files: Vec<&'a str>,
 }
 
@@ -70,7 +70,7 @@ Defined are __VERSION__, GL_ES, GL_FRAGMENT_PRECISION_HIGH, GL_core_profile and 
 #version of the source says. Comments are not kept, and a #line of the source is not printed.
 The status is 0 if all was printed, 1 at an error in a source, and 2 if a word is wrong or reading or writing failed.";
 
-// What is printed: at most one of these.
+// Adds the options for how the source is printed, of which at most one may be given.
 fn with_forms<'a>(alloc: Global, command: Command<'a>) -> Result<Command<'a>, AllocError> {
     let compact = flag(alloc, "compact", "Print each run of tokens as one line")
         .short('P')
@@ -106,7 +106,7 @@ fn with_foreign_options<'a>(
         .arg(definition_option(alloc, "include", 'I', "FOLDER").hide(true))
 }
 
-// An option that may come again.
+// An option that may be repeated.
 fn definition_option<'a>(alloc: Global, id: &'a str, short: char, value: &'a str) -> Arg<'a> {
     value_option(alloc, id, short, value).action(ArgAction::Append)
 }
@@ -168,7 +168,7 @@ fn form_of(matches: &ArgMatches<'_>) -> Form {
     }
 }
 
-// What `-D` and `-U` say, in their order.
+// The `-D` and `-U` options, in their order.
 fn changes_of<'a>(alloc: Global, matches: &ArgMatches<'a>) -> Result<Vec<Change<'a>>, AllocError> {
     let mut changes = Vec::new(alloc);
     let undefined = words_of(alloc, matches, "undefine")?;
@@ -204,7 +204,7 @@ fn places_of<'m>(matches: &'m ArgMatches<'_>, id: &str) -> &'m [usize] {
     }
 }
 
-// How many of the rising places are before this one.
+// How many of the places, which are in rising order, are before this one.
 fn count_before(place: usize, places: &[usize]) -> usize
     ensures { result ≤ length places.now }
 {
@@ -217,7 +217,7 @@ fn count_before(place: usize, places: &[usize]) -> usize
     count
 }
 
-// Puts the names of `-U` from one to another.
+// Appends the names of `-U` from `start` to `end`.
 fn push_undefined<'a>(
     names: &[&'a str],
     start: usize,
@@ -232,7 +232,7 @@ fn push_undefined<'a>(
     Ok(())
 }
 
-// A word `NAME` or `NAME=CONTENT`.
+// The definition of an argument `NAME` or `NAME=CONTENT`.
 fn definition_of(word: &str) -> Change<'_> {
     match word.split_once('=') {
         Some((name, content)) => Change::Define(name, content),

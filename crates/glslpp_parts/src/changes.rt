@@ -1,4 +1,4 @@
-//! What `-D` and `-U` leave.
+//! The definitions that `-D` and `-U` leave.
 
 ghost use Rattle.std.specs.Prelude.{◌≡◌, ◌++◌, OnOk, IfOk};
 ghost use Rattle.std.specs.List.{list_any};
@@ -11,14 +11,14 @@ use std::alloc::{AllocError, Global};
 pub enum Change<'a> {
     /// A macro's name and content.
     Define(&'a str, &'a str),
-    /// The name of a macro that isn't defined any more.
+    /// The name of a macro whose definitions are taken back.
     Undefine(&'a str),
 }
 
 /// A macro that is defined before a source: its name and its content.
 pub type Definition<'a> = (&'a str, &'a str);
 
-/// The definitions that no later `-U` takes back, in order.
+/// Returns the definitions that no later `-U` takes back, in order.
 pub fn kept_definitions<'a>(
     alloc: Global,
     changes: &[Change<'a>],
@@ -32,7 +32,7 @@ pub fn kept_definitions<'a>(
     Ok(definitions)
 }
 
-// Puts the definition of a change, unless one of the later changes takes it back.
+// Appends the definition of a change, unless one of the later changes takes it back.
 fn push_kept<'a>(
     change: Change<'a>,
     later: &[Change<'a>],

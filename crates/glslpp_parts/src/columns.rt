@@ -1,13 +1,13 @@
-//! Columns of places: characters of the line before them, and one.
+//! Columns of places: one more than the characters of the line before the place.
 
 ghost use Rattle.std.specs.Prelude.{◌≡◌, ◌<◌, ◌≤◌, length};
 ghost use Rattle.pp_lexer.specs.Lines.{is_line_break};
 ghost use Rattle.glslpp_parts.specs.Columns.{column_past, column_at};
 
-/// A place that was counted.
+/// A place whose column was counted.
 #[derive(Clone, Copy)]
 struct Counted {
-    // How many bytes are before it.
+    // The number of bytes before it.
     offset: usize,
     column: usize,
 }
@@ -18,8 +18,8 @@ const START: Counted = Counted {
     column: 1,
 };
 
-/// The columns of a text, which are counted on from the last place or the farthest one, so that all places of a long line are
-/// counted in the time of one.
+/// The columns of a text. Counting goes on from the last place or the farthest one, so that all places of a long line
+/// take no more time than one.
 #[derive(Drop)]
 pub(crate) struct Columns<'a> {
     text: &'a str,
@@ -30,7 +30,7 @@ pub(crate) struct Columns<'a> {
 }
 
 impl<'a> Columns<'a> {
-    /// Nothing was counted yet.
+    /// Columns of a text in which no place was counted yet.
     pub(crate) fn new(text: &'a str) -> Columns<'a>
         ensures { result.text.now ≡ text.now }
     {
@@ -41,7 +41,7 @@ impl<'a> Columns<'a> {
         }
     }
 
-    /// The column of a place in bytes, from 1. Past the end it's that of the end.
+    /// The column of a byte offset, from 1. Past the end it is the column of the end.
     pub(crate) fn column(&mut self, offset: usize) -> usize
         ensures value { result ≡ column_at self.old.text.now offset }
         ensures text { self.new.text.now ≡ self.old.text.now }
@@ -59,7 +59,7 @@ impl<'a> Columns<'a> {
         column
     }
 
-    // A place that was counted, at most this one.
+    // A place that was counted, at or before this one.
     fn known_before(&self, offset: usize) -> Counted
         ensures before { result.offset ≤ offset }
         ensures right { result.column ≡ column_at self.now.text.now result.offset }
@@ -74,7 +74,7 @@ impl<'a> Columns<'a> {
     }
 }
 
-/// The column of a place of a text in bytes, from 1. Past the end it's that of the end.
+/// The column of a byte offset of a text, from 1. Past the end it is the column of the end.
 pub(crate) fn column_at(text: &str, offset: usize) -> usize
     ensures { result ≡ column_at text.now offset }
 {
@@ -82,7 +82,7 @@ pub(crate) fn column_at(text: &str, offset: usize) -> usize
     count_from(text, START, end)
 }
 
-// The column of a place, from one before it.
+// The column of a place, counted from a known place at or before it.
 fn count_from(text: &str, known: Counted, offset: usize) -> usize
     requires within { offset ≤ length text.now }
     requires before { known.offset ≤ offset }
@@ -98,7 +98,7 @@ fn count_from(text: &str, known: Counted, offset: usize) -> usize
     column
 }
 
-// The start of the line that the place is on, or the known place if that is nearer.
+// The start of the place's line, or the known place if that is nearer.
 fn nearest(bytes: &[u8], known: Counted, offset: usize) -> Counted
     requires within { offset ≤ length bytes.now }
     requires before { known.offset ≤ offset }
@@ -119,7 +119,7 @@ fn nearest(bytes: &[u8], known: Counted, offset: usize) -> Counted
     known
 }
 
-// The column after one byte more.
+// The column after one more byte.
 fn past(column: usize, byte: u8) -> usize
     requires { column < usize.MAX }
     ensures { result ≡ column_past column byte }
@@ -133,7 +133,7 @@ fn past(column: usize, byte: u8) -> usize
     }
 }
 
-/// Whether it is LF or CR, of which line ends are made.
+/// Whether it is LF or CR, the bytes of line ends.
 pub(crate) fn is_line_end_byte(byte: u8) -> bool
     ensures { result ≡ is_line_break byte }
 {

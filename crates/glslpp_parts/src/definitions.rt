@@ -15,7 +15,8 @@ use pp_rs::pp::Preprocessor;
 use pp_rs::token::{PreprocessorError, Text, TokenValue};
 use std::alloc::{AllocError, Global};
 
-/// Refuses the first `-D` or `-U` that no macro has: whose name is none, or whose content has a line end.
+/// Fails at the first `-D` or `-U` that can't define or undefine a macro: its name is no identifier, or its content has
+/// a line end.
 pub fn check_changes(alloc: Global, changes: &[Change<'_>]) -> Result<(), Failure>
     ensures ok { OnOk result (All IsDefinable changes.now) }
     ensures told { IfErr result (λ failure. IsTold failure
@@ -89,7 +90,7 @@ fn is_name(alloc: Global, text: &str) -> Result<bool, AllocError>
     is_read_as(alloc, text, &name)
 }
 
-/// Adds the definitions, whose contents the texts take in.
+/// Adds the definitions to the preprocessor, and their contents to the texts.
 pub fn add_definitions(
     alloc: Global,
     items: &mut Preprocessor<'_>,

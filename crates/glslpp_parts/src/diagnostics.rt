@@ -13,7 +13,7 @@ use pp_rs::token::{Location, PreprocessorError};
 use std::alloc::{AllocError, Global};
 use unicode_width::UnicodeWidthChar;
 
-/// What is said in place of a file and a line, if a place is in a definition of the command line.
+/// What a message has instead of a file and a line, if a place is in a definition of the command line.
 pub(crate) const COMMAND_LINE: &str = "<command line>";
 
 /// Whether colours are used.
@@ -49,7 +49,7 @@ impl Style {
     }
 }
 
-// What a line of a report is.
+// The kind of a report's line.
 #[derive(Clone, Copy)]
 enum Kind {
     Error,
@@ -65,10 +65,10 @@ impl Kind {
     }
 }
 
-/// What reports of one file have in common.
+/// What all reports on one file have in common.
 #[derive(Clone, Copy)]
 pub struct Reporter<'a> {
-    /// Where memory comes from.
+    /// The allocator.
     pub alloc: Global,
     /// Whether colours are used.
     pub style: Style,
@@ -77,7 +77,7 @@ pub struct Reporter<'a> {
 }
 
 impl<'a> Reporter<'a> {
-    /// What is said of an error: the library's sentence, and what there is to add at its place.
+    /// Returns the message for an error: the library's sentence, and what the text at its place adds to it.
     pub fn message(
         &self,
         texts: &Texts<'_>,
@@ -96,8 +96,8 @@ impl<'a> Reporter<'a> {
         Ok(message)
     }
 
-    /// Puts the lines on an error: `file:line:column: error: sentence`, its line with a caret under the place, and for some
-    /// errors a note.
+    /// Appends the lines of an error: `file:line:column: error: sentence`, its line with a caret under the place, and
+    /// for some errors a note.
     pub fn push_error(
         &self,
         text: &mut String,
@@ -119,7 +119,7 @@ impl<'a> Reporter<'a> {
         }
     }
 
-    // Puts a line on an error at the end of a source.
+    // Appends the line of an error at the end of a source.
     fn push_end(&self, text: &mut String, source: &str, message: &str) -> Result<(), AllocError> {
         self.push_bold(text)?;
         match line_column(source, source.len()) {
@@ -130,7 +130,7 @@ impl<'a> Reporter<'a> {
         writeln!(text, "{message}")
     }
 
-    // Puts the note on another definition of the macro that is defined at the place.
+    // Appends the note on another definition of the macro that is defined at the place.
     fn push_other_definition(
         &self,
         text: &mut String,
@@ -157,7 +157,7 @@ impl<'a> Reporter<'a> {
         }
     }
 
-    // Puts a message with its place, and the line of that with a caret.
+    // Appends a message with its place, and the line of the place with a caret.
     fn push_lines(
         &self,
         text: &mut String,
@@ -184,7 +184,7 @@ impl<'a> Reporter<'a> {
         }
     }
 
-    // Puts the line of a place, and a caret under the place.
+    // Appends the line of a place, and a caret under the place.
     fn push_excerpt(
         &self,
         text: &mut String,
@@ -225,7 +225,8 @@ fn place_of<'a>(texts: &'a Texts<'_>, location: Location) -> Option<Place<'a>> {
     }
 }
 
-// What is before the caret: a tab under a tab, nothing under a mark that takes no room, and else spaces.
+// Appends the blanks under a character before the caret: a tab under a tab, nothing under a mark that takes no room,
+// and else spaces.
 fn push_blank_under(text: &mut String, c: char) -> Result<(), AllocError> {
     match (c, columns_of(c)) {
         ('\t', _) => text.push('\t'),

@@ -1,14 +1,14 @@
-//! Why the program ends with status 2.
+//! The failures with which the program ends with status 2.
 
 use std::alloc::{AllocError, AllocFailed, Global};
 use std::fmt::Display;
 
-/// Why no source could be read to its end, or nothing could be written.
+/// Why a source couldn't be read to its end, or the output couldn't be written.
 #[derive(Drop)]
 pub enum Failure {
     /// What is wrong, as a sentence.
     Told(String),
-    /// Memory was refused.
+    /// An allocation failed.
     OutOfMemory,
 }
 
@@ -34,7 +34,7 @@ impl<T: Drop> From<AllocFailed<T>> for Failure {
     }
 }
 
-/// What is wrong with a subject, as a file: `subject: cause`.
+/// Returns the failure of a subject, such as a file, with its cause: `subject: cause`.
 pub fn failure_of<C: Display + Drop>(alloc: Global, subject: &str, cause: C) -> Failure {
     match format!(in alloc; "{subject}: {cause}") {
         Ok(text) => Failure::Told(text),

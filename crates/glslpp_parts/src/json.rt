@@ -7,7 +7,8 @@ use crate::texts::Spot;
 use pp_rs::token::{Location, PreprocessorError, TokenValue};
 use std::alloc::AllocError;
 
-/// Puts a token: its kind and text, its place, and of a macro's token the line of its call.
+/// Appends a token: its kind and text, its place and, if a macro gave it, the line of the macro's
+/// call.
 pub(crate) fn push_token(
     output: &mut String,
     columns: &mut Columns<'_>,
@@ -34,7 +35,7 @@ pub(crate) fn push_token(
     output.push_str("}\n")
 }
 
-/// Puts an error: its name and what is said of it, and its place.
+/// Appends an error: its name, its message and its place.
 pub(crate) fn push_error(
     output: &mut String,
     columns: &mut Columns<'_>,
@@ -53,7 +54,7 @@ pub(crate) fn push_error(
     output.push_str("}\n")
 }
 
-// Puts a text in quotes, with the escapes of JSON (RFC 8259, section 7).
+// Appends a text in quotes, with the escapes of JSON (RFC 8259, section 7).
 fn push_string(output: &mut String, text: &str) -> Result<(), AllocError> {
     output.push('"')?;
     for c in text.chars() {
@@ -71,7 +72,7 @@ fn push_escaped(output: &mut String, c: char) -> Result<(), AllocError> {
     }
 }
 
-// The place in its text, in bytes, and its line and column if that is the source.
+// Appends the place in its text, in bytes, and its line and column if that text is the source.
 fn push_place(
     output: &mut String,
     columns: &mut Columns<'_>,

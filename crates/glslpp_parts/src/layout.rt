@@ -7,7 +7,7 @@ ghost use Rattle.glslpp_parts.specs.Layout.{at_line, with_word, on_line, on_next
 use std::alloc::{AllocError, Global};
 use std::marker::Model;
 
-/// Whether a space is put between a word and the one before it.
+/// Whether there is a space between a word and the one before it.
 #[derive(Clone, Copy, PartialEq, Eq)]
 pub enum Gap {
     /// A space.
@@ -16,7 +16,7 @@ pub enum Gap {
     Nothing,
 }
 
-/// A text that grows by words, each on its line, as far as lines rise.
+/// A text to which words are appended, each on its line as long as line numbers rise.
 #[derive(Drop)]
 pub struct Layout {
     text: String,
@@ -34,7 +34,7 @@ impl Model for Layout {
 }
 
 impl Layout {
-    /// No text, on line 1.
+    /// Returns an empty layout, on line 1.
     pub fn new(alloc: Global) -> Layout
         ensures { result ≡ record { text = []; line = 1; is_line_begun = false } }
     {
@@ -45,14 +45,14 @@ impl Layout {
         }
     }
 
-    /// The line that the text ends on.
+    /// Returns the line on which the text ends.
     pub fn line(&self) -> u32
         ensures { result ≡ self.now.line }
     {
         self.line
     }
 
-    /// Puts a word on its line, or after the last word if that line is past.
+    /// Appends a word on its line, or after the last word if the text is already past that line.
     pub fn push_word(&mut self, line: u32, gap: Gap, word: &str) -> Result<(), AllocError>
         ensures { OnOk result (self.new ≡ on_line self.old line gap word.now) }
     {
@@ -60,7 +60,7 @@ impl Layout {
         self.append(gap, word)
     }
 
-    // Puts a word at the end.
+    // Appends a word.
     fn append(&mut self, gap: Gap, word: &str) -> Result<(), AllocError>
         ensures { OnOk result (self.new ≡ with_word self.old gap word.now) }
     {
@@ -72,7 +72,7 @@ impl Layout {
         Ok(())
     }
 
-    /// Puts a directive on a line of its own.
+    /// Appends a directive on a line of its own.
     pub fn push_directive(&mut self, line: u32, word: &str) -> Result<(), AllocError>
         ensures { OnOk result (self.new ≡ with_directive self.old line word.now) }
     {
@@ -83,7 +83,7 @@ impl Layout {
         self.go_on()
     }
 
-    // Goes to the next line.
+    // Moves to the next line.
     fn go_on(&mut self) -> Result<(), AllocError>
         ensures { OnOk result (self.new ≡ on_next_line self.old) }
     {
@@ -93,7 +93,7 @@ impl Layout {
         self.go_to(self.line + 1)
     }
 
-    // Goes to the line, if it lies ahead.
+    // Moves to the line, if it lies ahead.
     fn go_to(&mut self, line: u32) -> Result<(), AllocError>
         ensures { OnOk result (self.new ≡ at_line self.old line) }
     {
@@ -105,7 +105,7 @@ impl Layout {
         Ok(())
     }
 
-    /// The text, with a last line end if a word is on its last line.
+    /// Returns the text, with a final line end if its last line has a word.
     pub fn finish(mut self) -> Result<String, AllocError>
         ensures { IfOk result (λ text. string_bytes text ≡ finished self) }
     {

@@ -1,5 +1,5 @@
-//! The parts of the program `glslpp`, for which contracts say what they give: its command line, the definitions that are left
-//! of it, places of a source, the layout of its tokens, and what is said of its errors.
+//! The parts of the program `glslpp` that have contracts: its command line, the definitions that it leaves, places of a
+//! source, the layout of its tokens, and the messages for its errors.
 #![tactic(auto)]
 
 pub mod arguments;

@@ -1,4 +1,4 @@
-//! What is printed of a source, in each form.
+//! The output of a source, in each form.
 
 ghost use Rattle.std.specs.Prelude.{◌≡◌, ◌≢◌, [], false, None, IsTrue, OnOk, IfOk, string_bytes, unwrap_or};
 ghost use Rattle.pp_rs.specs.TokenValue.{is_ordinary};
@@ -15,7 +15,7 @@ use pp_rs::token::{Location, PreprocessorError, Token, TokenValue};
 use std::alloc::{AllocError, Global};
 use std::marker::Model;
 
-/// The output of a source, as far as it has come.
+/// The output of a source so far.
 #[derive(Drop)]
 pub struct Output<'a> {
     alloc: Global,
@@ -25,7 +25,7 @@ pub struct Output<'a> {
     lines: String,
     // The columns of the source.
     columns: Columns<'a>,
-    // Where the last word ends in the source, if its text is from there.
+    // The byte offset in the source at which the last word ends, if its text is from the source.
     end: Option<u32>,
 }
 
@@ -38,7 +38,7 @@ impl<'a> Model for Output<'a> {
 }
 
 impl<'a> Output<'a> {
-    /// Nothing yet of a source.
+    /// Returns the output of a source before its first item.
     pub fn new(alloc: Global, form: Form, source: &'a str) -> Output<'a>
         ensures { result ≡ record {
           form = form;
@@ -56,7 +56,8 @@ impl<'a> Output<'a> {
         }
     }
 
-    /// Takes a token, which is on this line.
+    /// Takes a token. `call_line` is the 1-based line of the macro call that gave it, or `None` for
+    /// a token of the source itself.
     pub fn push_token(
         &mut self,
         texts: &Texts<'_>,
@@ -103,7 +104,7 @@ impl<'a> Output<'a> {
         self.layout.push_word(line, Gap::Space, word.as_str())
     }
 
-    // Words that are side by side in the source are so in the output.
+    // No gap before a word that directly follows the last word in the source, else a space.
     fn gap_before(&self, place: Location) -> Gap
         ensures { result ≡ Gap.Nothing → self.now.end ≡ Some place.start }
     {
@@ -165,7 +166,7 @@ impl<'a> Output<'a> {
         )
     }
 
-    // Puts a directive: its word, and its tokens with spaces between.
+    // Appends a directive: its word and its tokens, separated by spaces.
     fn push_directive(&mut self, texts: &Texts<'_>, token: &Token) -> Result<(), AllocError>
         requires { is_ordinary token.now.value ≡ false }
         ensures form { self.new.form ≡ self.old.form }
@@ -188,7 +189,7 @@ impl<'a> Output<'a> {
         }
     }
 
-    /// Takes an error, which is an item where items are printed.
+    /// Takes an error, which is an item of the output if items are printed.
     pub fn push_error(
         &mut self,
         texts: &Texts<'_>,
@@ -212,7 +213,7 @@ impl<'a> Output<'a> {
         )
     }
 
-    /// The output as text.
+    /// Returns the output as text.
     pub fn finish(self) -> Result<String, AllocError>
         ensures { IfOk result (λ text. self.entry.form ≢ Form.Tokens
             → string_bytes text ≡ finished self.entry.laid) }

@@ -1,4 +1,4 @@
-//! Places of a text as compilers tell them.
+//! Places of a text as compilers print them.
 
 ghost use Rattle.std.specs.Prelude.{◌≡◌, IfSome};
 ghost use Rattle.pp_lexer.specs.Lines.{is_line_break};
@@ -7,23 +7,23 @@ ghost use Rattle.glslpp_parts.specs.Columns.{column_at};
 use crate::columns::column_at;
 use crate::texts::Spot;
 
-/// A place of a text: its line's text before it, there and after it.
+/// A place of a text, with its line split into the text before it, at it and after it.
 #[derive(Clone, Copy)]
 pub struct Place<'a> {
     /// The text that it is in.
     pub text: &'a str,
-    /// Where it begins, in bytes.
+    /// The byte offset at which it begins.
     pub start: usize,
     /// The text of its line before it.
     pub before: &'a str,
-    /// What is there, as far as the line goes.
+    /// The text at the place, as far as its line goes.
     pub here: &'a str,
     /// The text of its line after that.
     pub behind: &'a str,
 }
 
 impl<'a> Place<'a> {
-    /// The place of a spot, or `None` if its text has no such spot.
+    /// Returns the place of a spot, or `None` if its text has no such spot.
     pub fn find(spot: Spot<'a>) -> Option<Place<'a>>
         ensures { IfSome result (λ place. place.text.now ≡ spot.entry.text.now) }
     {
@@ -45,7 +45,7 @@ impl<'a> Place<'a> {
         })
     }
 
-    /// The column in characters, from 1.
+    /// Its column in characters, from 1.
     pub(crate) fn column(&self) -> usize
         ensures { result ≡ column_at self.now.text.now self.now.start }
     {
@@ -53,15 +53,15 @@ impl<'a> Place<'a> {
     }
 }
 
-/// Where a spot begins in its text, in bytes, or `None` if its text has no such spot. That of what follows a continuation
-/// begins at its backslash, which is passed.
+/// The byte offset at which a spot begins in its text, or `None` if its text has no such spot. A spot after a
+/// continuation begins at the backslash of the continuation, which this function skips.
 pub(crate) fn first_byte(spot: Spot<'_>) -> Option<usize> {
     let rest = spot.text.get(spot.start..)?;
     let after = after_continuations(rest);
     Some(spot.text.len().saturating_sub(after.len()))
 }
 
-/// Whether it is LF or CR, of which line ends are made.
+/// Whether it is LF or CR, the characters of line ends.
 pub(crate) fn is_line_end(c: char) -> bool
     ensures { result ≡ is_line_break c }
 {
@@ -84,7 +84,7 @@ fn first_line(text: &str) -> &str {
     }
 }
 
-// Where the character ends that begins at the place.
+// The end of the character that begins at `start`.
 fn first_char_end(text: &str, start: usize) -> usize {
     match text.get(start..).unwrap_or("").chars().next() {
         Some(c) if !is_line_end(c) => start.saturating_add(c.len_utf8()),
@@ -92,7 +92,8 @@ fn first_char_end(text: &str, start: usize) -> usize {
     }
 }
 
-/// Whether a fault at a place keeps an `#if` from opening its block.
+/// Returns whether the place is on the line of an `#if`, `#ifdef` or `#ifndef`, so that an error there keeps its block
+/// from opening.
 pub fn is_on_if_line(place: Place<'_>) -> bool {
     let Some(rest) = place.before.trim_start().strip_prefix('#') else {
         return false;

@@ -1,8 +1,8 @@
-//! Characters in what is said of errors.
+//! Characters in messages.
 
 use std::alloc::AllocError;
 
-/// Puts a character in backquotes, or by its number if it can't be seen.
+/// Appends a character in backquotes, or its number if the character can't be seen.
 pub(crate) fn push_char(text: &mut String, c: char) -> Result<(), AllocError> {
     if c.is_control() || is_unseen(c) {
         write!(text, "U+{:04X}", c as u32)
@@ -16,12 +16,12 @@ fn is_unseen(c: char) -> bool {
     matches!(c, '\u{a0}' | '\u{300}'..='\u{36f}' | '\u{2000}'..='\u{200f}' | '\u{2028}'..='\u{202f}' | '\u{feff}')
 }
 
-/// Whether it is a quote of typography, which word processors put in place of `"` and `'`.
+/// Whether it is a typographic quote, which word processors write for `"` and `'`.
 pub(crate) fn is_typographic_quote(c: char) -> bool {
     matches!(c, '\u{2018}'..='\u{201f}')
 }
 
-/// Whether it can be in a name of ASCII.
+/// Whether an ASCII name can have it.
 pub(crate) fn is_name_char(c: char) -> bool {
     c == '_' || c.is_ascii_alphanumeric()
 }

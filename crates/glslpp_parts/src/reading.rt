@@ -9,10 +9,10 @@ use pp_rs::lexer::{Lexer, TokenValue as Word};
 use pp_rs::token::{PreprocessorError, TokenValue};
 use std::alloc::{AllocError, Global};
 
-/// A value of the lexer, or the error in its place.
+/// A value of the lexer, or an error instead of one.
 pub(crate) type Read = Result<Word, PreprocessorError>;
 
-/// The value or the error that comes next, or `None` at the end.
+/// The next value or error, or `None` at the end.
 pub(crate) fn read_next(lexer: &mut Lexer<'_>) -> Result<Option<Read>, AllocError>
     requires { lexer.old.spent ≡ false }
     ensures next { IfOk result (λ read. MatchOption read (values_ahead lexer.old ≡ [])

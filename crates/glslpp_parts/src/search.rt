@@ -1,4 +1,4 @@
-//! Searches in a source, for what is said of errors.
+//! Searches in a source, for messages.
 
 ghost use Rattle.std.specs.Prelude.{◌-◌, ◌^◌, ◌<◌, length};
 
@@ -10,13 +10,13 @@ use std::alloc::Global;
 /// A `#define` of a source.
 #[derive(Clone, Copy)]
 pub(crate) struct Defined {
-    /// Where its name is.
+    /// The place of its name.
     pub location: Location,
-    /// How many parameters it has, if it has a `(`.
+    /// How many parameters it has, or `None` if it has no `(`.
     pub parameters: Option<usize>,
 }
 
-/// What was read last of a line, on the way to a `#define` of a name.
+/// How far a line was read on the way to a `#define` of a name.
 #[derive(Clone, Copy)]
 enum Stage {
     Text,
@@ -26,7 +26,7 @@ enum Stage {
     Parameters,
 }
 
-/// The last `#define` of the name before the place, whether it is live or not.
+/// The last `#define` of the name before the place, in live or dead text.
 pub(crate) fn last_define(alloc: Global, source: &str, name: &str, before: u32) -> Option<Defined>
     requires { length source.now < 2 ^ 32 - 1 }
 {
@@ -44,7 +44,7 @@ pub(crate) fn last_define(alloc: Global, source: &str, name: &str, before: u32) 
     last
 }
 
-// What was read last, with this token.
+// How far the line was read with this token.
 fn take_token(stage: Stage, token: &Token, name: &str, last: &mut Option<Defined>) -> Stage {
     match (stage, &token.value) {
         (_, TokenValue::Hash) if token.start_of_line => Stage::Hash,
@@ -76,7 +76,7 @@ fn count_parameter(last: &mut Option<Defined>, more: usize) {
     }
 }
 
-/// The name that a text ends with, blanks aside.
+/// The name at the end of a text, without blanks after it.
 pub(crate) fn last_name(text: &str) -> &str {
     let text = text.trim_end();
     match text.rfind(|c| !is_name_char(c)) {
@@ -85,7 +85,7 @@ pub(crate) fn last_name(text: &str) -> &str {
     }
 }
 
-// What follows the character at the place.
+// The text after the character at the place.
 fn last_char_cut(text: &str, place: usize) -> &str {
     let rest = text.get(place..).unwrap_or("");
     let mut chars = rest.chars();
@@ -93,7 +93,7 @@ fn last_char_cut(text: &str, place: usize) -> &str {
     chars.as_str()
 }
 
-/// How many arguments are written in the parentheses that the text begins with.
+/// The number of arguments in the parentheses with which the text begins.
 pub(crate) fn count_arguments(alloc: Global, text: &str) -> Option<usize>
     requires { length text.now < 2 ^ 32 - 1 }
 {

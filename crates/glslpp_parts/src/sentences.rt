@@ -1,4 +1,4 @@
-//! What is said of errors beside the library's sentences.
+//! What messages have besides the library's sentences.
 
 use crate::place::Place;
 use crate::quoting::{is_typographic_quote, push_char};
@@ -8,7 +8,7 @@ use pp_rs::SOURCE_LIMIT;
 use pp_rs::token::{Location, PreprocessorError};
 use std::alloc::{AllocError, Global};
 
-/// Puts what there is to add to the library's sentence: what is written at its place, and what may be meant.
+/// Appends to the library's sentence the text at its place, and what the author may have meant.
 pub(crate) fn push_more(
     text: &mut String,
     alloc: Global,
@@ -38,7 +38,7 @@ fn push_reason(text: &mut String, reason: &str) -> Result<(), AllocError> {
     write!(text, ": {reason}")
 }
 
-// Whether a line begins as that of a `#define`.
+// Whether a line begins like a `#define`.
 fn is_in_define(before: &str) -> bool {
     match before.trim_start().strip_prefix('#') {
         Some(rest) => rest.trim_start().starts_with("define"),
@@ -89,7 +89,7 @@ fn push_directive_name(text: &mut String, name: &str) -> Result<(), AllocError> 
     }
 }
 
-// A directive's name that is this one but for a slip of the hand.
+// The directive whose name differs from this one by a typing error.
 fn near_directive(name: &str) -> Option<&'static str> {
     for directive in DIRECTIVES {
         if is_near(name.as_bytes(), directive.as_bytes()) {
@@ -99,7 +99,7 @@ fn near_directive(name: &str) -> Option<&'static str> {
     None
 }
 
-// Whether one character is too much, missing or another one, or two that are neighbours are swapped.
+// Whether one character is too many, missing or different, or two neighbours are swapped.
 fn is_near(a: &[u8], b: &[u8]) -> bool {
     let same = same_start(a, b);
     let (Some(a), Some(b)) = (a.get(same..), b.get(same..)) else {
@@ -114,7 +114,7 @@ fn is_near(a: &[u8], b: &[u8]) -> bool {
     }
 }
 
-// How many bytes two texts have alike at their start.
+// The number of equal bytes at the start of two texts.
 fn same_start(a: &[u8], b: &[u8]) -> usize {
     let shorter = a.len().min(b.len());
     for index in 0..shorter {
@@ -125,7 +125,7 @@ fn same_start(a: &[u8], b: &[u8]) -> usize {
     shorter
 }
 
-// What is said of a call with a wrong number of arguments: the numbers, if they can be read off the source.
+// Appends the numbers of arguments and parameters of a call in which they differ, if the source shows them.
 fn push_argument_counts(
     text: &mut String,
     alloc: Global,
@@ -148,7 +148,7 @@ fn push_argument_counts(
     }
 }
 
-// How many parameters the macro has, and how many arguments are written.
+// How many parameters the macro has, and how many arguments the call has.
 fn argument_counts(
     alloc: Global,
     texts: &Texts<'_>,

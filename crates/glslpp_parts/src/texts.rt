@@ -1,8 +1,8 @@
-//! The texts that places are in: a source, and what the command line defines.
+//! The texts that places are in: a source, and the contents of the command line's definitions.
 //!
-//! The library has a place for each token and error, but doesn't say in which text. So the content of a definition is handed
-//! over behind as many blanks as the first line of the source has bytes, and one more: its tokens are then on line 1, and
-//! past the end of line 1 of the source.
+//! The library has a place for each token and error, but doesn't say in which text. So a content is passed to the
+//! library after blanks, at least one more than the first line of the source has bytes. Its tokens are then on line 1,
+//! and past the end of line 1 of the source.
 
 ghost use Rattle.std.specs.Prelude.{◌≡◌, ◌≤◌, ◌+◌, ◌-◌, ◌↔◌, ◌||◌, [], true, false, nat_lt, IsNone, IfSome, OnOk, IfOk, length, string_bytes};
 ghost use Rattle.std.proofs.Math.ListN.{replicate};
@@ -17,12 +17,12 @@ use pp_rs::token::{Location, NOWHERE};
 use std::alloc::{AllocError, Global};
 use std::marker::Model;
 
-/// A source, and the contents of the definitions before it.
+/// A source, and the contents of the definitions that are added before it.
 #[derive(Drop)]
 pub struct Texts<'a> {
     /// The source.
     pub source: &'a str,
-    // How many blanks are before the first content: more than the first line of the source has bytes.
+    // The number of blanks before the first content: one more than the first line of the source has bytes.
     blanks: usize,
     // The contents, each on a line.
     contents: String,
@@ -44,16 +44,16 @@ impl<'a> Model for Texts<'a> {
 pub struct Spot<'a> {
     /// The text that it is in.
     pub text: &'a str,
-    /// Where it begins in it, in bytes.
+    /// The byte offset at which it begins in that text.
     pub start: usize,
-    /// Where it ends in it, in bytes.
+    /// The byte offset at which it ends in that text.
     pub end: usize,
     /// Whether that text is the source.
     pub is_in_source: bool,
 }
 
 impl<'a> Texts<'a> {
-    /// A source before which nothing is defined yet.
+    /// Returns the texts of a source, without a content.
     pub fn new(alloc: Global, source: &'a str) -> Texts<'a>
         ensures source { result.source ≡ source.now }
         ensures contents { result.contents ≡ [] }
@@ -66,7 +66,7 @@ impl<'a> Texts<'a> {
         }
     }
 
-    /// Takes the content of a definition in, which has no line end, and gives it as it is to be handed to the library.
+    /// Adds the content of a definition, which has no line end, and returns it as the library has to get it.
     pub(crate) fn pad(&mut self, alloc: Global, content: &str) -> Result<String, AllocError>
         ensures text { IfOk result (λ text. string_bytes text ≡ padded self.old content.now) }
         ensures taken_in { OnOk result (self.new ≡ with_content self.old content.now) }
@@ -79,7 +79,7 @@ impl<'a> Texts<'a> {
         Ok(padded)
     }
 
-    /// The place in its text, if it is one of an item of the source.
+    /// Returns the spot of an item's place, or `None` if the place is `NOWHERE`.
     pub fn spot(&self, location: Location) -> Option<Spot<'_>>
         ensures none { IsNone result ↔ (location ≡ nowhere) }
         ensures told { IfSome result (λ spot. spot.is_in_source
@@ -111,7 +111,7 @@ impl<'a> Texts<'a> {
     }
 }
 
-// That many blanks.
+// A text of `count` blanks.
 fn blanks(alloc: Global, count: usize) -> Result<String, AllocError>
     ensures { IfOk result (λ text. string_bytes text ≡ replicate count 32) }
 {
@@ -122,7 +122,7 @@ fn blanks(alloc: Global, count: usize) -> Result<String, AllocError>
     Ok(text)
 }
 
-// How many bytes are before the first line end.
+// The number of bytes before the first line end.
 fn first_line_length(text: &str) -> usize
     ensures value { result ≡ position_or_len is_line_break text.now }
     ensures bound { result ≤ length text.now }
@@ -137,7 +137,7 @@ fn first_line_length(text: &str) -> usize
 }
 
 impl<'a> Spot<'a> {
-    /// What is written there.
+    /// The text of the spot.
     pub(crate) fn word(&self) -> Option<&'a str> {
         self.text.get(self.start..self.end)
     }

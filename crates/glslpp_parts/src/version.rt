@@ -1,4 +1,4 @@
-//! The names that GLSL defines, by the `#version` of a source.
+//! The names that GLSL predefines, by the `#version` of a source.
 
 ghost use Rattle.std.specs.Prelude.{◌≡◌, ◌-◌, ◌^◌, ◌<◌, ◌++◌, [], ◌∷◌, false, OnOk, IfOk, MatchOption, length};
 ghost use Rattle.std.specs.Str.{chars};
@@ -39,7 +39,7 @@ const DEFAULT_VERSION: Version = Version {
     profile: Profile::Unnamed,
 };
 
-/// What the first tokens of the source say, if they are a `#version`.
+/// Returns what the first tokens of the source say, if they are a `#version`.
 pub fn declared_version(alloc: Global, source: &str) -> Result<Version, AllocError>
     requires { length source.now < 2 ^ 32 - 1 }
     ensures { IfOk result (λ version. version ≡ version_of (read_values source.now)) }
@@ -60,7 +60,7 @@ fn read_version(lexer: &mut Lexer<'_>) -> Result<Option<Version>, AllocError>
     }
 }
 
-// What is read after empty lines.
+// The first value or error that isn't a newline.
 fn read_past_newlines(lexer: &mut Lexer<'_>) -> Result<Option<Read>, AllocError>
     requires { lexer.old.spent ≡ false }
     ensures spent { OnOk result (lexer.new.spent ≡ false) }
@@ -119,7 +119,7 @@ fn read_profile(lexer: &mut Lexer<'_>) -> Result<Profile, AllocError>
     })
 }
 
-// Whether this word was read, which has ASCII alone.
+// Whether this word was read. It is ASCII.
 fn is_word(read: &Read, word: &str) -> bool
     requires { chars word.now ≡ word.now }
     ensures { result ≡ is_word word.now read.now }
@@ -130,7 +130,7 @@ fn is_word(read: &Read, word: &str) -> bool
     }
 }
 
-// Whether the value is the name, which has ASCII alone.
+// Whether the value is the name. It is ASCII.
 fn is_named(value: &Word, name: &str) -> bool
     requires { chars name.now ≡ name.now }
     ensures { result ≡ is_word name.now (Ok value.now) }
@@ -149,7 +149,7 @@ impl Version {
         self.profile == Profile::Es || self.number == 100
     }
 
-    // Whether it has high precision in fragments.
+    // Whether fragment shaders have high precision in it.
     fn has_high_precision(self) -> bool
         ensures { result ≡ has_high_precision self }
     {
@@ -163,14 +163,15 @@ impl Version {
         !self.is_es() && self.number >= 150
     }
 
-    // Whether it is of the compatibility profile.
+    // Whether it has the compatibility profile.
     fn is_compatible(self) -> bool
         ensures { result ≡ is_compatible self }
     {
         self.profile == Profile::Compatibility && self.number >= 150
     }
 
-    /// Puts the names that GLSL defines here, each as 1, but `__VERSION__` as `number`.
+    /// Appends the names that GLSL predefines in this version, each as 1, but `__VERSION__` as
+    /// `number`.
     pub fn push_predefined<'a>(
         self,
         number: &'a str,
@@ -192,7 +193,7 @@ impl Version {
     }
 }
 
-// Puts a name as 1, if it is to be.
+// Appends a name as 1, if it is to be defined.
 fn push_if(
     is_defined: bool,
     name: &'static str,

@@ -18,7 +18,8 @@ use std::alloc::{AllocError, Global};
 // The name of the line number.
 const LINE: &str = "__LINE__";
 
-/// The text of a token as it is written at its place, if that is in the source and read as the token's value.
+/// The text of a token as the source has it at its place, if the place is in the source and the text is read as the
+/// token's value.
 pub(crate) fn written_word<'a>(
     alloc: Global,
     value: &TokenValue,
@@ -37,7 +38,7 @@ pub(crate) fn written_word<'a>(
     Ok(None)
 }
 
-// What is written at the place, if that is in the source.
+// The text at the place, if the place is in the source.
 fn source_word<'a>(spot: Option<Spot<'a>>) -> Option<&'a str> {
     match spot {
         Some(spot) if spot.is_in_source => spot.word(),
@@ -45,7 +46,7 @@ fn source_word<'a>(spot: Option<Spot<'a>>) -> Option<&'a str> {
     }
 }
 
-// Whether a word can be put for the value as it is: it's read as the value, and has no continuation.
+// Whether a word can be printed for the value as it is: it is read as the value, and has no continuation.
 fn is_text_of(alloc: Global, word: &str, value: &TokenValue) -> Result<bool, AllocError>
     requires { IsTrue (is_ordinary value.now) }
     ensures { IfOk result (λ is. IsTrue is → IsSpellable value.now → IsReadAs value.now word.now) }
@@ -88,8 +89,8 @@ fn is_decimal(bytes: &[u8], number: u64) -> bool
     is_decimal(front, number / 10)
 }
 
-/// The text of a token that isn't put as it is written: without its continuations, or spelled if a definition that was added
-/// gave it. A line number has no `u`, since GLSL's `__LINE__` is an `int`.
+/// The text of a token that isn't printed as the source has it: without its continuations, or spelled by its value if
+/// an added definition gave it. A line number has no `u`, since GLSL's `__LINE__` is an `int`.
 pub(crate) fn made_word(
     alloc: Global,
     value: &TokenValue,
@@ -111,7 +112,7 @@ pub(crate) fn made_word(
     spelled_word(alloc, value)
 }
 
-/// The text of a token by its value, but a line number without `u`.
+/// The text of a token by its value, except that a line number has no `u`.
 pub(crate) fn compact_word(
     alloc: Global,
     value: &TokenValue,
@@ -139,7 +140,7 @@ fn spelled_word(alloc: Global, value: &TokenValue) -> Result<String, AllocError>
     Ok(word)
 }
 
-// The same, but a number without `u`.
+// The token as the library spells it, except that a number has no `u`.
 fn signed_word(alloc: Global, value: &TokenValue) -> Result<String, AllocError>
     requires { IsTrue (is_ordinary value.now) }
     ensures { IfOk result (λ word. IsSpellable value.now
@@ -157,8 +158,8 @@ fn signed_word(alloc: Global, value: &TokenValue) -> Result<String, AllocError>
     }
 }
 
-// What is written at a place, without its continuations. The place ends where the last character would, if it weren't for
-// continuations right before that.
+// The text at a place, without its continuations. The place's end is counted as if no continuation came directly before
+// the last character.
 fn joined_word(alloc: Global, spot: Spot<'_>) -> Result<String, AllocError> {
     let mut word = String::new(alloc);
     let mut place = spot.start;

@@ -1,7 +1,7 @@
 -- One call of `next`, and one of `add_define`.
 use Rattle.std.proofs.Common.{◌≡◌, ◌∙◌, ℕ, inl, inr, Bool, true, false, List, [], refl, ap, sym, Option, Some, None, Ok, Err}
 use Rattle.std.specs.Prelude.{MatchBool}
-use Rattle.pp_expansion.specs.Item.{Item, is_out_of_memory}
+use Rattle.pp_macros.specs.Item.{Item, is_out_of_memory}
 use Rattle.pp_model.specs.Calls.{Fault}
 use Rattle.pp_model.specs.Run.{items_of, content_tokens}
 use Rattle.pp_rs.specs.Adding.{IsAdded, refused, faulty, added}

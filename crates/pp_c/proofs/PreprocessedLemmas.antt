@@ -1,6 +1,6 @@
 -- What a call gives in C.
 use Rattle.std.proofs.Common.{◌≡◌, ◌∙◌, ℕ, ◌+◌, ◌<◌, ◌^◌, List, [], ◌∷◌, ◌++◌, map, length, drop, refl, ap, Some, None, arith}
-use Rattle.pp_expansion.specs.LexerErrors.{lexer_errors}
+use Rattle.pp_macros.specs.LexerErrors.{lexer_errors}
 use Rattle.pp_model.specs.Run.{items_of, start}
 use Rattle.pp_rs.specs.Kept.{Preprocessing, Stands, errors_left}
 use Rattle.pp_c.specs.Calls.{calls_from}

@@ -1,7 +1,7 @@
 -- What a call of `pp_preprocess` gives: the items of a run of the preprocessor.
 use Rattle.std.specs.Prelude.{◌≡◌, ℕ, ◌+◌, List, [], ◌∷◌, length, ⊤}
 use Rattle.std.specs.List.{flat_map, AllByRecursion as Each}
-use Rattle.pp_expansion.specs.LexerErrors.{ErrorAt, lexer_errors}
+use Rattle.pp_macros.specs.LexerErrors.{ErrorAt, lexer_errors}
 use Rattle.pp_model.specs.Calls.{Fault}
 use Rattle.pp_model.specs.Run.{IsRun}
 use Rattle.pp_model.specs.declared.call.Reply.{Reply}

@@ -1,4 +1,4 @@
-//! Definitions that C hands in.
+//! Definitions that a caller in C passes.
 
 ghost use Rattle.std.specs.Prelude.{◌≡◌, IfOk, OnOk};
 ghost use Rattle.pp_c.specs.Calls.{part_of, with_answer};
@@ -7,14 +7,14 @@ ghost use Rattle.pp_c.specs.inner.Making.{AddsOne};
 use crate::faults::number_of;
 use crate::items::Definition;
 use crate::status::Refusal;
-use pp_expansion::step::is_out_of_memory;
+use pp_macros::step::is_out_of_memory;
 use pp_rs::pp::Preprocessor;
 use pp_rs::token::Location;
 
-/// The least length that is too long for a source or a content.
+/// The least number of bytes that is too many for a source or a content.
 pub(crate) const LIMIT: usize = 4294967295;
 
-// A part of the words, if it lies in them.
+// The part of the words with this start and length, if it lies in them.
 fn part(words: &str, start: u64, length: u64) -> Result<&str, Refusal>
     ensures { IfOk result (λ part. part.now ≡ part_of words.now start length) }
 {
@@ -27,7 +27,7 @@ fn part(words: &str, start: u64, length: u64) -> Result<&str, Refusal>
     }
 }
 
-// Writes an error and where it stands into a definition.
+// Writes an error and its place in the content into a definition.
 fn answer(definition: &mut Definition, error: u32, place: Location)
     ensures { definition.new ≡ with_answer definition.old error place }
 {
@@ -37,7 +37,7 @@ fn answer(definition: &mut Definition, error: u32, place: Location)
     definition.line = place.line;
 }
 
-/// Adds a definition, and writes into it what its content is answered.
+/// Adds a definition, and writes the error of its content into it, or 0 if there is none.
 pub(crate) fn add(
     pp: &mut Preprocessor<'_>,
     words: &str,

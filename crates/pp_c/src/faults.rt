@@ -5,7 +5,7 @@ ghost use Rattle.pp_c.specs.Numbers.{error_number};
 
 use pp_rs::token::PreprocessorError;
 
-/// The number of an error: from 1 in the order of `PreprocessorError`.
+/// The number of an error: its position in `PreprocessorError`, from 1.
 pub(crate) fn number_of(error: &PreprocessorError) -> u16
     ensures { result ≡ error_number error.now }
 {

@@ -1,4 +1,4 @@
-//! What C hands in and is given: items, definitions and sizes.
+//! What a caller in C passes and gets: items, definitions and sizes.
 
 ghost use Rattle.std.specs.Prelude.{◌≡◌};
 ghost use Rattle.pp_c.specs.Numbers.{bit_if};
@@ -9,24 +9,24 @@ ghost use Rattle.pp_c.specs.Numbers.{bit_if};
 pub struct Item {
     /// What it is, as a number of the header: an error, a place, or a kind of token.
     pub kind: u16,
-    /// Which error it is, or 0.
+    /// The number of the error, or 0 if it is none.
     pub error: u16,
-    /// What else is said of it, as bits.
+    /// Its flags, as bits.
     pub flags: u32,
-    /// How many of the items that follow it holds, with those that these hold: an error its true place, and a token if it
-    /// carries one; a directive the tokens of its line.
+    /// How many of the items after it belong to it, with those that belong to these: to an error its true place, and
+    /// the token that it carries, if any; to a directive the tokens of its line.
     pub children: u32,
     /// The width of a number in bits.
     pub width: i32,
     /// The byte offset at which it begins.
     pub start: u32,
-    /// The byte offset after it.
+    /// The byte offset just after it.
     pub end: u32,
     /// The line on which it begins. The first line is 1.
     pub line: u32,
-    /// How many bytes its text has.
+    /// The number of bytes of its text.
     pub text_length: u32,
-    /// The value of an integer; of any other item, where its text begins in `texts`.
+    /// The value of an integer. For any other item, the byte offset of its text in `texts`.
     pub value: u64,
 }
 
@@ -34,33 +34,33 @@ pub struct Item {
 #[repr(C)]
 #[derive(Clone, Copy)]
 pub struct Definition {
-    /// Where the name begins.
+    /// The byte offset of the name in `words`.
     pub name_start: u64,
-    /// How many bytes the name has.
+    /// The number of bytes of the name.
     pub name_length: u64,
-    /// Where the content begins.
+    /// The byte offset of the content in `words`.
     pub content_start: u64,
-    /// How many bytes the content has.
+    /// The number of bytes of the content.
     pub content_length: u64,
-    /// How many items are given before it is added. What an item holds isn't counted.
+    /// After how many items it is added. Items that belong to another item don't count.
     pub after: u64,
     /// Written: 0 if it was added, else the error of its content.
     pub error: u32,
-    /// Written: where that error stands in the content.
+    /// Written: the byte offset in the content at which that error begins.
     pub start: u32,
-    /// Written: the byte offset after it.
+    /// Written: the byte offset just after it.
     pub end: u32,
-    /// Written: its line.
+    /// Written: the 1-based line on which it begins.
     pub line: u32,
 }
 
-/// How much room items take.
+/// How much room items and their texts take.
 #[repr(C)]
 #[derive(Clone, Copy)]
 pub struct Sizes {
-    /// How many items there are, with those that others hold.
+    /// The number of items, with those that belong to others.
     pub items: u64,
-    /// How many bytes their texts have.
+    /// The number of bytes of their texts.
     pub texts: u64,
 }
 
@@ -69,7 +69,7 @@ pub struct Sizes {
 pub(crate) enum Kind {
     /// An error.
     Error,
-    /// Where an error stands in the source.
+    /// The place of an error in the source.
     Place,
     /// An identifier or a keyword.
     Ident,
@@ -83,9 +83,9 @@ pub(crate) enum Kind {
     Extension,
     /// A `#pragma` line.
     Pragma,
-    /// The end of a line, of the lexer alone.
+    /// The end of a line. Only the lexer gives it.
     NewLine,
-    /// A `#`, of the lexer alone.
+    /// A `#`. Only the lexer gives it.
     Hash,
 }
 
@@ -110,7 +110,7 @@ pub(crate) const LEADING_WHITESPACE: u32 = 16;
 /// A token of the lexer with only blanks and comments before it on its line.
 pub(crate) const START_OF_LINE: u32 = 32;
 
-/// The bit, if the condition holds.
+/// The bit if the condition holds, else 0.
 pub(crate) fn bit_if(condition: bool, bit: u32) -> u32
     ensures { result ≡ bit_if condition bit }
 {

@@ -10,7 +10,7 @@ use crate::items::{Kind, LEADING_WHITESPACE, START_OF_LINE, bit_if};
 use crate::output::Output;
 use crate::status::Refusal;
 use crate::words::{give_error, give_float, give_integer, give_name, give_punctuator, item_at};
-use pp_expansion::step::is_out_of_memory;
+use pp_macros::step::is_out_of_memory;
 use pp_rs::lexer::{Lexer, LexerItem, Token, TokenValue};
 use pp_rs::token::Location;
 use std::alloc::Global;
@@ -36,7 +36,7 @@ pub(crate) fn lex(alloc: Global, source: &[u8], output: &mut Output<'_>) -> Resu
     Ok(())
 }
 
-// Gives an item of the lexer, whose place is also an error's.
+// Gives an item of the lexer. `place` is its place, also for an error.
 fn give_item(
     item: LexerItem,
     place: Location,

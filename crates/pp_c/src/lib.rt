@@ -1,5 +1,5 @@
 //! The preprocessor and its lexer for C: one call gives all items of a source, in the caller's memory. `include/pp.h`
-//! declares what is here, and says what a caller in C has to uphold.
+//! declares the functions and types here, and says what a caller in C has to uphold.
 #![tactic(auto)]
 
 ghost use Rattle.std.specs.Prelude.{◌≡◌, ◌<◌, ◌≤◌, ◌-◌, ◌^◌, map, length, IsUtf8};
@@ -24,7 +24,7 @@ use preprocessing::preprocess;
 use status::status_after;
 use std::alloc::Global;
 
-// The room that the caller gives.
+// The room that the caller provides.
 fn room_of(items: &[Item], texts: &[u8]) -> Sizes
     ensures items { result.items ≡ length items.now }
     ensures texts { result.texts ≡ length texts.now }
@@ -35,17 +35,17 @@ fn room_of(items: &[Item], texts: &[u8]) -> Sizes
     }
 }
 
-/// Preprocesses `source`, and writes its items into `items` and their texts into `texts`. Error items are among them, and
-/// after one the items go on.
+/// Preprocesses `source`, and writes its items into `items` and their texts into `texts`. Error items are among them,
+/// and items follow them.
 ///
-/// Each of `definitions` is added once so many items were given as it says, and the definitions before it were added; one
-/// whose number isn't reached, after the last item. What its content is answered is written into it.
+/// Each of `definitions` is added as soon as its number of items was given and the definitions before it were added. If
+/// its number isn't reached, it is added after the last item. The error of its content, or 0, is written into it.
 ///
-/// With `PP_DONE` the items are at the front of `items`, and their texts, one after another, at the front of `texts`; the
-/// rest of both is as it was.
+/// With `PP_DONE` the items are at the front of `items`, and their texts, one after another, at the front of `texts`.
+/// The rest of both is unchanged.
 ///
-/// The answer is a [`Status`] as a number. `sizes` says how much room all items take. If there is less, the answer is
-/// `PP_TOO_SMALL`, and a call with so much room gives them.
+/// Returns a [`Status`] as a number. `sizes` says how much room all items and texts take. If the caller provides less,
+/// the status is `PP_TOO_SMALL`, and a call with that much room returns the items.
 #[unsafe(no_mangle)]
 pub extern "C" fn pp_preprocess(
     alloc: Global,
@@ -73,7 +73,8 @@ pub extern "C" fn pp_preprocess(
     status_after(end, wanted, room) as u32
 }
 
-/// Lexes `source`, and writes the items of its lexer into `items` and their texts into `texts`, as [`pp_preprocess`] does.
+/// Lexes `source`, and writes the items of its lexer into `items` and their texts into `texts`, as [`pp_preprocess`]
+/// does.
 #[unsafe(no_mangle)]
 pub extern "C" fn pp_lex(
     alloc: Global,

@@ -1,4 +1,4 @@
-//! Where items go.
+//! The caller's memory, into which items are written.
 
 ghost use Rattle.std.specs.Prelude.{◌≡◌, ◌+◌, ◌<◌, ◌≤◌, ◌∷◌, [], length};
 ghost use Rattle.pp_c.specs.Entries.{bare, with_text};
@@ -6,7 +6,8 @@ ghost use Rattle.pp_c.specs.inner.Taking.{Takes, written_over};
 
 use crate::items::{Item, Sizes};
 
-/// The caller's room for items and their texts, and how many came so far. What has no room is only counted.
+/// The caller's room for items and their texts, and how many came so far. Items and texts that don't fit are only
+/// counted.
 #[derive(Drop)]
 pub(crate) struct Output<'a> {
     items: &'a mut [Item],
@@ -15,7 +16,7 @@ pub(crate) struct Output<'a> {
 }
 
 impl<'a> Output<'a> {
-    /// Nothing came so far.
+    /// An output into which nothing was written yet.
     pub(crate) fn new(items: &'a mut [Item], texts: &'a mut [u8]) -> Self
         ensures same_items { result.items.ghost_name ≡ items.entry.ghost_name }
         ensures same_texts { result.texts.ghost_name ≡ texts.entry.ghost_name }
@@ -30,14 +31,14 @@ impl<'a> Output<'a> {
         }
     }
 
-    /// How much room the items take that came so far.
+    /// How much room the items that came so far take.
     pub(crate) fn sizes(&self) -> Sizes
         ensures { result ≡ self.now.sizes }
     {
         self.sizes
     }
 
-    /// Takes an item that has no text.
+    /// Takes an item without a text.
     pub(crate) fn take(&mut self, item: Item)
         ensures { Takes self.old (bare item ∷ []) self.new }
     {
@@ -60,7 +61,7 @@ impl<'a> Output<'a> {
     }
 }
 
-// Puts an item there, if there is room.
+// Puts an item at `at`, if there is room.
 fn put(items: &mut [Item], at: usize, item: Item)
     ensures room { length items.new ≡ length items.old }
     ensures written { at < length items.old → items.new ≡ written_over at (item ∷ []) items.old }
@@ -70,7 +71,7 @@ fn put(items: &mut [Item], at: usize, item: Item)
     }
 }
 
-// Copies a text there, if there is room.
+// Copies a text to `start`, if there is room.
 fn copy(texts: &mut [u8], start: usize, bytes: &[u8])
     ensures room { length texts.new ≡ length texts.old }
     ensures written { start + length bytes.now ≤ length texts.old

@@ -2,7 +2,7 @@
 
 ghost use Rattle.std.specs.Prelude.{◌≡◌, ◌<◌, ◌≤◌, ◌-◌, ◌^◌, ◌∷◌, [], true, false, map, length};
 ghost use Rattle.std.specs.Prelude.{IsOk, OnOk, IfOk, IsTrue, IsUtf8};
-ghost use Rattle.pp_expansion.specs.Item.{is_out_of_memory};
+ghost use Rattle.pp_macros.specs.Item.{is_out_of_memory};
 ghost use Rattle.pp_rs.specs.Preorder.{preorder, inner, leaf_of};
 ghost use Rattle.pp_rs.specs.TokenValue.{is_ordinary};
 ghost use Rattle.pp_rs.specs.Kept.{is_spent, most_items};
@@ -50,7 +50,7 @@ pub(crate) fn preprocess(
     end
 }
 
-// How many items were given so far, and whether the end was.
+// How many items were given so far, and whether the end was reached.
 #[derive(Clone, Copy)]
 struct Progress {
     given: u64,
@@ -82,7 +82,7 @@ fn give_all(
     give_rest(pp, progress, &mut spelling, output)
 }
 
-// Gives items until so many were given, or to the end.
+// Gives items until `count` items were given, or to the end.
 fn give_until(
     pp: &mut Preprocessor<'_>,
     count: u64,
@@ -210,7 +210,7 @@ fn count(tokens: usize) -> u32
     u32::try_from(tokens).unwrap_or(u32::MAX)
 }
 
-// Gives one item for a token, of which so many that follow are part if it is a directive.
+// Gives one item for a token. If it is a directive, the `children` items that follow belong to it.
 fn give_word(
     place: Location,
     value: &TokenValue,

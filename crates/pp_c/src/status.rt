@@ -6,14 +6,14 @@ ghost use Rattle.pp_c.specs.Ends.{HasRoom};
 use crate::items::Sizes;
 use std::alloc::AllocError;
 
-/// How a call ends. Its number is that of the header.
+/// How a call ends. Its number is the one in the header.
 #[derive(Clone, Copy)]
 pub(crate) enum Status {
-    /// All items and texts are there.
+    /// All items and texts were written.
     Done,
-    /// There was too little room. The sizes say how much is needed.
+    /// There was too little room. `sizes` says how much is needed.
     TooSmall,
-    /// The source or the words are no UTF-8.
+    /// The source or the words aren't UTF-8.
     NotUtf8,
     /// The source or a content has 2^32 - 1 bytes or more.
     TooLong,
@@ -43,7 +43,7 @@ impl From<AllocError> for Refusal {
     }
 }
 
-/// How a call ends, once all items came or it was refused, if they take so much room.
+/// The status of a call, from how its items ended, how much room they take and how much there is.
 pub(crate) fn status_after(end: Result<(), Refusal>, sizes: Sizes, room: Sizes) -> Status
     ensures given { (result ≡ Status.Done) ⊎ (result ≡ Status.TooSmall) → IsOk end }
     ensures too_long { end ≡ Err Refusal.TooLong → result ≡ Status.TooLong }

@@ -16,7 +16,7 @@ use crate::status::Refusal;
 use pp_rs::pp::push_value;
 use pp_rs::token::{Float, Integer, Location, PreprocessorError, Punct, Text, TokenValue};
 
-// An item without a text and a number, that holds no other.
+// An item that has no text, no number and no items that belong to it.
 fn numbered_item_at(place: Location, kind: u16, flags: u32) -> Item
     ensures { result ≡ item_at place kind flags }
 {
@@ -34,7 +34,7 @@ fn numbered_item_at(place: Location, kind: u16, flags: u32) -> Item
     }
 }
 
-/// An item of a kind without a text and a number, that holds no other.
+/// An item of a kind that has no text, no number and no items that belong to it.
 pub(crate) fn item_at(place: Location, kind: Kind, flags: u32) -> Item
     ensures { result ≡ item_at place (kind_number kind) flags }
 {
@@ -91,7 +91,8 @@ pub(crate) fn give_punctuator(
     Ok(())
 }
 
-/// Gives an error and its true place. Besides this place it holds so many items, which follow.
+/// Gives an error and its true place. The place and the `others` items that follow it belong to the
+/// error.
 pub(crate) fn give_error(
     error: &PreprocessorError,
     location: Location,

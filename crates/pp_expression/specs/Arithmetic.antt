@@ -1,8 +1,8 @@
--- The value of one operator of an expression (GLSL ES 3.20 section 3.4). The operators work on integers of 64 bits, from
--- -2^63 to 2^63 - 1, whatever suffix a literal has: `/` rounds toward zero, `%` has the sign of its left operand, `<<`
--- drops high bits and `>>` keeps the sign. True is 1, false is 0, and every number but 0 counts as true. A result outside
--- of that range is a fault, and so are a division and a remainder by 0. Both operands of `&&` and `||` are computed,
--- whatever the first one is.
+-- The value of one operator of an expression (GLSL ES 3.20 section 3.4). The operators work on integers of 64 bits,
+-- from -2^63 to 2^63 - 1, whatever suffix a literal has: `/` rounds toward zero, `%` has the sign of its left operand,
+-- `<<` drops high bits and `>>` keeps the sign. True is 1, false is 0, and every number but 0 counts as true. A result
+-- outside of that range is a fault, and so are a division and a remainder by 0. Both operands of `&&` and `||` are
+-- computed, whatever the first one is.
 use Rattle.std.specs.Prelude.{ℕ, ◌^◌, Bool, not, ◌&&◌, ◌||◌, if◌then◌else◌, nat_lt, Result, Ok, Err, ℤ, pos, negsuc, ◌+ℤ◌, ◌-ℤ◌, ◌*ℤ◌, neg_ℤ, int_div, int_rem, int_lt, int_le, bit_and, bit_or, bit_xor}
 use Rattle.std.specs.Int.{w64, int_shl, int_shr, cast_signed, cast_unsigned}
 use Rattle.std.specs.Ordering.{int_eq}
@@ -51,13 +51,15 @@ abbrev pub shift_count : ℤ → Result ℕ ExpressionFault
 shift_count (pos count) = if nat_lt count 64 then Ok count else Err fault.IntegerOverflow
 shift_count (negsuc count) = Err fault.IntegerOverflow
 
--- The answer, which is a quotient or a remainder of left by right, if the quotient fits. If right is 0, it is this fault.
+-- The answer, which is a quotient or a remainder of left by right, if the quotient fits.
+-- If right is 0, it is this fault.
 abbrev pub divided : ExpressionFault → ℤ → ℤ → ℤ → Result ℤ ExpressionFault
 divided by_zero left right answer =
     if is_zero right then Err by_zero else
     (if fits (int_div left right) then Ok answer else Err fault.IntegerOverflow)
 
--- The value of an operator between its operands. A quotient is rounded toward 0, and a remainder has the sign of its dividend. `<<` drops the high bits, and `>>` keeps the sign.
+-- The value of an operator between its operands. A quotient is rounded toward 0, and a remainder has the sign of its
+-- dividend. `<<` drops the high bits, and `>>` keeps the sign.
 abbrev pub binary_value : Binary → ℤ → ℤ → Result ℤ ExpressionFault
 binary_value binary.Multiply left right = in_range (left *ℤ right)
 binary_value binary.Divide left right = divided fault.DivisionByZero left right (int_div left right)

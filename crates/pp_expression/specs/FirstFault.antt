@@ -1,7 +1,10 @@
--- The first fault of an expression of `#if`, `#elif` or `#line` (GLSL ES 3.20 section 3.4), and what an evaluation gives. A line may have several faults. Each is found when so much of the line is read that it is certain: the first is the one found at the earliest symbol, and of those found at one symbol the one of the lowest order.
+-- The first fault of an expression of `#if`, `#elif` or `#line` (GLSL ES 3.20 section 3.4), and what an evaluation
+-- gives. A line may have several faults. Each is found when so much of the line is read that it is certain: the first
+-- is the one found at the earliest symbol, and of those found at one symbol the one of the lowest order.
 --
 --   order 1   the symbol isn't read: the fault that ends the reading stands in its place
---   order 2   an operator has no value. One in front of its operand, `*`, `/` and `%` are computed at the last symbol of their right operand, the others at the symbol after it, or at the end of the line
+--   order 2   an operator has no value. One in front of its operand, `*`, `/` and `%` are computed at the last symbol
+--             of their right operand, the others at the symbol after it, or at the end of the line
 --   order 4   the symbol, or the end of the line, can't stand there
 --
 -- Order 3 is left to whoever asks something of the whole value, which is found at the symbol after the expression.
@@ -30,7 +33,8 @@ abbrev pub unexpected : Option Symbol → ExpressionFault
 unexpected (Some ahead) = fault.Unexpected
 unexpected None = fault.UnexpectedEndOfInput
 
--- What a symbol begins where an operand without an operator in front is wanted: a number, or None at an opening parenthesis. A `defined` whose own operand is at fault stands where an operand may stand.
+-- What a symbol begins where an operand without an operator in front is wanted: a number, or None at an opening
+-- parenthesis. A `defined` whose own operand is at fault stands where an operand may stand.
 abbrev pub atom_of : Option Symbol → Result (Option ℕ) ExpressionFault
 atom_of (Some (symbol.Number number)) = Ok (Some number)
 atom_of (Some (symbol.Punct mark.LeftParen)) = Ok None
@@ -42,7 +46,8 @@ abbrev pub closing : Option Symbol → Result (Unit {0}) ExpressionFault
 closing (Some (symbol.Punct mark.RightParen)) = Ok tt
 closing ahead = Err (unexpected ahead)
 
--- An expression up to a place where an operand is wanted, from the outside inwards: Here is the place; it may lie in parentheses, after an operator in front, or after a left operand and its operator.
+-- An expression up to a place where an operand is wanted, from the outside inwards: Here is the place; it may lie in
+-- parentheses, after an operator in front, or after a left operand and its operator.
 pub data Front : Type 0 where
   Here : Front
   InGroup : Front → Front
@@ -54,14 +59,20 @@ abbrev pub front_spelling : Front → List Symbol
 front_spelling Here = []
 front_spelling (InGroup front) = symbol.Punct mark.LeftParen ∷ front_spelling front
 front_spelling (InPrefix operator front) = symbol.Punct (unary_punct operator) ∷ front_spelling front
-front_spelling (InInfix operator left front) = spelling left ++ (symbol.Punct (binary_punct operator) ∷ front_spelling front)
+front_spelling (InInfix operator left front) =
+    spelling left ++ (symbol.Punct (binary_punct operator) ∷ front_spelling front)
 
--- The front may stand where operators bind at least as tightly as level, and each left operand in it is as Finished says.
+-- The front may stand where operators bind at least as tightly as level, and each left
+-- operand in it is as Finished says.
 abbrev pub FitsFront : (Tree → Type 0) → ℕ → Front → Type 0
 FitsFront Finished level Here = Unit {0}
 FitsFront Finished level (InGroup front) = FitsFront Finished 0 front
 FitsFront Finished level (InPrefix operator front) = FitsFront Finished 10 front
-FitsFront Finished level (InInfix operator left front) = (level ≤ level_of operator) × Fits (level_of operator) left × Finished left × FitsFront Finished (level_of operator + 1) front
+FitsFront Finished level (InInfix operator left front) =
+    (level ≤ level_of operator)
+    × Fits (level_of operator) left
+    × Finished left
+    × FitsFront Finished (level_of operator + 1) front
 
 -- the level of the operand that is wanted at the end of a front
 abbrev pub wanted : ℕ → Front → ℕ
@@ -74,23 +85,60 @@ wanted level (InInfix operator left front) = wanted ((level_of operator + 1)) fr
 abbrev pub unread_at : Binary → Line → ℕ
 unread_at operator rest = if nat_lt (level_of operator) 9 then length rest.symbols else length rest.symbols + 1
 
--- The faults that may come where an operand of the level is wanted before the line, with the number of symbols from the one at which each is found on, and with its order. An operand that is finished before is as Finished says.
-pub data Fails (Finished : Tree → Type 0) (level : ℕ) (line : Line) (left order : ℕ) (kind : ExpressionFault) : Type 0 where
+-- The faults that may come where an operand of the level is wanted before the line, with the number of symbols from the
+-- one at which each is found on, and with its order. An operand that is finished before is as Finished says.
+pub data Fails (Finished : Tree → Type 0) (level : ℕ) (line : Line) (left order : ℕ)
+    (kind : ExpressionFault) : Type 0 where
   -- the symbol isn't read
-  unread : next line ≡ Err kind → left ≡ length line.symbols → order ≡ 1 → Fails Finished level line left order kind
+  unread : next line ≡ Err kind
+      → left ≡ length line.symbols → order ≡ 1
+      → Fails Finished level line left order kind
   -- no operand begins with the symbol, or at the end
-  wrong : (ahead : Option Symbol) → next line ≡ Ok ahead → sign_of ahead ≡ None → atom_of ahead ≡ Err kind → left ≡ length line.symbols → order ≡ 4 → Fails Finished level line left order kind
+  wrong : (ahead : Option Symbol)
+      → next line ≡ Ok ahead
+      → sign_of ahead ≡ None
+      → atom_of ahead ≡ Err kind
+      → left ≡ length line.symbols → order ≡ 4
+      → Fails Finished level line left order kind
   -- the symbol after the operand isn't read
-  unread_after : (tree : Tree) (rest : Line) → level ≤ 9 → line.symbols ≡ spelling tree ++ rest.symbols → rest.ending ≡ line.ending → Fits level tree → Finished tree → next rest ≡ Err kind → left ≡ length rest.symbols → order ≡ 1 → Fails Finished level line left order kind
+  unread_after : (tree : Tree) (rest : Line)
+      → level ≤ 9
+      → line.symbols ≡ spelling tree ++ rest.symbols → rest.ending ≡ line.ending
+      → Fits level tree → Finished tree
+      → next rest ≡ Err kind
+      → left ≡ length rest.symbols → order ≡ 1
+      → Fails Finished level line left order kind
   -- the parenthesis that begins the operand isn't closed
-  unclosed : (tree : Tree) (rest : Line) (ahead : Option Symbol) → line.symbols ≡ symbol.Punct mark.LeftParen ∷ (spelling tree ++ rest.symbols) → rest.ending ≡ line.ending → Fits 0 tree → Finished tree → next rest ≡ Ok ahead → goes_on 0 rest.symbols ≡ false → closing ahead ≡ Err kind → left ≡ length rest.symbols → order ≡ 4 → Fails Finished level line left order kind
+  unclosed : (tree : Tree) (rest : Line) (ahead : Option Symbol)
+      → line.symbols ≡ symbol.Punct mark.LeftParen ∷ (spelling tree ++ rest.symbols) → rest.ending ≡ line.ending
+      → Fits 0 tree → Finished tree
+      → next rest ≡ Ok ahead
+      → goes_on 0 rest.symbols ≡ false
+      → closing ahead ≡ Err kind
+      → left ≡ length rest.symbols → order ≡ 4
+      → Fails Finished level line left order kind
   -- the operator in front that begins the operand has no value
-  signed : (operator : Unary) (operand : Tree) (rest : Line) (number : ℤ) → line.symbols ≡ spelling (Prefix operator operand) ++ rest.symbols → rest.ending ≡ line.ending → Fits 10 operand → value operand ≡ Ok number → unary_value operator number ≡ Err kind → left ≡ length rest.symbols + 1 → order ≡ 2 → Fails Finished level line left order kind
+  signed : (operator : Unary) (operand : Tree) (rest : Line) (number : ℤ)
+      → line.symbols ≡ spelling (Prefix operator operand) ++ rest.symbols → rest.ending ≡ line.ending
+      → Fits 10 operand
+      → value operand ≡ Ok number
+      → unary_value operator number ≡ Err kind
+      → left ≡ length rest.symbols + 1 → order ≡ 2
+      → Fails Finished level line left order kind
   -- an operator between operands has no value
-  operated : (operator : Binary) (former latter : Tree) (rest : Line) (first second : ℤ) → line.symbols ≡ spelling (Infix operator former latter) ++ rest.symbols → rest.ending ≡ line.ending → Fits level (Infix operator former latter) → value former ≡ Ok first → value latter ≡ Ok second → binary_value operator first second ≡ Err kind → Stops (level_of operator + 1) rest → left ≡ unread_at operator rest → order ≡ 2 → Fails Finished level line left order kind
+  operated : (operator : Binary) (former latter : Tree) (rest : Line) (first second : ℤ)
+      → line.symbols ≡ spelling (Infix operator former latter) ++ rest.symbols → rest.ending ≡ line.ending
+      → Fits level (Infix operator former latter)
+      → value former ≡ Ok first → value latter ≡ Ok second
+      → binary_value operator first second ≡ Err kind
+      → Stops (level_of operator + 1) rest
+      → left ≡ unread_at operator rest → order ≡ 2
+      → Fails Finished level line left order kind
 
--- A fault that the line may have: its operators stand by precedence up to there, and each operand that is finished before is as Finished says.
-pub record Possible (Finished : Tree → Type 0) (level : ℕ) (line : Line) (left order : ℕ) (kind : ExpressionFault) : Type 0 where
+-- A fault that the line may have: its operators stand by precedence up to there, and each operand that is
+-- finished before is as Finished says.
+pub record Possible (Finished : Tree → Type 0) (level : ℕ) (line : Line) (left order : ℕ)
+    (kind : ExpressionFault) : Type 0 where
   pub front : Front
   pub here : Line
   pub spelled : line.symbols ≡ front_spelling front ++ here.symbols
@@ -106,13 +154,17 @@ Any tree = Unit {0}
 abbrev pub Before : ℕ → ℕ → ℕ → ℕ → Type 0
 Before left order other_left other_order = (other_left < left) ⊎ ((other_left ≡ left) × (order ≤ other_order))
 
--- The first fault of an expression of the level at the front of the line: the line may have it, and whatever fault the line may have, none comes before it.
+-- The first fault of an expression of the level at the front of the line: the line may have it, and whatever fault the
+-- line may have, none comes before it.
 pub record IsFirst (level : ℕ) (line : Line) (found : Found) : Type 0 where
   pub order : ℕ
   pub possible : Possible Any level line found.left order found.kind
-  pub first : (other_left other_order : ℕ) (kind : ExpressionFault) → Possible Any level line other_left other_order kind → Before found.left order other_left other_order
+  pub first : (other_left other_order : ℕ) (kind : ExpressionFault)
+      → Possible Any level line other_left other_order kind
+      → Before found.left order other_left other_order
 
--- An expression of this value stands at the front of the line, with that many symbols after it, and no fault is possible.
+-- An expression of this value stands at the front of the line, with that many symbols
+-- after it, and no fault is possible.
 pub record IsValue (line : Line) (found : Value) : Type 0 where
   pub rest : Line
   pub reads : Reads 0 0 line rest found.value

@@ -1,4 +1,6 @@
--- The symbols of a directive's line, and an expression at their front (GLSL ES 3.20 section 3.4). The reading of the words after the symbols may end in a fault, as in a macro call without its `)`; an expression that is over before is not touched by it, where it can be known that it is over.
+-- The symbols of a directive's line, and an expression at their front (GLSL ES 3.20 section 3.4). The reading of the
+-- words after the symbols may end in a fault, as in a macro call without its `)`; an expression that is over before is
+-- not touched by it, where it can be known that it is over.
 use Rattle.std.specs.Prelude.{◌≡◌, ℕ, ◌≤◌, Bool, false, nat_le, List, [], ◌∷◌, ◌++◌, Option, Some, None, Result, Ok, Err, IsOk, ℤ}
 use Rattle.std.specs.Option.{option_map_or}
 use Rattle.pp_expression.specs.declared.symbol.Symbol.{Symbol}
@@ -24,7 +26,8 @@ next line = next_of line.symbols line.ending
 
 -- the symbol is an operator between operands that binds at least as tightly as level
 abbrev pub continues : ℕ → Symbol → Bool
-continues level (symbol.Punct punct) = option_map_or (λ operator. nat_le level (level_of operator)) (binary_of punct) false
+continues level (symbol.Punct punct) =
+    option_map_or (λ operator. nat_le level (level_of operator)) (binary_of punct) false
 continues level _ = false
 
 -- the symbols begin with such an operator
@@ -32,12 +35,14 @@ abbrev pub goes_on : ℕ → List Symbol → Bool
 goes_on level [] = false
 goes_on level (first ∷ others) = continues level first
 
--- An expression of the level is over before the line: it is known what comes next, and that isn't an operator of the level. An operand alone, which has level 10, is over without a look at what comes next.
+-- An expression of the level is over before the line: it is known what comes next, and that isn't an operator of the
+-- level. An operand alone, which has level 10, is over without a look at what comes next.
 pub record Stops (level : ℕ) (line : Line) : Type 0 where
   pub known : level ≤ 9 → IsOk (next line)
   pub over : goes_on level line.symbols ≡ false
 
--- From old to new stands a tree of the level with this value, and it is over there: stop is the tree's level, or the next tighter for a left operand, which an operator of its level may follow.
+-- From old to new stands a tree of the level with this value, and it is over there: stop is the tree's level, or the
+-- next tighter for a left operand, which an operator of its level may follow.
 pub record Reads (level stop : ℕ) (old new : Line) (number : ℤ) : Type 0 where
   pub tree : Tree
   pub spelled : old.symbols ≡ spelling tree ++ new.symbols

@@ -1,4 +1,5 @@
--- Trees of expressions, how they are written, and their values: the expressions of GLSL ES 3.20 section 3.4, which are built from numbers and parentheses by the table of operators.
+-- Trees of expressions, how they are written, and their values: the expressions of GLSL ES 3.20 section 3.4, which are
+-- built from numbers and parentheses by the table of operators.
 use Rattle.std.specs.Prelude.{ℕ, ◌+◌, ◌≤◌, List, [], ◌∷◌, ◌++◌, Result, Ok, IsOk, ℤ}
 use Rattle.pp_lexer.specs.declared.token.Punct.TheVariants as mark
 use Rattle.pp_expression.specs.Answers.{◌>>=◌}
@@ -10,7 +11,8 @@ use Rattle.pp_expression.specs.declared.symbol.ExpressionFault.{ExpressionFault}
 use Rattle.pp_expression.specs.Operators.{unary_punct, binary_punct, level_of}
 use Rattle.pp_expression.specs.Arithmetic.{literal, unary_value, binary_value}
 
--- An expression: a number, an expression in parentheses, an operator in front of its operand, or one between its operands. It keeps its parentheses, so it is written in one way.
+-- An expression: a number, an expression in parentheses, an operator in front of its operand, or one between its
+-- operands. It keeps its parentheses, so it is written in one way.
 pub data Tree : Type 0 where
   Number : ℕ → Tree
   Group : Tree → Tree
@@ -24,14 +26,18 @@ spelling (Group tree) = symbol.Punct mark.LeftParen ∷ (spelling tree ++ (symbo
 spelling (Prefix operator operand) = symbol.Punct (unary_punct operator) ∷ spelling operand
 spelling (Infix operator left right) = spelling left ++ (symbol.Punct (binary_punct operator) ∷ spelling right)
 
--- The tree may stand where operators bind at least as tightly as level: the operators outside of its parentheses do. An operand of an operator in front has level 10; the left operand of one between operands has that operator's level, and the right one the next tighter.
+-- The tree may stand where operators bind at least as tightly as level: the operators outside of its parentheses do. An
+-- operand of an operator in front has level 10; the left operand of one between operands has that operator's level, and
+-- the right one the next tighter.
 abbrev pub Fits : ℕ → Tree → Type 0
 Fits level (Number number) = Unit {0}
 Fits level (Group tree) = Fits 0 tree
 Fits level (Prefix operator operand) = Fits 10 operand
-Fits level (Infix operator left right) = (level ≤ level_of operator) × Fits (level_of operator) left × Fits ((level_of operator + 1)) right
+Fits level (Infix operator left right) =
+    (level ≤ level_of operator) × Fits (level_of operator) left × Fits ((level_of operator + 1)) right
 
--- the value of a tree, or the fault of one of its operators: the left operand's first, then the right one's, then its own
+-- the value of a tree, or the fault of one of its operators: the left operand's first,
+-- then the right one's, then its own
 abbrev pub value : Tree → Result ℤ ExpressionFault
 value (Number number) = Ok (literal number)
 value (Group tree) = value tree

@@ -7,14 +7,14 @@ ghost use Rattle.pp_expression.specs.declared.operator.Binary.TheVariants as spe
 use crate::operator::{Binary, Unary};
 use crate::symbol::ExpressionFault;
 
-/// A literal's value: its 64 bits read as two's complement.
+/// Returns a literal's value: its 64 bits read as two's complement.
 pub fn literal(value: u64) -> i64
     ensures { result ≡ spec.literal value }
 {
     value.cast_signed()
 }
 
-/// The value of an operator in front of an operand: `IntegerOverflow` where it leaves 64 bits.
+/// Returns the value of an operator in front of an operand: `IntegerOverflow` if it doesn't fit in 64 bits.
 pub fn unary(operator: Unary, operand: i64) -> Result<i64, ExpressionFault>
     ensures { result ≡ spec.unary_value operator operand }
 {
@@ -28,7 +28,7 @@ pub fn unary(operator: Unary, operand: i64) -> Result<i64, ExpressionFault>
     }
 }
 
-/// By how many bits a shift goes: `IntegerOverflow` where that isn't one of 0 to 63.
+/// The number of bits of a shift: `IntegerOverflow` if it isn't one of 0 to 63.
 fn shift_count(count: i64) -> Result<u32, ExpressionFault>
     ensures { result ≡ spec.shift_count count }
 {
@@ -38,8 +38,8 @@ fn shift_count(count: i64) -> Result<u32, ExpressionFault>
     Ok(count as u32)
 }
 
-/// The quotient: `DivisionByZero` where the divisor is 0, and `IntegerOverflow` of the least number by
-/// -1, which leaves 64 bits.
+/// The quotient: `DivisionByZero` if the divisor is 0, and `IntegerOverflow` for the least number divided by -1, which
+/// doesn't fit in 64 bits.
 fn quotient(left: i64, right: i64) -> Result<i64, ExpressionFault>
     ensures { result ≡ spec.binary_value spec_operator.Divide left right }
 {
@@ -50,8 +50,7 @@ fn quotient(left: i64, right: i64) -> Result<i64, ExpressionFault>
         .ok_or(ExpressionFault::IntegerOverflow)
 }
 
-/// The remainder: `RemainderByZero` where the divisor is 0, and `IntegerOverflow` where the quotient
-/// leaves 64 bits.
+/// The remainder: `RemainderByZero` if the divisor is 0, and `IntegerOverflow` if the quotient doesn't fit in 64 bits.
 fn remainder(left: i64, right: i64) -> Result<i64, ExpressionFault>
     ensures { result ≡ spec.binary_value spec_operator.Remainder left right }
 {
@@ -62,9 +61,9 @@ fn remainder(left: i64, right: i64) -> Result<i64, ExpressionFault>
         .ok_or(ExpressionFault::IntegerOverflow)
 }
 
-/// The value of an operator between its operands: `IntegerOverflow` where it, or the quotient of a
-/// remainder, leaves 64 bits or a shift's count is not one of 0 to 63, and `DivisionByZero` or
-/// `RemainderByZero` where the divisor is 0.
+/// Returns the value of an operator between its operands: `IntegerOverflow` if the value, or the quotient of a
+/// remainder, doesn't fit in 64 bits or a shift's count is not one of 0 to 63, and `DivisionByZero` or
+/// `RemainderByZero` if the divisor is 0.
 pub fn binary(operator: Binary, left: i64, right: i64) -> Result<i64, ExpressionFault>
     ensures { result ≡ spec.binary_value operator left right }
 {

@@ -1,5 +1,5 @@
-//! The value of an expression, computed as it is read. What is pending is kept in a list, so that
-//! depth, of parentheses or of operators, takes none of the native stack.
+//! The value of an expression, computed as it is read. Open parentheses and pending operators are kept in a list, so
+//! that their depth takes none of the native stack.
 
 ghost use Rattle.std.specs.Prelude.{◌≡◌, ◌+◌, ◌^◌, ◌<◌, ◌≤◌, [], length, Ok, Some, None, IfOk, IfErr};
 ghost use Rattle.pp_expression.specs.Lines.{Line, next, Stops, Reads};
@@ -18,7 +18,7 @@ use pp_lexer::token::Punct;
 use std::alloc::{AllocError, Global};
 use std::marker::Model;
 
-/// The symbols of a line that are still to come, and the fault that ends their reading.
+/// The symbols of a line that are not read yet, and the fault that ends their reading.
 #[derive(Drop)]
 struct Reader<'a> {
     symbols: &'a [Symbol],
@@ -33,12 +33,12 @@ impl<'a> Model for Reader<'a> {
     ghost view = { λ reader. record { symbols = reader.symbols.now; ending = reader.ending } };
 }
 
-/// The level of products. They, and operators in front of their operand, are computed before it is
-/// known what comes after their right operand.
+/// The level of products. Products, and operators in front of their operand, are computed before the symbol after their
+/// right operand is known.
 const PRODUCT: u8 = 9;
 
-/// What a symbol begins where an operand without an operator in front is wanted: a number, or `None`
-/// at an opening parenthesis.
+/// The operand that starts at this symbol: a number, or `None` for `(`. The error of any other symbol, or of the end,
+/// if no operand starts there.
 fn atom_of(symbol: Option<Symbol>) -> Result<Option<u64>, ExpressionFault>
     ensures { result ≡ spec.atom_of symbol }
 {
@@ -51,7 +51,7 @@ fn atom_of(symbol: Option<Symbol>) -> Result<Option<u64>, ExpressionFault>
     }
 }
 
-/// Whether a symbol is the closing parenthesis that is wanted.
+/// Fails unless the symbol is `)`.
 fn closing(symbol: Option<Symbol>) -> Result<(), ExpressionFault>
     ensures { result ≡ spec.closing symbol }
 {
@@ -62,7 +62,7 @@ fn closing(symbol: Option<Symbol>) -> Result<(), ExpressionFault>
     }
 }
 
-/// The answer, or the fault with where it is found.
+/// The answer, or the fault with the place at which it is found.
 fn at<T>(left: usize, answer: Result<T, ExpressionFault>) -> Result<T, Found>
     ensures { result ≡ located left answer }
 {
@@ -103,7 +103,7 @@ impl<'a> Reader<'a> {
         }
     }
 
-    /// The operator in front of an operand that comes next, if one does.
+    /// The operator in front of an operand that comes next, or `None` if something else comes.
     fn sign(&self) -> Result<Option<Unary>, Found>
         ensures { result ≡ located (length self.now.symbols) (sign_at self.now) }
     {
@@ -113,7 +113,7 @@ impl<'a> Reader<'a> {
         }
     }
 
-    /// The operator between operands that comes next, if one does.
+    /// The operator between operands that comes next, or `None` if something else comes.
     fn operator(&self) -> Result<Option<Binary>, Found>
         ensures { result ≡ located (length self.now.symbols) (binary_at self.now) }
     {
@@ -123,8 +123,7 @@ impl<'a> Reader<'a> {
         }
     }
 
-    /// How many symbols there are from the one at which an operator is computed, after its right
-    /// operand.
+    /// How many symbols are left at the point at which an operator is computed, after its right operand.
     fn left_at(&self, operator: Operator) -> usize
         ensures { result ≡ computed_at operator self.now }
     {
@@ -135,7 +134,7 @@ impl<'a> Reader<'a> {
         }
     }
 
-    /// Takes a number, or a parenthesis for `None`.
+    /// Takes a number, or `(` for `None`.
     fn take_atom(&mut self) -> Result<Option<u64>, Found>
         ensures value { result ≡ located (length self.old.symbols) (atom_at self.old) }
         ensures rest { self.new ≡ after_next self.old }
@@ -146,7 +145,7 @@ impl<'a> Reader<'a> {
         at(left, atom_of(at(left, first)?))
     }
 
-    /// Takes the closing parenthesis.
+    /// Takes the `)`.
     fn take_closing(&mut self) -> Result<(), Found>
         ensures value { result ≡ located (length self.old.symbols) (closing_at self.old) }
         ensures rest { self.new ≡ after_next self.old }
@@ -158,10 +157,10 @@ impl<'a> Reader<'a> {
     }
 }
 
-/// Where an evaluation stands.
+/// The state of an evaluation.
 #[derive(Clone, Copy)]
 enum State {
-    /// An operand is wanted.
+    /// An operand has to come next.
     OperandWanted,
     /// An operand of this value was read.
     OperandRead(i64),
@@ -169,7 +168,7 @@ enum State {
     Ended(i64),
 }
 
-/// The evaluation of an expression: what is still to come of its line, and what is pending.
+/// The evaluation of an expression: the rest of its line, and what is pending.
 #[derive(Drop)]
 struct Evaluator<'a> {
     line: Reader<'a>,
@@ -193,7 +192,7 @@ impl<'a> Evaluator<'a> {
         Ok(value)
     }
 
-    /// Takes an operator in front of the operand that is wanted, a parenthesis, or a number.
+    /// Takes the next symbol of an operand: an operator in front of it, a `(`, or a number.
     fn take_operand(&mut self) -> Result<State, Halt>
         ensures leads { Leads State.OperandWanted self.old result self.new }
         ensures gets_on { GetsOn self.old result self.new }
@@ -213,7 +212,7 @@ impl<'a> Evaluator<'a> {
         }
     }
 
-    /// Takes the operator that comes next. `operand` is what stands before it.
+    /// Takes the operator that comes next. `operand` is the operand just before it.
     fn take_operator(&mut self, operator: Binary, operand: i64) -> Result<State, Halt>
         requires { binary_at self.old.line ≡ Ok (Some operator) }
         ensures leads { Leads (State.OperandRead operand) self.old result self.new }
@@ -226,7 +225,7 @@ impl<'a> Evaluator<'a> {
         Ok(State::OperandWanted)
     }
 
-    /// Ends the innermost parentheses, or the whole expression. `operand` is the last in it.
+    /// Ends the innermost parentheses, or the whole expression. `operand` is the last operand in it.
     fn end_expression(&mut self, operand: i64) -> Result<State, Halt>
         requires { binary_at self.old.line ≡ Ok None }
         ensures leads { Leads (State.OperandRead operand) self.old result self.new }
@@ -242,7 +241,7 @@ impl<'a> Evaluator<'a> {
         }
     }
 
-    /// Goes on after an operand: to the operator that comes next, or out of what is over.
+    /// Continues after an operand: takes the operator that comes next, or ends the parentheses or the expression.
     fn go_on(&mut self, operand: i64) -> Result<State, Halt>
         ensures leads { Leads (State.OperandRead operand) self.old result self.new }
         ensures gets_on { GetsOn self.old result self.new }
@@ -271,19 +270,18 @@ impl<'a> Evaluator<'a> {
     }
 }
 
-/// The value of the expression at the front of a line of `#if`, `#elif` or `#line` (GLSL ES 3.20
-/// section 3.4). Symbols after it are no fault: `left` of the answer counts them.
+/// Returns the value of the expression at the front of a line of `#if`, `#elif` or `#line` (GLSL ES 3.20 section 3.4).
+/// Symbols after the expression are no fault: `left` of the result counts them.
 ///
-/// `ending` is the fault that ends the reading of the line's words after `symbols`, or `None` where
-/// the line ends there. It is the expression's only where it has to be known what comes after
-/// `symbols`.
+/// `ending` is the fault that ends the reading of the line's words after `symbols`, or `None` if the line ends there.
+/// It is a fault of the expression only if the expression depends on what comes after `symbols`.
 ///
-/// An `Err` within is the first fault: `Unexpected`, `UnexpectedEndOfInput` or `Operand` where an
-/// operand or a `)` is wanted, `IntegerOverflow`, `DivisionByZero` or `RemainderByZero` of an operator, or `ending`. An
-/// operator in front of its operand, `*`, `/` and `%` are computed once the last symbol of their right
-/// operand is read, the others once the symbol after it is known.
+/// The inner `Err` is the first fault: `Unexpected`, `UnexpectedEndOfInput` or `Operand` if an operand or a `)` has to
+/// come, `IntegerOverflow`, `DivisionByZero` or `RemainderByZero` of an operator, or `ending`. An operator in front of
+/// its operand, `*`, `/` and `%` are computed once the last symbol of their right operand is read, the others once the
+/// symbol after it is known.
 ///
-/// What is pending is kept in memory of `alloc`. The outer `Err` says that it was refused.
+/// Open parentheses and pending operators are kept in memory of `alloc`. The outer `Err` is that an allocation failed.
 #[tactic(auto, using(crate::proofs::PossibleFaults::is_first, crate::proofs::PossibleFaults::is_value))]
 pub fn evaluate(
     alloc: Global,

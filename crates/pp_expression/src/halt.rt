@@ -10,7 +10,7 @@ use std::alloc::AllocError;
 pub enum Halt {
     /// The expression's first fault.
     Fault(Found),
-    /// Memory was refused.
+    /// An allocation failed.
     Refused(AllocError),
 }
 

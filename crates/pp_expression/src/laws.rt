@@ -3,12 +3,12 @@
 
 ghost use Rattle.pp_expression.specs.ExpressionLaws.{OneValue, OneFault, NotBoth, AnEvaluation};
 
-/// An expression at the front of a line has one value, and one end.
+/// An expression at the front of a line has at most one value and one end.
 pub fn one_value()
     ensures { OneValue }
 {}
 
-/// A line has one first fault, found at one place.
+/// A line has at most one first fault, found at one place.
 pub fn one_fault()
     ensures { OneFault }
 {}

@@ -59,7 +59,7 @@ pub enum Binary {
     LogicalOr,
 }
 
-/// The operator that a punctuator is in front of an operand, or `None`.
+/// Returns the operator that a punctuator is in front of an operand, or `None` if it is none there.
 pub fn unary_of(punct: Punct) -> Option<Unary>
     ensures { result ≡ spec.unary_of punct }
 {
@@ -72,7 +72,7 @@ pub fn unary_of(punct: Punct) -> Option<Unary>
     }
 }
 
-/// The operator that a punctuator is after an operand, or `None`.
+/// Returns the operator that a punctuator is after an operand, or `None` if it is none there.
 pub fn binary_of(punct: Punct) -> Option<Binary>
     ensures { result ≡ spec.binary_of punct }
 {
@@ -99,7 +99,7 @@ pub fn binary_of(punct: Punct) -> Option<Binary>
     }
 }
 
-/// How tightly an operator binds: 0 is the loosest level, that of `||`, and 9 that of `*`.
+/// Returns how tightly an operator binds: 0 is the loosest level, that of `||`, and 9 that of `*`.
 #[tactic(auto, unfolding(crate::specs::Operators::level_of))]
 pub fn level_of(operator: Binary) -> u8
     ensures { result ≡ spec.level_of operator }

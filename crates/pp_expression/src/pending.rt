@@ -1,4 +1,4 @@
-//! What is pending while an operand is wanted: open parentheses, and operators that wait for it.
+//! What is pending while an operand is read: open parentheses, and operators that need the operand.
 
 ghost use Rattle.std.specs.Prelude.{◌≡◌, [], ◌∷◌, OnOk, IfNone, IfSome};
 ghost use Rattle.pp_expression.specs.inner.Pending as spec;
@@ -12,7 +12,7 @@ use std::marker::Model;
 /// How tightly an operator in front of its operand binds.
 const PREFIX: u8 = 10;
 
-/// An operator whose right operand is still to come.
+/// An operator whose right operand is not read yet.
 #[derive(Clone, Copy)]
 pub enum Operator {
     /// One in front of its operand.
@@ -22,7 +22,7 @@ pub enum Operator {
 }
 
 impl Operator {
-    /// How tightly it binds: as `level_of` says, and 10 in front of its operand.
+    /// How tightly it binds: as `level_of` says between operands, and 10 in front of an operand.
     pub fn level(self) -> u8
         ensures { result ≡ spec.operator_level self }
     {
@@ -43,7 +43,7 @@ impl Operator {
     }
 }
 
-/// What an operand that is still to come stands in.
+/// What surrounds an operand that is not read yet.
 #[derive(Clone, Copy)]
 pub enum Pending {
     /// Parentheses that are still open.
@@ -68,7 +68,7 @@ impl Model for PendingList {
 }
 
 impl PendingList {
-    /// Nothing is pending. Takes no memory.
+    /// An empty list. It allocates nothing.
     pub fn new(alloc: Global) -> Self
         ensures { result ≡ [] }
     {
@@ -77,7 +77,7 @@ impl PendingList {
         }
     }
 
-    /// Puts one more within all that is pending.
+    /// Adds one, inside all that is pending.
     pub fn push(&mut self, inner: Pending) -> Result<(), AllocError>
         ensures { OnOk result (self.new ≡ inner ∷ self.old) }
     {
@@ -85,14 +85,14 @@ impl PendingList {
         Ok(())
     }
 
-    /// The innermost.
+    /// The innermost one.
     fn innermost(&self) -> Option<Pending>
         ensures { result ≡ spec.innermost self.now }
     {
         self.outermost_first.last().copied()
     }
 
-    /// Takes the innermost.
+    /// Takes the innermost one.
     pub fn pop(&mut self) -> Option<Pending>
         ensures is { result ≡ spec.innermost self.old }
         ensures rest { self.new ≡ spec.outer self.old }
@@ -100,7 +100,7 @@ impl PendingList {
         self.outermost_first.pop()
     }
 
-    /// Takes the innermost, if it is an operator that binds at least as tightly as the level.
+    /// Takes the innermost one, if it is an operator that binds at least as tightly as the level.
     pub fn take_from(&mut self, level: u8) -> Option<Operator>
         ensures none { IfNone result (spec.IsLoose level self.old self.new) }
         ensures some { IfSome result (λ operator. spec.IsTaken level operator self.old self.new) }

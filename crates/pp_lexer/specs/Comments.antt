@@ -27,7 +27,8 @@ has_close [] = false
 has_close (p ∷ ps) = (is_star p && begins_with is_slash ps) || has_close ps
 
 -- How many characters the comment at the front has, or 0 where none stands there.
--- A `//` comment ends before the next newline, and a `/*` comment after the next `*/` that stands wholly after its `/*`.
+-- A `//` comment ends before the next newline, and a `/*` comment after the next `*/`
+-- that stands wholly after its `/*`.
 abbrev pub comment_length : List Placed → ℕ
 comment_length [] = 0
 comment_length (p ∷ []) = 0
@@ -41,8 +42,9 @@ abbrev pub is_unclosed : List Placed → Bool
 is_unclosed [] = false
 is_unclosed (q ∷ ps) = is_star q && not (has_close ps)
 
--- The mark of a comment is a carriage return, which no other character is by now. It has the line of the comment's first slash.
--- Its stretch ends after the comment's last character; where a `/*` comment has no `*/`, at the end of the source.
+-- The mark of a comment is a carriage return, which no other character is by now. It has the line of the
+-- comment's first slash. Its stretch ends after the comment's last character; where a `/*` comment has no
+-- `*/`, at the end of the source.
 abbrev pub mark : ℕ → Part Placed → Placed
 mark total comment = record {
   char = 13;

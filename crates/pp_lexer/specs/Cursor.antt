@@ -1,7 +1,8 @@
 -- What a reader of characters stands for.
 use Rattle.std.specs.Prelude.{ℕ, Bool, false, ◌==◌, List, [], ◌∷◌, Option, Some, None, drop, take}
 
--- a character, its line, and where its stretch of the source ends, in bytes; it begins where the one before it ends, or at 0
+-- a character, its line, and where its stretch of the source ends, in bytes; it begins where
+-- the one before it ends, or at 0
 pub record Placed : Type 0 where
   pub char : ℕ
   pub line : ℕ

@@ -52,10 +52,12 @@ leaf_decides : (a b : Leaf) → Decides (leaf_eq a b) (a ≡ b)
 leaf_decides (ident s) (ident t) = Decides-like _ (ap ident) (λ e. cc) (bytes_decides s t)
 leaf_decides (integer a) (integer b) = Decides-like _ (ap integer) (λ e. cc) (integer_decides a b)
 leaf_decides (float s v) (float t w) =
-    Decides-like _ (λ p i. float (p.0 i) (p.1 i)) (λ e. (cc, cc)) (Decides-and _ _ (bytes_decides s t) (Decides-int_eq v w))
+    Decides-like _ (λ p i. float (p.0 i) (p.1 i)) (λ e. (cc, cc))
+    (Decides-and _ _ (bytes_decides s t) (Decides-int_eq v w))
 leaf_decides (punct p) (punct q) = Decides-like _ (ap punct) (λ e. cc) (punct_decides p q)
 leaf_decides (version a b) (version c d) =
-    Decides-like _ (λ p i. version (p.0 i) (p.1 i)) (λ e. (cc, cc)) (Decides-and _ _ (beq_decides a c) (beq_decides b d))
+    Decides-like _ (λ p i. version (p.0 i) (p.1 i)) (λ e. (cc, cc))
+    (Decides-and _ _ (beq_decides a c) (beq_decides b d))
 leaf_decides (extension a) (extension b) = Decides-like _ (ap extension) (λ e. cc) (beq_decides a b)
 leaf_decides pragma pragma = (λ _. refl, λ _. refl)
 leaf_decides _ _ = (λ h. absurd (false≢true h), λ e. cc)
@@ -65,7 +67,8 @@ entry_decides a b =
     Decides-like _
     (λ p i. record { depth = p.0 i; leaf = p.1.0 i; location = p.1.1 i })
     (λ e. (ap (λ x. x.depth) e, (ap (λ x. x.leaf) e, ap (λ x. x.location) e)))
-    (Decides-and _ _ (Decides-eqb a.depth b.depth) (Decides-and _ _ (leaf_decides a.leaf b.leaf) (location_decides a.location b.location)))
+    (Decides-and _ _ (Decides-eqb a.depth b.depth)
+    (Decides-and _ _ (leaf_decides a.leaf b.leaf) (location_decides a.location b.location)))
 
 pub entries_decide : (xs ys : List Entry) → Decides (pointwise entry_eq xs ys) (xs ≡ ys)
 entries_decide = pointwise_decides entry_decides

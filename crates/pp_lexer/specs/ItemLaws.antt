@@ -12,7 +12,10 @@ IsWithin total (Err e) = Unit {0}
 
 -- Every token of a source has its start at most at its end, and its end in the source.
 abbrev pub TokensLieWithin : Type 0
-TokensLieWithin = (source : List ℕ) → IsUtf8 source → All (λ i. IsWithin (length source) i.item) (items_of (spots_of source))
+TokensLieWithin =
+    (source : List ℕ)
+    → IsUtf8 source
+    → All (λ i. IsWithin (length source) i.item) (items_of (spots_of source))
 
 -- A source has at most as many items as bytes, and one.
 abbrev pub ItemsAreFinite : Type 0
@@ -25,7 +28,10 @@ HasLineWithin total (Err e) = Unit {0}
 
 -- Every token of a source has a line that is at least 1, and at most one more than the source's bytes.
 abbrev pub TokensHaveLines : Type 0
-TokensHaveLines = (source : List ℕ) → IsUtf8 source → All (λ i. HasLineWithin (length source) i.item) (items_of (spots_of source))
+TokensHaveLines =
+    (source : List ℕ)
+    → IsUtf8 source
+    → All (λ i. HasLineWithin (length source) i.item) (items_of (spots_of source))
 
 -- a token stands where it says; an error says no place
 abbrev pub IsAt : Lexeme → Location → Type 0

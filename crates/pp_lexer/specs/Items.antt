@@ -1,5 +1,5 @@
--- The items of a text: its tokens and errors, each by the segments that stand before it (docs/RULES.md, Characters 6, Tokens 1, 7 and 8).
--- Of the segments before a place the nearest comes first.
+-- The items of a text: its tokens and errors, each by the segments that stand before it (docs/RULES.md, Characters 6,
+-- Tokens 1, 7 and 8). Of the segments before a place the nearest comes first.
 use Rattle.std.specs.Prelude.{ℕ, Bool, true, false, ◌||◌, ◌&&◌, if◌then◌else◌, List, [], ◌∷◌, ◌++◌, reverse, Result, Ok, Err, count_by}
 use Rattle.std.specs.List.{flat_map}
 use Rattle.pp_lexer.specs.declared.token.Location.{Location}
@@ -84,9 +84,12 @@ final_newline (g ∷ gs) =
       comments = comments_in (g ∷ gs);
     } ∷ []
 
--- the items of a text, by its characters after the phases: those of its segments, each by what stands before it, and that of its end
+-- the items of a text, by its characters after the phases: those of its segments, each by what stands
+-- before it, and that of its end
 abbrev pub items_of : List Spot → List Item
-items_of ss = flat_map (λ s. item_at s.before s.here s.here.kind) (surrounded (segments ss)) ++ final_newline (reverse (segments ss))
+items_of ss =
+    flat_map (λ s. item_at s.before s.here s.here.kind) (surrounded (segments ss))
+    ++ final_newline (reverse (segments ss))
 
 -- where the item of a segment stands, an error too
 abbrev pub places_at : Segment → Kind → List Location

@@ -12,8 +12,8 @@ pub record Seen : Type 0 where
   pub item : Lexeme
   pub had_comments : Bool
 
--- the items to come, whether comments were passed so far and will have been at the end, whether memory was refused, where the item given last stands,
--- and where those to come do
+-- the items to come, whether comments were passed so far and will have been at the end, whether memory was refused,
+-- where the item given last stands, and where those to come do
 pub record Lexed : Type 0 where
   pub rest : List Seen
   pub had_comments : Bool
@@ -27,7 +27,15 @@ seen i = record { item = i.item; had_comments = nat_lt 0 i.comments }
 
 -- a lexer at the start of a text
 abbrev pub start_of : List Spot → Lexed
-start_of ss = record { rest = map seen (items_of ss); had_comments = false; at_end = nat_lt 0 (comments_of ss); spent = false; place = nowhere; places = places_of ss }
+start_of ss =
+    record {
+      rest = map seen (items_of ss);
+      had_comments = false;
+      at_end = nat_lt 0 (comments_of ss);
+      spent = false;
+      place = nowhere;
+      places = places_of ss;
+    }
 
 -- the first item to come
 abbrev pub first_item : List Seen → Option Lexeme
@@ -87,4 +95,5 @@ pub record IsGiven (old : Lexed) (answer : Option Lexeme) (new : Lexed) : Type 0
 
 -- one call of `next`: a spent lexer gives nothing and stays as it is
 abbrev pub IsNext : Lexed → Option Lexeme → Lexed → Type 0
-IsNext old answer new = MatchBool old.spent ((answer ≡ None) × (new ≡ old)) (IsRefused old answer new ⊎ IsGiven old answer new)
+IsNext old answer new =
+    MatchBool old.spent ((answer ≡ None) × (new ≡ old)) (IsRefused old answer new ⊎ IsGiven old answer new)

@@ -32,6 +32,7 @@ pub mod Words
 pub mod Segments
 pub mod Items
 pub mod Lexed
+pub mod PlainItems
 pub mod ItemLaws
 pub mod Respelling
 pub mod inner

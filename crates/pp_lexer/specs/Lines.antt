@@ -1,4 +1,5 @@
--- The source as characters with their lines: phases 4 and 5 of the logical phases of compilation, GLSL ES 3.20, section 3.10.
+-- The source as characters with their lines: phases 4 and 5 of the logical phases of
+-- compilation, GLSL ES 3.20, section 3.10.
 use Rattle.std.specs.Prelude.{ℕ, ◌+◌, Bool, ◌&&◌, ◌||◌, ◌==◌, if◌then◌else◌, List, [], ◌∷◌, map, sum_by, count_by}
 use Rattle.std.specs.Char.{len_utf8}
 use Rattle.pp_lexer.specs.Cursor.{Placed}

@@ -33,7 +33,9 @@ is_s c = (c == 115) || (c == 83)
 -- the letter of a width that is not supported, which is never taken: `l` for 64 bits, another for 16
 abbrev pub width_refusal : (ℕ → Bool) → List ℕ → Option PreprocessorError
 width_refusal is_short after =
-    if begins_with is_l after then Some NotSupported64BitLiteral else if begins_with is_short after then Some NotSupported16BitLiteral else None
+    if begins_with is_l after then Some NotSupported64BitLiteral
+    else if begins_with is_short after then Some NotSupported16BitLiteral
+    else None
 
 -- how many characters a suffix takes that stands here or not
 abbrev pub suffix_len : (ℕ → Bool) → List ℕ → ℕ
@@ -67,10 +69,13 @@ float_tail cs = float_exponent cs || one is_point (many is_decimal float_exponen
 
 -- D+(.D*)?(e[+-]?D+)? or .D+(e[+-]?D+)?
 abbrev pub is_float_text : List ℕ → Bool
-is_float_text cs = one is_decimal (many is_decimal float_tail) cs || one is_point (one is_decimal (many is_decimal float_exponent)) cs
+is_float_text cs =
+    one is_decimal (many is_decimal float_tail) cs || one is_point (one is_decimal (many is_decimal float_exponent)) cs
 
 abbrev pub float_value : List ℕ → Answer
-float_value w = if is_float_text (float_text w) then Ok (Float (record { text = float_text w; width = pos 32 })) else Err FloatParsingError
+float_value w =
+    if is_float_text (float_text w) then Ok (Float (record { text = float_text w; width = pos 32 }))
+    else Err FloatParsingError
 
 -- an `f` after a float is taken; the letter of a width is reported before any fault of the value
 abbrev pub float_outcome : List ℕ → List ℕ → Outcome
@@ -92,15 +97,23 @@ digits_of w = if begins_hex w then drop 2 w else w
 abbrev pub whole : ℕ → List ℕ → Option ℕ
 whole base [] = None
 whole base (c ∷ cs) =
-    if list_all (λ d. is_digit d base) (c ∷ cs) && nat_lt (digits_value_after base 0 (c ∷ cs)) (2 ^ 64) then Some (digits_value_after base 0 (c ∷ cs)) else None
+    if list_all (λ d. is_digit d base) (c ∷ cs) && nat_lt (digits_value_after base 0 (c ∷ cs)) (2 ^ 64)
+    then Some (digits_value_after base 0 (c ∷ cs))
+    else None
 
 abbrev pub integer_value : Bool → List ℕ → Answer
-integer_value signed w = ok_or (option_map (λ n. Integer (record { value = n; signed = signed; width = pos 32 })) (whole (base_of w) (digits_of w))) IntegerOverflow
+integer_value signed w =
+    ok_or
+    (option_map (λ n. Integer (record { value = n; signed = signed; width = pos 32 }))
+    (whole (base_of w) (digits_of w)))
+    IntegerOverflow
 
 -- a `u` after an integer is taken and makes it unsigned
 abbrev pub integer_outcome : List ℕ → List ℕ → Outcome
 integer_outcome w after = record {
-  value = option_map_or Err (width_refusal is_s (drop (suffix_len is_u after) after)) (integer_value (not (begins_with is_u after)) w);
+  value =
+      option_map_or Err (width_refusal is_s (drop (suffix_len is_u after) after))
+      (integer_value (not (begins_with is_u after)) w);
   taken = length w + suffix_len is_u after;
 }
 

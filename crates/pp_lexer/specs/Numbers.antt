@@ -50,7 +50,8 @@ is_hex_number = one is_zero (one is_x (many is_hex (optional (one is_point fract
 
 -- a number of the `0x` form, D+(.D*)?([eE][+-]?D*)? or .D+([eE][+-]?D*)?
 unfoldable pub is_number : List ℕ → Bool
-is_number cs = is_hex_number cs || (one is_decimal (many is_decimal decimal_tail) cs || one is_point (one is_decimal fraction) cs)
+is_number cs =
+    is_hex_number cs || (one is_decimal (many is_decimal decimal_tail) cs || one is_point (one is_decimal fraction) cs)
 
 -- a number begins here: a digit, or a point and then a digit
 abbrev pub begins_number : List ℕ → Bool

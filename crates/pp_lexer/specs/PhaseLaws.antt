@@ -25,13 +25,18 @@ ends_in_break (c ∷ d ∷ cs) = ends_in_break (d ∷ cs)
 -- A pair that no line break stands before is one newline.
 abbrev pub PairsCountOnce : Type 0
 PairsCountOnce =
-    (front back : List ℕ) (c d : ℕ) → ends_in_break front ≡ false → is_pair c d ≡ true
-    → count_by is_newline (lines (front ++ (c ∷ d ∷ back))) ≡ count_by is_newline (lines front) + 1 + count_by is_newline (lines back)
+    (front back : List ℕ) (c d : ℕ)
+    → ends_in_break front ≡ false
+    → is_pair c d ≡ true
+    → count_by is_newline (lines (front ++ (c ∷ d ∷ back)))
+    ≡ count_by is_newline (lines front) + 1 + count_by is_newline (lines back)
 
 -- A line is one more than the newlines before it.
 abbrev pub LinesCountNewlines : Type 0
 LinesCountNewlines =
-    (cs : List ℕ) (n : ℕ) (p : Placed) → slice_get (lines cs) n ≡ Some p → p.line ≡ count_by is_newline (take n (lines cs)) + 1
+    (cs : List ℕ) (n : ℕ) (p : Placed)
+    → slice_get (lines cs) n ≡ Some p
+    → p.line ≡ count_by is_newline (take n (lines cs)) + 1
 
 -- the line of each character is at most that of any later one
 abbrev pub NeverFalls : List Placed → Type 0
@@ -46,7 +51,8 @@ pub record LinesNeverFall (source : List ℕ) : Type 0 where
 abbrev pub SourcesNeverFall : Type 0
 SourcesNeverFall = (source : List ℕ) → IsUtf8 source → LinesNeverFall source
 
--- Where one character's stretch ends the next one's begins. From this place on each has room for its character, and all end within so many bytes.
+-- Where one character's stretch ends the next one's begins. From this place on each has room for its character,
+-- and all end within so many bytes.
 abbrev pub StretchesFollow : ℕ → ℕ → List Placed → Type 0
 StretchesFollow at total [] = at ≤ total
 StretchesFollow at total (p ∷ ps) = (at + len_utf8 p.char ≤ p.end) × StretchesFollow p.end total ps
@@ -58,13 +64,14 @@ ends_in_continuation (p ∷ []) = false
 ends_in_continuation (p ∷ q ∷ []) = is_backslash p && is_newline q
 ends_in_continuation (p ∷ q ∷ r ∷ ps) = ends_in_continuation (q ∷ r ∷ ps)
 
--- The stretches cut a source into consecutive parts from its first byte on, and up to its last, except where a continuation stands last.
--- What such a continuation takes is left over in the list, unless an open comment holds it.
+-- The stretches cut a source into consecutive parts from its first byte on, and up to its last, except where a
+-- continuation stands last. What such a continuation takes is left over in the list, unless an open comment holds it.
 pub record StretchesTile (source : List ℕ) : Type 0 where
   pub lines_follow : StretchesFollow 0 (length source) (lines_of source)
   pub lines_end : last_end 0 (lines_of source) ≡ length source
   pub continuations_follow : StretchesFollow 0 (length source) (continued_of source)
-  pub continuations_end : ends_in_continuation (lines_of source) ≡ false → last_end 0 (continued_of source) ≡ length source
+  pub continuations_end : ends_in_continuation (lines_of source) ≡ false
+      → last_end 0 (continued_of source) ≡ length source
   pub comments_follow : StretchesFollow 0 (length source) (replaced_of source)
   pub comments_end : ends_in_continuation (lines_of source) ≡ false → last_end 0 (replaced_of source) ≡ length source
 

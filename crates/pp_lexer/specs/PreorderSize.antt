@@ -19,4 +19,10 @@ length-entries_of t = omega (arith, length-map (inner t.value) deeper)
 pub most_le-length-preorder : (ts : List Token) → most deep-Token ts ≤ length (preorder ts)
 most_le-length-preorder [] = omega arith
 most_le-length-preorder (t ∷ ts) =
-    omega (arith, most_le-length-preorder ts, deep_le-inner t.value, length-entries_of t, length-append (entries_of t) (preorder ts))
+    omega (
+      arith,
+      most_le-length-preorder ts,
+      deep_le-inner t.value,
+      length-entries_of t,
+      length-append (entries_of t) (preorder ts),
+    )

@@ -14,12 +14,14 @@ use Rattle.pp_lexer.specs.Outcome.{Outcome}
 -- the punctuators, each after its characters
 abbrev pub punctuators : List (List ℕ × Punctuator)
 punctuators =
-    (codes "+=", AddAssign) ∷ (codes "-=", SubAssign) ∷ (codes "*=", MulAssign) ∷ (codes "/=", DivAssign) ∷ (codes "%=", ModAssign) ∷
-    (codes "<<=", LeftShiftAssign) ∷ (codes ">>=", RightShiftAssign) ∷ (codes "&=", AndAssign) ∷ (codes "^=", XorAssign) ∷ (codes "|=", OrAssign) ∷
-    (codes "++", Increment) ∷ (codes "--", Decrement) ∷ (codes "&&", LogicalAnd) ∷ (codes "||", LogicalOr) ∷ (codes "^^", LogicalXor) ∷
-    (codes "<=", LessEqual) ∷ (codes ">=", GreaterEqual) ∷ (codes "==", EqualEqual) ∷ (codes "!=", NotEqual) ∷ (codes "<<", LeftShift) ∷
-    (codes ">>", RightShift) ∷ (codes "{", LeftBrace) ∷ (codes "}", RightBrace) ∷ (codes "(", LeftParen) ∷ (codes ")", RightParen) ∷
-    (codes "[", LeftBracket) ∷ (codes "]", RightBracket) ∷ (codes "<", LeftAngle) ∷ (codes ">", RightAngle) ∷ (codes ";", Semicolon) ∷
+    (codes "+=", AddAssign) ∷ (codes "-=", SubAssign) ∷ (codes "*=", MulAssign) ∷ (codes "/=", DivAssign) ∷
+    (codes "%=", ModAssign) ∷ (codes "<<=", LeftShiftAssign) ∷ (codes ">>=", RightShiftAssign) ∷
+    (codes "&=", AndAssign) ∷ (codes "^=", XorAssign) ∷ (codes "|=", OrAssign) ∷ (codes "++", Increment) ∷
+    (codes "--", Decrement) ∷ (codes "&&", LogicalAnd) ∷ (codes "||", LogicalOr) ∷ (codes "^^", LogicalXor) ∷
+    (codes "<=", LessEqual) ∷ (codes ">=", GreaterEqual) ∷ (codes "==", EqualEqual) ∷ (codes "!=", NotEqual) ∷
+    (codes "<<", LeftShift) ∷ (codes ">>", RightShift) ∷ (codes "{", LeftBrace) ∷ (codes "}", RightBrace) ∷
+    (codes "(", LeftParen) ∷ (codes ")", RightParen) ∷ (codes "[", LeftBracket) ∷ (codes "]", RightBracket) ∷
+    (codes "<", LeftAngle) ∷ (codes ">", RightAngle) ∷ (codes ";", Semicolon) ∷
     (codes ",", Comma) ∷ (codes ":", Colon) ∷ (codes ".", Dot) ∷ (codes "=", Equal) ∷ (codes "!", Bang) ∷
     (codes "-", Minus) ∷ (codes "~", Tilde) ∷ (codes "+", Plus) ∷ (codes "*", Star) ∷ (codes "/", Slash) ∷
     (codes "%", Percent) ∷ (codes "|", Pipe) ∷ (codes "^", Caret) ∷ (codes "&", Ampersand) ∷ (codes "?", Question) ∷ []
@@ -52,4 +54,5 @@ punctuation_outcome n (Some v) = record { value = Ok v; taken = n }
 
 -- what stands where neither an identifier nor a number begins: the longest punctuator or `#`, or a bad character
 unfoldable pub punctuation_at : List ℕ → Outcome
-punctuation_at cs = punctuation_outcome (longest is_punctuation cs) (punctuation_value (take (longest is_punctuation cs) cs))
+punctuation_at cs =
+    punctuation_outcome (longest is_punctuation cs) (punctuation_value (take (longest is_punctuation cs) cs))

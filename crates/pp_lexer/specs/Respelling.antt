@@ -1,4 +1,5 @@
--- Values that can be spelled, and what a lexer reads in a text that spells them: the tokens of GLSL ES 3.20, section 3.6.
+-- Values that can be spelled, and what a lexer reads in a text that spells them: the
+-- tokens of GLSL ES 3.20, section 3.6.
 use Rattle.std.specs.Prelude.{◌≡◌, ℕ, ◌<◌, ◌^◌, pos, true, ⊤, List, [], ◌∷◌, ◌++◌, map, Result, Ok, Err, All, encode_utf8_all}
 use Rattle.std.specs.Str.{IsUtf8, all_scalars}
 use Rattle.pp_lexer.specs.declared.token.Float.{Float as FloatLiteral}
@@ -61,7 +62,8 @@ abbrev pub ending : List TokenValue → List LexerTokenValue
 ending [] = []
 ending (v ∷ vs) = NewLine ∷ []
 
--- The spellings of values, with one space between each two, are read back as the same values in the same order, and a newline after them. No item is an error.
+-- The spellings of values, with one space between each two, are read back as the same values in the same order, and a
+-- newline after them. No item is an error.
 abbrev pub SpellingsAreReadBack : Type 0
 SpellingsAreReadBack =
     (values : List TokenValue) → All IsSpellable values

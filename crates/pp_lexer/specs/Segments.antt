@@ -1,4 +1,5 @@
--- The text cut into segments, from the left: blanks, tokens, and characters that begin no token (GLSL ES 3.20, section 3.10, phase 7, and docs/RULES.md, Tokens 1, 2 and 6).
+-- The text cut into segments, from the left: blanks, tokens, and characters that begin no token (GLSL ES 3.20, section
+-- 3.10, phase 7, and docs/RULES.md, Tokens 1, 2 and 6).
 use Rattle.std.specs.Prelude.{ℕ, zero, suc, ◌==◌, if◌then◌else◌, List, [], ◌∷◌, Result, length, take, drop}
 use Rattle.pp_lexer.specs.declared.token.PreprocessorError.{PreprocessorError}
 use Rattle.pp_lexer.specs.declared.lexer.item.TokenValue.{TokenValue}

@@ -1,4 +1,5 @@
--- The words of a source, after the phases: the tokens of GLSL ES 3.20, section 3.6, with the newline and the `#` of section 3.4.
+-- The words of a source, after the phases: the tokens of GLSL ES 3.20, section 3.6, with the
+-- newline and the `#` of section 3.4.
 use Rattle.std.specs.Prelude.{ℕ, Bool, ◌||◌, ◌==◌, if◌then◌else◌, List, Ok, length, take, drop}
 use Rattle.pp_lexer.specs.declared.lexer.item.TokenValue.TheVariants.{NewLine, Ident}
 use Rattle.pp_lexer.specs.Identifiers.{is_identifier}

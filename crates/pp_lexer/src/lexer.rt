@@ -1,16 +1,18 @@
 //! The character phases of GLSL ES 3.20, section 3.10, and the tokens after them.
 //!
-//! [`CharsAndLine`], [`SkipBackslashNewline`] and [`ReplaceComments`] give the characters after phases 4 and 5, 6 and 7,
-//! each with its line. [`Lexer`] gives the tokens. The rules are those of docs/RULES.md, Characters and Tokens.
+//! [`CharsAndLine`], [`SkipBackslashNewline`] and [`ReplaceComments`] give the characters after phases 4 and 5, 6
+//! and 7, each with its line. [`Lexer`] gives the tokens. The rules are those of docs/RULES.md, Characters and Tokens.
 
-ghost use Rattle.std.specs.Prelude.{◌≡◌, ◌-◌, ◌^◌, ◌<◌, ◌+◌, ◌↔◌, length, false, if◌then◌else◌, ⊤, OnOk, IfOk, IsSome, IfSome, MatchOption};
+ghost use Rattle.std.specs.Prelude.{◌≡◌, ◌-◌, ◌^◌, ◌<◌, ◌+◌, ◌↔◌, length, take, Ok, Some, true, false, if◌then◌else◌, ⊤, OnOk, IfOk, IsSome, IfSome, MatchOption};
 ghost use Rattle.std.specs.Iterator.{at_most};
 ghost use Rattle.pp_lexer.specs.Reading.{first_char};
 ghost use Rattle.pp_lexer.specs.Spots.{spots_of};
 ghost use Rattle.pp_lexer.specs.Words.{is_blank};
 ghost use Rattle.pp_lexer.specs.Lexed.{start_of, first_item, after_first_item, first_place, places_after_first, IsNext};
 ghost use Rattle.pp_lexer.specs.inner.Passing.{is_newline_result, seen_of, newline_seen, lexeme_seen, comments_at_end, newline_places, places_left, IsPlaced, IsLexed};
-ghost use Rattle.pp_lexer.specs.inner.PlainWords.{IsPlainLexed, IsNewlineLexed};
+ghost use Rattle.pp_lexer.specs.inner.Fronts.{IsLeft};
+ghost use Rattle.pp_lexer.specs.inner.PlainWords.{IsFirstWord, IsPlainLexed, IsNewlineLexed};
+ghost use Rattle.pp_lexer.specs.PlainItems.{token_of, is_newline_lexeme, IsNextPlain, PassesNewline};
 
 use crate::token::{Location, NOWHERE, PreprocessorError, out_of_memory};
 use std::alloc::{AllocError, Global};
@@ -25,6 +27,7 @@ pub mod laws;
 mod look_ahead;
 mod number;
 mod plain;
+mod plain_item;
 mod position;
 mod punctuation;
 mod replace_comments;
@@ -37,13 +40,15 @@ pub use chars_and_line::CharsAndLine;
 use chars_and_line::Left;
 pub use comments::Comments;
 pub use item::{LexerItem, Token, TokenValue};
-use plain::{newline_length, plain_value, plain_word, spaces_length};
+pub use plain::Form;
+use plain::{Word, begins_comment, newline_length, plain_word, spaces_length};
+pub use plain_item::{PlainItem, plain_value};
 pub use position::line_column;
 pub use replace_comments::{COMMENT_SENTINEL_VALUE, ReplaceComments};
 pub use skip_backslash_newline::SkipBackslashNewline;
 use word::parse_word;
 
-/// A source, and a content that is added, has fewer bytes than this.
+/// A source, and a content that is added, must have fewer bytes than this.
 pub const SOURCE_LIMIT: usize = 4294967295;
 
 // What the flags of the next token will be, and whether a comment was passed.
@@ -54,7 +59,7 @@ struct Flags {
     had_comments: bool,
 }
 
-// Whether the character stands between tokens.
+// Whether the character is a blank between tokens.
 fn is_blank_char(c: char) -> bool
     ensures { result ≡ is_blank c }
 {
@@ -81,7 +86,7 @@ fn skip_blanks(inner: &mut LexerCharIterator<'_>, flags: &mut Flags)
     }
 }
 
-// Passes the spaces of plain text before the next item.
+// Passes the spaces of ASCII text before the next item.
 #[inline(always)]
 fn skip_spaces(inner: &mut LexerCharIterator<'_>, flags: &mut Flags)
     ensures same { seen_of flags.new inner.new ≡ seen_of flags.old inner.old }
@@ -110,7 +115,69 @@ fn skip_spaces(inner: &mut LexerCharIterator<'_>, flags: &mut Flags)
     inner.go(rest, last);
 }
 
-// The next item, where it is a word of plain text, or nothing.
+// Passes the spaces and comments before the next item.
+#[inline(always)]
+fn skip_spaces_and_comments(inner: &mut LexerCharIterator<'_>, flags: &mut Flags)
+    ensures same { seen_of flags.new inner.new ≡ seen_of flags.old inner.old }
+    ensures at_end { comments_at_end flags.new inner.new ≡ comments_at_end flags.old inner.old }
+    ensures places { places_left flags.new inner.new ≡ places_left flags.old inner.old }
+{
+    skip_spaces(inner, flags);
+    if begins_comment(inner.left().text.as_bytes()) {
+        skip_blanks(inner, flags);
+    }
+}
+
+// Takes the word of plain text at the front of what is left.
+#[inline(always)]
+fn take_word<'a>(
+    inner: &mut LexerCharIterator<'a>,
+    flags: &mut Flags,
+    place: &mut Location,
+    left: Left<'a>,
+    word: Word,
+) -> PlainItem<'a>
+    requires left { IsLeft left.line left.at left.text.now inner.now.rest }
+    requires word { IsFirstWord left.text.now word }
+    ensures form { result.form ≡ word.form }
+    ensures spelling { result.spelling.now ≡ take word.taken left.entry.text.now }
+    ensures lexed { IsLexed flags.old inner.old (Ok (Some (Ok (token_of result)))) flags.new inner.new }
+    ensures placed { IsPlaced flags.old inner.old place.old flags.new inner.new place.new }
+    ensures comments { flags.new.had_comments ≡ flags.old.had_comments }
+{
+    let taken = word.taken;
+    let end = left.at + taken;
+    let spelling = &left.text[..taken];
+    let last = Spot {
+        c: left.text.as_bytes()[taken - 1] as char,
+        line: left.line,
+        begin: (end - 1) as u32,
+        end: end as u32,
+    };
+    *place = Location {
+        start: left.at as u32,
+        end: last.end,
+        line: left.line,
+    };
+    let item = PlainItem {
+        form: word.form,
+        spelling,
+        location: *place,
+        leading_whitespace: flags.leading_whitespace,
+        start_of_line: flags.start_of_line,
+    };
+    flags.leading_whitespace = false;
+    flags.start_of_line = false;
+    let rest = Left {
+        text: &left.text[taken..],
+        line: left.line,
+        at: end,
+    };
+    inner.go(rest, last);
+    item
+}
+
+// The next item if it is a word of ASCII text, else `None`.
 #[inline(always)]
 fn lex_plain(
     alloc: Global,
@@ -126,38 +193,16 @@ fn lex_plain(
     let Some(word) = plain_word(left.text) else {
         return Ok(None);
     };
-    let taken = word.taken;
-    let value = plain_value(alloc, word.form, &left.text[..taken])?;
-    let end = left.at + taken;
-    let last = Spot {
-        c: left.text.as_bytes()[taken - 1] as char,
-        line: left.line,
-        begin: (end - 1) as u32,
-        end: end as u32,
-    };
-    *place = Location {
-        start: left.at as u32,
-        end: last.end,
-        line: left.line,
-    };
-    let token = Token {
-        value,
-        location: *place,
-        leading_whitespace: flags.leading_whitespace,
-        start_of_line: flags.start_of_line,
-    };
-    flags.leading_whitespace = false;
-    flags.start_of_line = false;
-    let rest = Left {
-        text: &left.text[taken..],
-        line: left.line,
-        at: end,
-    };
-    inner.go(rest, last);
-    Ok(Some(Ok(token)))
+    let item = take_word(inner, flags, place, left, word);
+    Ok(Some(Ok(Token {
+        value: plain_value(alloc, item.form, item.spelling)?,
+        location: item.location,
+        leading_whitespace: item.leading_whitespace,
+        start_of_line: item.start_of_line,
+    })))
 }
 
-// The next item, where it is a newline of plain text, or nothing.
+// The next item if it is a newline of ASCII text, else `None`.
 #[inline(always)]
 fn lex_newline(
     inner: &mut LexerCharIterator<'_>,
@@ -167,6 +212,7 @@ fn lex_newline(
     ensures lexed { IsNewlineLexed flags.old inner.old result flags.new inner.new }
     ensures placed { MatchOption result (place.new ≡ place.old)
         (λ _. IsPlaced flags.old inner.old place.old flags.new inner.new place.new) }
+    ensures newline { IfSome result (λ newline. is_newline_lexeme newline ≡ true) }
 {
     let left = inner.left();
     let Some(taken) = newline_length(left.text.as_bytes()) else {
@@ -200,7 +246,7 @@ fn lex_newline(
     Some(Ok(token))
 }
 
-// The newline that ends a last line which has none.
+// The newline that is added after a last line without one.
 fn final_newline(last: Spot, flags: &mut Flags) -> Option<LexerItem>
     ensures value { result ≡ first_item (newline_seen flags.old last) }
     ensures rest { newline_seen flags.new last ≡ after_first_item (newline_seen flags.old last) }
@@ -224,7 +270,7 @@ fn final_newline(last: Spot, flags: &mut Flags) -> Option<LexerItem>
     }))
 }
 
-// Where that newline stands, or where the last item does if there is none.
+// The place of that newline, or of the last item if no newline is added.
 fn place_at_end(flags: Flags, last: Spot, place: Location) -> Location
     ensures { result ≡ first_place (newline_places flags last) place }
 {
@@ -239,7 +285,7 @@ fn place_at_end(flags: Flags, last: Spot, place: Location) -> Location
     place
 }
 
-// Whether the next item stands at the start of a line.
+// Whether the item after this one is the first of a line.
 fn ends_line(value: &Result<TokenValue, PreprocessorError>) -> bool
     ensures { result ≡ is_newline_result value.now }
 {
@@ -274,7 +320,7 @@ fn item_of(
     })
 }
 
-// The next item, or none at the end, character by character.
+// The next item, or `None` at the end, read character by character.
 fn lex_by_characters(
     alloc: Global,
     inner: &mut LexerCharIterator<'_>,
@@ -305,7 +351,7 @@ fn lex_by_characters(
     Ok(Some(item_of(value, before, first, last)))
 }
 
-// The next item, or none at the end.
+// The next item, or `None` at the end.
 fn lex(
     alloc: Global,
     inner: &mut LexerCharIterator<'_>,
@@ -326,21 +372,24 @@ fn lex(
     lex_by_characters(alloc, inner, flags, place)
 }
 
-/// The items of a source, one a call of `next`: tokens with places and flags, and errors.
+/// An iterator of the items of a source: tokens with places and flags, and errors.
 ///
-/// Blanks and comments are passed. Where none stands, the item is the longest word there: a newline, `#`, an identifier, a
-/// number or a punctuator; after the last one a [`TokenValue::NewLine`] is added where the last line has none.
-/// Places are byte offsets and 1-based lines of the source.
+/// Blanks and comments are skipped. Each item is the longest word at its place: a newline, `#`, an identifier, a number
+/// or a punctuator. If the last line has no newline, a [`TokenValue::NewLine`] is added after its last item. Places are
+/// byte offsets and 1-based lines of the source.
 ///
-/// The errors, each with (0, 0, line 1), while [`Lexer::place`] says where it stands:
-/// [`PreprocessorError::UnexpectedCharacter`], which takes its character and up to two more; of a number
-/// [`PreprocessorError::NotSupported64BitLiteral`], [`PreprocessorError::NotSupported16BitLiteral`],
-/// [`PreprocessorError::IntegerOverflow`] and [`PreprocessorError::FloatParsingError`]; and
-/// [`PreprocessorError::OutOfMemory`], which can come only in place of an identifier or of a float. After an
-/// `OutOfMemory` it gives `None` for good, and after each other error it goes on.
+/// The errors, each with the place (0, 0, line 1); [`Lexer::place`] returns their place in the source:
 ///
-/// From the Rust crate's `Lexer`, but that an error for refused memory stands in place of an abort. GLSL ES 3.20 has words
-/// in sections 3.4 to 3.8.
+/// - [`PreprocessorError::UnexpectedCharacter`], if no word begins with the character; it takes that character and up
+///   to two more;
+/// - for a number [`PreprocessorError::NotSupported64BitLiteral`], [`PreprocessorError::NotSupported16BitLiteral`],
+///   [`PreprocessorError::IntegerOverflow`] and [`PreprocessorError::FloatParsingError`];
+/// - [`PreprocessorError::OutOfMemory`], if the text of an identifier or of a float can't be allocated.
+///
+/// After an `OutOfMemory`, `next` returns `None` from then on. After any other error it goes on.
+///
+/// From the Rust crate's `Lexer`, which aborts where this one returns `OutOfMemory`. The words are those of GLSL ES
+/// 3.20, sections 3.4 to 3.8.
 #[derive(Drop)]
 pub struct Lexer<'a> {
     alloc: Global,
@@ -361,7 +410,8 @@ impl<'a> Model for Lexer<'a> {
 }
 
 impl<'a> Lexer<'a> {
-    /// A lexer at the start of a source of fewer than 2^32 - 1 bytes. It takes no memory and reads nothing yet.
+    /// Returns a lexer at the start of a source of fewer than 2^32 - 1 bytes. It allocates nothing and reads nothing
+    /// yet.
     pub fn new(alloc: Global, input: &'a str) -> Lexer<'a>
         requires { length input.now < 2 ^ 32 - 1 }
         ensures { result ≡ start_of (spots_of input.now) }
@@ -379,7 +429,7 @@ impl<'a> Lexer<'a> {
         }
     }
 
-    /// The same, or `None` for a source that is longer.
+    /// Does the same as `new`, but returns `None` for a longer source.
     pub fn try_new(alloc: Global, input: &'a str) -> Option<Lexer<'a>>
         ensures short { IsSome result ↔ (length input.now < 2 ^ 32 - 1) }
         ensures value { IfSome result (λ lexer. lexer ≡ start_of (spots_of input.now)) }
@@ -390,21 +440,61 @@ impl<'a> Lexer<'a> {
         Some(Lexer::new(alloc, input))
     }
 
-    /// Whether a comment has been passed as a blank so far: before the item given last, or anywhere in the source once
-    /// `None` was given. A comment that an error took doesn't count.
+    /// Returns whether a comment was skipped before the item that `next` returned last or, after a `None`, anywhere in
+    /// the source. A comment that an error took doesn't count.
     pub fn had_comments(&self) -> bool
         ensures { result ≡ self.now.had_comments }
     {
         self.flags.had_comments
     }
 
-    /// Where the item stands that was given last, an error too: the byte offsets and the line of what it took. Before the
-    /// first item it is [`NOWHERE`], the `None` at the end leaves it as it is, and once memory was refused nothing is said
-    /// of it.
+    /// Returns the place of the item that `next` returned last, also of an error: the byte offsets and the 1-based line
+    /// of the characters that it took. Before the first item it is [`NOWHERE`]. The `None` at the end leaves it as it
+    /// is. After an `OutOfMemory` its value is not specified.
     pub fn place(&self) -> Location
         ensures { result ≡ self.now.place }
     {
         self.place
+    }
+
+    /// The next item without its memory, if it is a word of plain text: an identifier, a decimal number or a
+    /// punctuator of ASCII characters that no line continuation cuts. Else it returns `None` and takes no item: at a
+    /// newline, a `#`, an error and the end, and after an `OutOfMemory`. `next` returns these. Comments before the
+    /// next item may have been passed then, which [`Lexer::had_comments`] says.
+    #[inline(always)]
+    pub fn next_plain(&mut self) -> Option<PlainItem<'a>>
+        ensures { IsNextPlain self.old result self.new }
+    {
+        if self.spent {
+            return None;
+        }
+        skip_spaces_and_comments(&mut self.inner, &mut self.flags);
+        let left = self.inner.left();
+        let Some(word) = plain_word(left.text) else {
+            return None;
+        };
+        if matches!(word.form, Form::Hash) {
+            return None;
+        }
+        Some(take_word(
+            &mut self.inner,
+            &mut self.flags,
+            &mut self.place,
+            left,
+            word,
+        ))
+    }
+
+    /// Passes the next item if it is a newline of plain text, with no space or comment before it, and returns whether
+    /// it did. Else it changes nothing.
+    #[inline(always)]
+    pub fn pass_newline(&mut self) -> bool
+        ensures { PassesNewline self.old result self.new }
+    {
+        if self.spent {
+            return false;
+        }
+        lex_newline(&mut self.inner, &mut self.flags, &mut self.place).is_some()
     }
 
     // The next item.

@@ -1,7 +1,7 @@
 //! Tokens of GLSL source with their places, and the errors of the preprocessor.
 //!
-//! Contracts see each type here as what its fields say: a text as the list of its characters, and
-//! a list of tokens as the list of its entries in preorder. Two values are `==` exactly where they
+//! Contracts see each type here as the values of its fields: a text as the list of its characters,
+//! and a list of tokens as the list of its entries in preorder. Two values are `==` exactly if they
 //! are equal in all fields.
 
 ghost use Rattle.std.specs.Prelude.{◌≡◌};
@@ -22,7 +22,7 @@ pub(crate) use error::refused;
 pub use placed_error::PlacedError;
 pub use text::Text;
 
-/// Where a token stands in its source.
+/// The place of a token in its source.
 #[derive(Clone, Copy, PartialEq, Eq, Debug)]
 pub struct Location {
     /// The byte offset at which the token begins.
@@ -33,7 +33,7 @@ pub struct Location {
     pub line: u32,
 }
 
-/// The place of what stands nowhere in the source: the Lexer's errors, and `OutOfMemory`.
+/// The place of an error that has none in the source: the Lexer's errors, and `OutOfMemory`.
 pub const NOWHERE: Location = Location {
     start: 0,
     end: 0,
@@ -156,21 +156,22 @@ pub enum Punct {
 /// What is wrong with a source, or that memory ran out.
 #[derive(PartialEq, Eq, Debug, Drop)]
 pub enum PreprocessorError {
-    /// An integer literal has no value of 64 bits, an `#if` or `#line` expression leaves them, or
-    /// the parentheses inside a macro call are too many to count.
+    /// An integer literal has no value of 64 bits, a value in an `#if`, `#elif` or `#line`
+    /// expression doesn't fit in 64 bits, a shift's count there is not one of 0 to 63, or the
+    /// parentheses inside a macro call are too many to count.
     IntegerOverflow,
     /// A float literal is not digits with an optional point and an optional exponent.
     FloatParsingError,
     /// No token begins with this character.
     UnexpectedCharacter,
-    /// A directive or an expression has this token where it wants another, or none.
+    /// A directive or an expression has this token where it needs another token, or none.
     UnexpectedToken(TokenValue),
-    /// A `#` in live text is not the first on its line, or stands in a directive or in the content
-    /// of an added definition.
+    /// A `#` in live text is not the first on its line, or is in a directive or in the content of
+    /// an added definition.
     UnexpectedHash,
     /// A directive ends before its name.
     UnexpectedNewLine,
-    /// The arguments of a macro call or an expression don't end.
+    /// The arguments of a macro call have no closing `)`, or an expression is incomplete.
     UnexpectedEndOfInput,
     /// A macro call has fewer arguments than the macro has parameters.
     TooFewDefineArguments,
@@ -180,9 +181,9 @@ pub enum PreprocessorError {
     ErrorDirective,
     /// A `#define` names a parameter twice.
     DuplicateParameter,
-    /// A directive's word is none that GLSL knows.
+    /// A directive's word is not a directive of GLSL.
     UnknownDirective,
-    /// A `#define` gives a known macro another meaning.
+    /// A `#define` gives a defined macro another meaning.
     DefineRedefined,
     /// An `#elif` without its `#if`.
     ElifOutsideOfBlock,
@@ -202,15 +203,15 @@ pub enum PreprocessorError {
     NotSupported16BitLiteral,
     /// A literal with a suffix for 64 bits.
     NotSupported64BitLiteral,
-    /// Kept from the Rust crate: it is never given.
+    /// Kept from the Rust crate. It is never returned.
     MacroNotDefined,
-    /// A macro call is nested too deep.
+    /// Macro calls are nested too deep.
     RecursionLimitReached,
     /// An expression divides by 0.
     DivisionByZero,
     /// An expression takes a remainder by 0.
     RemainderByZero,
-    /// An allocation was refused. The Rust crate ends the process instead.
+    /// An allocation failed. The Rust crate ends the process instead.
     OutOfMemory,
 }
 
@@ -228,7 +229,7 @@ pub struct Integer {
 /// A float literal.
 #[derive(PartialEq, Eq, Debug, Drop)]
 pub struct Float {
-    /// Its spelling, without a suffix. The Rust crate has the value as an `f32` in its place.
+    /// Its spelling, without a suffix. The Rust crate has the value as an `f32` instead.
     pub text: Text,
     /// Its width in bits: 32 for a literal of the source.
     pub width: i32,
@@ -237,7 +238,7 @@ pub struct Float {
 /// A list of tokens, which contracts see as the list of its entries in preorder: each token with
 /// how deep it lies.
 ///
-/// It is made from a `Vec<Token>` and gives it back without taking memory.
+/// It is made from a `Vec<Token>` and gives it back without an allocation.
 #[cycle(tokens)]
 #[derive(Debug, Drop)]
 pub struct Tokens {
@@ -313,7 +314,8 @@ pub struct Pragma {
     pub tokens: Tokens,
 }
 
-/// What a token of preprocessed source is: an ordinary token, or a directive that is handed on.
+/// The value of a token of preprocessed source: an ordinary token, or a directive that is passed
+/// on.
 #[cycle(tokens)]
 #[derive(PartialEq, Eq, Debug, Drop)]
 pub enum TokenValue {
@@ -337,16 +339,16 @@ pub enum TokenValue {
 #[cycle(tokens)]
 #[derive(PartialEq, Eq, Debug, Drop)]
 pub struct Token {
-    /// What it is.
+    /// Its value.
     pub value: TokenValue,
-    /// Where it stands: for a directive, the place of its word.
+    /// Its place: for a directive, the place of its word.
     pub location: Location,
 }
 
 impl Token {
     ghost use Rattle.pp_lexer.specs.TokenValue.{is_ordinary};
 
-    /// Whether it is an identifier, a literal or a punctuator, and no directive.
+    /// Returns whether it is an identifier, a literal or a punctuator, and so not a directive.
     pub fn is_ordinary(&self) -> bool
         ensures { result ≡ is_ordinary self.now.value }
     {

@@ -1,5 +1,6 @@
--- What a token or a directive line of a source comes to, one equation a rule (GLSL ES 3.20, section 3.4, and docs/RULES.md,
--- Directives 1 to 14). The lines of `#define`, `#if`, `#elif` and `#line` are gathered here and decided in Reads.
+-- What a token or a directive line of a source comes to, one equation a rule (GLSL ES 3.20, section 3.4,
+-- and docs/RULES.md, Directives 1 to 14). The lines of `#define`, `#if`, `#elif` and `#line` are
+-- gathered here and decided in Reads.
 use Rattle.std.specs.Prelude.{ℕ, ◌+◌, ◌-◌, Bool, not, ◌||◌, if◌then◌else◌, List, ◌∷◌, take, drop, length, Option, Some, None, Result, Ok, Err, is_some}
 use Rattle.std.specs.Option.{option_map_or}
 use Rattle.pp_lexer.specs.Lexed.{Seen}
@@ -57,7 +58,8 @@ acted (Err fault) reader next = failed fault reader
 
 -- a line that is skipped, but for the lexer's errors
 abbrev pub skipped : SourceReader → Acted
-skipped reader = option_map_or (λ fault. failed fault reader) (line_fault (after_word reader)) (passed (after_line reader))
+skipped reader =
+    option_map_or (λ fault. failed fault reader) (line_fault (after_word reader)) (passed (after_line reader))
 
 -- nothing but the end of the line is wanted after the word
 abbrev pub only_word : Location → SourceReader → (SourceReader → Acted) → Acted
@@ -65,22 +67,28 @@ only_word word reader next = acted (ended_line word (after_word reader)) reader 
 
 -- the block line at the reader's position is a condition, which holds or not
 abbrev pub decided : SourceReader → Bool → SourceReader
-decided reader holds = record (after_line reader) { truths = record { position = reader.position; holds = holds } ∷ reader.truths }
+decided reader holds =
+    record (after_line reader) { truths = record { position = reader.position; holds = holds } ∷ reader.truths }
 
 -- a line whose condition is wanted: its tokens are gathered
 abbrev pub condition : Location → SourceReader → Acted
-condition word reader = acted (line_tokens (after_word reader)) reader (λ tokens. record { step = step.Condition word tokens; after = reader })
+condition word reader =
+    acted (line_tokens (after_word reader)) reader
+    (λ tokens. record { step = step.Condition word tokens; after = reader })
 
 -- `#ifdef` and `#ifndef`, which say of a name that it is defined, or isn't
 abbrev pub if_defined : (Bool → Bool) → Location → SourceReader → Acted
-if_defined holds word reader = acted (only_name word (after_word reader)) reader (λ name. passed (decided reader (holds (is_some (reader.definitions name)))))
+if_defined holds word reader =
+    acted (only_name word (after_word reader)) reader
+    (λ name. passed (decided reader (holds (is_some (reader.definitions name)))))
 
 -- `#elif` in the block: it is skipped where it can't be the first branch to be taken
 abbrev pub elif_in : Option Block → Location → SourceReader → Acted
 elif_in None word reader = failed (ElifOutsideOfBlock, word) reader
 elif_in (Some block) word reader =
     if has_else block then failed (ElifAfterElse, word) reader
-    else if not (are_surroundings_live reader.items reader.truths block) || has_taken_branch reader.truths block then skipped reader
+    else if not (are_surroundings_live reader.items reader.truths block) || has_taken_branch reader.truths block
+    then skipped reader
     else condition word reader
 
 -- `#else` in the block, once its line has ended
@@ -91,7 +99,8 @@ else_in (Some block) word reader after = if has_else block then failed (MoreThan
 -- `#endif` of the block
 abbrev pub endif_in : Option Block → Location → SourceReader → Acted
 endif_in None word reader = failed (EndifOutsideOfBlock, word) reader
-endif_in (Some block) word reader = if are_surroundings_live reader.items reader.truths block then only_word word reader passed else skipped reader
+endif_in (Some block) word reader =
+    if are_surroundings_live reader.items reader.truths block then only_word word reader passed else skipped reader
 
 abbrev pub block_here : SourceReader → Option Block
 block_here reader = innermost (blocks_at reader.items reader.position)
@@ -99,7 +108,8 @@ block_here reader = innermost (blocks_at reader.items reader.position)
 -- an item that holds the tokens of its line
 abbrev pub line_item : (List Token → TokenValue) → Location → SourceReader → Acted
 line_item value word reader =
-    acted (line_tokens (after_word reader)) reader (λ tokens. given (record { value = value tokens; location = word }) (after_line reader))
+    acted (line_tokens (after_word reader)) reader
+    (λ tokens. given (record { value = value tokens; location = word }) (after_line reader))
 
 abbrev pub version : Location → SourceReader → Acted
 version word reader = line_item (λ tokens. Version (record {
@@ -117,9 +127,11 @@ extension word reader = line_item (λ tokens. Extension (record {
 -- a directive in live text
 abbrev pub live_directive : Directive → Location → SourceReader → Acted
 live_directive d.Define word reader =
-    acted (defined_on word (after_word reader)) reader (λ named. record { step = step.Defines named; after = after_line reader })
+    acted (defined_on word (after_word reader)) reader
+    (λ named. record { step = step.Defines named; after = after_line reader })
 live_directive d.Undef word reader =
-    acted (only_name word (after_word reader)) reader (λ name. passed (record (after_line reader) { definitions = changed reader.definitions name None }))
+    acted (only_name word (after_word reader)) reader
+    (λ name. passed (record (after_line reader) { definitions = changed reader.definitions name None }))
 live_directive d.If word reader = condition word reader
 live_directive d.Ifdef word reader = if_defined (λ defined. defined) word reader
 live_directive d.Ifndef word reader = if_defined not word reader
@@ -127,14 +139,16 @@ live_directive d.Elif word reader = elif_in (block_here reader) word reader
 live_directive d.Else word reader = only_word word reader (else_in (block_here reader) word reader)
 live_directive d.Endif word reader = endif_in (block_here reader) word reader
 live_directive d.Error word reader = failed (ErrorDirective, word) reader
-live_directive d.Line word reader = acted (line_tokens (after_word reader)) reader (λ tokens. record { step = step.LineNumber word tokens; after = reader })
+live_directive d.Line word reader =
+    acted (line_tokens (after_word reader)) reader
+    (λ tokens. record { step = step.LineNumber word tokens; after = reader })
 live_directive d.Version word reader = version word reader
 live_directive d.Extension word reader = extension word reader
 live_directive d.Pragma word reader = line_item (λ tokens. Pragma (record { tokens = preorder tokens })) word reader
 live_directive d.Unknown word reader = failed (UnknownDirective, word) reader
 
--- a directive in dead text: those that part and close blocks act, a block is opened unread, and after an unknown word the
--- line is dead text
+-- a directive in dead text: those that part and close blocks act, a block is opened unread, and after an
+-- unknown word the line is dead text
 abbrev pub dead_directive : Directive → Location → SourceReader → Acted
 dead_directive d.Elif word reader = elif_in (block_here reader) word reader
 dead_directive d.Else word reader = only_word word reader (else_in (block_here reader) word reader)
@@ -144,7 +158,11 @@ dead_directive _ word reader = skipped reader
 
 -- at the end each block that is open gives its fault, the innermost first
 abbrev pub ended_by : Option Block → SourceReader → Acted
-ended_by (Some block) reader = record { step = step.Given (outcome.Fault (UnfinishedBlock, block.first.word)); after = record reader { unfinished = reader.unfinished - 1 } }
+ended_by (Some block) reader =
+    record {
+      step = step.Given (outcome.Fault (UnfinishedBlock, block.first.word));
+      after = record reader { unfinished = reader.unfinished - 1 };
+    }
 ended_by None reader = record { step = step.Given outcome.End; after = reader }
 
 abbrev pub ended : SourceReader → Acted
@@ -173,5 +191,6 @@ dead_act _ reader = passed (moved 1 reader)
 -- what stands at the reader's position comes to this
 abbrev pub act : SourceReader → Acted
 act reader =
-    if is_live reader.items reader.truths reader.position then live_act (sight_of (drop reader.position reader.items)) reader
+    if is_live reader.items reader.truths reader.position
+    then live_act (sight_of (drop reader.position reader.items)) reader
     else dead_act (sight_of (drop reader.position reader.items)) reader

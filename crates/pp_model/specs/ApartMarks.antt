@@ -28,21 +28,41 @@ IsRest old new = (front : List Entry) × (old ≡ front ++ new)
 -- A taking, and the search for a call, only take entries from the list's front.
 pub record OnlyTakesEntries {R : Type 0} (I : Reading R) (A : Answers) : Type 0 where
   pub taking : (o : Taken) (e f : Expander R) → Takes I e o f → IsRest e.list f.list
-  pub gathering : (n : ℕ) (last : Location) (gathered : Result Gathered Fault) (e f : Expander R) → Gathers I n last e gathered f → IsRest e.list f.list
-  pub call : (definition : Definition) (called : Called) (e f : Expander R) → Calls I A definition e called f → IsRest e.list f.list
+  pub gathering : (n : ℕ) (last : Location) (gathered : Result Gathered Fault) (e f : Expander R)
+      → Gathers I n last e gathered f
+      → IsRest e.list f.list
+  pub call : (definition : Definition) (called : Called) (e f : Expander R)
+      → Calls I A definition e called f
+      → IsRest e.list f.list
 
 -- A macro that opens after a taking has no mark in the list yet, nor in what is left of it after a call.
 abbrev pub OpensNew : {R : Type 0} → Reading R → Type 0
-OpensNew {R} I = (o : Taken) (m : Opening) (d e : Expander R) (rest : List Entry) → Takes I d o e → opening I e o ≡ Some m → IsRest e.list rest → is_in m.name (open_names rest) ≡ false
+OpensNew {R} I =
+    (o : Taken) (m : Opening) (d e : Expander R) (rest : List Entry)
+    → Takes I d o e → opening I e o ≡ Some m
+    → IsRest e.list rest
+    → is_in m.name (open_names rest) ≡ false
 
 -- Each step of expansion keeps the marks of the list apart.
 pub record KeepsMarksApart {R : Type 0} (I : Reading R) (A : Answers) : Type 0 where
   pub taking : (o : Taken) (e f : Expander R) → Takes I e o f → HasApartMarks e.list → HasApartMarks f.list
-  pub gathering : (n : ℕ) (last : Location) (gathered : Result Gathered Fault) (e f : Expander R) → Gathers I n last e gathered f → HasApartMarks e.list → HasApartMarks f.list
-  pub call : (definition : Definition) (called : Called) (e f : Expander R) → Calls I A definition e called f → HasApartMarks e.list → HasApartMarks f.list
-  pub opening : (o : Taken) (m : Opening) (line : ℕ) (arguments : List (List Read)) (d e f : Expander R) → Takes I d o e → opening I e o ≡ Some m → IsRest e.list f.list → HasApartMarks f.list → HasApartMarks (opened m line arguments f).list
+  pub gathering : (n : ℕ) (last : Location) (gathered : Result Gathered Fault) (e f : Expander R)
+      → Gathers I n last e gathered f
+      → HasApartMarks e.list
+      → HasApartMarks f.list
+  pub call : (definition : Definition) (called : Called) (e f : Expander R)
+      → Calls I A definition e called f
+      → HasApartMarks e.list
+      → HasApartMarks f.list
+  pub opening : (o : Taken) (m : Opening) (line : ℕ) (arguments : List (List Read)) (d e f : Expander R)
+      → Takes I d o e → opening I e o ≡ Some m
+      → IsRest e.list f.list
+      → HasApartMarks f.list
+      → HasApartMarks (opened m line arguments f).list
   pub item : (o : Taken) (e f : Expander R) → Emits I A e o f → HasApartMarks e.list → HasApartMarks f.list
 
 -- A list of tokens is read from a list that holds no mark.
 abbrev pub StartsApart : Type 0
-StartsApart = (tokens : List Read) (visible : Definitions) (hidden : List Name) → HasApartMarks (reading_of tokens visible hidden).list
+StartsApart =
+    (tokens : List Read) (visible : Definitions) (hidden : List Name)
+    → HasApartMarks (reading_of tokens visible hidden).list

@@ -16,14 +16,25 @@ ElseIsLast [] = ⊤
 ElseIsLast (mark ∷ []) = ⊤
 ElseIsLast (mark ∷ next ∷ later) = (is_else mark.part ≡ false) × ElseIsLast (next ∷ later)
 
--- Of a block's marks at most one is chosen: the first, after which none of its partings stands, or that after which so many
--- of them stand.
+-- Of a block's marks at most one is chosen: the first, after which none of its partings stands, or that
+-- after which so many of them stand.
 abbrev pub OneBranch : Type 0
-OneBranch = (truths : Truths) (block : Block) (k n : ℕ) → ElseIsLast (block.first ∷ block.partings) → k ≤ length block.partings → n ≤ length block.partings → is_last_chosen truths block.first (take k block.partings) ≡ true → is_last_chosen truths block.first (take n block.partings) ≡ true → k ≡ n
+OneBranch =
+    (truths : Truths) (block : Block) (k n : ℕ)
+    → ElseIsLast (block.first ∷ block.partings)
+    → k ≤ length block.partings
+    → n ≤ length block.partings
+    → is_last_chosen truths block.first (take k block.partings) ≡ true
+    → is_last_chosen truths block.first (take n block.partings) ≡ true
+    → k ≡ n
 
 -- After a branch that was taken none is: the next mark is not chosen.
 abbrev pub NoneAfterTaken : Type 0
-NoneAfterTaken = (truths : Truths) (block : Block) (mark : BlockLine) → ElseIsLast (block.first ∷ (block.partings ++ (mark ∷ []))) → has_taken_branch truths block ≡ true → is_last_chosen truths block.first (block.partings ++ (mark ∷ [])) ≡ false
+NoneAfterTaken =
+    (truths : Truths) (block : Block) (mark : BlockLine)
+    → ElseIsLast (block.first ∷ (block.partings ++ (mark ∷ [])))
+    → has_taken_branch truths block ≡ true
+    → is_last_chosen truths block.first (block.partings ++ (mark ∷ [])) ≡ false
 
 -- The act gives no token, defines nothing and numbers no line, and leaves the definitions and what is added to a line.
 pub record GivesNothing (r : SourceReader) (a : Acted) : Type 0 where

@@ -1,4 +1,5 @@
--- Blocks of conditional text, and which text is live (GLSL ES 3.20, section 3.4, and docs/RULES.md, Directives 7 to 11).
+-- Blocks of conditional text, and which text is live (GLSL ES 3.20, section 3.4, and
+-- docs/RULES.md, Directives 7 to 11).
 use Rattle.std.specs.Prelude.{ℕ, ◌+◌, ◌-◌, ◌==◌, Bool, true, false, not, ◌&&◌, ◌||◌, if◌then◌else◌, List, [], ◌∷◌, length, take, slice_get, Option, Some, None, find, option_map, unwrap_or}
 use Rattle.std.specs.List.{list_any, list_all, cons_option}
 use Rattle.pp_lexer.specs.Lexed.{Seen}
@@ -24,7 +25,8 @@ part_of _ = None
 
 -- the block line that stands at the position, if one does
 abbrev pub line_at : ℕ → Sight → Option BlockLine
-line_at position (sight.Directive directive word) = option_map (λ part. record { position = position; word = word; part = part }) (part_of directive)
+line_at position (sight.Directive directive word) =
+    option_map (λ part. record { position = position; word = word; part = part }) (part_of directive)
 line_at position _ = None
 
 -- the lines that open, part or close blocks among these items, of which the first has this position
@@ -77,7 +79,8 @@ pub record Block : Type 0 where
 abbrev pub open_blocks : List BlockLine → List Block
 open_blocks [] = []
 open_blocks (line ∷ later) =
-    if opens line.part && stays_open 0 later then record { first = line; partings = parting 0 later } ∷ open_blocks later
+    if opens line.part && stays_open 0 later
+    then record { first = line; partings = parting 0 later } ∷ open_blocks later
     else open_blocks later
 
 -- the blocks that are open at a position of a source
@@ -109,10 +112,11 @@ abbrev pub is_last_chosen : Truths → BlockLine → List BlockLine → Bool
 is_last_chosen truths mark [] = holds_at truths mark
 is_last_chosen truths mark (later ∷ marks) = fails_at truths mark && is_last_chosen truths later marks
 
--- A position is live if in each block that is open there the latest mark is chosen. The blocks around a block are open at its
--- first line too, with the same latest marks; so that line is live where its block's branches are.
+-- A position is live if in each block that is open there the latest mark is chosen. The blocks around a block are open
+-- at its first line too, with the same latest marks; so that line is live where its block's branches are.
 abbrev pub is_live : List Seen → Truths → ℕ → Bool
-is_live source truths position = list_all (λ block. is_last_chosen truths block.first block.partings) (blocks_at source position)
+is_live source truths position =
+    list_all (λ block. is_last_chosen truths block.first block.partings) (blocks_at source position)
 
 -- the surroundings of a block
 abbrev pub are_surroundings_live : List Seen → Truths → Block → Bool
@@ -120,7 +124,8 @@ are_surroundings_live source truths block = is_live source truths block.first.po
 
 -- a branch of the block was taken: a condition of it holds
 abbrev pub has_taken_branch : Truths → Block → Bool
-has_taken_branch truths block = list_any (λ mark. unwrap_or (truth_at truths mark.position) false) (block.first ∷ block.partings)
+has_taken_branch truths block =
+    list_any (λ mark. unwrap_or (truth_at truths mark.position) false) (block.first ∷ block.partings)
 
 abbrev pub has_else : Block → Bool
 has_else block = list_any (λ mark. is_else mark.part) block.partings

@@ -56,12 +56,29 @@ before read rest = rest >>= λ gathered. Ok (record gathered { tokens = read ∷
 
 -- The tokens that are taken up to the matching `)`, or the fault that is met before it; `last` is where the last token
 -- stands that was taken.
-pub data Gathers {R : Type 0} (I : Reading R) : ℕ → Location → Expander R → Result Gathered Fault → Expander R → Type 0 where
-  closed : (n : ℕ) (last : Location) (read : Read) (e f : Expander R) (g : Result Gathered Fault) → Takes I e (taken.Token read) f → nesting n read.token.value ≡ closes → g ≡ Ok (record { tokens = []; closing = read.token.location }) → Gathers I n last e g f
-  inside : (n k : ℕ) (last : Location) (read : Read) (e f h : Expander R) (rest g : Result Gathered Fault) → Takes I e (taken.Token read) f → nesting n read.token.value ≡ within k → Gathers I k read.token.location f rest h → g ≡ before read rest → Gathers I n last e g h
-  overfull : (n : ℕ) (last : Location) (read : Read) (e f : Expander R) (g : Result Gathered Fault) → Takes I e (taken.Token read) f → nesting n read.token.value ≡ too_many → g ≡ Err (IntegerOverflow, read.token.location) → Gathers I n last e g f
-  ended : (n : ℕ) (last : Location) (e f : Expander R) (g : Result Gathered Fault) → Takes I e taken.End f → g ≡ Err (UnexpectedEndOfInput, last) → Gathers I n last e g f
-  failed : (n : ℕ) (last : Location) (fault : Fault) (e f : Expander R) (g : Result Gathered Fault) → Takes I e (taken.Fault fault) f → g ≡ Err fault → Gathers I n last e g f
+pub data Gathers {R : Type 0} (I : Reading R)
+    : ℕ → Location → Expander R → Result Gathered Fault → Expander R → Type 0 where
+  closed : (n : ℕ) (last : Location) (read : Read) (e f : Expander R) (g : Result Gathered Fault)
+      → Takes I e (taken.Token read) f → nesting n read.token.value ≡ closes
+      → g ≡ Ok (record { tokens = []; closing = read.token.location })
+      → Gathers I n last e g f
+  inside : (n k : ℕ) (last : Location) (read : Read) (e f h : Expander R) (rest g : Result Gathered Fault)
+      → Takes I e (taken.Token read) f → nesting n read.token.value ≡ within k
+      → Gathers I k read.token.location f rest h
+      → g ≡ before read rest
+      → Gathers I n last e g h
+  overfull : (n : ℕ) (last : Location) (read : Read) (e f : Expander R) (g : Result Gathered Fault)
+      → Takes I e (taken.Token read) f → nesting n read.token.value ≡ too_many
+      → g ≡ Err (IntegerOverflow, read.token.location)
+      → Gathers I n last e g f
+  ended : (n : ℕ) (last : Location) (e f : Expander R) (g : Result Gathered Fault)
+      → Takes I e taken.End f
+      → g ≡ Err (UnexpectedEndOfInput, last)
+      → Gathers I n last e g f
+  failed : (n : ℕ) (last : Location) (fault : Fault) (e f : Expander R) (g : Result Gathered Fault)
+      → Takes I e (taken.Fault fault) f
+      → g ≡ Err fault
+      → Gathers I n last e g f
 
 -- tokens cut at the commas that stand outside inner parentheses: the first piece, and the others
 pub record Pieces : Type 0 where
@@ -77,7 +94,8 @@ cut_before false read pieces = record pieces { first = read ∷ pieces.first }
 
 abbrev pub pieces : ℕ → List Read → Pieces
 pieces n [] = record { first = []; others = [] }
-pieces n (read ∷ tokens) = cut_before (is_comma read.token.value && (n == 0)) read (pieces (nesting_after n read.token.value) tokens)
+pieces n (read ∷ tokens) =
+    cut_before (is_comma read.token.value && (n == 0)) read (pieces (nesting_after n read.token.value) tokens)
 
 -- a call's arguments: `()` has one, which is empty
 abbrev pub arguments_of : List Read → List (List Read)
@@ -103,14 +121,20 @@ pub record Site : Type 0 where
   pub open_around : List Name
 
 abbrev pub site_of : {R : Type 0} → Reading R → Expander R → Location → List Read → Site
-site_of I expander paren tokens = record { paren = paren; arguments = arguments_of tokens; visible = I.visible expander.reader; open_around = masked expander }
+site_of I expander paren tokens =
+    record {
+      paren = paren;
+      arguments = arguments_of tokens;
+      visible = I.visible expander.reader;
+      open_around = masked expander;
+    }
 
 -- what a call of a definition may come to: its arguments, each expanded alone, or a fault
 abbrev pub Answers : Type 1
 Answers = Definition → Site → Result (List (List Read)) Fault → Type 0
 
--- what stands after the name of a function-like macro: no call, but what was found there; or a call, with the line of its
--- `)`; or the fault of a call
+-- what stands after the name of a function-like macro: no call, but what was found there; or a call, with the line of
+-- its `)`; or the fault of a call
 pub data Called : Type 0 where
   no_call : Taken → Called
   refused : Fault → Called
@@ -125,10 +149,24 @@ abbrev pub called_by : ℕ → Result (List (List Read)) Fault → Called
 called_by line (Ok arguments) = fits arguments line
 called_by line (Err fault) = refused fault
 
-pub data Calls {R : Type 0} (I : Reading R) (A : Answers) (definition : Definition) : Expander R → Called → Expander R → Type 0 where
+pub data Calls {R : Type 0} (I : Reading R) (A : Answers) (definition : Definition)
+    : Expander R → Called → Expander R → Type 0 where
   -- no `(` is found
-  alone : (o : Taken) (e f : Expander R) (c : Called) → Takes I e o f → paren_at o ≡ None → c ≡ no_call o → Calls I A definition e c f
+  alone : (o : Taken) (e f : Expander R) (c : Called)
+      → Takes I e o f → paren_at o ≡ None
+      → c ≡ no_call o
+      → Calls I A definition e c f
   -- the arguments do not end
-  broken : (o : Taken) (paren : Location) (fault : Fault) (e f g : Expander R) (c : Called) → Takes I e o f → paren_at o ≡ Some paren → Gathers I 0 paren f (Err fault) g → c ≡ refused fault → Calls I A definition e c g
+  broken : (o : Taken) (paren : Location) (fault : Fault) (e f g : Expander R) (c : Called)
+      → Takes I e o f → paren_at o ≡ Some paren
+      → Gathers I 0 paren f (Err fault) g
+      → c ≡ refused fault
+      → Calls I A definition e c g
   -- the arguments come to lists of tokens, or to a fault
-  whole : (o : Taken) (paren : Location) (gathered : Gathered) (answer : Result (List (List Read)) Fault) (e f g : Expander R) (c : Called) → Takes I e o f → paren_at o ≡ Some paren → Gathers I 0 paren f (Ok gathered) g → A definition (site_of I g paren gathered.tokens) answer → c ≡ called_by gathered.closing.line answer → Calls I A definition e c g
+  whole : (o : Taken) (paren : Location) (gathered : Gathered) (answer : Result (List (List Read)) Fault)
+      (e f g : Expander R) (c : Called)
+      → Takes I e o f → paren_at o ≡ Some paren
+      → Gathers I 0 paren f (Ok gathered) g
+      → A definition (site_of I g paren gathered.tokens) answer
+      → c ≡ called_by gathered.closing.line answer
+      → Calls I A definition e c g

@@ -1,4 +1,5 @@
--- What a `#define` line says (GLSL ES 3.20, section 3.4, and docs/RULES.md, Directives 5). Faults come in the order of reading.
+-- What a `#define` line says (GLSL ES 3.20, section 3.4, and docs/RULES.md, Directives 5).
+-- Faults come in the order of reading.
 use Rattle.std.specs.Prelude.{Bool, true, false, not, ◌&&◌, if◌then◌else◌, List, [], ◌∷◌, ◌++◌, drop, Result, Ok, Err}
 use Rattle.pp_lexer.specs.Lexed.{Seen}
 use Rattle.pp_lexer.specs.Items.{Lexeme}
@@ -18,7 +19,8 @@ pub record Parameters : Type 0 where
   pub after : List Seen
 
 abbrev pub new_parameter : List Name → Location → Name → Result (List Name) Fault
-new_parameter names location name = if is_in name names then Err (DuplicateParameter, location) else Ok (names ++ name ∷ [])
+new_parameter names location name =
+    if is_in name names then Err (DuplicateParameter, location) else Ok (names ++ name ∷ [])
 
 abbrev mutual
   -- after a parameter stands `)`, or a comma and one more
@@ -55,10 +57,14 @@ has_parameters (s ∷ rest) = is_attached_paren s.item
 abbrev pub definition_at : Location → List Seen → Result Definition Fault
 definition_at word rest =
     if has_parameters rest
-    then (parameters word (drop 1 rest) >>= λ list. line_tokens list.after >>= λ body. Ok (record { function_like = true; parameters = list.names; body = body }))
+    then (parameters word (drop 1 rest) >>= λ list.
+    line_tokens list.after >>= λ body.
+    Ok (record { function_like = true; parameters = list.names; body = body }))
     else (line_tokens rest >>= λ body. Ok (object_like body))
 
 -- what the line defines, or its first fault
 abbrev pub defined_on : Location → List Seen → Result Named Fault
 defined_on word rest =
-    first_name word rest >>= λ first. definition_at word (drop 1 rest) >>= λ definition. Ok (record { name = first.name; location = first.location; definition = definition })
+    first_name word rest >>= λ first.
+    definition_at word (drop 1 rest) >>= λ definition.
+    Ok (record { name = first.name; location = first.location; definition = definition })

@@ -22,13 +22,32 @@ pub data Emits {R : Type 0} (I : Reading R) (A : Answers) : Expander R → Taken
   -- what opens no macro is the item
   itself : (o : Taken) (e f : Expander R) → Takes I e o f → opening I f o ≡ None → Emits I A e o f
   -- an object-like macro is replaced
-  object : (x o : Taken) (m : Opening) (e f h : Expander R) → Takes I e x f → opening I f x ≡ Some m → m.definition.function_like ≡ false → Emits I A (opened m m.token.location.line [] f) o h → Emits I A e o h
+  object : (x o : Taken) (m : Opening) (e f h : Expander R)
+      → Takes I e x f → opening I f x ≡ Some m
+      → m.definition.function_like ≡ false
+      → Emits I A (opened m m.token.location.line [] f) o h
+      → Emits I A e o h
   -- the name of a function-like macro without a call is the item; what was found after it comes next
-  name_alone : (x y o : Taken) (m : Opening) (e f g h : Expander R) → Takes I e x f → opening I f x ≡ Some m → m.definition.function_like ≡ true → Calls I A m.definition f (no_call y) g → o ≡ x → h ≡ record g { held = Some y } → Emits I A e o h
+  name_alone : (x y o : Taken) (m : Opening) (e f g h : Expander R)
+      → Takes I e x f → opening I f x ≡ Some m
+      → m.definition.function_like ≡ true
+      → Calls I A m.definition f (no_call y) g
+      → o ≡ x → h ≡ record g { held = Some y }
+      → Emits I A e o h
   -- the fault of a call is the item
-  call_refused : (x o : Taken) (fault : Fault) (m : Opening) (e f g : Expander R) → Takes I e x f → opening I f x ≡ Some m → m.definition.function_like ≡ true → Calls I A m.definition f (refused fault) g → o ≡ taken.Fault fault → Emits I A e o g
+  call_refused : (x o : Taken) (fault : Fault) (m : Opening) (e f g : Expander R)
+      → Takes I e x f → opening I f x ≡ Some m
+      → m.definition.function_like ≡ true
+      → Calls I A m.definition f (refused fault) g
+      → o ≡ taken.Fault fault
+      → Emits I A e o g
   -- a call is replaced
-  call : (x o : Taken) (arguments : List (List Read)) (line : ℕ) (m : Opening) (e f g h : Expander R) → Takes I e x f → opening I f x ≡ Some m → m.definition.function_like ≡ true → Calls I A m.definition f (fits arguments line) g → Emits I A (opened m line arguments g) o h → Emits I A e o h
+  call : (x o : Taken) (arguments : List (List Read)) (line : ℕ) (m : Opening) (e f g h : Expander R)
+      → Takes I e x f → opening I f x ≡ Some m
+      → m.definition.function_like ≡ true
+      → Calls I A m.definition f (fits arguments line) g
+      → Emits I A (opened m line arguments g) o h
+      → Emits I A e o h
 
 -- a list with this before it, where there is one
 abbrev pub first_before : {A : Type 0} → A → Result (List A) Fault → Result (List A) Fault
@@ -36,19 +55,38 @@ first_before first rest = rest >>= λ others. Ok (first ∷ others)
 
 -- the items up to the end, or the first error
 pub data Collects {R : Type 0} (I : Reading R) (A : Answers) : Expander R → Result (List Read) Fault → Type 0 where
-  done : (e f : Expander R) (out : Result (List Read) Fault) → Emits I A e taken.End f → out ≡ Ok [] → Collects I A e out
-  failed : (fault : Fault) (e f : Expander R) (out : Result (List Read) Fault) → Emits I A e (taken.Fault fault) f → out ≡ Err fault → Collects I A e out
-  item : (read : Read) (rest out : Result (List Read) Fault) (e f : Expander R) → Emits I A e (taken.Token read) f → Collects I A f rest → out ≡ first_before read rest → Collects I A e out
+  done : (e f : Expander R) (out : Result (List Read) Fault)
+      → Emits I A e taken.End f
+      → out ≡ Ok []
+      → Collects I A e out
+  failed : (fault : Fault) (e f : Expander R) (out : Result (List Read) Fault)
+      → Emits I A e (taken.Fault fault) f
+      → out ≡ Err fault
+      → Collects I A e out
+  item : (read : Read) (rest out : Result (List Read) Fault) (e f : Expander R)
+      → Emits I A e (taken.Token read) f
+      → Collects I A f rest
+      → out ≡ first_before read rest
+      → Collects I A e out
 
 -- what a list of tokens comes to alone, where these definitions are visible and these names are open around
 abbrev pub Alones : Type 1
 Alones = List Read → Definitions → List Name → Result (List Read) Fault → Type 0
 
 -- the arguments from left to right, each alone, or the first fault
-pub data Each (deeper : Alones) (visible : Definitions) (hidden : List Name) : List (List Read) → Result (List (List Read)) Fault → Type 0 where
+pub data Each (deeper : Alones) (visible : Definitions) (hidden : List Name)
+    : List (List Read) → Result (List (List Read)) Fault → Type 0 where
   none : (out : Result (List (List Read)) Fault) → out ≡ Ok [] → Each deeper visible hidden [] out
-  first_failed : (argument : List Read) (arguments : List (List Read)) (fault : Fault) (out : Result (List (List Read)) Fault) → deeper argument visible hidden (Err fault) → out ≡ Err fault → Each deeper visible hidden (argument ∷ arguments) out
-  more : (argument expanded : List Read) (arguments : List (List Read)) (rest out : Result (List (List Read)) Fault) → deeper argument visible hidden (Ok expanded) → Each deeper visible hidden arguments rest → out ≡ first_before expanded rest → Each deeper visible hidden (argument ∷ arguments) out
+  first_failed : (argument : List Read) (arguments : List (List Read)) (fault : Fault)
+      (out : Result (List (List Read)) Fault)
+      → deeper argument visible hidden (Err fault)
+      → out ≡ Err fault
+      → Each deeper visible hidden (argument ∷ arguments) out
+  more : (argument expanded : List Read) (arguments : List (List Read)) (rest out : Result (List (List Read)) Fault)
+      → deeper argument visible hidden (Ok expanded)
+      → Each deeper visible hidden arguments rest
+      → out ≡ first_before expanded rest
+      → Each deeper visible hidden (argument ∷ arguments) out
 
 abbrev pub EachOrRefused : Alones → Option PreprocessorError → Site → Result (List (List Read)) Fault → Type 0
 EachOrRefused deeper (Some error) site out = out ≡ Err (error, site.paren)
@@ -56,7 +94,8 @@ EachOrRefused deeper None site out = Each deeper site.visible site.open_around s
 
 -- calls in an argument that is read at the limit: one that fits is refused too
 abbrev pub answers_at_limit : Answers
-answers_at_limit definition site out = out ≡ Err (unwrap_or (misfit definition.parameters site.arguments) RecursionLimitReached, site.paren)
+answers_at_limit definition site out =
+    out ≡ Err (unwrap_or (misfit definition.parameters site.arguments) RecursionLimitReached, site.paren)
 
 -- calls whose arguments are expanded so
 abbrev pub answers_below : Alones → Answers
@@ -65,7 +104,8 @@ answers_below deeper definition site out = EachOrRefused deeper (misfit definiti
 -- a list of tokens alone, where arguments may be read inside each other so many levels deeper
 abbrev pub Alone : ℕ → Alones
 Alone zero tokens visible hidden out = Collects argument_reading answers_at_limit (reading_of tokens visible hidden) out
-Alone (suc levels) tokens visible hidden out = Collects argument_reading (answers_below (Alone levels)) (reading_of tokens visible hidden) out
+Alone (suc levels) tokens visible hidden out =
+    Collects argument_reading (answers_below (Alone levels)) (reading_of tokens visible hidden) out
 
 -- what calls come to, where arguments may be read inside each other so many levels deeper
 abbrev pub answers_at : ℕ → Answers

@@ -100,10 +100,16 @@ RunDefinesFinitelyMany A = (source : List Seen) (e : Expander SourceReader) → 
 
 -- In this state these tokens come, one after another, and then this, which is an error or the end.
 pub data Ends (A : Answers) : Expander SourceReader → List Token → Outcome → Type 0 where
-  last : (o : Outcome) (tokens : List Token) (e f : Expander SourceReader) → Gives A e o f → is_given_token o ≡ false
-      → tokens ≡ [] → Ends A e tokens o
+  last : (o : Outcome) (tokens : List Token) (e f : Expander SourceReader)
+      → Gives A e o f
+      → is_given_token o ≡ false
+      → tokens ≡ []
+      → Ends A e tokens o
   first : (token : Token) (o : Outcome) (rest tokens : List Token) (e f : Expander SourceReader)
-      → Gives A e (outcome.Token token) f → Ends A f rest o → tokens ≡ token ∷ rest → Ends A e tokens o
+      → Gives A e (outcome.Token token) f
+      → Ends A f rest o
+      → tokens ≡ token ∷ rest
+      → Ends A e tokens o
 
 -- A source gives finitely many tokens, and then an error or the end.
 abbrev pub AnEnd : Answers → Type 0

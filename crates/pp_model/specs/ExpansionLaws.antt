@@ -22,15 +22,27 @@ OneTaking {R} I = (x y : Taken) (e f g : Expander R) → Takes I e x f → Takes
 
 -- The search for the end of a call gathers one list of tokens, or meets one fault.
 abbrev pub OneGathering : {R : Type 0} → Reading R → Type 0
-OneGathering {R} I = (n : ℕ) (last : Location) (x y : Result Gathered Fault) (e f g : Expander R) → Gathers I n last e x f → Gathers I n last e y g → (x ≡ y) × (f ≡ g)
+OneGathering {R} I =
+    (n : ℕ) (last : Location) (x y : Result Gathered Fault) (e f g : Expander R)
+    → Gathers I n last e x f
+    → Gathers I n last e y g
+    → (x ≡ y) × (f ≡ g)
 
 -- A call at a site comes to one list of arguments, or to one fault.
 abbrev pub OneAnswer : Answers → Type 0
-OneAnswer A = (definition : Definition) (site : Site) (x y : Result (List (List Read)) Fault) → A definition site x → A definition site y → x ≡ y
+OneAnswer A =
+    (definition : Definition) (site : Site) (x y : Result (List (List Read)) Fault)
+    → A definition site x
+    → A definition site y
+    → x ≡ y
 
 -- After the name of a function-like macro stands one call, or none.
 abbrev pub OneCall : {R : Type 0} → Reading R → Answers → Type 0
-OneCall {R} I A = (definition : Definition) (x y : Called) (e f g : Expander R) → Calls I A definition e x f → Calls I A definition e y g → (x ≡ y) × (f ≡ g)
+OneCall {R} I A =
+    (definition : Definition) (x y : Called) (e f g : Expander R)
+    → Calls I A definition e x f
+    → Calls I A definition e y g
+    → (x ≡ y) × (f ≡ g)
 
 -- An expander has one next item.
 abbrev pub OneItem : {R : Type 0} → Reading R → Answers → Type 0
@@ -42,16 +54,32 @@ OneList {R} I A = (x y : Result (List Read) Fault) (e : Expander R) → Collects
 
 -- An argument alone comes to one list of tokens, or to one fault.
 abbrev pub OneArgument : Alones → Type 0
-OneArgument deeper = (tokens : List Read) (visible : Definitions) (hidden : List Name) (x y : Result (List Read) Fault) → deeper tokens visible hidden x → deeper tokens visible hidden y → x ≡ y
+OneArgument deeper =
+    (tokens : List Read) (visible : Definitions) (hidden : List Name) (x y : Result (List Read) Fault)
+    → deeper tokens visible hidden x
+    → deeper tokens visible hidden y
+    → x ≡ y
 
 -- Several arguments, each alone, come to one list, or to one fault.
 abbrev pub OneEach : Alones → Type 0
-OneEach deeper = (visible : Definitions) (hidden : List Name) (arguments : List (List Read)) (x y : Result (List (List Read)) Fault) → Each deeper visible hidden arguments x → Each deeper visible hidden arguments y → x ≡ y
+OneEach deeper =
+    (visible : Definitions) (hidden : List Name) (arguments : List (List Read)) (x y : Result (List (List Read)) Fault)
+    → Each deeper visible hidden arguments x
+    → Each deeper visible hidden arguments y
+    → x ≡ y
 
 -- The operand of a `defined` has one answer, or one fault.
 abbrev pub OneOperand : Answers → Type 0
-OneOperand A = (kind : LineKind) (directive : Location) (x y : Result Bool Fault) (e f g : Expander Listed) → Operand kind directive A e x f → Operand kind directive A e y g → (x ≡ y) × (f ≡ g)
+OneOperand A =
+    (kind : LineKind) (directive : Location) (x y : Result Bool Fault) (e f g : Expander Listed)
+    → Operand kind directive A e x f
+    → Operand kind directive A e y g
+    → (x ≡ y) × (f ≡ g)
 
 -- A line comes to one list of words, with one ending.
 abbrev pub OneLine : Answers → Type 0
-OneLine A = (kind : LineKind) (directive : Location) (x y : Words) (e : Expander Listed) → LineWords kind directive A e x → LineWords kind directive A e y → x ≡ y
+OneLine A =
+    (kind : LineKind) (directive : Location) (x y : Words) (e : Expander Listed)
+    → LineWords kind directive A e x
+    → LineWords kind directive A e y
+    → x ≡ y

@@ -65,13 +65,16 @@ reported directive words kind.IntegerOverflow left = (IntegerOverflow, directive
 reported directive words kind.DivisionByZero left = (DivisionByZero, directive)
 reported directive words kind.RemainderByZero left = (RemainderByZero, directive)
 reported directive words kind.UnexpectedEndOfInput left = ended_early directive
-reported directive words kind.Unexpected left = unwrap_or (option_map unwanted_word (word_from_end left words)) (ended_early directive)
+reported directive words kind.Unexpected left =
+    unwrap_or (option_map unwanted_word (word_from_end left words)) (ended_early directive)
 reported directive words kind.Unread left = unwrap_or words.ending (ended_early directive)
-reported directive words kind.Operand left = unwrap_or (option_and_then operand_fault (word_from_end left words)) (ended_early directive)
+reported directive words kind.Operand left =
+    unwrap_or (option_and_then operand_fault (word_from_end left words)) (ended_early directive)
 
 -- an expression alone on its line, of whose value something is reported: nothing may stand after it
 abbrev pub alone_on_line : {A : Type 0} → Location → Words → (ℤ → A) → Result Value Found → Result A Fault
-alone_on_line directive words result (Ok v) = option_map_or (λ word. Err (unwanted_word word)) (word_from_end v.left words) (Ok (result v.value))
+alone_on_line directive words result (Ok v) =
+    option_map_or (λ word. Err (unwanted_word word)) (word_from_end v.left words) (Ok (result v.value))
 alone_on_line directive words result (Err found) = Err (reported directive words found.kind found.left)
 
 -- The same by the evaluation of the expression.
@@ -82,7 +85,8 @@ pub record IsAlone {A : Type 0} (directive : Location) (words : Words) (report :
   pub is : result ≡ alone_on_line directive words report evaluation
 
 -- The condition of an `#if` or `#elif`: it holds where its value isn't 0.
-pub record IsCondition (A : Answers) (directive : Location) (tokens : List Token) (definitions : Definitions) (result : Result Bool Fault) : Type 0 where
+pub record IsCondition (A : Answers) (directive : Location) (tokens : List Token) (definitions : Definitions)
+    (result : Result Bool Fault) : Type 0 where
   pub words : Words
   pub read : LineWords Condition directive A (reading_of (map unpainted tokens) definitions []) words
   pub evaluation : Result Value Found
@@ -100,10 +104,28 @@ words_after left words = record words { words = drop (length words.words - left)
 
 -- What the words of a `#line` come to. A second expression after the line number is only read.
 pub data Numbers (directive : Location) (words : Words) : Result ℕ Fault → Type 0 where
-  faulty : (found : Found) (result : Result ℕ Fault) → Evaluates (line_of words) (Err found) → result ≡ Err (reported directive words found.kind found.left) → Numbers directive words result
-  out_of_range : (v : Value) (result : Result ℕ Fault) → Evaluates (line_of words) (Ok v) → as_line_number v.value ≡ None → result ≡ Err (LineOverflow, directive) → Numbers directive words result
-  alone : (v : Value) (n : ℕ) (result : Result ℕ Fault) → Evaluates (line_of words) (Ok v) → as_line_number v.value ≡ Some n → v.left ≡ 0 → result ≡ Ok n → Numbers directive words result
-  with_source : (v : Value) (n : ℕ) (result : Result ℕ Fault) → Evaluates (line_of words) (Ok v) → as_line_number v.value ≡ Some n → v.left ≢ 0 → (second : Result Value Found) → Evaluates (line_of (words_after v.left words)) second → result ≡ alone_on_line directive (words_after v.left words) (λ value. n) second → Numbers directive words result
+  faulty : (found : Found) (result : Result ℕ Fault)
+      → Evaluates (line_of words) (Err found)
+      → result ≡ Err (reported directive words found.kind found.left)
+      → Numbers directive words result
+  out_of_range : (v : Value) (result : Result ℕ Fault)
+      → Evaluates (line_of words) (Ok v)
+      → as_line_number v.value ≡ None
+      → result ≡ Err (LineOverflow, directive)
+      → Numbers directive words result
+  alone : (v : Value) (n : ℕ) (result : Result ℕ Fault)
+      → Evaluates (line_of words) (Ok v)
+      → as_line_number v.value ≡ Some n
+      → v.left ≡ 0
+      → result ≡ Ok n
+      → Numbers directive words result
+  with_source : (v : Value) (n : ℕ) (result : Result ℕ Fault)
+      → Evaluates (line_of words) (Ok v)
+      → as_line_number v.value ≡ Some n
+      → v.left ≢ 0
+      → (second : Result Value Found) → Evaluates (line_of (words_after v.left words)) second
+      → result ≡ alone_on_line directive (words_after v.left words) (λ value. n) second
+      → Numbers directive words result
 
 -- the first fault of a `#line`, without the number that may be before it
 abbrev pub without_number : Result ℕ LineFault → Result ℕ Fault
@@ -111,7 +133,8 @@ without_number (Ok number) = Ok number
 without_number (Err refused) = Err refused.fault
 
 -- the line number that a `#line` gives
-pub record IsLineNumber (A : Answers) (directive : Location) (tokens : List Token) (definitions : Definitions) (result : Result ℕ Fault) : Type 0 where
+pub record IsLineNumber (A : Answers) (directive : Location) (tokens : List Token) (definitions : Definitions)
+    (result : Result ℕ Fault) : Type 0 where
   pub words : Words
   pub read : LineWords LineNumber directive A (reading_of (map unpainted tokens) definitions []) words
   pub numbers : Numbers directive words result

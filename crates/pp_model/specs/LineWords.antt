@@ -29,7 +29,8 @@ unexpected token = (UnexpectedToken token.value, token.location)
 
 -- an unknown identifier is 0, signed and 64 bits wide; in a `#line` it is refused
 abbrev pub unknown_name : LineKind → Token → Reading
-unknown_name Condition token = word (record { value = Integer (record { value = 0; signed = true; width = pos 64 }); location = token.location })
+unknown_name Condition token =
+    word (record { value = Integer (record { value = 0; signed = true; width = pos 64 }); location = token.location })
 unknown_name LineNumber token = fault (unexpected token)
 
 abbrev pub reading_of_value : LineKind → Token → TokenValue → Reading
@@ -72,14 +73,36 @@ has_value test _ = false
 abbrev pub is_defined : Expander Listed → Name → Bool
 is_defined e name = is_some (e.reader.visible name)
 
--- what the operand of a `defined` comes to: a name, alone or in parentheses. The `(` and the name are taken and not looked
--- up, the `)` is read expanded.
-pub data Operand (kind : LineKind) (directive : Location) (A : Answers) : Expander Listed → Result Bool Fault → Expander Listed → Type 0 where
-  name : (o : Taken) (n : Name) (e f : Expander Listed) (r : Result Bool Fault) → Takes line_reading e o f → name_in o ≡ Some n → r ≡ Ok (is_defined f n) → Operand kind directive A e r f
-  neither : (o : Taken) (e f : Expander Listed) (r : Result Bool Fault) → Takes line_reading e o f → name_in o ≡ None → has_value is_left_paren o ≡ false → r ≡ Err (unwanted directive o) → Operand kind directive A e r f
-  no_name : (o x : Taken) (e f g : Expander Listed) (r : Result Bool Fault) → Takes line_reading e o f → has_value is_left_paren o ≡ true → Takes line_reading f x g → name_in x ≡ None → r ≡ Err (unwanted directive x) → Operand kind directive A e r g
-  unclosed : (o x y : Taken) (n : Name) (e f g h : Expander Listed) (r : Result Bool Fault) → Takes line_reading e o f → has_value is_left_paren o ≡ true → Takes line_reading f x g → name_in x ≡ Some n → Emits line_reading A g y h → has_value is_right_paren y ≡ false → r ≡ Err (unwanted_word kind directive y) → Operand kind directive A e r h
-  in_parentheses : (o x y : Taken) (n : Name) (e f g h : Expander Listed) (r : Result Bool Fault) → Takes line_reading e o f → has_value is_left_paren o ≡ true → Takes line_reading f x g → name_in x ≡ Some n → Emits line_reading A g y h → has_value is_right_paren y ≡ true → r ≡ Ok (is_defined h n) → Operand kind directive A e r h
+-- what the operand of a `defined` comes to: a name, alone or in parentheses. The `(` and the name are taken and not
+-- looked up, the `)` is read expanded.
+pub data Operand (kind : LineKind) (directive : Location) (A : Answers)
+    : Expander Listed → Result Bool Fault → Expander Listed → Type 0 where
+  name : (o : Taken) (n : Name) (e f : Expander Listed) (r : Result Bool Fault)
+      → Takes line_reading e o f → name_in o ≡ Some n
+      → r ≡ Ok (is_defined f n)
+      → Operand kind directive A e r f
+  neither : (o : Taken) (e f : Expander Listed) (r : Result Bool Fault)
+      → Takes line_reading e o f → name_in o ≡ None
+      → has_value is_left_paren o ≡ false
+      → r ≡ Err (unwanted directive o)
+      → Operand kind directive A e r f
+  no_name : (o x : Taken) (e f g : Expander Listed) (r : Result Bool Fault)
+      → Takes line_reading e o f → has_value is_left_paren o ≡ true
+      → Takes line_reading f x g → name_in x ≡ None
+      → r ≡ Err (unwanted directive x)
+      → Operand kind directive A e r g
+  unclosed : (o x y : Taken) (n : Name) (e f g h : Expander Listed) (r : Result Bool Fault)
+      → Takes line_reading e o f → has_value is_left_paren o ≡ true
+      → Takes line_reading f x g → name_in x ≡ Some n
+      → Emits line_reading A g y h → has_value is_right_paren y ≡ false
+      → r ≡ Err (unwanted_word kind directive y)
+      → Operand kind directive A e r h
+  in_parentheses : (o x y : Taken) (n : Name) (e f g h : Expander Listed) (r : Result Bool Fault)
+      → Takes line_reading e o f → has_value is_left_paren o ≡ true
+      → Takes line_reading f x g → name_in x ≡ Some n
+      → Emits line_reading A g y h → has_value is_right_paren y ≡ true
+      → r ≡ Ok (is_defined h n)
+      → Operand kind directive A e r h
 
 -- the words of a line, and the fault of reading that ends them, if one does
 pub record Words : Type 0 where
@@ -91,9 +114,31 @@ word_before w rest = record rest { words = w ∷ rest.words }
 
 -- The words that the rest of a line comes to. After a `defined` at fault nothing is read.
 pub data LineWords (kind : LineKind) (directive : Location) (A : Answers) : Expander Listed → Words → Type 0 where
-  ended : (e f : Expander Listed) (ws : Words) → Emits line_reading A e taken.End f → ws ≡ record { words = []; ending = None } → LineWords kind directive A e ws
-  failed : (f : Fault) (e g : Expander Listed) (ws : Words) → Emits line_reading A e (taken.Fault f) g → ws ≡ record { words = []; ending = Some f } → LineWords kind directive A e ws
-  refused : (read : Read) (f : Fault) (e g : Expander Listed) (ws : Words) → Emits line_reading A e (taken.Token read) g → reading kind read.token ≡ fault f → ws ≡ record { words = []; ending = Some f } → LineWords kind directive A e ws
-  plain : (read : Read) (w : Token) (e g : Expander Listed) (rest ws : Words) → Emits line_reading A e (taken.Token read) g → reading kind read.token ≡ word w → LineWords kind directive A g rest → ws ≡ word_before (Plain w) rest → LineWords kind directive A e ws
-  answered : (read : Read) (answer : Bool) (e g h : Expander Listed) (rest ws : Words) → Emits line_reading A e (taken.Token read) g → reading kind read.token ≡ operator → Operand kind directive A g (Ok answer) h → LineWords kind directive A h rest → ws ≡ word_before (Defined read.token.location (Ok answer)) rest → LineWords kind directive A e ws
-  faulty : (read : Read) (f : Fault) (e g h : Expander Listed) (ws : Words) → Emits line_reading A e (taken.Token read) g → reading kind read.token ≡ operator → Operand kind directive A g (Err f) h → ws ≡ record { words = Defined read.token.location (Err f) ∷ []; ending = None } → LineWords kind directive A e ws
+  ended : (e f : Expander Listed) (ws : Words)
+      → Emits line_reading A e taken.End f
+      → ws ≡ record { words = []; ending = None }
+      → LineWords kind directive A e ws
+  failed : (f : Fault) (e g : Expander Listed) (ws : Words)
+      → Emits line_reading A e (taken.Fault f) g
+      → ws ≡ record { words = []; ending = Some f }
+      → LineWords kind directive A e ws
+  refused : (read : Read) (f : Fault) (e g : Expander Listed) (ws : Words)
+      → Emits line_reading A e (taken.Token read) g → reading kind read.token ≡ fault f
+      → ws ≡ record { words = []; ending = Some f }
+      → LineWords kind directive A e ws
+  plain : (read : Read) (w : Token) (e g : Expander Listed) (rest ws : Words)
+      → Emits line_reading A e (taken.Token read) g → reading kind read.token ≡ word w
+      → LineWords kind directive A g rest
+      → ws ≡ word_before (Plain w) rest
+      → LineWords kind directive A e ws
+  answered : (read : Read) (answer : Bool) (e g h : Expander Listed) (rest ws : Words)
+      → Emits line_reading A e (taken.Token read) g → reading kind read.token ≡ operator
+      → Operand kind directive A g (Ok answer) h
+      → LineWords kind directive A h rest
+      → ws ≡ word_before (Defined read.token.location (Ok answer)) rest
+      → LineWords kind directive A e ws
+  faulty : (read : Read) (f : Fault) (e g h : Expander Listed) (ws : Words)
+      → Emits line_reading A e (taken.Token read) g → reading kind read.token ≡ operator
+      → Operand kind directive A g (Err f) h
+      → ws ≡ record { words = Defined read.token.location (Err f) ∷ []; ending = None }
+      → LineWords kind directive A e ws

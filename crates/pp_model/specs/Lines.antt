@@ -1,5 +1,6 @@
--- The rest of a directive's line: the items after its word, up to the line's NewLine (docs/RULES.md, Directives 3 to 7, 9, 10, 13 and 14).
--- The items of a text always have that NewLine. Where a list ends without it, the line ends there too; a token that is wanted there is refused at the word.
+-- The rest of a directive's line: the items after its word, up to the line's NewLine (docs/RULES.md, Directives 3 to 7,
+-- 9, 10, 13 and 14). The items of a text always have that NewLine. Where a list ends without it, the line ends there
+-- too; a token that is wanted there is refused at the word.
 use Rattle.std.specs.Prelude.{ℕ, ◌+◌, Bool, false, if◌then◌else◌, List, [], ◌∷◌, drop, Option, None, ok_or, Result, Ok, Err}
 use Rattle.std.specs.Option.{option_or}
 use Rattle.std.specs.Result.{result_err}
@@ -34,7 +35,8 @@ line_fault (s ∷ rest) = if ends_line s.item then None else option_or (result_e
 abbrev pub line_tokens : List Seen → Result (List Token) Fault
 line_tokens [] = Ok []
 line_tokens (s ∷ rest) =
-    if ends_line s.item then Ok [] else (s.item >>= λ token. conversion token >>= λ first. first_before first (line_tokens rest))
+    if ends_line s.item then Ok []
+    else (s.item >>= λ token. conversion token >>= λ first. first_before first (line_tokens rest))
 
 -- whether a comment stands anywhere before the line's end
 abbrev pub comments_before_end : List Seen → Bool
@@ -52,11 +54,13 @@ name_of token = ok_or (identifier_of token.value) (refused_token token)
 
 -- the name that comes first
 abbrev pub first_name : Location → List Seen → Result Placed Fault
-first_name word rest = first_token word rest >>= λ token. name_of token >>= λ name. Ok (record { name = name; location = token.location })
+first_name word rest =
+    first_token word rest >>= λ token. name_of token >>= λ name. Ok (record { name = name; location = token.location })
 
 -- nothing stands before the end of the line
 abbrev pub ended_line : Location → List Seen → Result (Unit {0}) Fault
-ended_line word rest = first_token word rest >>= λ token. if is_newline token.value then Ok tt else Err (refused_token token)
+ended_line word rest =
+    first_token word rest >>= λ token. if is_newline token.value then Ok tt else Err (refused_token token)
 
 -- a name alone on the line
 abbrev pub only_name : Location → List Seen → Result Name Fault

@@ -27,8 +27,14 @@ pub record LiveSteps (A : Answers) (r : SourceReader) (o : Option Outcome) (t : 
 
 -- what reading gives next, where no step takes anything from dead text
 pub data LiveReads (A : Answers) : SourceReader → Taken → SourceReader → Type 0 where
-  here : (o : Outcome) (x : Taken) (r t : SourceReader) → LiveSteps A r (Some o) t → x ≡ taken_of o → LiveReads A r x t
-  later : (x : Taken) (r s t : SourceReader) → LiveSteps A r None s → LiveReads A s x t → LiveReads A r x t
+  here : (o : Outcome) (x : Taken) (r t : SourceReader)
+      → LiveSteps A r (Some o) t
+      → x ≡ taken_of o
+      → LiveReads A r x t
+  later : (x : Taken) (r s t : SourceReader)
+      → LiveSteps A r None s
+      → LiveReads A s x t
+      → LiveReads A r x t
 
 -- the source as a reader that takes nothing from dead text
 abbrev pub live_reading : Answers → Reading SourceReader
@@ -40,7 +46,10 @@ pub record GivesLive (A : Answers) (e : Expander SourceReader) (o : Outcome) (f 
   pub emits : Emits (live_reading A) A e taken f
   pub is : o ≡ item_of taken
 
--- No reply of a run, and no definition or line number that it uses, comes from dead text, but for errors and the end: each
--- run is one in which no step takes anything from there.
+-- No reply of a run, and no definition or line number that it uses, comes from dead text, but for errors and the end:
+-- each run is one in which no step takes anything from there.
 abbrev pub RunsAreLive : Answers → Type 0
-RunsAreLive A = (e : Expander SourceReader) (calls : List Call) (replies : List Reply) → Runs (by_rules A) e calls replies → Runs (GivesLive A) e calls replies
+RunsAreLive A =
+    (e : Expander SourceReader) (calls : List Call) (replies : List Reply)
+    → Runs (by_rules A) e calls replies
+    → Runs (GivesLive A) e calls replies

@@ -27,12 +27,30 @@ AreNoLineNames tokens = All (λ read. is_identifier line_name read.token.value �
 
 -- Where no `__LINE__` is held, no step of expansion shows one or leaves one held.
 pub record ShowsNoLineName {R : Type 0} (I : Reading R) (A : Answers) : Type 0 where
-  pub taking : (o : Taken) (e f : Expander R) → Takes I e o f → HoldsNoLineName e → (is_line_name o ≡ false) × HoldsNoLineName f
-  pub gathering : (n : ℕ) (last : Location) (gathered : Result Gathered Fault) (e f : Expander R) → Gathers I n last e gathered f → HoldsNoLineName e → IfOk gathered (λ g. AreNoLineNames g.tokens) × HoldsNoLineName f
-  pub call : (definition : Definition) (called : Called) (e f : Expander R) → Calls I A definition e called f → HoldsNoLineName e → ((o : Taken) → called ≡ no_call o → is_line_name o ≡ false) × HoldsNoLineName f
-  pub item : (o : Taken) (e f : Expander R) → Emits I A e o f → HoldsNoLineName e → (is_line_name o ≡ false) × HoldsNoLineName f
-  pub list : (items : Result (List Read) Fault) (e : Expander R) → Collects I A e items → HoldsNoLineName e → IfOk items AreNoLineNames
+  pub taking : (o : Taken) (e f : Expander R)
+      → Takes I e o f
+      → HoldsNoLineName e
+      → (is_line_name o ≡ false) × HoldsNoLineName f
+  pub gathering : (n : ℕ) (last : Location) (gathered : Result Gathered Fault) (e f : Expander R)
+      → Gathers I n last e gathered f
+      → HoldsNoLineName e
+      → IfOk gathered (λ g. AreNoLineNames g.tokens) × HoldsNoLineName f
+  pub call : (definition : Definition) (called : Called) (e f : Expander R)
+      → Calls I A definition e called f
+      → HoldsNoLineName e
+      → ((o : Taken) → called ≡ no_call o → is_line_name o ≡ false) × HoldsNoLineName f
+  pub item : (o : Taken) (e f : Expander R)
+      → Emits I A e o f
+      → HoldsNoLineName e
+      → (is_line_name o ≡ false) × HoldsNoLineName f
+  pub list : (items : Result (List Read) Fault) (e : Expander R)
+      → Collects I A e items
+      → HoldsNoLineName e
+      → IfOk items AreNoLineNames
 
 -- No `__LINE__` is among what a list of tokens comes to alone.
 abbrev pub AloneShowsNoLineName : Type 0
-AloneShowsNoLineName = (level : ℕ) (tokens : List Read) (visible : Definitions) (hidden : List Name) (items : Result (List Read) Fault) → Alone level tokens visible hidden items → IfOk items AreNoLineNames
+AloneShowsNoLineName =
+    (level : ℕ) (tokens : List Read) (visible : Definitions) (hidden : List Name) (items : Result (List Read) Fault)
+    → Alone level tokens visible hidden items
+    → IfOk items AreNoLineNames

@@ -21,16 +21,25 @@ pub data Passes {R : Type 0} (I : Reading R) (A : Answers) : Expander R → Expa
   -- something is taken: to be looked up, or in the search for a call
   taking : (o : Taken) (e f g : Expander R) → Takes I e o f → Passes I A f g → Passes I A e g
   -- an object-like macro opens
-  object : (x : Taken) (m : Opening) (e f g : Expander R) → Takes I e x f → opening I f x ≡ Some m
-      → m.definition.function_like ≡ false → Passes I A (opened m m.token.location.line [] f) g → Passes I A e g
+  object : (x : Taken) (m : Opening) (e f g : Expander R)
+      → Takes I e x f → opening I f x ≡ Some m
+      → m.definition.function_like ≡ false
+      → Passes I A (opened m m.token.location.line [] f) g
+      → Passes I A e g
   -- a name has no call, and what was found after it is held
-  name_alone : (x y : Taken) (m : Opening) (e f g h : Expander R) → Takes I e x f → opening I f x ≡ Some m
-      → m.definition.function_like ≡ true → Calls I A m.definition f (no_call y) g
-      → Passes I A (record g { held = Some y }) h → Passes I A e h
+  name_alone : (x y : Taken) (m : Opening) (e f g h : Expander R)
+      → Takes I e x f → opening I f x ≡ Some m
+      → m.definition.function_like ≡ true
+      → Calls I A m.definition f (no_call y) g
+      → Passes I A (record g { held = Some y }) h
+      → Passes I A e h
   -- the macro of a call opens
-  call : (x : Taken) (arguments : List (List Read)) (line : ℕ) (m : Opening) (e f g h : Expander R) → Takes I e x f
-      → opening I f x ≡ Some m → m.definition.function_like ≡ true → Calls I A m.definition f (fits arguments line) g
-      → Passes I A (opened m line arguments g) h → Passes I A e h
+  call : (x : Taken) (arguments : List (List Read)) (line : ℕ) (m : Opening) (e f g h : Expander R)
+      → Takes I e x f → opening I f x ≡ Some m
+      → m.definition.function_like ≡ true
+      → Calls I A m.definition f (fits arguments line) g
+      → Passes I A (opened m line arguments g) h
+      → Passes I A e h
 
 -- no name is open twice, here or around
 abbrev pub IsOpenOnce : {R : Type 0} → Expander R → Type 0

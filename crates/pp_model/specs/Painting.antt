@@ -1,4 +1,5 @@
--- Painted tokens: an identifier that is taken while its name is open opens no macro from then on (docs/RULES.md, Expansion 2 and 3).
+-- Painted tokens: an identifier that is taken while its name is open opens no macro from then on
+-- (docs/RULES.md, Expansion 2 and 3).
 use Rattle.std.specs.Prelude.{Bool, false, ◌||◌, List}
 use Rattle.pp_lexer.specs.declared.token.Token.{Token}
 use Rattle.pp_lexer.specs.declared.token.TokenValue.{TokenValue}

@@ -12,16 +12,16 @@ use Rattle.pp_model.specs.declared.read.Taken.{Taken}
 use Rattle.pp_model.specs.declared.read.Taken.TheVariants as taken
 use Rattle.pp_model.specs.declared.splice.Entry.{Entry}
 
--- A kind of reader: what it gives next, which definitions it sees, what `__LINE__` shows for a line, unless the number is
--- out of range, and which names never open where it is read.
+-- A kind of reader: what it gives next, which definitions it sees, what `__LINE__` shows for a line, unless the number
+-- is out of range, and which names never open where it is read.
 pub record Reading (R : Type 0) : Type 1 where
   pub Reads : R → Taken → R → Type 0
   pub visible : R → Definitions
   pub shown_line : R → ℕ → Option ℕ
   pub is_reserved : Name → Bool
 
--- An expander: an outcome that was found too early and is held, the list, the reader after it, and the names that are open
--- in the expanders around it.
+-- An expander: an outcome that was found too early and is held, the list, the reader after it, and the names that are
+-- open in the expanders around it.
 pub record Expander (R : Type 0) : Type 0 where
   pub held : Option Taken
   pub list : List Entry
@@ -41,7 +41,8 @@ pub record Opening : Type 0 where
 abbrev pub opening_of : {R : Type 0} → Reading R → Expander R → Read → TokenValue → Option Opening
 opening_of I expander read (Ident name) =
     if I.is_reserved name || read.painted then None
-    else option_map (λ definition. record { token = read.token; name = name; definition = definition }) (I.visible expander.reader name)
+    else option_map (λ definition. record { token = read.token; name = name; definition = definition })
+    (I.visible expander.reader name)
 opening_of I expander read _ = None
 
 -- When a taken identifier opens a macro: it is defined now, and not painted.
@@ -57,7 +58,10 @@ pub record Listed : Type 0 where
 -- a list of tokens, where these names never open: its tokens in order, and then the end
 abbrev pub listed_reading : (Name → Bool) → Reading Listed
 listed_reading is_reserved = record {
-  Reads = λ old given new. (given ≡ option_map_or taken.Token (slice_get old.tokens 0) taken.End) × (new ≡ record old { tokens = drop 1 old.tokens });
+  Reads =
+      λ old given new.
+      (given ≡ option_map_or taken.Token (slice_get old.tokens 0) taken.End)
+      × (new ≡ record old { tokens = drop 1 old.tokens });
   visible = λ reader. reader.visible;
   shown_line = λ reader line. Some line;
   is_reserved = is_reserved;
@@ -73,4 +77,5 @@ line_reading = listed_reading (λ name. is_same_name name defined_name)
 
 -- the start of reading these tokens, where these names are open around
 abbrev pub reading_of : List Read → Definitions → List Name → Expander Listed
-reading_of tokens visible hidden = record { held = None; list = []; reader = record { tokens = tokens; visible = visible }; hidden = hidden }
+reading_of tokens visible hidden =
+    record { held = None; list = []; reader = record { tokens = tokens; visible = visible }; hidden = hidden }

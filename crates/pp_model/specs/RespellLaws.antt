@@ -58,5 +58,9 @@ IsReadAfresh A values = GivesValues A (encode_utf8_all (spelled_text values)) va
 -- Where all tokens that a run gives are plain, the text that spells them gives the same values.
 abbrev pub RunsAreReadAfresh : Answers → Type 0
 RunsAreReadAfresh A =
-    (text : List ℕ) (calls : List Call) (replies : List Reply) → IsText text → All HasText calls → Runs (by_rules A) (start (items_of text)) calls replies
-    → All (λ token. is_ordinary token.value ≡ true) (given_tokens replies) → IsReadAfresh A (values_of (given_tokens replies))
+    (text : List ℕ) (calls : List Call) (replies : List Reply)
+    → IsText text
+    → All HasText calls
+    → Runs (by_rules A) (start (items_of text)) calls replies
+    → All (λ token. is_ordinary token.value ≡ true) (given_tokens replies)
+    → IsReadAfresh A (values_of (given_tokens replies))

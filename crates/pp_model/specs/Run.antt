@@ -47,7 +47,8 @@ items_of text = map seen (lexer.items_of (spots_of text))
 abbrev pub content_tokens : List Seen → Result (List Token) Fault
 content_tokens [] = Ok []
 content_tokens (s ∷ rest) =
-    if ends_line s.item then content_tokens rest else (s.item >>= λ token. conversion token >>= λ first. first_before first (content_tokens rest))
+    if ends_line s.item then content_tokens rest
+    else (s.item >>= λ token. conversion token >>= λ first. first_before first (content_tokens rest))
 
 -- an expander over the start of a source
 abbrev pub start : List Seen → Expander SourceReader
@@ -55,7 +56,10 @@ start source = record { held = None; list = []; reader = start_of source; hidden
 
 -- the name stands for these tokens from now on
 abbrev pub with_added : Name → List Token → Expander SourceReader → Expander SourceReader
-with_added name tokens e = record e { reader = record e.reader { definitions = changed e.reader.definitions name (Some (object_like tokens)) } }
+with_added name tokens e =
+    record e {
+      reader = record e.reader { definitions = changed e.reader.definitions name (Some (object_like tokens)) };
+    }
 
 abbrev pub is_fault : Outcome → Bool
 is_fault (outcome.Fault fault) = true
@@ -83,10 +87,28 @@ by_rules A = Gives A
 -- What the calls answer, where this comes next, up to and with the first error item: after that nothing is said.
 pub data Runs (C : Comings) : Expander SourceReader → List Call → List Reply → Type 0 where
   done : (e : Expander SourceReader) (replies : List Reply) → replies ≡ [] → Runs C e [] replies
-  added : (name content : List ℕ) (tokens : List Token) (e : Expander SourceReader) (calls : List Call) (rest replies : List Reply) → content_tokens (items_of content) ≡ Ok tokens → Runs C (with_added (chars name) tokens e) calls rest → replies ≡ reply.Added ∷ rest → Runs C e (add_define name content ∷ calls) replies
-  refused : (name content : List ℕ) (fault : Fault) (e : Expander SourceReader) (calls : List Call) (rest replies : List Reply) → content_tokens (items_of content) ≡ Err fault → Runs C e calls rest → replies ≡ reply.Refused fault ∷ rest → Runs C e (add_define name content ∷ calls) replies
-  given : (o : Outcome) (e f : Expander SourceReader) (calls : List Call) (rest replies : List Reply) → C e o f → is_fault o ≡ false → Runs C f calls rest → replies ≡ reply.Given o ∷ rest → Runs C e (next ∷ calls) replies
-  failed : (fault : Fault) (e f : Expander SourceReader) (calls : List Call) (replies : List Reply) → C e (outcome.Fault fault) f → replies ≡ reply.Given (outcome.Fault fault) ∷ [] → Runs C e (next ∷ calls) replies
+  added : (name content : List ℕ) (tokens : List Token) (e : Expander SourceReader) (calls : List Call)
+      (rest replies : List Reply)
+      → content_tokens (items_of content) ≡ Ok tokens
+      → Runs C (with_added (chars name) tokens e) calls rest
+      → replies ≡ reply.Added ∷ rest
+      → Runs C e (add_define name content ∷ calls) replies
+  refused : (name content : List ℕ) (fault : Fault) (e : Expander SourceReader) (calls : List Call)
+      (rest replies : List Reply)
+      → content_tokens (items_of content) ≡ Err fault
+      → Runs C e calls rest
+      → replies ≡ reply.Refused fault ∷ rest
+      → Runs C e (add_define name content ∷ calls) replies
+  given : (o : Outcome) (e f : Expander SourceReader) (calls : List Call) (rest replies : List Reply)
+      → C e o f
+      → is_fault o ≡ false
+      → Runs C f calls rest
+      → replies ≡ reply.Given o ∷ rest
+      → Runs C e (next ∷ calls) replies
+  failed : (fault : Fault) (e f : Expander SourceReader) (calls : List Call) (replies : List Reply)
+      → C e (outcome.Fault fault) f
+      → replies ≡ reply.Given (outcome.Fault fault) ∷ []
+      → Runs C e (next ∷ calls) replies
 
 -- the run of a source: arguments may be read inside each other up to the limit
 abbrev pub IsRun : List ℕ → List Call → List Reply → Type 0

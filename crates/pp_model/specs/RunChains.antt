@@ -17,17 +17,48 @@ use Rattle.pp_model.specs.declared.read.Taken.TheVariants as taken
 
 -- one call in a state, what it answers, and the state after it; of the state after an error item nothing is said
 pub data AnswersIn (C : Comings) : Expander SourceReader → Call → Reply → Expander SourceReader → Type 0 where
-  adds : (name content : List ℕ) (tokens : List Token) (call : Call) (answer : Reply) (e f : Expander SourceReader) → content_tokens (items_of content) ≡ Ok tokens → call ≡ add_define name content → answer ≡ reply.Added → f ≡ with_added (chars name) tokens e → AnswersIn C e call answer f
-  refuses : (name content : List ℕ) (fault : Fault) (call : Call) (answer : Reply) (e f : Expander SourceReader) → content_tokens (items_of content) ≡ Err fault → call ≡ add_define name content → answer ≡ reply.Refused fault → f ≡ e → AnswersIn C e call answer f
-  gives : (o : Outcome) (call : Call) (answer : Reply) (e f : Expander SourceReader) → C e o f → is_fault o ≡ false → call ≡ next → answer ≡ reply.Given o → AnswersIn C e call answer f
+  adds : (name content : List ℕ) (tokens : List Token) (call : Call) (answer : Reply) (e f : Expander SourceReader)
+      → content_tokens (items_of content) ≡ Ok tokens
+      → call ≡ add_define name content
+      → answer ≡ reply.Added
+      → f ≡ with_added (chars name) tokens e
+      → AnswersIn C e call answer f
+  refuses : (name content : List ℕ) (fault : Fault) (call : Call) (answer : Reply) (e f : Expander SourceReader)
+      → content_tokens (items_of content) ≡ Err fault
+      → call ≡ add_define name content
+      → answer ≡ reply.Refused fault
+      → f ≡ e
+      → AnswersIn C e call answer f
+  gives : (o : Outcome) (call : Call) (answer : Reply) (e f : Expander SourceReader)
+      → C e o f
+      → is_fault o ≡ false
+      → call ≡ next
+      → answer ≡ reply.Given o
+      → AnswersIn C e call answer f
 
 -- these calls one after another have these replies, and lead to this state
 pub data Chain (C : Comings) : Expander SourceReader → List Call → List Reply → Expander SourceReader → Type 0 where
-  none : (e f : Expander SourceReader) (calls : List Call) (replies : List Reply) → calls ≡ [] → replies ≡ [] → f ≡ e → Chain C e calls replies f
-  one_more : (e f g : Expander SourceReader) (before calls : List Call) (call : Call) (answered replies : List Reply) (answer : Reply) → Chain C e before answered f → AnswersIn C f call answer g → calls ≡ before ++ call ∷ [] → replies ≡ answered ++ answer ∷ [] → Chain C e calls replies g
+  none : (e f : Expander SourceReader) (calls : List Call) (replies : List Reply)
+      → calls ≡ []
+      → replies ≡ []
+      → f ≡ e
+      → Chain C e calls replies f
+  one_more : (e f g : Expander SourceReader) (before calls : List Call) (call : Call) (answered replies : List Reply)
+      (answer : Reply)
+      → Chain C e before answered f
+      → AnswersIn C f call answer g
+      → calls ≡ before ++ call ∷ []
+      → replies ≡ answered ++ answer ∷ []
+      → Chain C e calls replies g
 
--- Calls that follow one another from the start of a source are a run, and so they are with an error item that comes after them.
+-- Calls that follow one another from the start of a source are a run, and so they are with an
+-- error item that comes after them.
 pub record ChainsAreRuns (A : Answers) : Type 0 where
-  pub whole : (source : List Seen) (calls : List Call) (replies : List Reply) (f : Expander SourceReader) → Chain (by_rules A) (start source) calls replies f → Runs (by_rules A) (start source) calls replies
-  pub to_error : (source : List Seen) (calls : List Call) (replies : List Reply) (f g : Expander SourceReader) (fault : Fault) → Chain (by_rules A) (start source) calls replies f → Emits (source_reading A) A f (taken.Fault fault) g
+  pub whole : (source : List Seen) (calls : List Call) (replies : List Reply) (f : Expander SourceReader)
+      → Chain (by_rules A) (start source) calls replies f
+      → Runs (by_rules A) (start source) calls replies
+  pub to_error : (source : List Seen) (calls : List Call) (replies : List Reply) (f g : Expander SourceReader)
+      (fault : Fault)
+      → Chain (by_rules A) (start source) calls replies f
+      → Emits (source_reading A) A f (taken.Fault fault) g
       → Runs (by_rules A) (start source) (calls ++ next ∷ []) (replies ++ reply.Given (outcome.Fault fault) ∷ [])

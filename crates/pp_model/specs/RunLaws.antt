@@ -28,34 +28,61 @@ OneEvaluation = (line : Line) (x y : Result Value Found) → Evaluates line x �
 
 -- The condition of an `#if` or `#elif` holds or not, or has one fault.
 abbrev pub OneCondition : Answers → Type 0
-OneCondition A = (directive : Location) (tokens : List Token) (definitions : Definitions) (x y : Result Bool Fault) → IsCondition A directive tokens definitions x → IsCondition A directive tokens definitions y → x ≡ y
+OneCondition A =
+    (directive : Location) (tokens : List Token) (definitions : Definitions) (x y : Result Bool Fault)
+    → IsCondition A directive tokens definitions x
+    → IsCondition A directive tokens definitions y
+    → x ≡ y
 
 -- The words of a `#line` come to one number, or to one fault.
 abbrev pub OneNumber : Type 0
-OneNumber = (directive : Location) (words : Words) (x y : Result ℕ Fault) → Numbers directive words x → Numbers directive words y → x ≡ y
+OneNumber =
+    (directive : Location) (words : Words) (x y : Result ℕ Fault)
+    → Numbers directive words x
+    → Numbers directive words y
+    → x ≡ y
 
 -- A `#line` passes one number, or one fault.
 abbrev pub OneLineNumber : Answers → Type 0
-OneLineNumber A = (directive : Location) (tokens : List Token) (definitions : Definitions) (x y : Result ℕ Fault) → IsLineNumber A directive tokens definitions x → IsLineNumber A directive tokens definitions y → x ≡ y
+OneLineNumber A =
+    (directive : Location) (tokens : List Token) (definitions : Definitions) (x y : Result ℕ Fault)
+    → IsLineNumber A directive tokens definitions x
+    → IsLineNumber A directive tokens definitions y
+    → x ≡ y
 
 -- One token or line of a source passes one outcome, or nothing, and one reader is after it.
 abbrev pub OneStep : Answers → Type 0
-OneStep A = (r : SourceReader) (x y : Option Outcome) (s t : SourceReader) → Steps A r x s → Steps A r y t → (x ≡ y) × (s ≡ t)
+OneStep A =
+    (r : SourceReader) (x y : Option Outcome) (s t : SourceReader)
+    → Steps A r x s
+    → Steps A r y t
+    → (x ≡ y) × (s ≡ t)
 
 -- From one state of a source, equal calls have equal replies.
 abbrev pub OneReplies : Answers → Type 0
-OneReplies A = (e : Expander SourceReader) (calls : List Call) (x y : List Reply) → Runs (by_rules A) e calls x → Runs (by_rules A) e calls y → x ≡ y
+OneReplies A =
+    (e : Expander SourceReader) (calls : List Call) (x y : List Reply)
+    → Runs (by_rules A) e calls x
+    → Runs (by_rules A) e calls y
+    → x ≡ y
 
 -- Equal texts and calls have equal replies.
 abbrev pub OneRun : Type 0
 OneRun = (text : List ℕ) (calls : List Call) (x y : List Reply) → IsRun text calls x → IsRun text calls y → x ≡ y
 
--- A name that is defined is defined again: the same gives nothing, something else is a fault, and the old definition stays.
-pub record Redefined (named : Named) (old : Definition) (r : SourceReader) (o : Option Outcome) (t : SourceReader) : Type 0 where
+-- A name that is defined is defined again: the same gives nothing, something else is a
+-- fault, and the old definition stays.
+pub record Redefined (named : Named) (old : Definition) (r : SourceReader) (o : Option Outcome)
+    (t : SourceReader) : Type 0 where
   pub repeated : IsSameDefinition old named.definition → o ≡ None
   pub refused : (IsSameDefinition old named.definition → ⊥) → o ≡ Some (outcome.Fault (DefineRedefined, named.location))
   pub same_definitions : t.definitions ≡ r.definitions
 
 -- A `#define` of a name that is defined is held against the old definition.
 abbrev pub RedefinitionIsChecked : Answers → Type 0
-RedefinitionIsChecked A = (named : Named) (old : Definition) (r t : SourceReader) (o : Option Outcome) → (act r).step ≡ step.Defines named → r.definitions named.name ≡ Some old → Steps A r o t → Redefined named old r o t
+RedefinitionIsChecked A =
+    (named : Named) (old : Definition) (r t : SourceReader) (o : Option Outcome)
+    → (act r).step ≡ step.Defines named
+    → r.definitions named.name ≡ Some old
+    → Steps A r o t
+    → Redefined named old r o t

@@ -1,5 +1,5 @@
--- The states of a run, and what holds in each of them: no macro is open twice, no `__LINE__` is given, and an end that was
--- given stays.
+-- The states of a run, and what holds in each of them: no macro is open twice, no `__LINE__` is given,
+-- and an end that was given stays.
 use Rattle.std.specs.Prelude.{◌≡◌, Bool, true, false, List, ◌∷◌, ◌++◌, All}
 use Rattle.pp_lexer.specs.Lexed.{Seen}
 use Rattle.pp_lexer.specs.declared.token.Token.{Token}
@@ -19,12 +19,17 @@ use Rattle.pp_model.specs.declared.outcome.Outcome.TheVariants as outcome
 use Rattle.pp_model.specs.declared.read.Taken.{Taken}
 use Rattle.pp_model.specs.declared.read.Taken.TheVariants as taken
 
--- Definitions that are added, and items that are given, lead from one state to another; error items too, after which a run
--- says nothing more.
+-- Definitions that are added, and items that are given, lead from one state to another; error items too, after
+-- which a run says nothing more.
 pub data LeadsTo (A : Answers) : Expander SourceReader → Expander SourceReader → Type 0 where
   nowhere : (e f : Expander SourceReader) → f ≡ e → LeadsTo A e f
-  adding : (name : Name) (tokens : List Token) (e f : Expander SourceReader) → LeadsTo A (with_added name tokens e) f → LeadsTo A e f
-  giving : (x : Taken) (e f g : Expander SourceReader) → Emits (source_reading A) A e x f → LeadsTo A f g → LeadsTo A e g
+  adding : (name : Name) (tokens : List Token) (e f : Expander SourceReader)
+      → LeadsTo A (with_added name tokens e) f
+      → LeadsTo A e f
+  giving : (x : Taken) (e f g : Expander SourceReader)
+      → Emits (source_reading A) A e x f
+      → LeadsTo A f g
+      → LeadsTo A e g
 
 -- a state of a run of the source
 abbrev pub IsReached : Answers → List Seen → Expander SourceReader → Type 0
@@ -42,11 +47,20 @@ gives_line_name reply.Added = false
 
 -- No reply of a run is the identifier `__LINE__`.
 abbrev pub RunShowsNoLineName : Answers → Type 0
-RunShowsNoLineName A = (source : List Seen) (calls : List Call) (replies : List Reply) → Runs (by_rules A) (start source) calls replies → All (λ given. gives_line_name given ≡ false) replies
+RunShowsNoLineName A =
+    (source : List Seen) (calls : List Call) (replies : List Reply)
+    → Runs (by_rules A) (start source) calls replies
+    → All (λ given. gives_line_name given ≡ false) replies
 
 -- After an end that was given nothing is left, whatever is added.
 abbrev pub EndStays : Answers → Type 0
-EndStays A = (source : List Seen) (x : Taken) (e f g h : Expander SourceReader) → IsReached A source e → Emits (source_reading A) A e taken.End f → LeadsTo A f g → Emits (source_reading A) A g x h → x ≡ taken.End
+EndStays A =
+    (source : List Seen) (x : Taken) (e f g h : Expander SourceReader)
+    → IsReached A source e
+    → Emits (source_reading A) A e taken.End f
+    → LeadsTo A f g
+    → Emits (source_reading A) A g x h
+    → x ≡ taken.End
 
 -- whether the reply is an item, which the end is not
 abbrev pub gives_item : Reply → Bool
@@ -58,4 +72,7 @@ gives_item reply.Added = false
 
 -- After the end, wherever it stands among the replies of a run, no reply is an item.
 abbrev pub RunEndsForGood : Answers → Type 0
-RunEndsForGood A = (source : List Seen) (calls : List Call) (former later : List Reply) → Runs (by_rules A) (start source) calls (former ++ (reply.Given outcome.End ∷ later)) → All (λ given. gives_item given ≡ false) later
+RunEndsForGood A =
+    (source : List Seen) (calls : List Call) (former later : List Reply)
+    → Runs (by_rules A) (start source) calls (former ++ (reply.Given outcome.End ∷ later))
+    → All (λ given. gives_item given ≡ false) later

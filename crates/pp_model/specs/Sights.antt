@@ -1,4 +1,5 @@
--- What stands at a position of a source: text or a directive (GLSL ES 3.20, section 3.4, and docs/RULES.md, Directives 1 and 2).
+-- What stands at a position of a source: text or a directive (GLSL ES 3.20, section 3.4, and
+-- docs/RULES.md, Directives 1 and 2).
 use Rattle.std.specs.Prelude.{ℕ, Bool, true, false, ◌&&◌, if◌then◌else◌, List, [], ◌∷◌, Option, Some, None, option_map, unwrap_or, Result, Ok, Err, codes}
 use Rattle.std.specs.List.{find}
 use Rattle.pp_lexer.specs.Lexed.{Seen}
@@ -16,8 +17,9 @@ use Rattle.pp_model.specs.declared.sight.Sight.TheVariants as sight
 -- the words of directives
 abbrev pub directives : List (List ℕ × Directive)
 directives =
-    (codes "define", d.Define) ∷ (codes "undef", d.Undef) ∷ (codes "if", d.If) ∷ (codes "ifdef", d.Ifdef) ∷ (codes "ifndef", d.Ifndef) ∷
-    (codes "elif", d.Elif) ∷ (codes "else", d.Else) ∷ (codes "endif", d.Endif) ∷ (codes "error", d.Error) ∷ (codes "line", d.Line) ∷
+    (codes "define", d.Define) ∷ (codes "undef", d.Undef) ∷ (codes "if", d.If) ∷ (codes "ifdef", d.Ifdef) ∷
+    (codes "ifndef", d.Ifndef) ∷ (codes "elif", d.Elif) ∷ (codes "else", d.Else) ∷ (codes "endif", d.Endif) ∷
+    (codes "error", d.Error) ∷ (codes "line", d.Line) ∷
     (codes "version", d.Version) ∷ (codes "extension", d.Extension) ∷ (codes "pragma", d.Pragma) ∷ []
 
 -- what a directive's word says
@@ -39,7 +41,10 @@ abbrev pub token_sight : LexerToken → List Seen → Sight
 token_sight token rest =
     if is_newline token.value then sight.NewLine
     else if is_hash token.value
-    then (if token.start_of_line then sight_from (λ word. named_directive word (identifier_of word.value)) (first_token token.location rest) else sight.Hash token.location)
+    then
+    (if token.start_of_line
+    then sight_from (λ word. named_directive word (identifier_of word.value)) (first_token token.location rest)
+    else sight.Hash token.location)
     else sight_from sight.Token (conversion token)
 
 -- what stands first among these items

@@ -7,8 +7,8 @@ use Rattle.pp_model.specs.Lines.{ends_line}
 use Rattle.pp_model.specs.Sights.{sight_of, is_directive, is_text, is_directive_hash}
 use Rattle.pp_model.specs.Blocks.{Truths, blocks_at, is_live}
 
--- The source's items and the position among them, what is defined, what `#line` adds to a line, the conditions that were read, and how
--- many blocks that stay open at the end are still to be reported.
+-- The source's items and the position among them, what is defined, what `#line` adds to a line, the conditions that
+-- were read, and how many blocks that stay open at the end are still to be reported.
 pub record SourceReader : Type 0 where
   pub items : List Seen
   pub position : ℕ
@@ -32,23 +32,29 @@ abbrev pub has_directive : List Seen → Bool
 has_directive [] = false
 has_directive (s ∷ rest) = is_directive (sight_of (s ∷ rest)) || has_directive rest
 
--- The position is on the line of a directive: the item before it is the directive's number sign, or it ends no line and is on
--- the directive's line too.
+-- The position is on the line of a directive: the item before it is the directive's number sign, or it ends no line and
+-- is on the directive's line too.
 abbrev pub is_on_directive_line : List Seen → ℕ → Bool
 is_on_directive_line source zero = false
 is_on_directive_line source (suc position) =
     option_map_or (λ s. is_directive_hash s.item) (slice_get source position) false
-    || (not (option_map_or (λ s. ends_line s.item) (slice_get source position) false) && is_on_directive_line source position)
+    || (not (option_map_or (λ s. ends_line s.item) (slice_get source position) false)
+    && is_on_directive_line source position)
 
 -- a live token of the text stands at the position
 abbrev pub is_live_text : List Seen → Truths → ℕ → Bool
-is_live_text source truths position = is_text (sight_of (drop position source)) && not (is_on_directive_line source position) && is_live source truths position
+is_live_text source truths position =
+    is_text (sight_of (drop position source))
+    && not (is_on_directive_line source position)
+    && is_live source truths position
 
 -- a live token of the text stands before the position
 abbrev pub has_live_text_before : List Seen → Truths → ℕ → Bool
 has_live_text_before source truths zero = false
-has_live_text_before source truths (suc position) = is_live_text source truths position || has_live_text_before source truths position
+has_live_text_before source truths (suc position) =
+    is_live_text source truths position || has_live_text_before source truths position
 
 -- no directive stands before the position, and no live token of the text
 abbrev pub is_first_directive : List Seen → Truths → ℕ → Bool
-is_first_directive source truths position = not (has_directive (take position source) || has_live_text_before source truths position)
+is_first_directive source truths position =
+    not (has_directive (take position source) || has_live_text_before source truths position)

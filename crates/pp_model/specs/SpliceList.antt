@@ -36,7 +36,9 @@ parameter_of parameters _ = None
 
 -- a token of a body, unpainted, or the argument of the parameter that it names, with its paint
 abbrev pub replacement : List (List Read) → Token → Option ℕ → List Entry → List Entry
-replacement arguments token parameter entries = option_map_or (λ k. map Plain (unwrap_or (slice_get arguments k) []) ++ entries) parameter (Plain (unpainted token) ∷ entries)
+replacement arguments token parameter entries =
+    option_map_or (λ k. map Plain (unwrap_or (slice_get arguments k) []) ++ entries) parameter
+    (Plain (unpainted token) ∷ entries)
 
 -- the body with each parameter replaced by its argument, and then the entries
 abbrev pub replaced : List Name → List (List Read) → List Token → List Entry → List Entry
@@ -46,4 +48,5 @@ replaced parameters arguments (token ∷ body) entries =
 
 -- the macro's replacement with its end mark before the entries
 abbrev pub spliced : Name → Definition → ℕ → List (List Read) → List Entry → List Entry
-spliced name definition line arguments entries = replaced definition.parameters arguments definition.body (End (record { name = name; line = line }) ∷ entries)
+spliced name definition line arguments entries =
+    replaced definition.parameters arguments definition.body (End (record { name = name; line = line }) ∷ entries)

@@ -15,7 +15,11 @@ use Rattle.pp_model.specs.declared.splice.Entry.TheVariants.{Plain}
 
 -- a line number as an unsigned integer at this place, or the fault of one that is out of range
 abbrev pub line_number : Location → Option ℕ → Taken
-line_number location (Some n) = taken.Token (unpainted (record { value = Integer (record { value = n; signed = false; width = pos 32 }); location = location }))
+line_number location (Some n) =
+    taken.Token (unpainted (record {
+      value = Integer (record { value = n; signed = false; width = pos 32 });
+      location = location;
+    }))
 line_number location None = taken.Fault (LineOverflow, location)
 
 -- `__LINE__` becomes a number at once: from the line of the outermost open macro, or else from its own
@@ -33,11 +37,25 @@ shown_outcome shown_line x = x
 -- what comes first
 pub data Fetches {R : Type 0} (I : Reading R) : Expander R → Taken → Expander R → Type 0 where
   -- what was held
-  held : (o : Taken) (e f : Expander R) → e.held ≡ Some o → f ≡ record e { held = None } → Fetches I e o f
+  held : (o : Taken) (e f : Expander R)
+      → e.held ≡ Some o
+      → f ≡ record e { held = None }
+      → Fetches I e o f
   -- the first token after the end marks at the list's front
-  listed : (o : Taken) (read : Read) (rest : List Entry) (e f : Expander R) → e.held ≡ None → after_marks e.list ≡ Plain read ∷ rest → o ≡ shown_token (I.shown_line e.reader) rest read → f ≡ record e { list = rest } → Fetches I e o f
+  listed : (o : Taken) (read : Read) (rest : List Entry) (e f : Expander R)
+      → e.held ≡ None
+      → after_marks e.list ≡ Plain read ∷ rest
+      → o ≡ shown_token (I.shown_line e.reader) rest read
+      → f ≡ record e { list = rest }
+      → Fetches I e o f
   -- what the reader gives, where the list holds no token
-  read : (x o : Taken) (reader : R) (e f : Expander R) → e.held ≡ None → after_marks e.list ≡ [] → I.Reads e.reader x reader → o ≡ shown_outcome (I.shown_line reader) x → f ≡ record e { list = []; reader = reader } → Fetches I e o f
+  read : (x o : Taken) (reader : R) (e f : Expander R)
+      → e.held ≡ None
+      → after_marks e.list ≡ []
+      → I.Reads e.reader x reader
+      → o ≡ shown_outcome (I.shown_line reader) x
+      → f ≡ record e { list = []; reader = reader }
+      → Fetches I e o f
 
 -- What is taken: what comes first, and an identifier is painted whose name is open then, here or around.
 pub record Takes {R : Type 0} (I : Reading R) (e : Expander R) (o : Taken) (f : Expander R) : Type 0 where

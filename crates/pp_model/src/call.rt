@@ -1,4 +1,4 @@
-//! Calls of a preprocessor, and what they answer.
+//! Calls of a preprocessor, and their replies.
 
 use crate::outcome::{Fault, Outcome};
 
@@ -11,13 +11,13 @@ pub enum Call<'a> {
     Next,
 }
 
-/// What a call answers.
+/// The reply to a call.
 #[derive(PartialEq, Eq, Debug, Drop)]
 pub enum Reply {
     /// The definition was added.
     Added,
-    /// The definition was refused, and changes nothing.
+    /// The definition has an error, and changes nothing.
     Refused(Fault),
-    /// The next item, or the end.
+    /// `next` returned the next item, or the end.
     Given(Outcome),
 }

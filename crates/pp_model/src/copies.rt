@@ -7,7 +7,7 @@ use crate::read::Read;
 use pp_lexer::token::Token;
 use std::alloc::{AllocError, Global};
 
-/// A copy of a token. The error says that memory was refused.
+/// Returns a copy of a token. The error is that an allocation failed.
 pub fn copy_token(alloc: Global, token: &Token) -> Result<Token, AllocError>
     ensures { IfOk result (λ copy. copy ≡ token.now) }
 {
@@ -17,7 +17,7 @@ pub fn copy_token(alloc: Global, token: &Token) -> Result<Token, AllocError>
     }
 }
 
-/// A copy of a token with its paint. The error says that memory was refused.
+/// Returns a copy of a token with its paint. The error is that an allocation failed.
 pub fn copy_read(alloc: Global, read: &Read) -> Result<Read, AllocError>
     ensures { IfOk result (λ copy. copy ≡ read.now) }
 {
@@ -27,7 +27,7 @@ pub fn copy_read(alloc: Global, read: &Read) -> Result<Read, AllocError>
     })
 }
 
-/// A copy of a fault. The error says that memory was refused.
+/// Returns a copy of a fault. The error is that an allocation failed.
 pub fn copy_fault(alloc: Global, fault: &Fault) -> Result<Fault, AllocError>
     ensures { IfOk result (λ copy. copy ≡ fault.now) }
 {

@@ -24,16 +24,16 @@ impl Model for TokenList {
 pub struct Placed {
     /// The name.
     pub name: Text,
-    /// Where it stands.
+    /// Its place.
     pub location: Location,
 }
 
-/// What a macro's name stands for.
+/// The definition of a macro.
 #[derive(Drop)]
 pub struct Definition {
-    /// Whether it has parameters in parentheses, maybe none.
+    /// Whether it has parameters in parentheses, possibly none.
     pub function_like: bool,
-    /// The names of its parameters, which all differ.
+    /// The names of its parameters, which are all different.
     pub parameters: Vec<Text>,
     /// The tokens that replace it.
     pub body: Vec<Token>,
@@ -52,8 +52,8 @@ impl Model for Definition {
 pub struct Named {
     /// The name.
     pub name: Text,
-    /// Where the name stands.
+    /// The place of the name.
     pub location: Location,
-    /// What it stands for.
+    /// The definition.
     pub definition: Definition,
 }

@@ -7,7 +7,7 @@ ghost use Rattle.pp_model.specs.inner.Sights.{is_word};
 use crate::names::is_spelled;
 use pp_lexer::token::Text;
 
-/// What a directive's word says.
+/// The directive that a word names.
 #[derive(Clone, Copy, PartialEq, Eq, Debug)]
 pub enum Directive {
     /// `define`
@@ -40,7 +40,7 @@ pub enum Directive {
     Unknown,
 }
 
-// Whether a directive's word is spelled so.
+// Whether a directive's word has this spelling.
 #[tactic(auto, unfolding(crate::specs::inner::Sights::is_word))]
 fn is_word(name: &Text, word: &str) -> bool
     ensures { result ≡ is_word name.now word.now }
@@ -48,7 +48,7 @@ fn is_word(name: &Text, word: &str) -> bool
     is_spelled(name, word)
 }
 
-/// What a directive's word says.
+/// Returns the directive that a word names.
 #[tactic(auto, using(crate::proofs::PartsLemmas::directive_of_is))]
 pub fn directive_of(name: &Text) -> Directive
     ensures { result ≡ directive_of name.now }

@@ -1,5 +1,5 @@
-//! Laws of expansion, of reading a source, of its blocks and of runs, over the definitions alone: each function's contract
-//! states one, for every list of tokens or source and at every level. The bodies do nothing.
+//! Laws of expansion, of reading a source, of its blocks and of runs, over the definitions alone. Each function's
+//! contract states one, for every list of tokens or source and at every level. The bodies do nothing.
 
 ghost use Rattle.pp_model.specs.ApartMarks.{OnlyTakesEntries, OpensNew, KeepsMarksApart, StartsApart};
 ghost use Rattle.pp_model.specs.BlockLaws.{OneBranch, NoneAfterTaken, DeadTextGivesNothing};
@@ -19,43 +19,43 @@ ghost use Rattle.pp_model.specs.RunLaws.{OneEvaluation, OneCondition, OneLineNum
 ghost use Rattle.pp_model.specs.RunStates.{RunKeepsMarksApart, RunShowsNoLineName, EndStays, RunEndsForGood};
 ghost use Rattle.std.specs.Prelude.{ℕ};
 
-/// A list of tokens passes one outcome next.
+/// A list of tokens passes at most one outcome next.
 pub fn one_reading()
     ensures argument { OneReads argument_reading }
     ensures line { OneReads line_reading }
 {}
 
-/// What is taken from an expander is one outcome, and leaves one expander.
+/// At most one outcome is taken from an expander, and it leaves one expander.
 pub fn one_taking()
     ensures argument { OneTaking argument_reading }
     ensures line { OneTaking line_reading }
 {}
 
-/// The search for the end of a call gathers one list of tokens, or meets one fault.
+/// The search for the end of a call gathers at most one list of tokens, or finds one fault.
 pub fn one_gathering()
     ensures argument { OneGathering argument_reading }
     ensures line { OneGathering line_reading }
 {}
 
-/// After the name of a function-like macro stands one call, or none.
+/// After the name of a function-like macro there is one call, or none.
 pub fn one_call()
     ensures argument { (level : ℕ) → OneCall argument_reading (answers_at level) }
     ensures line { (level : ℕ) → OneCall line_reading (answers_at level) }
 {}
 
-/// An expander has one next item.
+/// An expander has at most one next item.
 pub fn one_item()
     ensures argument { (level : ℕ) → OneItem argument_reading (answers_at level) }
     ensures line { (level : ℕ) → OneItem line_reading (answers_at level) }
 {}
 
-/// An argument that is read alone comes to one list of tokens, or to one fault.
+/// An argument that is read alone gives at most one list of tokens, or one fault.
 pub fn one_argument()
     ensures { (level : ℕ) → OneArgument (Alone level) }
 {}
 
-/// A line whose value is wanted comes to one list of words, with one ending, and the operand of a `defined` to one answer, or
-/// to one fault.
+/// A line that is evaluated gives at most one list of words, with one ending, and the operand of a `defined` at most
+/// one answer, or one fault.
 pub fn one_line()
     ensures operand { (level : ℕ) → OneOperand (answers_at level) }
     ensures words { (level : ℕ) → OneLine (answers_at level) }
@@ -67,7 +67,7 @@ pub fn entries_leave()
     ensures line { (level : ℕ) → OnlyTakesEntries line_reading (answers_at level) }
 {}
 
-/// A macro opens only where the list holds no mark of it. None is in what is left of the list after a call.
+/// A macro opens only if the list holds no mark of it. No mark of it is in what is left of the list after a call.
 pub fn opens_once()
     ensures argument { OpensNew argument_reading }
     ensures line { OpensNew line_reading }
@@ -82,29 +82,30 @@ pub fn apart_marks()
         (answers_at level) }
 {}
 
-/// No macro is open twice, here or around, in whatever state expansion passes: of a source, within one item too, of an
-/// argument of a call, and of the line of an `#if`, `#elif` or `#line`.
+/// No macro is open twice, here or around, in any state that expansion passes: of a source (also within one item), of
+/// an argument of a call, and of the line of an `#if`, `#elif` or `#line`.
 pub fn open_once()
     ensures source { (level : ℕ) → RunOpensOnce (answers_at level) }
     ensures argument { (level : ℕ) → ListOpensOnce argument_reading (answers_at level) }
     ensures line { (level : ℕ) → ListOpensOnce line_reading (answers_at level) }
 {}
 
-/// No `__LINE__` is taken, gathered or given, unless one was held, and none is in what a list of tokens comes to alone.
+/// No `__LINE__` is taken, gathered or given unless one was held, and a list of tokens that is expanded alone gives
+/// none.
 pub fn no_line_name()
     ensures argument { (level : ℕ) → ShowsNoLineName argument_reading (answers_at level) }
     ensures line { (level : ℕ) → ShowsNoLineName line_reading (answers_at level) }
     ensures alone { AloneShowsNoLineName }
 {}
 
-/// An expression has one value, or one first fault, and so has the line of an `#if`, `#elif` or `#line`.
+/// An expression has at most one value, or one first fault, and so does the line of an `#if`, `#elif` or `#line`.
 pub fn one_line_value()
     ensures evaluation { OneEvaluation }
     ensures condition { (level : ℕ) → OneCondition (answers_at level) }
     ensures line_number { (level : ℕ) → OneLineNumber (answers_at level) }
 {}
 
-/// One token or line of a source comes to one outcome, or to nothing, and reading the source passes one outcome next.
+/// A token or line of a source has at most one outcome, and reading the source passes at most one outcome next.
 pub fn one_source_reading()
     ensures step { (level : ℕ) → OneStep (answers_at level) }
     ensures reading { (level : ℕ) → OneReads (source_reading (answers_at level)) }
@@ -131,33 +132,33 @@ pub fn run_no_line_name()
     ensures { (level : ℕ) → RunShowsNoLineName (answers_at level) }
 {}
 
-/// The end of a source is for good: after it no item is given, whatever definitions are added.
+/// After the end of a source no call gives another item, even if definitions are added.
 pub fn run_end()
     ensures item { (level : ℕ) → EndStays (answers_at level) }
     ensures replies { (level : ℕ) → RunEndsForGood (answers_at level) }
 {}
 
-/// Of a block's branches at most one is live, and after one that was taken none is.
+/// At most one branch of a block is live, and no branch is live after one that was taken.
 pub fn live_branch()
     ensures one { OneBranch }
     ensures none_after { NoneAfterTaken }
 {}
 
-/// A token or line of dead text gives no token, defines nothing and numbers no line, and leaves the definitions as they are;
-/// and so in the whole of a run: no step of it takes anything from dead text, but for errors and the end.
+/// A token or line of dead text gives no token, defines nothing, numbers no line and leaves the definitions as they
+/// are. The same holds for a whole run: no step of it takes anything from dead text, except for errors and the end.
 pub fn dead_text()
     ensures step { DeadTextGivesNothing }
     ensures run { (level : ℕ) → RunsAreLive (answers_at level) }
 {}
 
-/// A `#define` of a name that is defined gives nothing where it says the same, and an error where it says something else.
-/// The old definition stays.
+/// A `#define` of a name that is already defined gives nothing if it says the same as the old definition, and an error
+/// if it says something else. The old definition stays in both cases.
 pub fn redefinition()
     ensures { (level : ℕ) → RedefinitionIsChecked (answers_at level) }
 {}
 
-/// Where all tokens that a run gives are plain, the text that spells them with single spaces gives the same values, and then
-/// the end.
+/// If all tokens that a run gives are ordinary, preprocessing the text that spells them with single spaces gives the
+/// same values, and then the end.
 pub fn respell()
     ensures { (level : ℕ) → RunsAreReadAfresh (answers_at level) }
 {}
@@ -174,13 +175,13 @@ pub fn a_taking()
     ensures line { ATaking line_reading }
 {}
 
-/// The search for the end of a call gathers a list of tokens, or meets a fault.
+/// The search for the end of a call gathers a list of tokens, or finds a fault.
 pub fn a_gathering()
     ensures argument { AGathering argument_reading }
     ensures line { AGathering line_reading }
 {}
 
-/// After the name of a function-like macro a call is found, none, or a fault.
+/// After the name of a function-like macro there is a call, no call, or a fault.
 pub fn a_call()
     ensures argument { (level : ℕ) → ACall argument_reading (answers_at level) }
     ensures line { (level : ℕ) → ACall line_reading (answers_at level) }
@@ -204,7 +205,7 @@ pub fn an_argument()
     ensures { (level : ℕ) → AnArgument (Alone level) }
 {}
 
-/// A line whose value is wanted has words and an ending, and the operand of a `defined` an answer, or a fault.
+/// A line that is evaluated has words and an ending, and the operand of a `defined` has an answer, or a fault.
 pub fn a_line()
     ensures operand { (level : ℕ) → AnOperand (answers_at level) }
     ensures words { (level : ℕ) → ALine (answers_at level) }
@@ -232,7 +233,7 @@ pub fn an_end()
     ensures { (level : ℕ) → AnEnd (answers_at level) }
 {}
 
-/// Every source has a run, whatever is called.
+/// Every source has a run for every list of calls.
 pub fn a_run()
     ensures { ARun }
 {}

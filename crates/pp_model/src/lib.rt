@@ -1,6 +1,6 @@
-//! What preprocessing is: the definitions, in `specs/`, the types that they name, and laws about them. The crate
-//! `pp_plain` has a plain, slow program that computes them. What the words of an `#if`, `#elif` or `#line` line come to
-//! is computed here, for that program and for the preprocessor.
+//! The definitions of preprocessing, in `specs/`, the types that they name, and laws about them. The crate
+//! `pp_reference` has a plain, slow program that computes them. The value of the words of an `#if`, `#elif` or `#line`
+//! line is computed here, for that program and for the preprocessor.
 #![tactic(auto)]
 
 pub mod block;

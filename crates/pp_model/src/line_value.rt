@@ -1,4 +1,4 @@
-//! What the words of an `#if`, `#elif` or `#line` line come to.
+//! The value of the words of an `#if`, `#elif` or `#line` line.
 
 ghost use Rattle.std.specs.Prelude.{◌≡◌, map, not, IfOk};
 ghost use Rattle.std.specs.Option.{option_copied};
@@ -15,7 +15,7 @@ use pp_expression::symbol::{ExpressionFault, Found, Symbol, Value};
 use pp_lexer::token::{Location, PreprocessorError, Text, TokenValue};
 use std::alloc::{AllocError, Global};
 
-// What a word is to the grammar of expressions.
+// What a word is in the grammar of expressions.
 fn symbol_of(word: &Word) -> Symbol
     ensures { result ≡ symbol_of word.now }
 {
@@ -30,7 +30,7 @@ fn symbol_of(word: &Word) -> Symbol
     }
 }
 
-// What the words are to the grammar of expressions.
+// What the words are in the grammar of expressions.
 fn symbols_of(alloc: Global, words: &[Word]) -> Result<Vec<Symbol>, AllocError>
     ensures { IfOk result (λ symbols. symbols.items ≡ map symbol_of words.now) }
 {
@@ -50,19 +50,19 @@ fn evaluation(alloc: Global, words: &Words) -> Result<Result<Value, Found>, Allo
     Ok(evaluate(alloc, &symbols, ending)?)
 }
 
-// The word with which so many words of the line end.
+// The first of the last `left` words of the line.
 fn word_from_end(words: &Words, left: usize) -> Option<&Word>
     ensures { option_copied result ≡ word_from_end left words.now }
 {
     words.words.get(words.words.len().saturating_sub(left))
 }
 
-/// Why a `#line` numbers no line by its rules.
+/// Why a `#line` gives no line number that the rules allow.
 #[derive(Drop)]
 pub struct LineFault {
     /// Its first fault.
     pub fault: Fault,
-    /// The line number that its first expression gives, if the fault is behind that.
+    /// The line number of its first expression, if the fault comes after that expression.
     pub number: Option<u32>,
 }
 
@@ -76,7 +76,7 @@ fn unnumbered(fault: Fault) -> LineFault
     }
 }
 
-// The fault of a word that can't stand where it does.
+// The fault of a word where the grammar doesn't allow it.
 fn unwanted_word(alloc: Global, word: &Word) -> Result<Fault, AllocError>
     ensures { IfOk result (λ fault. fault ≡ unwanted_word word.now) }
 {
@@ -103,7 +103,7 @@ fn ended_early(directive: Location) -> Fault
     (PreprocessorError::UnexpectedEndOfInput, directive)
 }
 
-// The fault of a `defined` with its operand, or else that of a line that ends too early.
+// The fault of the operand of a `defined`, or for any other word that of a line that ends too early.
 fn fault_of_operand(alloc: Global, directive: Location, word: &Word) -> Result<Fault, AllocError>
     ensures { IfOk result (λ fault. fault ≡ fault_of_operand (ended_early directive) word.now) }
 {
@@ -142,7 +142,7 @@ fn reported_fault(
     }
 }
 
-// The value of an expression that stands alone on its line, or its first fault.
+// The value of an expression that is alone on its line, or the line's first fault.
 fn value_alone(
     alloc: Global,
     directive: Location,
@@ -159,9 +159,9 @@ fn value_alone(
     }
 }
 
-/// Whether the condition of an `#if` or `#elif` line of these words holds, or its first fault.
+/// Returns whether the condition of an `#if` or `#elif` line of these words holds, or its first fault.
 ///
-/// `directive` is the place of the directive's word. The outer error says that memory was refused.
+/// `directive` is the place of the directive's word. The outer error is that an allocation failed.
 pub fn condition_of(
     alloc: Global,
     directive: Location,
@@ -184,7 +184,7 @@ fn as_line_number(value: Value) -> Option<u32>
     u32::try_from(value.value).ok()
 }
 
-// Passes the words of an expression.
+// Passes the words of an expression, up to the last `left` words.
 fn pass_words(words: &mut Words, left: usize)
     ensures { words.new ≡ words_after left words.old }
 {
@@ -192,7 +192,7 @@ fn pass_words(words: &mut Words, left: usize)
     words.words.drain(..count);
 }
 
-// The number, if these words after it are one expression.
+// The number, if the words after it are one expression.
 fn number_before(
     alloc: Global,
     directive: Location,
@@ -211,7 +211,7 @@ fn number_before(
     }
 }
 
-// What the words of a `#line` come to. The words after its first number are left.
+// The number of the words of a `#line`, or its fault. The words after its first expression are left.
 fn read_numbers(
     alloc: Global,
     directive: Location,
@@ -237,9 +237,10 @@ fn read_numbers(
     number_before(alloc, directive, &*words, number)
 }
 
-/// The line number that a `#line` of these words gives, or its first fault with the number that is before it.
+/// Returns the line number that a `#line` of these words gives, or its first fault with any number that comes before
+/// it.
 ///
-/// `directive` is the place of the directive's word. The outer error says that memory was refused.
+/// `directive` is the place of the directive's word. The outer error is that an allocation failed.
 pub fn number_of(
     alloc: Global,
     directive: Location,

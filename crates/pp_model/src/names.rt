@@ -6,14 +6,14 @@ ghost use Rattle.pp_model.specs.Names.{is_same_name, is_identifier, line_name, d
 
 use pp_lexer::token::{Text, TokenValue};
 
-/// Whether the text has these characters.
+/// Returns whether the text has these characters.
 pub fn is_spelled(text: &Text, spelling: &str) -> bool
     ensures { result ≡ is_same_name text.now (chars spelling.now) }
 {
     text.as_str() == spelling
 }
 
-/// Whether the token is `__LINE__`.
+/// Returns whether the token is `__LINE__`.
 pub fn is_line_name(value: &TokenValue) -> bool
     ensures { result ≡ is_identifier line_name value.now }
 {
@@ -23,7 +23,7 @@ pub fn is_line_name(value: &TokenValue) -> bool
     }
 }
 
-/// Whether the name is `defined`.
+/// Returns whether the name is `defined`.
 pub fn is_defined_name(name: &Text) -> bool
     ensures { result ≡ is_same_name name.now defined_name }
 {

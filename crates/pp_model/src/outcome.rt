@@ -1,11 +1,11 @@
-//! What reading and expanding give.
+//! The outcomes of reading and expanding.
 
 use pp_lexer::token::{Location, PreprocessorError, Token};
 
 /// An error with its place.
 pub type Fault = (PreprocessorError, Location);
 
-/// What reading a source and expanding it give.
+/// An outcome of reading a source, or of expanding it.
 #[derive(PartialEq, Eq, Debug, Drop)]
 pub enum Outcome {
     /// A token, or a `#version`, `#extension` or `#pragma` line.

@@ -1,4 +1,4 @@
-//! Tokens that are taken, with whether they may still open a macro.
+//! Tokens that are taken, and whether they may still open a macro.
 
 ghost use Rattle.std.specs.Prelude.{◌≡◌};
 ghost use Rattle.pp_model.specs.Painting.{unpainted, taken_of, item_of};
@@ -6,8 +6,8 @@ ghost use Rattle.pp_model.specs.Painting.{unpainted, taken_of, item_of};
 use crate::outcome::{Fault, Outcome};
 use pp_lexer::token::Token;
 
-/// A token that is read, and whether it is painted. An identifier is painted that is taken where its name is open, here or
-/// around: it opens no macro from then on.
+/// A token that is read, and whether it is painted. An identifier is painted if its name is open, here or around, when
+/// it is taken. From then on it opens no macro.
 #[derive(PartialEq, Eq, Debug, Drop)]
 pub struct Read {
     /// The token.
@@ -17,7 +17,7 @@ pub struct Read {
 }
 
 impl Read {
-    /// A token as it begins, of a source, of a directive's line or of a body.
+    /// Returns the token unpainted, as every token of a source, of a directive's line or of a body begins.
     pub fn unpainted(token: Token) -> Read
         ensures { result ≡ unpainted token }
     {
@@ -28,7 +28,7 @@ impl Read {
     }
 }
 
-/// What is taken from a splice list or a reader, and what comes of expanding it.
+/// What is taken from a splice list or a reader, and the result of expanding it.
 #[derive(PartialEq, Eq, Debug, Drop)]
 pub enum Taken {
     /// A token, or a `#version`, `#extension` or `#pragma` line.
@@ -40,7 +40,7 @@ pub enum Taken {
 }
 
 impl Taken {
-    /// What reading a source gives, unpainted.
+    /// Returns an outcome of reading a source, unpainted.
     pub fn unpainted(outcome: Outcome) -> Taken
         ensures { result ≡ taken_of outcome }
     {
@@ -51,7 +51,7 @@ impl Taken {
         }
     }
 
-    /// The item, without its paint.
+    /// Returns the item, without its paint.
     pub fn into_item(self) -> Outcome
         ensures { result ≡ item_of self }
     {

@@ -1,4 +1,4 @@
-//! What stands at a position of a source.
+//! What a reader meets at a position of a source.
 
 use crate::directive::Directive;
 use crate::outcome::Fault;
@@ -19,9 +19,9 @@ pub enum Sight {
     Hash(Location),
     /// The `#` of a directive, alone on its line.
     Lone,
-    /// The `#` of a directive, with something after it that is no word: this is what live text says
-    /// of it.
+    /// The `#` of a directive, followed by something other than a word. This is the error that it
+    /// has in live text.
     NoWord(Fault),
-    /// The `#` of a directive, with its word and where that stands.
+    /// The `#` of a directive, with its word and the word's place.
     Directive(Directive, Location),
 }

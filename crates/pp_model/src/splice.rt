@@ -3,12 +3,13 @@
 use crate::read::Read;
 use pp_lexer::token::Text;
 
-/// Where a macro's replacement ends. The macro is open as long as its mark lies in the list.
+/// The end of a macro's replacement. The macro is open as long as its mark is in the list.
 #[derive(Drop)]
 pub struct EndMark {
     /// The macro's name.
     pub name: Text,
-    /// The line that `__LINE__` gives within the outermost macro: that of an object-like macro's name, or of the `)` of a call.
+    /// The line that `__LINE__` gives within the outermost macro: the line of an object-like macro's name, or of the
+    /// `)` of a call.
     pub line: u32,
 }
 

@@ -4,7 +4,7 @@ use crate::definition::{Named, TokenList};
 use crate::outcome::Outcome;
 use pp_lexer::token::Location;
 
-/// What a token or a line of the source comes to.
+/// What a token or a line of the source does.
 #[derive(Drop)]
 pub enum Step {
     /// It gives nothing.
@@ -13,8 +13,8 @@ pub enum Step {
     Given(Outcome),
     /// A `#define` of this name.
     Defines(Named),
-    /// An `#if` or `#elif` whose word stands here, with the tokens of its line.
+    /// An `#if` or `#elif` with this place of its word, and the tokens of its line.
     Condition(Location, TokenList),
-    /// A `#line` whose word stands here, with the tokens of its line.
+    /// A `#line` with this place of its word, and the tokens of its line.
     LineNumber(Location, TokenList),
 }

@@ -1,6 +1,6 @@
 //! Which conditions hold.
 
-/// A condition that was read: where the `#` of its line stands among the items of the source, and whether it holds.
+/// A condition that was read: the position of the `#` of its line among the items of the source, and whether it holds.
 #[derive(Clone, Copy)]
 pub struct Truth {
     /// The position of the `#`.

@@ -10,16 +10,16 @@ use crate::outcome::Fault;
 use pp_lexer::token::{Integer, Location, PreprocessorError, Token, TokenValue};
 use std::marker::Model;
 
-/// A word of a line whose value is wanted (GLSL ES 3.20 section 3.4).
+/// A word of a line that is evaluated (GLSL ES 3.20 section 3.4).
 #[derive(Drop)]
 pub enum Word {
-    /// A token that is no identifier, or the number 0 in place of an unknown identifier.
+    /// A token other than an identifier, or the number 0 for an unknown identifier.
     Plain(Token),
-    /// A `defined` at this place with its operand: whether the name is defined, or what is wrong with the operand.
+    /// A `defined` at this place with its operand: whether the name is defined, or the fault of the operand.
     Defined(Location, Result<bool, Fault>),
 }
 
-/// The words of a line, and the fault of reading that ends them, if one does.
+/// The words of a line, and the fault that ends their reading, if there is one.
 #[derive(Drop)]
 pub struct Words {
     /// The words.
@@ -37,7 +37,7 @@ impl Model for Words {
 }
 
 impl Words {
-    /// These words, and the fault of reading that ends them, if one does.
+    /// Returns these words, with the fault that ends their reading, if there is one.
     pub fn new(words: Vec<Word>, ending: Option<Fault>) -> Words
         ensures { result ≡ record { words = words.items; ending = ending } }
     {
@@ -45,27 +45,27 @@ impl Words {
     }
 }
 
-/// Which lines have a value.
+/// The kind of a line that is evaluated.
 #[derive(Clone, Copy)]
 pub enum LineKind {
-    /// An `#if` or `#elif` line, where an unknown identifier is 0.
+    /// An `#if` or `#elif` line, in which an unknown identifier is 0.
     Condition,
-    /// A `#line` line, where an unknown identifier is refused.
+    /// A `#line` line, in which an unknown identifier is an error.
     LineNumber,
 }
 
-/// What a token of an expanded line is.
+/// What a token of an expanded line is read as.
 #[derive(Drop)]
 pub enum WordReading {
     /// The operator `defined`, as the token that it was read from.
     Operator(Token),
     /// A word.
     Word(Token),
-    /// An unknown name where it is refused.
+    /// The fault of an unknown name in a line that allows none.
     Refused(Fault),
 }
 
-/// The fault of a token that isn't wanted.
+/// Returns the fault of a token that the grammar doesn't allow at its place.
 pub fn unexpected(token: Token) -> Fault
     ensures { result ≡ unexpected token }
 {
@@ -90,7 +90,7 @@ fn is_name(value: &TokenValue) -> bool
     matches!(value, TokenValue::Ident(_))
 }
 
-// What an unknown identifier of a line is.
+// What an unknown identifier of a line is read as.
 fn unknown_name(kind: LineKind, token: Token) -> WordReading
     ensures { unknown_name kind token ≡ reading_named result }
 {
@@ -111,7 +111,7 @@ fn unknown_name(kind: LineKind, token: Token) -> WordReading
     }
 }
 
-/// What a token of an expanded line is.
+/// Returns what a token of an expanded line is read as.
 pub fn reading_of(kind: LineKind, token: Token) -> WordReading
     ensures reads { reading kind token ≡ reading_named result }
     ensures whole { IsOf token result }
@@ -125,7 +125,7 @@ pub fn reading_of(kind: LineKind, token: Token) -> WordReading
     }
 }
 
-/// The fault of what was read as a word where a part of `defined` is wanted.
+/// Returns the fault of what was read as a word where `defined` needs its operand or a parenthesis.
 pub fn unwanted_reading(read: WordReading) -> Fault
     ensures { result ≡ unwanted_read read }
 {

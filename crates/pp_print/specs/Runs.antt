@@ -56,7 +56,9 @@ pub record IsPrinted (IsRun : List Token → RunEnd → Type 0) (end : RunEnd) (
 
 -- whatever tokens come after these, the output begins with these lines
 abbrev pub BeginOutput : List Token → List (List ℕ) → Type 0
-BeginOutput tokens lines = (more : List Token) → (left : List (List ℕ)) × (output_lines (tokens ++ more) ≡ lines ++ left)
+BeginOutput tokens lines =
+    (more : List Token)
+    → (left : List (List ℕ)) × (output_lines (tokens ++ more) ≡ lines ++ left)
 
 -- of a run whose first tokens are known, lines that begin its output were written, and nothing else
 pub record IsBegun (AreFirst : List Token → Type 0) (old new : Option (List ℕ)) : Type 0 where

@@ -1,4 +1,5 @@
--- The run of a source: which tokens come of it after the definitions that were added, and how it ends. Only this file says so.
+-- The run of a source: which tokens come of it after the definitions that were added, and how
+-- it ends. Only this file says so.
 use Rattle.std.specs.Prelude.{◌≡◌, ℕ, List, [], ◌∷◌, Result, Ok}
 use Rattle.std.specs.Borrow.{Bor}
 use Rattle.std.specs.Str.{chars}
@@ -24,9 +25,16 @@ start_of source = start (items_of source)
 
 -- definitions that are added in order, each to the state after the one before it, make one state another
 pub data Adds : State → List Definition → State → Type 0 where
-  none : (state : State) (definitions : List Definition) (after : State) → definitions ≡ [] → after ≡ state → Adds state definitions after
-  first : (definition : Definition) (tokens : List Token) (rest : List Definition) (state : State) (definitions : List Definition) (after : State)
-      → tokens_of definition ≡ Ok tokens → Adds (with_added (chars definition.0.now) tokens state) rest after → definitions ≡ definition ∷ rest → Adds state definitions after
+  none : (state : State) (definitions : List Definition) (after : State)
+      → definitions ≡ []
+      → after ≡ state
+      → Adds state definitions after
+  first : (definition : Definition) (tokens : List Token) (rest : List Definition) (state : State)
+      (definitions : List Definition) (after : State)
+      → tokens_of definition ≡ Ok tokens
+      → Adds (with_added (chars definition.0.now) tokens state) rest after
+      → definitions ≡ definition ∷ rest
+      → Adds state definitions after
 
 -- what comes at the end
 abbrev pub last_outcome : RunEnd → Outcome

@@ -9,8 +9,8 @@ use pp_rs::SOURCE_LIMIT;
 use pp_rs::pp::Preprocessor;
 use pp_rs::token::PreprocessorError;
 
-/// Adds the definitions in order, each a name and its content. Gives up at the first whose content is too
-/// long, or is refused.
+/// Adds the definitions in order, each a name and its content. Stops at the first that can't be added, with `BadWord`
+/// if its content has 2^32 - 1 bytes or more or has an error, and `OutOfMemory` if an allocation fails.
 pub fn add_definitions(items: &mut Preprocessor<'_>, defs: &[(&str, &str)]) -> Result<(), RunFault>
     ensures added { OnOk result (AreAdded items.old defs.now items.new) }
     ensures err { IfErr result (λ fault. IsAddingFault fault (Any IsRefused defs.now)) }

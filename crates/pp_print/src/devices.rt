@@ -1,4 +1,4 @@
-//! Where the source comes from and where the output goes.
+//! The source's device and the output's device.
 
 ghost use Rattle.std.specs.Prelude.{◌≡◌, ◌<◌, ℕ, List, Option, Bool, true, false, length, OnOk, OnErr, IfOk};
 ghost use Rattle.std.specs.Io.{ReadsAtMost, WritesAtMost};
@@ -6,41 +6,41 @@ ghost use Rattle.std.specs.Io.KnownBytes.{ReadConsumes, WriteAppends};
 
 use std::io::{Read, Write};
 
-/// That a read or a write failed.
+/// The error of a read or a write that failed.
 #[derive(Clone, Copy, PartialEq, Eq, Debug)]
 pub struct DeviceFailed;
 
 /// What a source is read from.
 pub trait Source {
-    // The bytes that reads will give from here on, where they are known.
+    // The bytes that reads will return from here on, if they are known.
     ghost remaining: { Self → Option (List ℕ) };
 
     // Whether a read has failed so far.
     ghost failed: { Self → Bool };
 
-    /// Puts bytes at the start of `buf` and gives their number, which is at most the length of `buf`.
-    /// No bytes in a `buf` that has room is the end of the input. Fails where the bytes can't be had.
+    /// Puts bytes at the start of `buf` and returns their number, which is at most the length of `buf`. Returning 0 for
+    /// a `buf` that has room is the end of the input. Fails if the bytes can't be read.
     fn read(&mut self, buf: &mut [u8]) -> Result<usize, DeviceFailed>
         ensures bound { ReadsAtMost result buf.new }
         ensures bytes { ReadConsumes (remaining self.old) (remaining self.new) result buf.new }
         ensures kept { OnOk result (failed self.new ≡ failed self.old) }
         ensures noted { OnErr result (failed self.new ≡ true) };
 
-    /// Whether a read has failed so far.
+    /// Returns whether a read has failed so far.
     fn has_failed(&self) -> bool
         ensures { result ≡ failed self.now };
 }
 
 /// What the output is written to.
 pub trait Sink {
-    // The bytes that were written, where they are known.
+    // The bytes that were written, if they are known.
     ghost contents: { Self → Option (List ℕ) };
 
     // Whether a write has failed so far.
     ghost failed: { Self → Bool };
 
-    /// Writes bytes from the start of `bytes` and gives their number, which is at most the length of
-    /// `bytes`. Fails where none of them can be written, unless there are none.
+    /// Writes bytes from the start of `bytes` and returns their number, which is at most the length of `bytes`. Fails
+    /// if there are bytes and none of them can be written.
     fn write(&mut self, bytes: &[u8]) -> Result<usize, DeviceFailed>
         ensures bound { WritesAtMost result bytes.now }
         ensures progress { 0 < length bytes.now → IfOk result (λ count. 0 < count) }
@@ -48,7 +48,7 @@ pub trait Sink {
         ensures kept { OnOk result (failed self.new ≡ failed self.old) }
         ensures noted { OnErr result (failed self.new ≡ true) };
 
-    /// Whether a write has failed so far.
+    /// Returns whether a write has failed so far.
     fn has_failed(&self) -> bool
         ensures { result ≡ failed self.now };
 }
@@ -61,7 +61,7 @@ pub struct OverRead<R> {
 }
 
 impl<R: Read> OverRead<R> {
-    /// Reads from `inner`. Nothing has failed yet.
+    /// Returns a source that reads from `inner`. Nothing has failed yet.
     pub fn new(inner: R) -> OverRead<R>
         ensures bytes { ⟦<OverRead<R> as Source>⟧.remaining result ≡ R.remaining inner }
         ensures fresh { ⟦<OverRead<R> as Source>⟧.failed result ≡ false }
@@ -93,8 +93,8 @@ impl<R: Read> Source for OverRead<R> {
     }
 }
 
-/// A [`Sink`] over a writer of std. An interruption is a failure like any other, and so is a write
-/// that takes none of the bytes that it is given.
+/// A [`Sink`] over a writer of std. An interruption is a failure like any other, and so is a write that takes none of
+/// the bytes that it gets.
 #[derive(Drop)]
 pub struct OverWrite<W> {
     inner: W,
@@ -102,7 +102,7 @@ pub struct OverWrite<W> {
 }
 
 impl<W: Write> OverWrite<W> {
-    /// Writes to `inner`. Nothing has failed yet.
+    /// Returns a sink that writes to `inner`. Nothing has failed yet.
     pub fn new(inner: W) -> OverWrite<W>
         ensures bytes { ⟦<OverWrite<W> as Sink>⟧.contents result ≡ W.contents inner }
         ensures fresh { ⟦<OverWrite<W> as Sink>⟧.failed result ≡ false }

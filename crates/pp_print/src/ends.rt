@@ -1,4 +1,4 @@
-//! How a run ends, and what the program says and answers then.
+//! How a run ends, and the message and status that the program then gives.
 
 ghost use Rattle.std.specs.Prelude.{◌≡◌, IfOk, string_bytes};
 ghost use Rattle.pp_print.specs.Ends.{status_of, message_of, error_line_of, fault_text_of};
@@ -6,20 +6,20 @@ ghost use Rattle.pp_print.specs.Ends.{status_of, message_of, error_line_of, faul
 use pp_rs::token::{Location, PreprocessorError};
 use std::alloc::{AllocError, AllocFailed, Global};
 
-/// How a run ends that no fault cut short.
+/// The end of a run without a fault.
 #[derive(PartialEq, Eq, Debug, Drop)]
 pub enum RunEnd {
     /// All of the source was printed.
     Done,
-    /// The items before the first error item were printed, and here is that item: the error and its
-    /// place in the source, in byte offsets and 1-based lines.
+    /// The items before the first error item were printed. This is that item: the error and its place in the source, in
+    /// byte offsets and 1-based lines.
     Stopped {
         error: PreprocessorError,
         location: Location,
     },
 }
 
-/// Why a run was cut short.
+/// The fault that cut a run short.
 #[derive(Clone, Copy, PartialEq, Eq, Debug)]
 pub enum RunFault {
     /// A read of the source failed. Nothing was written.
@@ -28,12 +28,12 @@ pub enum RunFault {
     TooLong,
     /// The source isn't UTF-8. Nothing was written.
     NotUtf8,
-    /// The content of a definition has 2^32 - 1 bytes or more, or was refused for another cause than want
-    /// of memory, or a word of the command line has no `=`. Nothing was written.
+    /// The content of a definition has 2^32 - 1 bytes or more or has an error, or an argument of the command line has
+    /// no `=`. Nothing was written.
     BadWord,
-    /// A write failed. Nothing is said of how much went out.
+    /// A write failed. How much was written is not specified.
     WriteFailed,
-    /// Memory was refused. The lines that were written are a beginning of the output's lines.
+    /// An allocation failed. The lines that were written are the first lines of the output.
     OutOfMemory,
 }
 
@@ -57,8 +57,7 @@ impl<T: Drop> From<AllocFailed<T>> for RunFault {
     }
 }
 
-/// The status that the program ends with: 0 where all was printed, 1 at an error in the source, and 2
-/// at a fault.
+/// Returns the program's exit status: 0 if all was printed, 1 for an error in the source, and 2 for a fault.
 pub fn status(end: &Result<RunEnd, RunFault>) -> u8
     ensures { result ≡ status_of end.now }
 {
@@ -69,9 +68,9 @@ pub fn status(end: &Result<RunEnd, RunFault>) -> u8
     }
 }
 
-/// The line that the program prints on its standard error, without LF: empty where all was printed,
-/// `error NAME START END` at an error in the source, with its place in byte offsets, and else what the
-/// fault is. Fails only where memory is refused.
+/// Returns the line that the program prints on its standard error, without LF: empty if all was printed, `error NAME
+/// START END` for an error in the source, with its place in byte offsets, and else `pp_print: ` with a description of
+/// the fault. Fails only if an allocation fails.
 pub fn message(alloc: Global, end: &Result<RunEnd, RunFault>) -> Result<String, AllocError>
     ensures { IfOk result (λ line. string_bytes line ≡ message_of end.now) }
 {
@@ -85,7 +84,7 @@ pub fn message(alloc: Global, end: &Result<RunEnd, RunFault>) -> Result<String, 
     }
 }
 
-// What the program says of an error in the source.
+// The message for an error in the source.
 fn error_line(
     alloc: Global,
     error: &PreprocessorError,
@@ -97,7 +96,7 @@ fn error_line(
     format!(in alloc; "error {name} {} {}", location.start, location.end)
 }
 
-// What the program says of a fault.
+// The message for a fault.
 fn fault_text(fault: RunFault) -> &'static str
     ensures { result.now ≡ fault_text_of fault }
 {

@@ -10,11 +10,11 @@ use super::ends::RunFault;
 use pp_rs::SOURCE_LIMIT;
 use std::alloc::Global;
 
-// How many bytes are asked for at a time, at most.
+// The most bytes that one read asks for.
 const CHUNK: usize = 16384;
 
-/// Reads a source whole, but no more than 2^32 - 1 bytes of it. Refuses, in this order, where a read
-/// fails, where there are as many bytes, and where they aren't UTF-8.
+/// Reads a whole source, but at most 2^32 - 1 bytes of it. The errors, checked in this order: a read fails, there are
+/// 2^32 - 1 bytes or more, the bytes aren't UTF-8.
 pub fn read_source<R: Source>(alloc: Global, reader: &mut R) -> Result<String, RunFault>
     requires { R.failed reader.old ≡ false }
     ensures read { IfOk result (λ source. IfSome (R.remaining reader.old)
@@ -31,7 +31,7 @@ pub fn read_source<R: Source>(alloc: Global, reader: &mut R) -> Result<String, R
     }
 }
 
-// Reads all bytes, but no more than 2^32 - 1.
+// Reads all bytes, but at most 2^32 - 1.
 fn read_bytes<R: Source>(alloc: Global, reader: &mut R) -> Result<Vec<u8>, RunFault>
     requires { R.failed reader.old ≡ false }
     ensures read { IfOk result (λ source. IfSome (R.remaining reader.old)
@@ -52,7 +52,7 @@ fn read_bytes<R: Source>(alloc: Global, reader: &mut R) -> Result<Vec<u8>, RunFa
     Err(RunFault::TooLong)
 }
 
-// Reads once, and appends what came to `bytes`. Gives its length.
+// Reads once, appends the bytes that came to `bytes`, and returns their number.
 fn read_some<R: Source>(
     reader: &mut R,
     buffer: &mut [u8],

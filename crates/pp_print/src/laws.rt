@@ -4,8 +4,8 @@
 ghost use Rattle.pp_print.specs.OutputLaws.{LinesAreTheCut, HeldTokensAreSpelledAlike};
 ghost use Rattle.pp_print.specs.RunLaws.{ARun, OneRun, FirstTokens};
 
-/// The printed lines are the tokens in a row, cut into lines of ordinary tokens, each as long as it can
-/// be, and lines of one directive item. There is no other such cut.
+/// The printed lines are the tokens in a row, cut into lines of ordinary tokens, each as long as possible, and lines of
+/// one directive item. There is no other such cut.
 pub fn lines()
     ensures { LinesAreTheCut }
 {}
@@ -15,8 +15,8 @@ pub fn held_tokens()
     ensures { HeldTokensAreSpelledAlike }
 {}
 
-/// A source, where definitions were added, has a run, up to the end or to the first error item. It has no other
-/// run, and so no other output. The tokens that come first of it are the first tokens of its run.
+/// A source to which definitions were added has a run, up to the end or to the first error item. It has no other run,
+/// and so no other output. The tokens that it gives first are the first tokens of its run.
 pub fn runs()
     ensures some { ARun }
     ensures one { OneRun }

@@ -1,4 +1,4 @@
-//! The program `pp_print` but for its `main`: preprocesses a source and prints what comes of it.
+//! The program `pp_print` without its `main`: preprocesses a source and prints the result.
 #![tactic(auto)]
 
 ghost use Rattle.std.specs.Prelude.{◌≡◌, ◌↔◌, ◌⊎◌, true, false, All, Any, OnOk, IfOk, IfErr, IfSome, IsErrOf};
@@ -20,16 +20,15 @@ pub use devices::{DeviceFailed, OverRead, OverWrite, Sink, Source};
 pub use ends::{RunEnd, RunFault, message, status};
 pub use words::split_word;
 
-/// Reads the source whole, but no more than 2^32 - 1 bytes of it, adds the definitions in order, each a
-/// name and its content, and prints the items up to the first error item. Each longest run of ordinary
-/// tokens is printed as one line, spelled with a space between two tokens. Each directive item is a line
-/// of its own: `#version`, `#extension` or `#pragma`, and its tokens if it has any. Each line ends with
-/// LF.
+/// Reads the whole source, but at most 2^32 - 1 bytes of it, adds the definitions in order, each a name and its
+/// content, and prints the items up to the first error item. Each longest run of ordinary tokens is printed as one
+/// line, spelled with a space between two tokens. Each directive item is a line of its own: `#version`, `#extension` or
+/// `#pragma`, and its tokens if it has any. Each line ends with LF.
 ///
-/// Ends with [`RunEnd::Done`] where there is no error item, and with [`RunEnd::Stopped`] at the first.
-/// Faults come in this order: [`RunFault::ReadFailed`], [`RunFault::TooLong`], [`RunFault::NotUtf8`],
-/// [`RunFault::BadWord`], all before anything is written, then [`RunFault::WriteFailed`].
-/// [`RunFault::OutOfMemory`] comes wherever memory is refused, and whole lines have been written then.
+/// Returns [`RunEnd::Done`] if there is no error item, and [`RunEnd::Stopped`] at the first one. Faults come in this
+/// order: [`RunFault::ReadFailed`], [`RunFault::TooLong`], [`RunFault::NotUtf8`], [`RunFault::BadWord`], all before
+/// anything is written, then [`RunFault::WriteFailed`]. [`RunFault::OutOfMemory`] comes at any point at which an
+/// allocation fails. Only whole lines have been written then.
 pub fn run<R: Source, W: Sink>(
     alloc: Global,
     defs: &[(&str, &str)],
@@ -41,18 +40,18 @@ pub fn run<R: Source, W: Sink>(
     ensures source { IfSome (R.remaining reader.old) (FitsSource result) }
     ensures stopped { IfOk result IsStoppedBySource }
 
-    // A run that gets to its output has added all definitions, and one that refuses them has the cause.
+    // A run that gets to its output has added all definitions, and one that can't add them has the cause.
     ensures defined { OnOk result (All IsAccepted defs.now) }
     ensures defined_first { IsErrOf result RunFault.WriteFailed → All IsAccepted defs.now }
     ensures bad_word { IsErrOf result RunFault.BadWord → Any IsRefused defs.now }
 
-    // The devices fail where the run says so, and before the output nothing is written.
+    // The devices fail if the run says so, and before the output nothing is written.
     ensures read_failed { IsErrOf result RunFault.ReadFailed ↔ (R.failed reader.new ≡ true) }
     ensures write_failed { IsErrOf result RunFault.WriteFailed ↔ (W.failed writer.new ≡ true) }
     ensures unwritten { IfErr result (λ fault. IsBeforeOutput fault → writer.new ≡ writer.old) }
 
-    // What was written is the output of the run of the source after the definitions or, where memory was
-    // refused, nothing or the first lines of that output.
+    // The bytes written are the output of the run of the source after the definitions or, if an allocation failed,
+    // nothing or the first lines of that output.
     ensures printed { IfOk result (λ end. IfSome (R.remaining reader.old) (λ source.
         IsPrinted (IsRunOf source defs.now) end (W.contents writer.old) (W.contents writer.new))) }
     ensures begun { IsErrOf result RunFault.OutOfMemory → IfSome (R.remaining reader.old) (λ source.

@@ -18,9 +18,8 @@ use pp_rs::pp::{Preprocessor, push_value};
 use pp_rs::token::{Location, PreprocessorError, Token, TokenValue};
 use std::alloc::{AllocError, Global};
 
-/// Prints the items up to the first error item, which it gives with its place: each longest run of
-/// ordinary tokens as a line, and each directive item as a line. A line is written whole or, where
-/// memory is refused, not at all.
+/// Prints the items up to the first error item, which it returns with its place. Each longest run of ordinary tokens is
+/// a line, and each directive item is a line. A line is written whole or, if an allocation fails, not at all.
 pub fn print_items<W: Sink>(
     alloc: Global,
     mut items: Preprocessor<'_>,
@@ -42,7 +41,7 @@ pub fn print_items<W: Sink>(
     end
 }
 
-// Prints the items that are left. It stands apart, so that the preprocessor is dropped in one place.
+// Prints the items that are left. It is a function of its own, so that the preprocessor is dropped in one place.
 fn print_rest<W: Sink>(
     alloc: Global,
     items: &mut Preprocessor<'_>,
@@ -59,7 +58,7 @@ fn print_rest<W: Sink>(
     ensures err { IfErr result (λ fault. IsDeviceFault RunFault.WriteFailed fault
         (W.failed writer.new)) }
 {
-    // A run of tokens that may go on. It is kept as text, which is smaller than its tokens.
+    // A run of tokens that may continue. It is kept as text, which is smaller than its tokens.
     let mut line = None;
     'items: while let Some(item) = items.next() {
         match item {
@@ -71,8 +70,8 @@ fn print_rest<W: Sink>(
     Ok(RunEnd::Done)
 }
 
-// Prints the line that was begun before an error item, unless that is a refusal of memory: the line's
-// run of tokens may have gone on then.
+// Prints the line that was begun before an error item. For an `OutOfMemory` it prints nothing: the line's run of tokens
+// might have continued.
 fn print_stop<W: Sink>(
     alloc: Global,
     refusal: (PreprocessorError, Location),
@@ -106,7 +105,7 @@ fn print_stop<W: Sink>(
     }
 }
 
-// Takes an ordinary token into the line, and prints a directive item, and before it the line.
+// Takes an ordinary token into the line. For a directive item it prints first the line, then the item.
 fn print_token<W: Sink>(
     alloc: Global,
     token: Token,
@@ -133,7 +132,7 @@ fn print_token<W: Sink>(
     }
 }
 
-// Prints a directive item, and before it the line. It stands apart, since most tokens are ordinary.
+// Prints the line, then a directive item. It is a function of its own, since most tokens are ordinary.
 #[inline(never)]
 fn print_directive<W: Sink>(
     alloc: Global,
@@ -172,7 +171,7 @@ fn print_line<W: Sink>(alloc: Global, line: Option<String>, writer: &mut W) -> R
     write_all(text.as_bytes(), writer)
 }
 
-// Takes an ordinary token into the line: as its first word, or after a space.
+// Appends an ordinary token to the line: as its first word, or after a space.
 fn push_word(alloc: Global, line: &mut Option<String>, value: &TokenValue) -> Result<(), AllocError>
     requires { IsTrue (is_ordinary value.now) }
     ensures { OnOk result (option_map string_bytes line.new
@@ -192,7 +191,7 @@ fn push_word(alloc: Global, line: &mut Option<String>, value: &TokenValue) -> Re
     }
 }
 
-// The line with its newline, or no text where no line was begun.
+// The line with its newline, or no text if no line was begun.
 fn end_line(alloc: Global, line: Option<String>) -> Result<String, AllocError>
     ensures { IfOk result (λ text. string_bytes text
         ≡ written_lines (begun_line (option_map string_bytes line))) }

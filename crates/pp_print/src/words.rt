@@ -1,13 +1,13 @@
-//! The words of the command line.
+//! The arguments of the command line.
 
 ghost use Rattle.std.specs.Prelude.{◌↔◌, IfSome, IsSome, Contains};
 ghost use Rattle.pp_print.specs.Words.{IsCutAtFirst};
 
-// What stands between a name and its content.
+// The character between a name and its content.
 const EQUALS: char = '=';
 
-/// Cuts a word `NAME=CONTENT` of the command line at its first `=`, and gives the name and the
-/// content. Gives `None` exactly for a word without `=`.
+/// Splits an argument `NAME=CONTENT` of the command line at its first `=`, and returns the name and
+/// the content. Returns `None` exactly if there is no `=`.
 pub fn split_word(word: &str) -> Option<(&str, &str)>
     ensures found { IsSome result ↔ Contains word.now EQUALS }
     ensures cut { IfSome result (λ parts. IsCutAtFirst EQUALS word.now parts.0.now parts.1.now) }

@@ -6,11 +6,11 @@ use Rattle.pp_lexer.specs.declared.token.Token.{Token}
 use Rattle.pp_model.specs.Names.{Name}
 use Rattle.pp_model.specs.Run.{items_of, content_tokens, with_added}
 use Rattle.pp_rs.specs.Comes.{State}
-use Rattle.pp_expansion.specs.Item.{Fault}
+use Rattle.pp_macros.specs.Item.{Fault}
 use Rattle.pp_rs.specs.Kept.{Preprocessing, Stands, is_spent, most_items, errors_left, error_place}
 
--- Each state that the preprocessor stood for is now one in which the name stands for a macro of these tokens. Where nothing was left,
--- nothing is.
+-- Each state that the preprocessor stood for is now one in which the name stands for a macro of these tokens.
+-- Where nothing was left, nothing is.
 pub record IsWithAdded (name : Name) (tokens : List Token) (old new : Preprocessing) : Type 0 where
   pub stands : (state : State) → Stands old state → Stands new (with_added name tokens state)
   pub spent : is_spent new ≡ is_spent old
@@ -19,10 +19,19 @@ pub record IsWithAdded (name : Name) (tokens : List Token) (old new : Preprocess
   pub place : error_place new ≡ error_place old
 
 -- What a call answers, and the preprocessor after it.
-pub data IsAdded (old : Preprocessing) (name content : List ℕ) (answer : Result (Unit {0}) Fault) (new : Preprocessing) : Type 0 where
+pub data IsAdded (old : Preprocessing) (name content : List ℕ) (answer : Result (Unit {0}) Fault)
+    (new : Preprocessing) : Type 0 where
   -- memory was refused
   refused : answer ≡ Err out_of_memory → new ≡ old → IsAdded old name content answer new
   -- the first lexer's error or number sign of the content
-  faulty : (fault : Fault) → content_tokens (items_of content) ≡ Err fault → answer ≡ Err fault → new ≡ old → IsAdded old name content answer new
+  faulty : (fault : Fault)
+      → content_tokens (items_of content) ≡ Err fault
+      → answer ≡ Err fault
+      → new ≡ old
+      → IsAdded old name content answer new
   -- the content has these tokens
-  added : (tokens : List Token) → content_tokens (items_of content) ≡ Ok tokens → answer ≡ Ok tt → IsWithAdded (chars name) tokens old new → IsAdded old name content answer new
+  added : (tokens : List Token)
+      → content_tokens (items_of content) ≡ Ok tokens
+      → answer ≡ Ok tt
+      → IsWithAdded (chars name) tokens old new
+      → IsAdded old name content answer new

@@ -4,10 +4,10 @@ use Rattle.pp_lexer.specs.declared.token.Token.{Token}
 use Rattle.pp_model.specs.declared.outcome.Outcome.{Outcome}
 use Rattle.pp_model.specs.declared.outcome.Outcome.TheVariants as outcome
 use Rattle.pp_rs.specs.Comes.{State, Gives, IsRunFrom}
-use Rattle.pp_expansion.specs.Item.{Fault, Item}
+use Rattle.pp_macros.specs.Item.{Fault, Item}
 use Rattle.pp_rs.specs.Kept.{Preprocessing, Stands, is_spent, most_items, errors_left, error_place}
-use Rattle.pp_expansion.specs.Held.{ItemHoldsOrdinary}
-use Rattle.pp_expansion.specs.LexerErrors.{ErrorAt}
+use Rattle.pp_macros.specs.Held.{ItemHoldsOrdinary}
+use Rattle.pp_macros.specs.LexerErrors.{ErrorAt}
 use Rattle.pp_lexer.specs.declared.token.Location.{Location}
 
 -- the tokens before the first error item
@@ -27,41 +27,58 @@ abbrev pub error_or_end : Option Fault → Outcome
 error_or_end None = outcome.End
 error_or_end (Some fault) = outcome.Fault fault
 
--- Up to and with their first error item these are the items that come from the state, all of them where none is an error. After an error
--- nothing is said.
+-- Up to and with their first error item these are the items that come from the state, all of them where none is an
+-- error. After an error nothing is said.
 abbrev pub AreItemsFrom : State → List Item → Type 0
 AreItemsFrom state items = IsRunFrom state (tokens_before_error items) (error_or_end (first_error items))
 
 -- all items, or none where memory was refused before
 abbrev pub AreItemsOf : Preprocessing → List Item → Type 0
-AreItemsOf old items = MatchBool (is_spent old) (items ≡ []) ((state : State) → Stands old state → AreItemsFrom state items)
+AreItemsOf old items =
+    MatchBool (is_spent old) (items ≡ []) ((state : State) → Stands old state → AreItemsFrom state items)
 
--- What items report of the lexer's errors: one of the lexer is the first that was not reported yet, and stands where that
--- says; any other stands at its own place. Before them so many were unreported, and the last error stood there; after them so.
+-- What items report of the lexer's errors: one of the lexer is the first that was not reported yet, and
+-- stands where that says; any other stands at its own place. Before them so many were unreported, and the
+-- last error stood there; after them so.
 pub data Reports : List Item → List ErrorAt → Location → List ErrorAt → Location → Type 0 where
-  none : (items : List Item) (left after : List ErrorAt) (place last : Location) → items ≡ [] → after ≡ left → last ≡ place → Reports items left place after last
+  none : (items : List Item) (left after : List ErrorAt) (place last : Location)
+      → items ≡ []
+      → after ≡ left
+      → last ≡ place
+      → Reports items left place after last
   token : (first : Token) (rest items : List Item) (left after : List ErrorAt) (place last : Location)
-      → Reports rest left place after last → items ≡ Ok first ∷ rest → Reports items left place after last
-  of_lexer : (first : Fault) (there : Location) (rest items : List Item) (others left after : List ErrorAt) (place last : Location)
-      → left ≡ record { item = first; place = there } ∷ others → Reports rest others there after last → items ≡ Err first ∷ rest → Reports items left place after last
+      → Reports rest left place after last
+      → items ≡ Ok first ∷ rest
+      → Reports items left place after last
+  of_lexer : (first : Fault) (there : Location) (rest items : List Item) (others left after : List ErrorAt)
+      (place last : Location)
+      → left ≡ record { item = first; place = there } ∷ others
+      → Reports rest others there after last
+      → items ≡ Err first ∷ rest
+      → Reports items left place after last
   of_its_own : (first : Fault) (rest items : List Item) (left after : List ErrorAt) (place last : Location)
-      → Reports rest left first.1 after last → items ≡ Err first ∷ rest → Reports items left place after last
+      → Reports rest left first.1 after last
+      → items ≡ Err first ∷ rest
+      → Reports items left place after last
 
 -- the same of a preprocessor before them and after them
 abbrev pub AreReported : Preprocessing → List Item → Preprocessing → Type 0
 AreReported old items new = Reports items (errors_left old) (error_place old) (errors_left new) (error_place new)
 
--- Up to and with their first error item these items came from the state; if none of them is an error, the preprocessor stands
--- for the state after them, unless memory was refused for the next one. After an error nothing is said.
+-- Up to and with their first error item these items came from the state; if none of them is an error, the preprocessor
+-- stands for the state after them, unless memory was refused for the next one. After an error nothing is said.
 abbrev pub HaveComeFrom : State → List Item → Option Fault → Preprocessing → Type 0
-HaveComeFrom state items None new = (after : State) × Gives state (tokens_before_error items) after × (is_spent new ≡ false → Stands new after)
+HaveComeFrom state items None new =
+    (after : State) × Gives state (tokens_before_error items) after × (is_spent new ≡ false → Stands new after)
 HaveComeFrom state items (Some fault) new = IsRunFrom state (tokens_before_error items) (outcome.Fault fault)
 
--- These items came, one after another, and the preprocessor goes on after them, unless memory was refused: for the next one, or
--- before the first, and then there are none.
+-- These items came, one after another, and the preprocessor goes on after them, unless memory was refused: for the next
+-- one, or before the first, and then there are none.
 pub record HaveCome (old : Preprocessing) (items : List Item) (new : Preprocessing) : Type 0 where
   pub none : is_spent old ≡ true → items ≡ []
-  pub came : is_spent old ≡ false → (state : State) → Stands old state → HaveComeFrom state items (first_error items) new
+  pub came : is_spent old ≡ false
+      → (state : State) → Stands old state
+      → HaveComeFrom state items (first_error items) new
   pub holds : All ItemHoldsOrdinary items
   pub reports : is_spent new ≡ false → AreReported old items new
 
@@ -71,7 +88,8 @@ pub record AreAppended (old : Preprocessing) (before items : List Item) (new : P
   pub are_last : items ≡ before ++ more
   pub came : HaveCome old more new
 
--- All items that were left, and what they reported: nothing is left after them, and memory was not refused for one of them.
+-- All items that were left, and what they reported: nothing is left after them, and memory
+-- was not refused for one of them.
 pub record AreAll (old : Preprocessing) (items : List Item) (new : Preprocessing) : Type 0 where
   pub items_of : AreItemsOf old items
   pub holds : All ItemHoldsOrdinary items

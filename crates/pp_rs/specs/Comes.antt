@@ -22,8 +22,15 @@ Comes state outcome after = by_rules (answers_at expansion_limit) state outcome 
 
 -- these tokens come next, one after another
 pub data Gives : State → List Token → State → Type 0 where
-  nothing : (tokens : List Token) (state after : State) → tokens ≡ [] → after ≡ state → Gives state tokens after
-  first : (token : Token) (rest tokens : List Token) (state next after : State) → Comes state (outcome.Token token) next → Gives next rest after → tokens ≡ token ∷ rest → Gives state tokens after
+  nothing : (tokens : List Token) (state after : State)
+      → tokens ≡ []
+      → after ≡ state
+      → Gives state tokens after
+  first : (token : Token) (rest tokens : List Token) (state next after : State)
+      → Comes state (outcome.Token token) next
+      → Gives next rest after
+      → tokens ≡ token ∷ rest
+      → Gives state tokens after
 
 -- from this state these tokens come, and then this
 pub record IsRunFrom (state : State) (tokens : List Token) (last : Outcome) : Type 0 where

@@ -1,21 +1,22 @@
--- What a preprocessor keeps: the states of a run that it stands for, whether memory was refused, how much is left, which
--- errors of the lexer were not reported yet, and where the error stands that was given last. Nothing here has to be
--- believed. Contracts of public calls say what holds of `Stands`, `is_spent`, `most_items`, `errors_left` and
+-- What a preprocessor keeps: the states of a run that it stands for, whether memory was refused, how much is left,
+-- which errors of the lexer were not reported yet, and where the error stands that was given last. Nothing here has to
+-- be believed. Contracts of public calls say what holds of `Stands`, `is_spent`, `most_items`, `errors_left` and
 -- `error_place`, and no proof of a caller looks into them.
 use Rattle.std.specs.Prelude.{Bool, if◌then◌else◌, ℕ, List}
 use Rattle.pp_lexer.specs.declared.token.Location.{Location}
 use Rattle.pp_model.specs.Emitting.{expansion_limit}
 use Rattle.pp_model.specs.Reading.{Expander}
 use Rattle.pp_model.specs.SourceReader.{SourceReader}
-use Rattle.pp_expansion.specs.inner.Left.{work_of}
-use Rattle.pp_expansion.specs.LexerErrors.{ErrorAt}
-use Rattle.pp_expansion.specs.inner.Machine.{Machine}
-use Rattle.pp_expansion.specs.inner.Reader.{of_source}
-use Rattle.pp_expansion.specs.inner.Source.{Source, unreported_of}
+use Rattle.pp_macros.specs.inner.Left.{work_of}
+use Rattle.pp_macros.specs.LexerErrors.{ErrorAt}
+use Rattle.pp_macros.specs.inner.Machine.{Machine}
+use Rattle.pp_macros.specs.inner.Reader.{of_source}
+use Rattle.pp_macros.specs.inner.Source.{Source, unreported_of}
 use Rattle.pp_rs.specs.inner.Stands.{StandsFor}
-use Rattle.pp_expansion.specs.inner.Unreported.{unreported_with}
+use Rattle.pp_macros.specs.inner.Unreported.{unreported_with}
 
--- the macros that are open with what is held, the source after them, whether memory was refused, and where the last error stands
+-- the macros that are open with what is held, the source after them, whether memory was refused,
+-- and where the last error stands
 pub record Preprocessing : Type 0 where
   pub machine : Machine
   pub source : Source

@@ -14,7 +14,7 @@ pub use Rattle.pp_lexer.specs.Spots
 pub use Rattle.pp_lexer.specs.Lexed
 pub use Rattle.pp_lexer.specs.PhaseLaws
 pub use Rattle.pp_lexer.specs.ItemLaws
-pub use Rattle.pp_expansion.specs.Held
+pub use Rattle.pp_macros.specs.Held
 pub mod Kept
 pub mod Preprocessing
 pub mod CallLine

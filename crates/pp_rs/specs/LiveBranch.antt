@@ -1,4 +1,5 @@
--- Which branches of a block are live, once its lines were read (GLSL ES 3.20, section 3.4, and docs/RULES.md, Directives 7 to 11).
+-- Which branches of a block are live, once its lines were read (GLSL ES 3.20, section 3.4, and
+-- docs/RULES.md, Directives 7 to 11).
 use Rattle.std.specs.Prelude.{◌≡◌, ℕ, ◌≤◌, ◌<◌, Bool, true, false, List, take, drop, length, Option, Some, None}
 use Rattle.std.specs.List.{AllByRecursion as Each}
 use Rattle.pp_lexer.specs.Lexed.{Seen}
@@ -11,13 +12,18 @@ use Rattle.pp_model.specs.Sights.{sight_of}
 use Rattle.pp_model.specs.SourceReader.{SourceReader}
 use Rattle.pp_model.specs.declared.block.BlockLine.{BlockLine}
 
--- Of a block's marks one is chosen: its first line, after which no parting stands, or the line after which so many stand.
+-- Of a block's marks one is chosen: its first line, after which no parting stands, or the
+-- line after which so many stand.
 pub record IsChosen (truths : Truths) (block : Block) (mark : ℕ) : Type 0 where
   pub stands : mark ≤ length block.partings
   pub chosen : is_last_chosen truths block.first (take mark block.partings) ≡ true
 
 abbrev pub AtMostOneIsChosen : Truths → Block → Type 0
-AtMostOneIsChosen truths block = (mark other : ℕ) → IsChosen truths block mark → IsChosen truths block other → mark ≡ other
+AtMostOneIsChosen truths block =
+    (mark other : ℕ)
+    → IsChosen truths block mark
+    → IsChosen truths block other
+    → mark ≡ other
 
 abbrev pub OneIsChosen : Truths → Block → Type 0
 OneIsChosen truths block = ((mark : ℕ) × IsChosen truths block mark) × AtMostOneIsChosen truths block
@@ -31,13 +37,22 @@ pub record EndsAt (source : List Seen) (position : ℕ) (block : Block) : Type 0
   pub line : is_endif (line_at position (sight_of (drop position source))) ≡ true
   pub open_there : innermost (blocks_at source position) ≡ Some block
 
--- What was read of blocks: at most one mark of each is chosen, and just one of a block that was read to its `#endif`, has an `#else` and begins
--- in live text.
+-- What was read of blocks: at most one mark of each is chosen, and just one of a block that was read to its `#endif`,
+-- has an `#else` and begins in live text.
 pub record HasLiveBranches (reader : SourceReader) : Type 0 where
-  pub at_most_one : (position : ℕ) → position ≤ reader.position → Each (AtMostOneIsChosen reader.truths) (blocks_at reader.items position)
-  pub one : (position : ℕ) (block : Block) → position < reader.position → EndsAt reader.items position block → has_else block ≡ true
-      → are_surroundings_live reader.items reader.truths block ≡ true → OneIsChosen reader.truths block
+  pub at_most_one : (position : ℕ)
+      → position ≤ reader.position
+      → Each (AtMostOneIsChosen reader.truths) (blocks_at reader.items position)
+  pub one : (position : ℕ) (block : Block)
+      → position < reader.position
+      → EndsAt reader.items position block
+      → has_else block ≡ true
+      → are_surroundings_live reader.items reader.truths block ≡ true
+      → OneIsChosen reader.truths block
 
 -- in each state of a run of a text
 abbrev pub RunHasLiveBranches : Answers → Type 0
-RunHasLiveBranches A = (text : List ℕ) (e : Expander SourceReader) → IsReached A (items_of text) e → HasLiveBranches e.reader
+RunHasLiveBranches A =
+    (text : List ℕ) (e : Expander SourceReader)
+    → IsReached A (items_of text) e
+    → HasLiveBranches e.reader

@@ -4,8 +4,8 @@ use Rattle.pp_lexer.specs.PreprocessorError.{out_of_memory}
 use Rattle.pp_model.specs.declared.outcome.Outcome.{Outcome}
 use Rattle.pp_model.specs.declared.outcome.Outcome.TheVariants as outcome
 use Rattle.pp_rs.specs.Comes.{State, Comes}
-use Rattle.pp_expansion.specs.Held.{AnswerHoldsOrdinary}
-use Rattle.pp_expansion.specs.Item.{Fault, Item, is_out_of_memory}
+use Rattle.pp_macros.specs.Held.{AnswerHoldsOrdinary}
+use Rattle.pp_macros.specs.Item.{Fault, Item, is_out_of_memory}
 use Rattle.pp_rs.specs.Kept.{Preprocessing, Stands, is_spent, most_items, errors_left, error_place}
 
 -- the answer is that memory was refused
@@ -35,11 +35,14 @@ abbrev pub IsLessLeft : Option Item → Preprocessing → Preprocessing → Type
 IsLessLeft (Some item) old new = most_items new < most_items old
 IsLessLeft None old new = most_items new ≡ 0
 
--- Where an error stands that is given: an error of the lexer where the first of them stands that were not reported yet, and it is reported now; any
--- other at its own place.
+-- Where an error stands that is given: an error of the lexer where the first of them stands that were not reported yet,
+-- and it is reported now; any other at its own place.
 pub data IsErrorAt (fault : Fault) (old new : Preprocessing) : Type 0 where
-  of_lexer : errors_left old ≡ record { item = fault; place = error_place new } ∷ errors_left new → IsErrorAt fault old new
-  of_its_own : error_place new ≡ fault.1 → errors_left new ≡ errors_left old → IsErrorAt fault old new
+  of_lexer : errors_left old ≡ record { item = fault; place = error_place new } ∷ errors_left new
+      → IsErrorAt fault old new
+  of_its_own : error_place new ≡ fault.1
+      → errors_left new ≡ errors_left old
+      → IsErrorAt fault old new
 
 -- a token reports no error, and at the end each was reported
 abbrev pub ReportsError : Option Item → Preprocessing → Preprocessing → Type 0
@@ -60,8 +63,11 @@ pub record IsGivenItem (old : Preprocessing) (answer : Option Item) (new : Prepr
   pub reports : ReportsError answer old new
   pub spent : is_spent new ≡ false
 
--- One call of `next`: once memory was refused, it gives nothing for good and changes nothing. Each item lowers what is left, so a refusal
--- comes only where something is.
+-- One call of `next`: once memory was refused, it gives nothing for good and changes nothing. Each item lowers what is
+-- left, so a refusal comes only where something is.
 pub record IsNextItem (old : Preprocessing) (answer : Option Item) (new : Preprocessing) : Type 0 where
-  pub gives : MatchBool (is_spent old) ((answer ≡ None) × (new ≡ old)) (IsRefusedItem answer new ⊎ IsGivenItem old answer new)
+  pub gives :
+      MatchBool (is_spent old)
+      ((answer ≡ None) × (new ≡ old))
+      (IsRefusedItem answer new ⊎ IsGivenItem old answer new)
   pub less_left : IsLessLeft answer old new

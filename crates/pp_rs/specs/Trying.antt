@@ -1,7 +1,7 @@
 -- One call of `try_add_define` (docs/RULES.md, "Calls").
 use Rattle.std.specs.Prelude.{◌≡◌, ℕ, ◌-◌, ◌^◌, ◌<◌, ◌≤◌, List, ◌++◌, codes, length, Result, Ok, Err}
 use Rattle.pp_lexer.specs.PlacedErrors.{placed, placed_sentence}
-use Rattle.pp_expansion.specs.Item.{Fault}
+use Rattle.pp_macros.specs.Item.{Fault}
 use Rattle.pp_rs.specs.Adding.{IsAdded}
 use Rattle.pp_rs.specs.Kept.{Preprocessing}
 use Rattle.pp_rs.specs.declared.pp.trying.AddError.{AddError}
@@ -16,10 +16,16 @@ tried (Err fault) = Err (Refused (placed fault))
 pub data IsTried (old : Preprocessing) (name content : List ℕ) (answer : Result (Unit {0}) AddError)
     (new : Preprocessing) : Type 0 where
   -- the content is too long, and nothing is changed
-  too_long : 2 ^ 32 - 1 ≤ length content → answer ≡ Err TooLong → new ≡ old → IsTried old name content answer new
+  too_long : 2 ^ 32 - 1 ≤ length content
+      → answer ≡ Err TooLong
+      → new ≡ old
+      → IsTried old name content answer new
   -- else it is as `add_define`
-  short : (added : Result (Unit {0}) Fault) → length content < 2 ^ 32 - 1 → IsAdded old name content added new
-      → answer ≡ tried added → IsTried old name content answer new
+  short : (added : Result (Unit {0}) Fault)
+      → length content < 2 ^ 32 - 1
+      → IsAdded old name content added new
+      → answer ≡ tried added
+      → IsTried old name content answer new
 
 -- what is said of an error, as UTF-8
 abbrev pub add_sentence : AddError → List ℕ

@@ -30,8 +30,8 @@ pub fn places()
     lexer::laws::places()
 }
 
-/// Each newline pair counts once, a line is one more than the newlines before it, and lines never
-/// fall along the characters of any phase.
+/// Each newline pair counts once, a line is one more than the newlines before it, and line numbers never decrease along
+/// the characters of any phase.
 pub fn line_ends()
     ensures pairs { PairsCountOnce }
     ensures counted { LinesCountNewlines }
@@ -40,9 +40,9 @@ pub fn line_ends()
     lexer::laws::line_ends()
 }
 
-/// No macro is open twice: in no state of a run does the list to read hold two end marks of one name. Neither here nor around is
-/// one open twice in any state that expansion passes: of a source, in the midst of one `next` too, of an argument of a call, and
-/// of the line of an `#if`, `#elif` or `#line`.
+/// No macro is open twice: in no state of a run does the list to read hold two end marks of one name. Nor is a macro
+/// open twice, here or around, in any state that expansion passes: of a source (also within one `next`), of an argument
+/// of a call, and of the line of an `#if`, `#elif` or `#line`.
 pub fn open_names()
     ensures between { (level : ℕ) → RunKeepsMarksApart (answers_at level) }
     ensures source { (level : ℕ) → RunOpensOnce (answers_at level) }
@@ -53,8 +53,8 @@ pub fn open_names()
     pp_model::laws::open_once()
 }
 
-/// A `#define` of a name that is defined gives nothing where it says the same, and an error where it says something else.
-/// The old definition stays.
+/// A `#define` of a name that is already defined gives nothing if it says the same as the old definition, and an error
+/// if it says something else. The old definition stays in both cases.
 pub fn redefinition()
     ensures { (level : ℕ) → RedefinitionIsChecked (answers_at level) }
 {
@@ -68,7 +68,7 @@ pub fn no_line_name()
     pp_model::laws::run_no_line_name()
 }
 
-/// The end of a source is for good: after it no item is given, whatever definitions are added.
+/// After the end of a source no call gives another item, even if definitions are added.
 pub fn end_stays()
     ensures item { (level : ℕ) → EndStays (answers_at level) }
     ensures replies { (level : ℕ) → RunEndsForGood (answers_at level) }
@@ -76,8 +76,8 @@ pub fn end_stays()
     pp_model::laws::run_end()
 }
 
-/// Of a block's branches at most one is live, and after one that was taken none is. Of a block that was read to its
-/// `#endif`, that has an `#else` and begins in live text, just one is.
+/// At most one branch of a block is live, and no branch is live after one that was taken. A block that begins in live
+/// text, has an `#else` and was read to its `#endif` has exactly one live branch.
 pub fn live_branch()
     ensures one { OneBranch }
     ensures none_after { NoneAfterTaken }
@@ -86,8 +86,8 @@ pub fn live_branch()
     pp_model::laws::live_branch()
 }
 
-/// A token or line of dead text gives no token, defines nothing and numbers no line, and leaves the definitions as they are;
-/// and so in the whole of a run: no step of it takes anything from dead text, but for errors and the end.
+/// A token or line of dead text gives no token, defines nothing, numbers no line and leaves the definitions as they
+/// are. The same holds for a whole run: no step of it takes anything from dead text, except for errors and the end.
 pub fn dead_text()
     ensures step { DeadTextGivesNothing }
     ensures run { (level : ℕ) → RunsAreLive (answers_at level) }
@@ -95,15 +95,15 @@ pub fn dead_text()
     pp_model::laws::dead_text()
 }
 
-/// Where all tokens that a run gives are plain, the text that spells them with single spaces gives the same values, and then
-/// the end.
+/// If all tokens that a run gives are ordinary, preprocessing the text that spells them with single spaces gives the
+/// same values, and then the end.
 pub fn respell()
     ensures { (level : ℕ) → RunsAreReadAfresh (answers_at level) }
 {
     pp_model::laws::respell()
 }
 
-/// A token or line of a source comes to one outcome, or to nothing, and reading the source passes one outcome next.
+/// A token or line of a source has at most one outcome, and reading the source passes at most one outcome next.
 pub fn one_reading()
     ensures step { (level : ℕ) → OneStep (answers_at level) }
     ensures reading { (level : ℕ) → OneReads (source_reading (answers_at level)) }
@@ -112,7 +112,7 @@ pub fn one_reading()
 }
 
 /// Calls that follow one another from the start of a source, each in the state after the one before, are a run. Every
-/// source has a run, whatever is called. Equal sources and calls have equal replies, up to and with the first error
+/// source has a run for every list of calls. Equal sources and calls have equal replies, up to and with the first error
 /// item.
 pub fn runs()
     ensures chains { (level : ℕ) → ChainsAreRuns (answers_at level) }

@@ -1,4 +1,4 @@
-//! Directives and tokens: from the lexer's tokens to those of the preprocessed source.
+//! Directives and macros: from the lexer's tokens to the tokens of the preprocessed source.
 
 mod afresh;
 mod all_items;
@@ -14,11 +14,11 @@ pub use afresh::are_read_afresh;
 pub use all_items::{append_all, drain, preprocess_all};
 pub use call_list::replies;
 pub use items_text::{push_token, spell_items};
-pub use pp_expansion::step::{Step, StepExit};
+pub use pp_directives::convert::{convert_lexer_token, convert_lexer_token_to_step};
+pub use pp_directives::limit::EXPANSION_LIMIT;
+pub use pp_macros::step::{Step, StepExit};
 pub use pp_model::call::{Call, Reply};
 pub use pp_model::outcome::Outcome;
-pub use pp_source::convert::{convert_lexer_token, convert_lexer_token_to_step};
-pub use pp_source::limit::EXPANSION_LIMIT;
 pub use preprocessor::{Preprocessor, PreprocessorItem};
 pub use spelling::{push_value, spell_tokens};
 pub use trying::AddError;

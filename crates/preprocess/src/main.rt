@@ -1,6 +1,5 @@
-//! Preprocesses the GLSL source on its standard input and prints what comes of it on its standard
-//! output. Each word of its command line is a definition `NAME=CONTENT`, and of two of one name the later
-//! counts.
+//! Preprocesses the GLSL source on its standard input and prints the result on its standard output. Each argument of
+//! its command line is a definition `NAME=CONTENT`; of two definitions of one name the later one counts.
 #![tactic(auto)]
 
 use pp_print::{OverRead, OverWrite, RunEnd, RunFault, message, run, split_word, status};
@@ -27,7 +26,7 @@ fn preprocess(rt: &HostRuntime) -> Result<RunEnd, RunFault> {
     run(rt.alloc(), definitions.as_slice(), &mut reader, &mut writer)
 }
 
-// The names and contents of words `NAME=CONTENT`.
+// The names and contents of arguments `NAME=CONTENT`.
 fn split_words<'a>(
     alloc: Global,
     words: &'a [String],
@@ -42,7 +41,7 @@ fn split_words<'a>(
     Ok(definitions)
 }
 
-// Says on the standard error how the run ended, unless all was printed.
+// Prints on the standard error how the run ended, unless all was printed.
 fn report(rt: &HostRuntime, end: &Result<RunEnd, RunFault>) {
     match message(rt.alloc(), end) {
         Ok(line) if line.is_empty() => {}

@@ -3,7 +3,7 @@ use Rattle.std.specs.Prelude.{◌≡◌, ℕ, ◌+◌, ◌-◌, ◌<◌, ◌≤�
 use Rattle.std.specs.Prelude.{List, [], ◌∷◌, ◌++◌, map, length, drop, replicate}
 use Rattle.std.specs.Prelude.{Option, Some, None, option_map, is_some, MatchOption, Ok, Err, ⊤}
 use Rattle.std.specs.Str.{chars}
-use Rattle.pp_expansion.specs.Item.{Item as Given_item}
+use Rattle.pp_macros.specs.Item.{Item as Given_item}
 use Rattle.pp_model.specs.Calls.{Fault}
 use Rattle.pp_model.specs.Run.{Call, add_define, next, items_of, content_tokens}
 use Rattle.pp_rs.specs.Adding.{IsWithAdded}
@@ -121,7 +121,8 @@ pub record GivesUntil (count : ℕ) (old : Preprocessing) (output : Output) (pro
   pub goes : GoesOn old output progress new output_after progress_after
 
 -- what is left was given, and then the end
-pub record GivesToEnd (old : Preprocessing) (output : Output) (new : Preprocessing) (output_after : Output) : Type 0 where
+pub record GivesToEnd (old : Preprocessing) (output : Output) (new : Preprocessing)
+    (output_after : Output) : Type 0 where
   pub more : List Given
   pub made : Made old (replicate (length more + 1) next) (map Some more ++ None ∷ []) new
   pub takes : Takes output (entries_of more) output_after

@@ -15,18 +15,22 @@ Stands whole state.OperandWanted evaluator = Awaits whole evaluator.pending eval
 Stands whole (state.OperandRead number) evaluator = HasOperand 9 whole evaluator.pending evaluator.line number
 Stands whole (state.Ended number) evaluator = Reads 0 0 whole evaluator.line number
 
--- Why an evaluation of the whole line has no value: a fault that the line may have, where every operand that is finished before has a value, or memory.
+-- Why an evaluation of the whole line has no value: a fault that the line may have, where every operand that is
+-- finished before has a value, or memory.
 abbrev pub IsHalt : Line → Halt → Type 0
 IsHalt whole (halt.Fault found) = IsFault 0 whole found
 IsHalt whole (halt.Refused error) = ⊤
 
--- Whatever whole line is evaluated: where the old evaluator stands at the first state, the new one stands at the state that comes of it, or
--- the evaluation has no value.
+-- Whatever whole line is evaluated: where the old evaluator stands at the first state, the new one stands at the state
+-- that comes of it, or the evaluation has no value.
 abbrev pub Leads : State → Evaluator → Result State Halt → Evaluator → Type 0
-Leads from old result new = (whole : Line) → Stands whole from old → MatchResult result (λ to. Stands whole to new) (IsHalt whole)
+Leads from old result new =
+    (whole : Line)
+    → Stands whole from old
+    → MatchResult result (λ to. Stands whole to new) (IsHalt whole)
 
--- Whatever whole line is evaluated: where an operand was read, an operand of the level and of the value that comes of it was read, or the
--- evaluation has no value.
+-- Whatever whole line is evaluated: where an operand was read, an operand of the level and of the value that comes of
+-- it was read, or the evaluation has no value.
 abbrev pub Computes : ℕ → ℤ → Evaluator → Result ℤ Halt → Evaluator → Type 0
 Computes level number old result new =
     (whole : Line) → HasOperand level whole old.pending old.line number

@@ -1,5 +1,5 @@
--- What the evaluator's own functions promise each other: steps along a line, and an answer or a fault seen from within. What is promised to
--- callers is in FirstFault.
+-- What the evaluator's own functions promise each other: steps along a line, and an answer or a fault seen from within.
+-- What is promised to callers is in FirstFault.
 use Rattle.std.specs.Prelude.{ℕ, drop, Option, Some, None, Result, Ok, Err}
 use Rattle.pp_expression.specs.declared.operator.Unary.{Unary}
 use Rattle.pp_expression.specs.declared.operator.Binary.{Binary}

@@ -1,5 +1,5 @@
--- What the evaluator's own functions promise each other of what is pending: open parentheses, and operators whose right operand is still to
--- come. What is promised to callers is in FirstFault.
+-- What the evaluator's own functions promise each other of what is pending: open parentheses, and operators whose right
+-- operand is still to come. What is promised to callers is in FirstFault.
 use Rattle.std.specs.Prelude.{◌≡◌, ℕ, ◌+◌, ◌≤◌, nat_lt, if◌then◌else◌, List, [], ◌∷◌, length, Option, Some, None, Result, Ok, ℤ}
 use Rattle.pp_lexer.specs.declared.token.Punct.TheVariants as mark
 use Rattle.pp_expression.specs.declared.operator.Binary.{Binary}
@@ -24,7 +24,8 @@ abbrev pub operation : Operator → ℤ → Result ℤ ExpressionFault
 operation (operator.Prefix unary) right = unary_value unary right
 operation (operator.Infix binary left) right = binary_value binary left right
 
--- how many symbols there are from the one at which an operator is computed, where the line is what comes after its right operand
+-- how many symbols there are from the one at which an operator is computed, where the line is
+-- what comes after its right operand
 abbrev pub computed_at : Operator → Line → ℕ
 computed_at op line = if nat_lt (operator_level op) 9 then length line.symbols else length line.symbols + 1
 
@@ -59,8 +60,8 @@ pub record IsTaken (level : ℕ) (op : Operator) (old new : List Pending) : Type
   pub taken : old ≡ pending.Operator op ∷ new
   pub tight : level ≤ operator_level op
 
--- An expression of the level is wanted before the line around. It begins with a left operand of this value and its operator, and the right
--- operand is wanted before the inner line.
+-- An expression of the level is wanted before the line around. It begins with a left operand of this value and its
+-- operator, and the right operand is wanted before the inner line.
 pub record IsRightOf (level : ℕ) (binary : Binary) (left : ℤ) (around inner : Line) : Type 0 where
   pub from_operator : Line
   pub binds : level ≤ level_of binary
@@ -68,19 +69,24 @@ pub record IsRightOf (level : ℕ) (binary : Binary) (left : ℤ) (around inner 
   pub stands : binary_at from_operator ≡ Ok (Some binary)
   pub after : inner ≡ after_next from_operator
 
--- An expression of the level is wanted before the line around. It begins with what is pending, and what stands within that is wanted before the inner line.
+-- An expression of the level is wanted before the line around. It begins with what is pending, and what stands within
+-- that is wanted before the inner line.
 abbrev pub Begins : ℕ → Pending → Line → Line → Type 0
-Begins level pending.Group around inner = (next around ≡ Ok (Some (symbol.Punct mark.LeftParen))) × (inner ≡ after_next around)
-Begins level (pending.Operator (operator.Prefix unary)) around inner = (sign_at around ≡ Ok (Some unary)) × (inner ≡ after_next around)
+Begins level pending.Group around inner =
+    (next around ≡ Ok (Some (symbol.Punct mark.LeftParen))) × (inner ≡ after_next around)
+Begins level (pending.Operator (operator.Prefix unary)) around inner =
+    (sign_at around ≡ Ok (Some unary)) × (inner ≡ after_next around)
 Begins level (pending.Operator (operator.Infix binary left)) around inner = IsRightOf level binary left around inner
 
--- The whole line was read up to the line, where an operand is wanted, and what is pending is what that operand stands in.
+-- The whole line was read up to the line, where an operand is wanted, and what is pending
+-- is what that operand stands in.
 abbrev pub Awaits : Line → List Pending → Line → Type 0
 Awaits whole [] line = line ≡ whole
-Awaits whole (inner ∷ around) line = (start : Line) × Awaits whole around start × Begins (wanted_in around) inner start line
+Awaits whole (inner ∷ around) line =
+    (start : Line) × Awaits whole around start × Begins (wanted_in around) inner start line
 
--- The whole line was read up to the line. An operand was wanted within what is pending, and one of this value stands there, whose operators
--- bind at least as tightly as the level, and no operator after it binds tighter than those.
+-- The whole line was read up to the line. An operand was wanted within what is pending, and one of this value stands
+-- there, whose operators bind at least as tightly as the level, and no operator after it binds tighter than those.
 pub record HasOperand (level : ℕ) (whole : Line) (pending : List Pending) (line : Line) (number : ℤ) : Type 0 where
   -- where the operand begins
   pub start : Line

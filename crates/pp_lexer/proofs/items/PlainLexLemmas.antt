@@ -1,5 +1,5 @@
 -- What a lexer gives at a plain word, and how it passes spaces.
-use Rattle.std.proofs.Common.{◌≡◌, ℕ, zero, suc, ◌+◌, ◌-◌, ◌<◌, ◌≤◌, List, [], ◌∷◌, ◌++◌, length, take, drop, get_or, true, false, ◌||◌, refl, sym, ◌∙◌, ap, subst, arith, inl, inr, Option, Some, None, Result, Ok, Err, IsErr, MatchOption}
+use Rattle.std.proofs.Common.{◌≡◌, ℕ, Bool, zero, suc, ◌+◌, ◌-◌, ◌<◌, ◌≤◌, List, [], ◌∷◌, ◌++◌, length, take, drop, get_or, true, false, ◌||◌, refl, sym, ◌∙◌, ap, subst, arith, inl, inr, Option, Some, None, Result, Ok, Err, IsErr, MatchOption}
 use Rattle.std.specs.Bool.{⊤}
 use Rattle.std.specs.List.{list_all, list_any}
 use Rattle.std.specs.Str.{IsUtf8}
@@ -11,7 +11,7 @@ use Rattle.pp_lexer.specs.declared.lexer.Flags.{Flags}
 use Rattle.pp_lexer.specs.inner.Fronts.{spots_from, run}
 use Rattle.pp_lexer.specs.Items.{Lexeme, is_comment}
 use Rattle.pp_lexer.specs.Lexed.{first_item}
-use Rattle.pp_lexer.specs.inner.Passing.{seen_from, seen_of, comments_at_end, places_from, places_left, IsPlaced, IsLexed}
+use Rattle.pp_lexer.specs.inner.Passing.{seen_from, seen_of, comments_at_end, places_from, places_left, lexed, IsPlaced, IsLexed}
 use Rattle.pp_lexer.specs.LexerToken.{holds_memory}
 use Rattle.pp_lexer.specs.inner.PlainWords.{is_space, IsPlainWord, IsPlainLexed}
 use Rattle.pp_lexer.specs.Reading.{Reading, letters, first_char, advanced_of, advanced}
@@ -173,3 +173,9 @@ pub plain_refused : (f : Flags) (r : Reading) (answer : Result (Option Lexeme) A
     → ((err : AllocError) → IsLexed f r (Err err) f r) → IsPlainLexed f r answer f r
 plain_refused f r (Ok o) h k = cc
 plain_refused f r (Err err) h k = k err
+
+-- where the same items are to come, a lexer differs by the comments that were passed alone
+pub lexed_same : (f g : Flags) (r q : Reading) (place : Location) (spent : Bool) → seen_of g q ≡ seen_of f r
+    → comments_at_end g q ≡ comments_at_end f r → places_left g q ≡ places_left f r
+    → lexed g q place spent ≡ record (lexed f r place spent) { had_comments = g.had_comments }
+lexed_same f g r q place spent same at_end places = rw (same, at_end, places) refl

@@ -17,7 +17,8 @@ use Rattle.pp_lexer.specs.Longest.{longest, front_len}
 use Rattle.pp_lexer.specs.Numbers.{is_zero, is_x, is_point, is_e, is_decimal, decimal_tail, exponent, fraction, is_number, begins_number}
 use Rattle.pp_lexer.specs.NumberValue.{is_l, is_h, is_s, is_f, is_u, begins_octal, is_float_text, float_tail, float_exponent, width_refusal, number_outcome, float_outcome, number_at, begins_hex}
 use Rattle.pp_lexer.specs.inner.NumberValue.{is_float_mark}
-use Rattle.pp_lexer.specs.inner.PlainWords.{continues_number, without_suffix, Stops, IsSuffixed, IsPlainWord}
+use Rattle.pp_lexer.specs.inner.PlainWords.{continues_number, Stops, IsSuffixed, IsPlainWord}
+use Rattle.pp_lexer.specs.PlainItems.{without_suffix}
 use Rattle.pp_lexer.specs.Spellings.{many}
 use Rattle.pp_lexer.specs.Surroundings.{begins_with}
 use Rattle.pp_lexer.specs.Words.{is_blank, word_at}

@@ -28,7 +28,8 @@ abbrev pub is_float_mark : Bool → ℕ → Bool
 is_float_mark hex c = is_point c || (not hex && is_e c)
 
 abbrev pub integer_of : Bool → Option ℕ → Answer
-integer_of signed n = ok_or (option_map (λ n. Integer (record { value = n; signed = signed; width = pos 32 })) n) IntegerOverflow
+integer_of signed n =
+    ok_or (option_map (λ n. Integer (record { value = n; signed = signed; width = pos 32 })) n) IntegerOverflow
 
 abbrev pub small_e : ℕ → ℕ
 small_e c = if is_e c then 101 else c
@@ -40,4 +41,6 @@ float_power = maybe is_sign (one is_decimal digits)
 -- what the digits write when they follow those of n, where all are digits of the base and it is below 2^64
 abbrev pub whole_after : ℕ → ℕ → List ℕ → Option ℕ
 whole_after base n ds =
-    if list_all (λ c. is_digit c base) ds && nat_lt (digits_value_after base n ds) (2 ^ 64) then Some (digits_value_after base n ds) else None
+    if list_all (λ c. is_digit c base) ds && nat_lt (digits_value_after base n ds) (2 ^ 64)
+    then Some (digits_value_after base n ds)
+    else None

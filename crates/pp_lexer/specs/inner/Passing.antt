@@ -21,7 +21,12 @@ is_newline_result r = is_newline (item r)
 abbrev pub passed : Flags → Kind → Flags
 passed f blank = record { leading_whitespace = true; start_of_line = f.start_of_line; had_comments = f.had_comments }
 passed f comment = record { leading_whitespace = true; start_of_line = f.start_of_line; had_comments = true }
-passed f (item r) = record { leading_whitespace = is_newline_result r; start_of_line = is_newline_result r; had_comments = f.had_comments }
+passed f (item r) =
+    record {
+      leading_whitespace = is_newline_result r;
+      start_of_line = is_newline_result r;
+      had_comments = f.had_comments;
+    }
 
 abbrev pub lexeme_seen : Flags → Spot → Spot → Result TokenValue PreprocessorError → Lexeme
 lexeme_seen f first last (Ok v) = Ok (record {
@@ -92,13 +97,15 @@ pub record IsPlaced (f : Flags) (r : Reading) (old : Location) (g : Flags) (q : 
   pub rest : places_left g q ≡ places_after_first (places_left f r)
 
 -- memory was refused, where the first item needs it
-pub record IsLexRefused (f : Flags) (r : Reading) (g : Flags) (answer : Result (Option Lexeme) AllocError) : Type 0 where
+pub record IsLexRefused (f : Flags) (r : Reading) (g : Flags)
+    (answer : Result (Option Lexeme) AllocError) : Type 0 where
   pub value : IsErr answer
   pub needed : IsTrue (first_takes_memory (seen_of f r))
   pub comments : g.had_comments ≡ comments_before (seen_of f r) (comments_at_end f r)
 
 -- the first item was taken, or the end was met
-pub record IsLexTaken (f : Flags) (r : Reading) (g : Flags) (q : Reading) (answer : Result (Option Lexeme) AllocError) : Type 0 where
+pub record IsLexTaken (f : Flags) (r : Reading) (g : Flags) (q : Reading)
+    (answer : Result (Option Lexeme) AllocError) : Type 0 where
   pub value : answer ≡ Ok (first_item (seen_of f r))
   pub rest : seen_of g q ≡ after_first_item (seen_of f r)
   pub comments : g.had_comments ≡ comments_before (seen_of f r) (comments_at_end f r)

@@ -1,18 +1,16 @@
 -- Words, spaces and newlines at the front of a plain text, by their bytes.
-use Rattle.std.specs.Prelude.{◌≡◌, ℕ, ◌+◌, ◌-◌, ◌<◌, ◌≤◌, Bool, true, false, ◌||◌, ◌&&◌, ◌==◌, List, [], ◌∷◌, ◌++◌, length, take, drop, slice_index, is_some, if◌then◌else◌, Option, Some, None, Result, Ok, Err, MatchResult, MatchOption, pos}
+use Rattle.std.specs.Prelude.{◌≡◌, ℕ, ◌+◌, ◌<◌, ◌≤◌, Bool, true, false, ◌||◌, ◌&&◌, ◌==◌, List, [], ◌∷◌, ◌++◌, length, take, drop, slice_index, is_some, if◌then◌else◌, Option, Some, None, Result, Ok, Err, MatchResult, MatchOption}
 use Rattle.std.specs.Char.{is_ascii_alphabetic, is_ascii_alphanumeric}
 use Rattle.std.specs.Str.{IsAscii, IsCharBoundary}
 use Rattle.std.specs.declared.alloc.AllocError.{AllocError}
 use Rattle.pp_lexer.specs.declared.token.Punct.{Punct as Punctuator}
 use Rattle.pp_lexer.specs.declared.token.Punct.TheVariants.{AddAssign, SubAssign, MulAssign, DivAssign, ModAssign, AndAssign, XorAssign, OrAssign, Increment, Decrement, LogicalAnd, LogicalOr, LogicalXor, LessEqual, GreaterEqual, EqualEqual, NotEqual, LeftShift, RightShift, LeftBrace, RightBrace, LeftParen, RightParen, LeftBracket, RightBracket, LeftAngle, RightAngle, Semicolon, Comma, Colon, Dot, Equal, Bang, Minus, Tilde, Plus, Star, Slash, Percent, Pipe, Caret, Ampersand, Question}
 use Rattle.pp_lexer.specs.declared.lexer.item.TokenValue.{TokenValue}
-use Rattle.pp_lexer.specs.declared.lexer.item.TokenValue.TheVariants.{Hash, Ident, Integer, Float, Punct}
-use Rattle.pp_lexer.specs.declared.lexer.plain.Form.{Form}
-use Rattle.pp_lexer.specs.declared.lexer.plain.Form.TheVariants.{Identifier, Integer as IntegerForm, Unsigned as UnsignedForm, Float as FloatForm, SuffixedFloat as SuffixedForm, Punct as PunctForm, Hash as HashForm}
 use Rattle.pp_lexer.specs.declared.lexer.plain.Word.{Word}
 use Rattle.pp_lexer.specs.declared.lexer.Flags.{Flags}
 use Rattle.pp_lexer.specs.inner.Fronts.{spots_from, run}
 use Rattle.pp_lexer.specs.Items.{Lexeme, is_newline}
+use Rattle.pp_lexer.specs.PlainItems.{value_of}
 use Rattle.pp_lexer.specs.Segments.{item}
 use Rattle.pp_lexer.specs.Numbers.{is_decimal, is_point}
 use Rattle.pp_lexer.specs.inner.Passing.{IsLexed}
@@ -86,7 +84,9 @@ doubled c =
 
 -- the text ends there, or goes on with an ASCII byte that is no backslash and fails
 abbrev pub Stops : (ℕ → Bool) → List ℕ → ℕ → Type 0
-Stops P text at = at < length text → (slice_index text at < 128) × ((slice_index text at == 92) ≡ false) × (P (slice_index text at) ≡ false)
+Stops P text at =
+    at < length text
+    → (slice_index text at < 128) × ((slice_index text at == 92) ≡ false) × (P (slice_index text at) ≡ false)
 
 -- one of the two letters stands there, and the number ends after it
 pub record IsSuffixed (small capital : ℕ) (text : List ℕ) (at : ℕ) : Type 0 where
@@ -94,23 +94,11 @@ pub record IsSuffixed (small capital : ℕ) (text : List ℕ) (at : ℕ) : Type 
   pub letter : ((slice_index text at == small) || (slice_index text at == capital)) ≡ true
   pub stops : Stops continues_number text (at + 1)
 
--- a spelling without its last character
-abbrev pub without_suffix : List ℕ → List ℕ
-without_suffix w = take (length w - 1) w
-
--- the value of a word of this form that is spelled so
-abbrev pub value_of : Form → List ℕ → TokenValue
-value_of Identifier w = Ident w
-value_of (IntegerForm n) w = Integer (record { value = n; signed = true; width = pos 32 })
-value_of (UnsignedForm n) w = Integer (record { value = n; signed = false; width = pos 32 })
-value_of FloatForm w = Float (record { text = w; width = pos 32 })
-value_of SuffixedForm w = Float (record { text = without_suffix w; width = pos 32 })
-value_of (PunctForm p) w = Punct p
-value_of HashForm w = Hash
-
 -- so many bytes at the front are characters of one line, wherever the text stands in a source
 abbrev pub IsFront : List ℕ → ℕ → Type 0
-IsFront text n = (line at : ℕ) → spots_from line at text ≡ run line at (take n text) ++ spots_from line (at + n) (drop n text)
+IsFront text n =
+    (line at : ℕ)
+    → spots_from line at text ≡ run line at (take n text) ++ spots_from line (at + n) (drop n text)
 
 abbrev pub is_newline_value : TokenValue → Bool
 is_newline_value value = is_newline (item (Ok value))
@@ -124,7 +112,8 @@ pub record IsPlainWord (text : List ℕ) (value : TokenValue) (taken : ℕ) : Ty
   pub front : IsFront text taken
   pub no_blank : is_blank (slice_index text 0) ≡ false
   pub no_newline : is_newline_value value ≡ false
-  pub word : (line at : ℕ) → word_at (letters (spots_from line at text)) ≡ record { value = Ok value; taken = taken }
+  pub word : (line at : ℕ)
+      → word_at (letters (spots_from line at text)) ≡ record { value = Ok value; taken = taken }
 
 abbrev pub IsFirstWord : List ℕ → Word → Type 0
 IsFirstWord text w = IsPlainWord text (value_of w.form (take w.taken text)) w.taken
@@ -134,13 +123,17 @@ pub record IsPlainNewline (text : List ℕ) (taken : ℕ) : Type 0 where
   pub some : 0 < taken
   pub within : taken ≤ length text
   pub cut : IsCharBoundary text taken
-  pub front : (line at : ℕ) → spots_from line at text ≡ record { c = 10; line = line; begin = at; end = at + 1 } ∷ spots_from (line + 1)
-      (at + taken) (drop taken text)
+  pub front : (line at : ℕ)
+      → spots_from line at text
+      ≡ record { c = 10; line = line; begin = at; end = at + 1 }
+      ∷ spots_from (line + 1) (at + taken) (drop taken text)
 
 -- the next item is given, or memory was refused, or all is as it was
 abbrev pub IsPlainLexed : Flags → Reading → Result (Option Lexeme) AllocError → Flags → Reading → Type 0
 IsPlainLexed f r answer g q =
-    MatchResult answer (λ o. MatchOption o ((g ≡ f) × (q ≡ r)) (λ item. IsLexed f r (Ok (Some item)) g q)) (λ e. IsLexed f r (Err e) g q)
+    MatchResult answer
+    (λ o. MatchOption o ((g ≡ f) × (q ≡ r)) (λ item. IsLexed f r (Ok (Some item)) g q))
+    (λ e. IsLexed f r (Err e) g q)
 
 -- a newline is given, or all is as it was
 abbrev pub IsNewlineLexed : Flags → Reading → Option Lexeme → Flags → Reading → Type 0

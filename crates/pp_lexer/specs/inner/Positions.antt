@@ -7,5 +7,6 @@ use Rattle.pp_lexer.specs.Lines.{is_newline}
 abbrev pub position_from : ℕ → ℕ → ℕ → List Placed → ℕ × ℕ
 position_from line column offset [] = (line, column)
 position_from line column offset (p ∷ ps) =
-    if nat_le p.end offset then (if is_newline p then position_from (line + 1) 1 offset ps else position_from line (column + 1) offset ps)
+    if nat_le p.end offset then
+    (if is_newline p then position_from (line + 1) 1 offset ps else position_from line (column + 1) offset ps)
     else (line, column)

@@ -1,4 +1,4 @@
-//! The characters after the phases, with their places and one of them looked at ahead.
+//! The characters after the phases, with their places and with a look at the next one.
 
 ghost use Rattle.std.specs.Prelude.{⊤, ◌≡◌, ◌+◌, ◌-◌, ◌^◌, ◌<◌, ◌≤◌, length, option_map, MatchOption};
 ghost use Rattle.std.specs.Str.{IsUtf8};
@@ -10,7 +10,7 @@ use crate::lexer::chars_and_line::Left;
 use crate::lexer::replace_comments::ReplaceComments;
 use std::marker::Model;
 
-/// What counts as the last character taken before there was one.
+/// The last character taken, before any character was taken.
 pub const NONE_CONSUMED_SENTINEL_VALUE: char = '\r';
 
 /// A character with its place, in byte offsets and a 1-based line of the source.
@@ -20,20 +20,20 @@ pub struct Spot {
     pub c: char,
     /// Its line.
     pub line: u32,
-    /// Where its stretch of the source begins.
+    /// The byte offset at which its stretch of the source begins.
     pub begin: u32,
-    /// That offset plus its UTF-8 length. A token that ends with it ends here.
+    /// That offset plus the character's UTF-8 length. A token that ends with this character ends here.
     pub end: u32,
 }
 
-// A character that was looked at, and the reader after it.
+// The next character, after a look at it, and the reader after it.
 #[derive(Drop)]
 struct Ahead<'a> {
     spot: Spot,
     after: ReplaceComments<'a>,
 }
 
-/// The characters after the phases, with one looked at before it is taken.
+/// A reader of the characters after the phases, which can look at the next one before it takes it.
 #[derive(Drop)]
 pub struct LexerCharIterator<'a> {
     inner: ReplaceComments<'a>,
@@ -54,7 +54,7 @@ impl<'a> Model for LexerCharIterator<'a> {
         (spots s.inner.offset s.inner.rest)) };
 }
 
-// Whether no phase looks at the byte.
+// Whether the byte is an ASCII character other than a newline, a backslash and a slash.
 #[inline(always)]
 fn is_plain(byte: u8) -> bool
     ensures { result ≡ is_plain byte }
@@ -62,7 +62,7 @@ fn is_plain(byte: u8) -> bool
     byte < 128 && (byte != 10 && (byte != 13 && (byte != 92 && byte != 47)))
 }
 
-// Takes the next character, if it is plain.
+// Takes the next character, if it is one byte that `is_plain` accepts.
 #[inline(always)]
 fn take_plain(inner: &mut ReplaceComments<'_>) -> Option<Spot>
     ensures { MatchOption result (inner.new ≡ inner.old)
@@ -91,7 +91,7 @@ fn take_plain(inner: &mut ReplaceComments<'_>) -> Option<Spot>
     })
 }
 
-// The next character after the phases.
+// Takes the next character after the phases.
 fn next_spot(inner: &mut ReplaceComments<'_>) -> Option<Spot>
     ensures value { result ≡ first_of (spots inner.old.offset inner.old.rest) }
     ensures state { spots inner.new.offset inner.new.rest
@@ -113,7 +113,7 @@ fn next_spot(inner: &mut ReplaceComments<'_>) -> Option<Spot>
 }
 
 impl<'a> LexerCharIterator<'a> {
-    /// A reader at the start of a source of fewer than 2^32 - 1 bytes.
+    /// Returns a reader at the start of a source of fewer than 2^32 - 1 bytes.
     pub fn new(input: &'a str) -> Self
         requires { length input.now < 2 ^ 32 - 1 }
         ensures { result ≡ record {
@@ -155,7 +155,7 @@ impl<'a> LexerCharIterator<'a> {
         Some(spot.c)
     }
 
-    /// The next character with its place, which stays.
+    /// Peeks at the next character with its place.
     pub fn peek_spot(&mut self) -> Option<Spot>
         ensures value { result ≡ first_char self.old }
         ensures same { self.new ≡ self.old }
@@ -169,7 +169,7 @@ impl<'a> LexerCharIterator<'a> {
         Some(spot)
     }
 
-    /// The next character, which stays.
+    /// Peeks at the next character.
     pub fn peek_char(&mut self) -> Option<char>
         ensures value { result ≡ option_map (λ s. s.c) (first_char self.old) }
         ensures same { self.new ≡ self.old }
@@ -178,7 +178,7 @@ impl<'a> LexerCharIterator<'a> {
         Some(spot.c)
     }
 
-    // The same reader once more.
+    // A second reader at the same position.
     pub fn twin(&self) -> Self
         ensures same { result ≡ self.now }
         ensures few { length result.rest < 2 ^ 32 }
@@ -197,7 +197,7 @@ impl<'a> LexerCharIterator<'a> {
         self.inner.left()
     }
 
-    // Goes to where this is left, after this last character.
+    // Moves to `rest`; `last` is the character just before it.
     pub(crate) fn go(&mut self, rest: Left<'a>, last: Spot)
         requires room { rest.at + length rest.text.now < 2 ^ 32 - 1 }
         requires lines { rest.line ≤ rest.at + 1 }

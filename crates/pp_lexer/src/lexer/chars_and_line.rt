@@ -10,12 +10,12 @@ ghost use Rattle.pp_lexer.specs.inner.Fronts.{left};
 use std::alloc::AllocError;
 use std::marker::Model;
 
-/// The characters of a source with their lines: phases 4 and 5 of the logical phases of
-/// compilation, GLSL ES 3.20 section 3.10.
+/// The characters of a source with their lines: phases 4 and 5 of the logical phases of compilation, GLSL ES 3.20
+/// section 3.10.
 ///
-/// An iterator of `(char, u32)`, a character and its line. From the left each CR LF and each LF CR
-/// is one newline, given as `'\n'`, and so is each other CR or LF. Lines count from 1: a line is one
-/// more than the newlines before it. It takes no memory, and after its `None` stays at its end.
+/// An iterator of `(char, u32)`, a character and its line. From the left, each CR LF and each LF CR is one newline,
+/// returned as `'\n'`, and so is each other CR or LF. Lines count from 1: a line is one more than the newlines before
+/// it. It allocates nothing, and after its `None` stays at its end.
 #[derive(Drop)]
 pub struct CharsAndLine<'a> {
     text: &'a str,
@@ -60,7 +60,7 @@ pub(crate) fn is_char(item: Option<(char, u32)>, c: char) -> bool
     }
 }
 
-// The text without this character at its front, if it is there.
+// The text without this character at its front, or the whole text if it begins with another.
 fn skip_char(text: &str, c: char) -> &str
     ensures { IsSkipped text.now c result.now }
 {
@@ -71,7 +71,7 @@ fn skip_char(text: &str, c: char) -> &str
     }
 }
 
-// The first character of a text whose newline pairs are one newline, and the text after it.
+// The first character of a text, with a newline pair as one newline, and the text after it.
 fn split_piece(text: &str) -> Option<(char, &str)>
     ensures { MatchOption result (IsAtEnd text.now) (λ p. IsFirstPiece text.now p.0 p.1.now) }
 {
@@ -85,7 +85,7 @@ fn split_piece(text: &str) -> Option<(char, &str)>
 }
 
 impl<'a> CharsAndLine<'a> {
-    /// A reader at the start of `input`, which has fewer than 2^32 - 1 bytes.
+    /// Returns a reader at the start of `input`, which has fewer than 2^32 - 1 bytes.
     pub fn new(input: &'a str) -> Self
         requires { length input.now < 2 ^ 32 - 1 }
         ensures { result ≡ start_of (lines (chars input.now)) (length input.now) }
@@ -97,8 +97,8 @@ impl<'a> CharsAndLine<'a> {
         }
     }
 
-    /// Where the last character's stretch of the source ended, in bytes: 0 before the first one, and
-    /// the length of the source after `None`. A newline pair is one stretch.
+    /// Returns the byte offset at which the last character's stretch of the source ended: 0 before the first character,
+    /// and the length of the source after `None`. A newline pair is one stretch.
     pub fn get_current_offset(&self) -> usize
         ensures value { result ≡ self.now.offset }
         ensures bound { result < 2 ^ 32 - 1 }
@@ -106,7 +106,7 @@ impl<'a> CharsAndLine<'a> {
         self.total - self.text.len()
     }
 
-    // An equal reader, which goes on by itself.
+    // A second reader at the same position.
     pub(crate) fn duplicate(&self) -> Self
         ensures { result ≡ self.now }
     {
@@ -145,7 +145,7 @@ impl<'a> CharsAndLine<'a> {
         }
     }
 
-    // `next`, which besides says that the stretch has room for the character.
+    // `next`, with the extra clause that the stretch has room for the character.
     pub(crate) fn next_item(&mut self) -> Option<(char, u32)>
         ensures value { result ≡ first self.old }
         ensures state { self.new ≡ after self.old }

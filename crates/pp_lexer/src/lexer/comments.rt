@@ -1,4 +1,4 @@
-//! Where the comments of a source stand.
+//! The places of the comments of a source.
 
 ghost use Rattle.std.specs.Prelude.{◌≡◌, ◌-◌, ◌^◌, ◌<◌, ◌↔◌, length, IsSome, IfSome};
 ghost use Rattle.std.specs.Iterator.{at_most};
@@ -9,14 +9,15 @@ use crate::lexer::replace_comments::{COMMENT_SENTINEL_VALUE, ReplaceComments};
 use crate::token::Location;
 use std::marker::Model;
 
-/// The places of the comments of a source, one a call of `next`, in order. pp-rs 0.2.1 has no such
+/// An iterator of the places of the comments of a source, in order. pp-rs 0.2.1 has no such
 /// iterator.
 ///
-/// A comment is what [`ReplaceComments`] gives a mark for. Its place begins where the character
-/// before it ends, so a continuation right before it is in it, and ends after its last character;
-/// the newline after a `//` comment is outside. Its line is that of its first slash.
+/// A comment is what [`ReplaceComments`] replaces by a mark. Its place begins where the character
+/// before it ends, so it includes a continuation right before the comment, and ends after the
+/// comment's last character. The newline after a `//` comment is outside. Its line is that of its
+/// first slash. Places are byte offsets and 1-based lines.
 ///
-/// It takes no memory, and after its `None` stays at its end.
+/// It allocates nothing, and after its `None` stays at its end.
 #[derive(Drop)]
 pub struct Comments<'a> {
     inner: ReplaceComments<'a>,
@@ -53,7 +54,8 @@ fn next_comment(inner: &mut ReplaceComments<'_>) -> Option<Location>
 }
 
 impl<'a> Comments<'a> {
-    /// The comments of a source of fewer than 2^32 - 1 bytes. It reads nothing yet.
+    /// Returns an iterator of the comments of a source of fewer than 2^32 - 1 bytes. It reads
+    /// nothing yet.
     pub fn new(input: &'a str) -> Self
         requires { length input.now < 2 ^ 32 - 1 }
         ensures { result ≡ comment_places input.now }
@@ -63,7 +65,7 @@ impl<'a> Comments<'a> {
         }
     }
 
-    /// The same, or `None` for a source that is longer.
+    /// Does the same as `new`, but returns `None` for a longer source.
     pub fn try_new(input: &'a str) -> Option<Self>
         ensures short { IsSome result ↔ (length input.now < 2 ^ 32 - 1) }
         ensures value { IfSome result (λ comments. comments ≡ comment_places input.now) }

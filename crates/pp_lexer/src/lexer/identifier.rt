@@ -31,8 +31,8 @@ fn take_continue(text: &mut Text, inner: &mut LexerCharIterator<'_>) -> Result<(
     }
 }
 
-/// Takes the longest identifier here. The one error is that its text found no memory, and then some of its characters
-/// may be taken.
+/// Takes the longest identifier here. The only error is that its text could not be allocated. Some of its characters
+/// may have been taken then.
 pub fn parse_identifier(
     alloc: Global,
     inner: &mut LexerCharIterator<'_>,

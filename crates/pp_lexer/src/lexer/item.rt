@@ -1,11 +1,11 @@
-//! What the Lexer gives: tokens with their places, and errors.
+//! The items of the Lexer: tokens with their places, and errors.
 
 ghost use Rattle.std.specs.Prelude.{◌≡◌, ◌↔◌, false, IsTrue, IsOk, MatchResult};
 
 use crate::token::{Float, Integer, Location, PreprocessorError, Punct, Text, refused};
 use std::alloc::Global;
 
-/// What a token of the Lexer is: an ordinary token, a newline or a `#`.
+/// The value of a token of the Lexer: an ordinary token, a newline or a `#`.
 #[derive(PartialEq, Eq, Debug, Drop)]
 pub enum TokenValue {
     /// A `#`.
@@ -22,20 +22,20 @@ pub enum TokenValue {
     Punct(Punct),
 }
 
-/// A token of the Lexer, with its place and how it stands on its line.
+/// A token of the Lexer, with its place and its whitespace flags.
 #[derive(PartialEq, Eq, Debug, Drop)]
 pub struct Token {
-    /// What it is.
+    /// Its value.
     pub value: TokenValue,
-    /// Where it stands.
+    /// Its place in the source.
     pub location: Location,
-    /// Whether it is the first of the text or of its line, or stands after a blank or a comment.
+    /// Whether it is the first of the text or of its line, or comes after a blank or a comment.
     pub leading_whitespace: bool,
-    /// Whether only blanks and comments stand before it on its line.
+    /// Whether only blanks and comments come before it on its line.
     pub start_of_line: bool,
 }
 
-/// What the Lexer gives: a token, or an error with its place.
+/// An item of the Lexer: a token, or an error with its place.
 pub type LexerItem = Result<Token, (PreprocessorError, Location)>;
 
 impl From<Punct> for TokenValue {
@@ -53,8 +53,8 @@ impl TokenValue {
     ghost use Rattle.pp_lexer.specs.PreprocessorError.{out_of_memory};
     ghost use Rattle.pp_lexer.specs.LexerToken.{holds_memory};
 
-    /// A copy. Its one error is `OutOfMemory`, by `out_of_memory`, which only an identifier or a
-    /// float gives.
+    /// Returns a copy. The only error is `OutOfMemory`, as `out_of_memory` returns it. Only the
+    /// copy of an identifier or a float can fail.
     pub fn clone(&self, alloc: Global) -> Result<Self, (PreprocessorError, Location)>
         ensures copied { MatchResult result (λ copy. copy ≡ self.now) (λ error. error
             ≡ out_of_memory) }
@@ -75,8 +75,8 @@ impl Token {
     ghost use Rattle.pp_lexer.specs.PreprocessorError.{out_of_memory};
     ghost use Rattle.pp_lexer.specs.LexerToken.{holds_memory};
 
-    /// A copy. Its one error is `OutOfMemory`, by `out_of_memory`, which only an identifier or a
-    /// float gives.
+    /// Returns a copy. The only error is `OutOfMemory`, as `out_of_memory` returns it. Only the
+    /// copy of an identifier or a float can fail.
     pub fn clone(&self, alloc: Global) -> Result<Self, (PreprocessorError, Location)>
         ensures copied { MatchResult result (λ copy. copy ≡ self.now) (λ error. error
             ≡ out_of_memory) }
@@ -91,7 +91,7 @@ impl Token {
     }
 }
 
-// `==` decides whether two tokens are equal in all fields.
+// Whether two tokens are equal in all fields, as `==` decides.
 #[tactic(auto, using(crate::proofs::values::EqualityLemmas::lexer_token_decides))]
 fn same_token(a: &Token, b: &Token) -> bool
     ensures { IsTrue result ↔ (a.now ≡ b.now) }

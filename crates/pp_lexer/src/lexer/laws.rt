@@ -5,16 +5,16 @@ ghost use Rattle.pp_lexer.specs.ItemLaws.{TokensLieWithin, TokensHaveLines, Item
 ghost use Rattle.pp_lexer.specs.PhaseLaws.{PairsCountOnce, LinesCountNewlines, SourcesNeverFall, SourcesAreTiled, SourcesShorten};
 ghost use Rattle.pp_lexer.specs.Respelling.{ValuesAreSpelled, SpellingsAreReadBack};
 
-/// Each newline pair counts once, a line is one more than the newlines before it, and lines never
-/// fall along the characters of any phase.
+/// Each newline pair counts once, a line is one more than the newlines before it, and line numbers never decrease along
+/// the characters of any phase.
 pub fn line_ends()
     ensures pairs { PairsCountOnce }
     ensures counted { LinesCountNewlines }
     ensures in_order { SourcesNeverFall }
 {}
 
-/// The stretches of each phase's characters follow one another from the source's first byte on, each
-/// with room for its character. They reach its last byte, except where a continuation stands last.
+/// The stretches of each phase's characters follow one another from the source's first byte on, each with room for its
+/// character. They reach its last byte, unless a continuation comes last.
 pub fn stretches()
     ensures { SourcesAreTiled }
 {}
@@ -25,9 +25,9 @@ pub fn phase_lengths()
     ensures { SourcesShorten }
 {}
 
-/// Each token of a source starts at or before its end, and ends within the source. Its line is at
-/// least 1, and at most one more than the source's bytes. A source has at most one item for each
-/// byte, and one more. Each item, an error too, has one place, and that of a token is its location.
+/// Each token of a source starts at or before its end, and ends within the source. Its line is at least 1, and at most
+/// one more than the source has bytes. A source has at most one item for each byte, and one more. Each item, also an
+/// error, has one place, and that of a token is its location.
 pub fn places()
     ensures within { TokensLieWithin }
     ensures lines { TokensHaveLines }

@@ -1,4 +1,4 @@
-//! What the next characters are, which stay where they are.
+//! Looks at the next characters without taking them.
 
 ghost use Rattle.std.specs.Prelude.{◌≡◌, ◌==◌, ◌||◌};
 ghost use Rattle.pp_lexer.specs.Identifiers.{begins_identifier};

@@ -21,7 +21,7 @@ mod scan;
 mod spelling;
 mod value;
 
-// Takes the suffix letter if it is one of the two, and says whether it did.
+// Takes the suffix letter if it is one of the two, and returns whether it did.
 fn take_suffix(first: char, second: char, inner: &mut LexerCharIterator<'_>) -> bool
     ensures test { result ≡ begins_with (λ c. (c == first) || (c == second))
         (letters inner.old.rest) }
@@ -34,7 +34,7 @@ fn take_suffix(first: char, second: char, inner: &mut LexerCharIterator<'_>) -> 
     found
 }
 
-// The error of a suffix letter for a width that is not supported: `l` for 64 bits, and these two for 16.
+// The error of a suffix letter for an unsupported width: `l` for 64 bits, and these two for 16.
 fn find_width_refusal(
     first: char,
     second: char,
@@ -83,15 +83,15 @@ fn finish_integer(
     read_integer(!unsigned, word)
 }
 
-/// Takes the longest number here and its suffix. The outer error is that a float's text found no memory, and comes only
-/// in place of that float. The inner errors, each of which takes as much:
+/// Takes the longest number here and its suffix. The outer error is that a float's text could not be allocated, and
+/// comes only in place of that float. The inner errors take as much of the text as the number:
 ///
-/// - [`PreprocessorError::NotSupported64BitLiteral`] where an `l` stands after it, and
-///   [`PreprocessorError::NotSupported16BitLiteral`] where after an integer an `s` or after a float an `h` does, before
-///   the next two;
-/// - [`PreprocessorError::IntegerOverflow`] where an integer has no digit or one outside of its base, or is above
+/// - [`PreprocessorError::NotSupported64BitLiteral`] if an `l` follows the number, and
+///   [`PreprocessorError::NotSupported16BitLiteral`] if an `s` follows an integer or an `h` a float; these two come
+///   before the next two;
+/// - [`PreprocessorError::IntegerOverflow`] if an integer has no digit or one outside of its base, or is above
 ///   `u64::MAX`;
-/// - [`PreprocessorError::FloatParsingError`] where a float's text has no digit where one is needed.
+/// - [`PreprocessorError::FloatParsingError`] if a float's text has no digit where it needs one.
 pub fn parse_number(
     alloc: Global,
     inner: &mut LexerCharIterator<'_>,

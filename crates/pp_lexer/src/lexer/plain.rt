@@ -1,21 +1,18 @@
-//! Words, spaces and newlines of plain text, read byte by byte.
+//! Words, spaces and newlines of ASCII text, read byte by byte.
 
-ghost use Rattle.std.specs.Prelude.{⊤, ◌≡◌, ◌<◌, ◌≤◌, true, false, length, take, slice_index, IsTrue, IfOk, MatchOption, MatchResult};
+ghost use Rattle.std.specs.Prelude.{⊤, ◌≡◌, ◌<◌, ◌≤◌, true, false, length, take, slice_index, IsTrue, MatchOption};
 ghost use Rattle.std.specs.List.{list_all};
-ghost use Rattle.std.specs.Str.{IsAscii, IsUtf8};
-ghost use Rattle.pp_lexer.specs.LexerToken.{holds_memory};
-ghost use Rattle.pp_lexer.specs.inner.PlainWords.{is_space, begins, continues, value_of, without_suffix, Stops, IsFirstWord, IsPlainNewline};
+ghost use Rattle.std.specs.Str.{IsUtf8};
+ghost use Rattle.pp_lexer.specs.inner.PlainWords.{is_space, begins, continues, Stops, IsFirstWord, IsPlainNewline};
 
-use crate::lexer::item::TokenValue;
-use crate::token::{Float, Integer, Punct, Text};
+use crate::token::Punct;
 use number::plain_number;
 use punctuation::plain_punctuation;
-use std::alloc::{AllocError, Global};
 
 mod number;
 mod punctuation;
 
-/// What a word of plain text is.
+/// What a word of ASCII text is.
 #[derive(Clone, Copy)]
 pub enum Form {
     /// An identifier.
@@ -41,7 +38,7 @@ pub struct Word {
     pub taken: usize,
 }
 
-// Whether the byte is a blank that is no comment.
+// Whether the byte is a space, a tab, a vertical tab or a form feed.
 #[inline(always)]
 fn is_space(byte: u8) -> bool
     ensures { result ≡ is_space byte }
@@ -49,7 +46,7 @@ fn is_space(byte: u8) -> bool
     byte == 32 || byte == 9 || byte == 11 || byte == 12
 }
 
-// Whether an identifier begins with the byte.
+// Whether an identifier may begin with the byte.
 #[inline(always)]
 fn begins(byte: u8) -> bool
     ensures { result ≡ begins byte }
@@ -57,7 +54,7 @@ fn begins(byte: u8) -> bool
     byte.is_ascii_alphabetic() || byte == 95
 }
 
-// Whether an identifier goes on with the byte.
+// Whether an identifier may continue with the byte.
 #[inline(always)]
 fn continues(byte: u8) -> bool
     ensures { result ≡ continues byte }
@@ -65,7 +62,7 @@ fn continues(byte: u8) -> bool
     byte.is_ascii_alphanumeric() || byte == 95
 }
 
-/// How many spaces stand at the front.
+/// How many spaces there are at the front.
 #[inline(always)]
 pub fn spaces_length(bytes: &[u8]) -> usize
     ensures within { result ≤ length bytes.now }
@@ -77,6 +74,12 @@ pub fn spaces_length(bytes: &[u8]) -> usize
         }
     }
     bytes.len()
+}
+
+/// Whether a comment begins at the front, as far as these bytes say.
+#[inline(always)]
+pub fn begins_comment(bytes: &[u8]) -> bool {
+    bytes.len() > 1 && bytes[0] == 47 && (bytes[1] == 47 || bytes[1] == 42)
 }
 
 /// How many bytes the newline at the front takes, if these bytes alone say that one stands there.
@@ -115,7 +118,7 @@ fn continued_length(bytes: &[u8]) -> usize
     bytes.len()
 }
 
-// Whether the text ends there, or goes on with an ASCII byte that is no backslash.
+// Whether the text ends at `at`, or goes on with an ASCII byte other than a backslash.
 #[inline(always)]
 fn ends_plainly(bytes: &[u8], at: usize) -> bool
     ensures { IsTrue result → Stops (λ _. false) bytes.now at }
@@ -126,7 +129,7 @@ fn ends_plainly(bytes: &[u8], at: usize) -> bool
     bytes[at] < 128 && bytes[at] != 92
 }
 
-// The identifier at the front, if the byte after it says that it ends there.
+// The identifier at the front, if the byte after it shows that it ends there.
 #[inline(always)]
 fn plain_identifier(bytes: &[u8]) -> Option<Word>
     requires utf8 { IsUtf8 bytes.now }
@@ -144,7 +147,7 @@ fn plain_identifier(bytes: &[u8]) -> Option<Word>
     })
 }
 
-/// The word at the front, if its bytes and the next ones alone say what it is.
+/// The word at the front, if its bytes and the next ones alone show what it is.
 #[inline(always)]
 pub fn plain_word(text: &str) -> Option<Word>
     ensures { MatchOption result ⊤ (IsFirstWord text.now) }
@@ -163,58 +166,4 @@ pub fn plain_word(text: &str) -> Option<Word>
         }
     }
     plain_punctuation(bytes)
-}
-
-// The spelling without its last byte.
-#[inline(always)]
-fn without_suffix(spelling: &str) -> &str
-    requires { IsAscii spelling.now }
-    ensures value { result.now ≡ without_suffix spelling.now }
-    ensures ascii { IsAscii result.now }
-{
-    if spelling.is_empty() {
-        return spelling;
-    }
-    &spelling[..spelling.len() - 1]
-}
-
-// The text that is spelled so.
-#[inline(always)]
-fn ascii_text(alloc: Global, spelling: &str) -> Result<Text, AllocError>
-    requires { IsAscii spelling.now }
-    ensures { IfOk result (λ text. text ≡ spelling.now) }
-{
-    Ok(Text::from(String::from_str(alloc, spelling)?))
-}
-
-/// The value of a word of this form that is spelled so. The error is that an identifier or a float found no memory.
-#[inline(always)]
-pub fn plain_value(alloc: Global, form: Form, spelling: &str) -> Result<TokenValue, AllocError>
-    requires { IsAscii spelling.now }
-    ensures { MatchResult result (λ value. value ≡ value_of form spelling.now)
-        (λ _. (w : _) → holds_memory (value_of form w) ≡ true) }
-{
-    Ok(match form {
-        Form::Identifier => TokenValue::Ident(ascii_text(alloc, spelling)?),
-        Form::Integer(value) => TokenValue::Integer(Integer {
-            value,
-            signed: true,
-            width: 32,
-        }),
-        Form::Unsigned(value) => TokenValue::Integer(Integer {
-            value,
-            signed: false,
-            width: 32,
-        }),
-        Form::Float => TokenValue::Float(Float {
-            text: ascii_text(alloc, spelling)?,
-            width: 32,
-        }),
-        Form::SuffixedFloat => TokenValue::Float(Float {
-            text: ascii_text(alloc, without_suffix(spelling))?,
-            width: 32,
-        }),
-        Form::Punct(punct) => TokenValue::Punct(punct),
-        Form::Hash => TokenValue::Hash,
-    })
 }

@@ -9,7 +9,7 @@ ghost use Rattle.pp_lexer.specs.inner.Positions.{position_from};
 use crate::lexer::SOURCE_LIMIT;
 use crate::lexer::chars_and_line::CharsAndLine;
 
-/// The line and the column of a byte of the source, both from 1, or `None` for a source of
+/// Returns the line and the column of a byte of the source, both from 1, or `None` for a source of
 /// [`SOURCE_LIMIT`] bytes or more. pp-rs 0.2.1 has no such function.
 ///
 /// Lines are those of [`Location`](crate::token::Location), and columns count characters. A byte

@@ -66,7 +66,7 @@ const TRIPLES: [(char, char, char, Punct); 2] = [
     ('>', '>', '=', Punct::RightShiftAssign),
 ];
 
-// What the table has for this character, for these two or for these three.
+// The punctuator that the table has for this character, for these two or for these three.
 fn single(table: &[(char, Punct)], c: char) -> Option<Punct>
     ensures { result ≡ option_map (λ e. e.1) (find (λ e. e.0 == c) table.now) }
 {
@@ -91,7 +91,7 @@ fn triple(table: &[(char, char, char, Punct)], c: char, d: char, e: char) -> Opt
     Some(entry.3)
 }
 
-// Takes the longest punctuator, if one stands here.
+// Takes the longest punctuator, if there is one here.
 fn take_punct(inner: &mut LexerCharIterator<'_>) -> Option<Punct>
     ensures value { result ≡ punct_of (take (longest is_punctuator (letters inner.old.rest))
         (letters inner.old.rest)) }
@@ -119,7 +119,7 @@ fn take_punct(inner: &mut LexerCharIterator<'_>) -> Option<Punct>
 }
 
 /// Takes the longest punctuator or a `#`. Any other character is [`PreprocessorError::UnexpectedCharacter`], which
-/// takes it and up to two more, whatever they are. No memory is taken.
+/// takes it and up to two more of any kind. It allocates nothing.
 pub fn parse_punctuation(inner: &mut LexerCharIterator<'_>) -> Result<TokenValue, PreprocessorError>
     ensures value { result ≡ (punctuation_at (letters inner.old.rest)).value }
     ensures state { inner.new ≡ advanced (punctuation_at (letters inner.old.rest)).taken inner.old }

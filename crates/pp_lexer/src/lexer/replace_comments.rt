@@ -15,18 +15,18 @@ use crate::lexer::skip_backslash_newline::SkipBackslashNewline;
 use std::alloc::AllocError;
 use std::marker::Model;
 
-/// The mark that stands in place of a comment. No other character of [`ReplaceComments`] is a
-/// carriage return, since each newline is a line feed.
+/// The mark that replaces a comment. No other character of [`ReplaceComments`] is a carriage return, since each newline
+/// is a line feed.
 pub const COMMENT_SENTINEL_VALUE: char = '\r';
 
-/// The characters of a source with their lines, with one mark for each comment: phases 4 to 7 of the
-/// logical phases of compilation, GLSL ES 3.20 section 3.10.
+/// The characters of a source with their lines, with one mark for each comment: phases 4 to 7 of the logical phases of
+/// compilation, GLSL ES 3.20 section 3.10.
 ///
 /// An iterator of `(char, u32)`, a character and its line in the source, over the characters of
-/// [`SkipBackslashNewline`]. A `//` comment ends before the next newline or at the end of the input.
-/// A `/*` comment ends after the next `*/` that stands after its `/*`, or at the end of the input;
-/// comments don't nest, and `/*/` is not closed. Each comment is one [`COMMENT_SENTINEL_VALUE`] with
-/// the line of its first `/`. It takes no memory, and after its `None` stays at its end.
+/// [`SkipBackslashNewline`]. A `//` comment ends before the next newline or at the end of the input. A `/*` comment
+/// ends after the next `*/` that follows its `/*`, or at the end of the input. Comments don't nest, and `/*/` is not
+/// closed. Each comment is one [`COMMENT_SENTINEL_VALUE`] with the line of its first `/`. It allocates nothing, and
+/// after its `None` stays at its end.
 #[derive(Drop)]
 pub struct ReplaceComments<'a> {
     inner: SkipBackslashNewline<'a>,
@@ -41,7 +41,7 @@ impl<'a> Model for ReplaceComments<'a> {
     ghost view = { λ s. uncommented s.inner };
 }
 
-// How many bytes at the front go on with a line comment.
+// How many bytes at the front are ASCII, and neither a newline nor a backslash.
 #[inline(always)]
 fn straight_length(bytes: &[u8]) -> usize
     ensures within { result ≤ length bytes.now }
@@ -55,7 +55,7 @@ fn straight_length(bytes: &[u8]) -> usize
     bytes.len()
 }
 
-// Passes the plain front of the rest of a line comment.
+// Passes the ASCII characters at the front of a line comment's rest, up to a newline or a backslash.
 fn skip_straight(inner: &mut SkipBackslashNewline<'_>)
     ensures state { past_line inner.new ≡ past_line inner.old }
     ensures forward { inner.old.offset ≤ inner.new.offset }
@@ -108,7 +108,7 @@ fn skip_block(inner: &mut SkipBackslashNewline<'_>)
     }
 }
 
-// The next character, or the mark of the comment that begins there.
+// The next character, or the mark of the comment that begins at it.
 fn next_uncommented(inner: &mut SkipBackslashNewline<'_>) -> Option<(char, u32)>
     ensures value { result ≡ first (uncommented inner.old) }
     ensures state { uncommented inner.new ≡ after (uncommented inner.old) }
@@ -135,7 +135,7 @@ fn next_uncommented(inner: &mut SkipBackslashNewline<'_>) -> Option<(char, u32)>
 }
 
 impl<'a> ReplaceComments<'a> {
-    /// A reader at the start of `input`, which has fewer than 2^32 - 1 bytes.
+    /// Returns a reader at the start of `input`, which has fewer than 2^32 - 1 bytes.
     pub fn new(input: &'a str) -> Self
         requires { length input.now < 2 ^ 32 - 1 }
         ensures { result ≡ start_of (replaced (length input.now)
@@ -146,9 +146,9 @@ impl<'a> ReplaceComments<'a> {
         }
     }
 
-    /// Where the last character's stretch of the source ended, in bytes: 0 before the first one, and
-    /// the length of the source after `None`. A mark's stretch ends after its comment's last
-    /// character, that of a `/*` comment without its end at the end of the source.
+    /// Returns the byte offset at which the last character's stretch of the source ended: 0 before the first character,
+    /// and the length of the source after `None`. A mark's stretch ends after its comment's last character; for a `/*`
+    /// comment that isn't closed this is the end of the source.
     pub fn get_current_offset(&self) -> usize
         ensures value { result ≡ self.now.offset }
         ensures bound { result < 2 ^ 32 - 1 }
@@ -156,7 +156,7 @@ impl<'a> ReplaceComments<'a> {
         self.inner.get_current_offset()
     }
 
-    // An equal reader, which goes on by itself.
+    // A second reader at the same position.
     pub(crate) fn duplicate(&self) -> Self
         ensures { result ≡ self.now }
     {
@@ -187,7 +187,7 @@ impl<'a> ReplaceComments<'a> {
         }
     }
 
-    // `next`, which besides says that the stretch has room for the character.
+    // `next`, with the extra clause that the stretch has room for the character.
     pub(crate) fn next_item(&mut self) -> Option<(char, u32)>
         ensures value { result ≡ first self.old }
         ensures state { self.new ≡ after self.old }

@@ -12,13 +12,12 @@ use crate::lexer::chars_and_line::{CharsAndLine, Left, is_char};
 use std::alloc::AllocError;
 use std::marker::Model;
 
-/// The characters of a source with their lines, with continued lines joined: phases 4 to 6 of the
-/// logical phases of compilation, GLSL ES 3.20 section 3.10.
+/// The characters of a source with their lines, with continued lines joined: phases 4 to 6 of the logical phases of
+/// compilation, GLSL ES 3.20 section 3.10.
 ///
-/// An iterator of `(char, u32)`, a character and its line in the source. It leaves out each backslash
-/// that stands directly before a newline of [`CharsAndLine`], and that newline. A backslash and a
-/// newline that meet only because something between them was left out both stay. It takes no memory,
-/// and after its `None` stays at its end.
+/// An iterator of `(char, u32)`, a character and its line in the source. It leaves out each backslash directly before a
+/// newline of [`CharsAndLine`], and that newline. If a backslash and a newline meet only because something between them
+/// was left out, both stay. It allocates nothing, and after its `None` stays at its end.
 #[derive(Drop)]
 pub struct SkipBackslashNewline<'a> {
     inner: CharsAndLine<'a>,
@@ -33,7 +32,7 @@ impl<'a> Model for SkipBackslashNewline<'a> {
     ghost view = { λ s. joined s.inner };
 }
 
-// The next character that is in no continuation.
+// The next character outside of a continuation.
 fn take_joined(inner: &mut CharsAndLine<'_>) -> Option<(char, u32)>
     ensures value { result ≡ first (joined inner.old) }
     ensures state { joined inner.new ≡ after (joined inner.old) }
@@ -55,7 +54,7 @@ fn take_joined(inner: &mut CharsAndLine<'_>) -> Option<(char, u32)>
 }
 
 impl<'a> SkipBackslashNewline<'a> {
-    /// A reader at the start of `input`, which has fewer than 2^32 - 1 bytes.
+    /// Returns a reader at the start of `input`, which has fewer than 2^32 - 1 bytes.
     pub fn new(input: &'a str) -> Self
         requires { length input.now < 2 ^ 32 - 1 }
         ensures { result ≡ start_of (continued (lines (chars input.now))) (length input.now) }
@@ -65,9 +64,9 @@ impl<'a> SkipBackslashNewline<'a> {
         }
     }
 
-    /// Where the last character's stretch of the source ended, in bytes: 0 before the first one, and
-    /// the length of the source after `None`. What was left out before a character belongs to that
-    /// character's stretch.
+    /// Returns the byte offset at which the last character's stretch of the source ended: 0 before the first character,
+    /// and the length of the source after `None`. The continuations before a character belong to that character's
+    /// stretch.
     pub fn get_current_offset(&self) -> usize
         ensures value { result ≡ self.now.offset }
         ensures bound { result < 2 ^ 32 - 1 }
@@ -75,7 +74,7 @@ impl<'a> SkipBackslashNewline<'a> {
         self.inner.get_current_offset()
     }
 
-    // An equal reader, which goes on by itself.
+    // A second reader at the same position.
     pub(crate) fn duplicate(&self) -> Self
         ensures { result ≡ self.now }
     {
@@ -104,7 +103,7 @@ impl<'a> SkipBackslashNewline<'a> {
         }
     }
 
-    // `next`, which besides says that the stretch has room for the character.
+    // `next`, with the extra clause that the stretch has room for the character.
     pub(crate) fn next_item(&mut self) -> Option<(char, u32)>
         ensures value { result ≡ first self.old }
         ensures state { self.new ≡ after self.old }

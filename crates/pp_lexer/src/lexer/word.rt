@@ -1,4 +1,4 @@
-//! The word that stands at a place.
+//! The word at a place.
 
 ghost use Rattle.std.specs.Prelude.{◌≡◌, OnOk};
 ghost use Rattle.pp_lexer.specs.Outcome.{IsGiven};
@@ -18,8 +18,8 @@ use std::alloc::{AllocError, Global};
 /// Any other character is [`PreprocessorError::UnexpectedCharacter`], which takes it and up to two more. The errors of
 /// numbers are those of [`parse_number`].
 ///
-/// The outer error is that memory was refused. It comes only in place of an identifier or of a float, and then some of
-/// the characters of an identifier may be taken.
+/// The outer error is that an allocation failed. It comes only in place of an identifier or of a float. Some of the
+/// characters of an identifier may have been taken then.
 pub fn parse_word(
     alloc: Global,
     inner: &mut LexerCharIterator<'_>,

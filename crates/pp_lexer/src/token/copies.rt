@@ -1,4 +1,4 @@
-//! Copies of tokens and of errors. A copy takes memory, so it may be refused.
+//! Copies of tokens and of errors. A copy allocates, so it can fail.
 
 ghost use Rattle.std.specs.Prelude.{◌≡◌, [], false, IfOk, IsOk, MatchResult};
 ghost use Rattle.pp_lexer.specs.PreprocessorError.{out_of_memory, error_holds_memory};
@@ -11,7 +11,7 @@ use crate::token::{
 use std::alloc::{AllocError, Global};
 
 impl Float {
-    /// A copy. Its one error is `OutOfMemory`, by `out_of_memory`.
+    /// Returns a copy. The only error is `OutOfMemory`, as `out_of_memory` returns it.
     pub fn clone(&self, alloc: Global) -> Result<Self, (PreprocessorError, Location)>
         ensures { MatchResult result (λ copy. copy ≡ self.now) (λ error. error ≡ out_of_memory) }
     {
@@ -29,7 +29,7 @@ impl Float {
 }
 
 impl Tokens {
-    /// A copy. Its error is that memory was refused, which an empty list never gives.
+    /// Returns a copy. The error is that an allocation failed; an empty list never fails.
     #[cycle(copy)]
     pub fn try_clone(&self, alloc: Global) -> Result<Self, AllocError>
         ensures copied { IfOk result (λ copy. copy ≡ self.now) }
@@ -54,8 +54,8 @@ fn copy_items(alloc: Global, items: &Vec<Token>) -> Result<Vec<Token>, AllocErro
 }
 
 impl Version {
-    /// A copy. Its one error is `OutOfMemory`, by `out_of_memory`, which one without tokens never
-    /// gives.
+    /// Returns a copy. The only error is `OutOfMemory`, as `out_of_memory` returns it. The copy of
+    /// a line without tokens never fails.
     pub fn clone(&self, alloc: Global) -> Result<Self, (PreprocessorError, Location)>
         ensures copied { MatchResult result (λ copy. copy ≡ self.now) (λ error. error
             ≡ out_of_memory) }
@@ -78,8 +78,8 @@ impl Version {
 }
 
 impl Extension {
-    /// A copy. Its one error is `OutOfMemory`, by `out_of_memory`, which one without tokens never
-    /// gives.
+    /// Returns a copy. The only error is `OutOfMemory`, as `out_of_memory` returns it. The copy of
+    /// a line without tokens never fails.
     pub fn clone(&self, alloc: Global) -> Result<Self, (PreprocessorError, Location)>
         ensures copied { MatchResult result (λ copy. copy ≡ self.now) (λ error. error
             ≡ out_of_memory) }
@@ -101,8 +101,8 @@ impl Extension {
 }
 
 impl Pragma {
-    /// A copy. Its one error is `OutOfMemory`, by `out_of_memory`, which one without tokens never
-    /// gives.
+    /// Returns a copy. The only error is `OutOfMemory`, as `out_of_memory` returns it. The copy of
+    /// a line without tokens never fails.
     pub fn clone(&self, alloc: Global) -> Result<Self, (PreprocessorError, Location)>
         ensures copied { MatchResult result (λ copy. copy ≡ self.now) (λ error. error
             ≡ out_of_memory) }
@@ -123,8 +123,8 @@ impl Pragma {
 }
 
 impl TokenValue {
-    /// A copy. Its one error is `OutOfMemory`, by `out_of_memory`, which an integer or a
-    /// punctuator never gives.
+    /// Returns a copy. The only error is `OutOfMemory`, as `out_of_memory` returns it. The copy of
+    /// an integer or a punctuator never fails.
     pub fn clone(&self, alloc: Global) -> Result<Self, (PreprocessorError, Location)>
         ensures copied { MatchResult result (λ copy. copy ≡ self.now) (λ error. error
             ≡ out_of_memory) }
@@ -151,8 +151,8 @@ impl TokenValue {
 }
 
 impl Token {
-    /// A copy. Its one error is `OutOfMemory`, by `out_of_memory`, which the token of an integer
-    /// or a punctuator never gives.
+    /// Returns a copy. The only error is `OutOfMemory`, as `out_of_memory` returns it. The copy of
+    /// an integer or punctuator token never fails.
     pub fn clone(&self, alloc: Global) -> Result<Self, (PreprocessorError, Location)>
         ensures copied { MatchResult result (λ copy. copy ≡ self.now) (λ error. error
             ≡ out_of_memory) }
@@ -174,8 +174,8 @@ impl Token {
 }
 
 impl PreprocessorError {
-    /// A copy. Its one error is `OutOfMemory`, by `out_of_memory`, which only an
-    /// `UnexpectedToken` gives.
+    /// Returns a copy. The only error is `OutOfMemory`, as `out_of_memory` returns it. Only the
+    /// copy of an `UnexpectedToken` can fail.
     pub fn clone(&self, alloc: Global) -> Result<Self, (PreprocessorError, Location)>
         ensures copied { MatchResult result (λ copy. copy ≡ self.now) (λ error. error
             ≡ out_of_memory) }

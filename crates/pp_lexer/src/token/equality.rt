@@ -12,7 +12,7 @@ fn same_float(a: &Float, b: &Float) -> bool
     *a == *b
 }
 
-/// `==` of what tokens are.
+/// `==` of token values.
 #[tactic(auto, using(crate::proofs::values::EqualityLemmas::value_decides))]
 fn same_value(a: &TokenValue, b: &TokenValue) -> bool
     ensures { IsTrue result ↔ (a.now ≡ b.now) }

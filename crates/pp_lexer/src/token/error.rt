@@ -7,7 +7,7 @@ use crate::token::{Location, NOWHERE, PreprocessorError};
 use std::alloc::AllocError;
 
 impl PreprocessorError {
-    /// The variant's name, without what it holds.
+    /// Returns the variant's name, without what it holds.
     pub fn name(&self) -> &'static str
         ensures { result.now ≡ name_of self.now }
     {
@@ -43,14 +43,14 @@ impl PreprocessorError {
     }
 }
 
-/// The error that is given where an allocation was refused, with its place.
+/// Returns the error for a failed allocation, with its place (0, 0, line 1).
 pub fn out_of_memory() -> (PreprocessorError, Location)
     ensures { result ≡ out_of_memory }
 {
     (PreprocessorError::OutOfMemory, NOWHERE)
 }
 
-// The error of a call, where an allocation in it was refused.
+// The error of a call in which an allocation failed.
 pub(crate) fn refused(_error: AllocError) -> (PreprocessorError, Location)
     ensures { result ≡ out_of_memory }
 {

@@ -1,4 +1,4 @@
-//! A list of tokens from and to a `Vec`, and how to read it.
+//! Lists of tokens: made from a `Vec`, turned into one, and read.
 
 ghost use Rattle.std.specs.Prelude.{◌≡◌, [], ◌↔◌, IsTrue, count_by};
 ghost use Rattle.pp_lexer.specs.Entry.{is_outermost};
@@ -7,21 +7,21 @@ ghost use Rattle.pp_lexer.specs.Preorder.{preorder};
 use crate::token::{Token, Tokens};
 
 impl Tokens {
-    /// The tokens.
+    /// Returns the tokens as a slice.
     pub fn as_slice(&self) -> &[Token]
         ensures { preorder result.now ≡ self.now }
     {
         self.items.as_slice()
     }
 
-    /// How many tokens it has. Those inside a directive don't count.
+    /// Returns the number of tokens. Those inside a directive don't count.
     pub fn len(&self) -> usize
         ensures { result ≡ count_by is_outermost self.now }
     {
         self.items.len()
     }
 
-    /// The tokens as a `Vec`. It takes no memory.
+    /// Returns the tokens as a `Vec`. It allocates nothing.
     pub fn into_vec(self) -> Vec<Token>
         ensures { preorder result.items ≡ self }
     {
@@ -29,7 +29,7 @@ impl Tokens {
         items
     }
 
-    /// Whether it has no token.
+    /// Returns whether the list has no token.
     pub fn is_empty(&self) -> bool
         ensures { IsTrue result ↔ (self.now ≡ []) }
     {

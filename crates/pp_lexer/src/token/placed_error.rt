@@ -12,13 +12,14 @@ use std::{fmt, io};
 
 /// An error with its place, for functions that pass errors on by `?`.
 ///
-/// The pairs that the lexer and the preprocessor give become one, and so does a refusal of memory.
-/// By `?` it becomes an `io::Error` and, as any `std::error::Error`, an `anyhow::Error`.
+/// By `?`, the pairs that the lexer and the preprocessor return become one, and so do `AllocError`
+/// and `AllocFailed`. By `?` it becomes an `io::Error` and, like any `std::error::Error`, an
+/// `anyhow::Error`.
 #[derive(PartialEq, Eq, Debug, Drop)]
 pub struct PlacedError {
     /// What is wrong.
     pub error: PreprocessorError,
-    /// Where.
+    /// Its place.
     pub place: Location,
 }
 
@@ -47,7 +48,7 @@ impl<T: Drop> From<AllocFailed<T>> for PlacedError {
     }
 }
 
-// The line, unless the error stands nowhere, and the error's sentence.
+// The line, unless the place is `NOWHERE`, and the error's sentence.
 impl fmt::Display for PlacedError {
     ghost output = { λ e. Some (placed_sentence e) };
 
@@ -62,7 +63,7 @@ impl fmt::Display for PlacedError {
 
 impl Error for PlacedError {}
 
-// The kind of the error of input and output that it becomes.
+// The kind of the `io::Error` that it becomes.
 fn io_kind(error: &PreprocessorError) -> io::ErrorKind
     ensures { result ≡ io_kind error.now }
 {

@@ -1,4 +1,4 @@
-//! What is said of an error: one sentence, in lower case and without a full stop.
+//! The sentence that describes an error, in lower case and without a full stop.
 
 ghost use Rattle.std.specs.Prelude.{◌≡◌, Some};
 ghost use Rattle.pp_lexer.specs.Sentences.{plain_sentence, sentence_of};

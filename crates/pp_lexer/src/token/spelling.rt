@@ -11,7 +11,7 @@ use crate::token::{Integer, Punct, Text, Token, TokenValue, Tokens};
 use std::fmt;
 
 impl Punct {
-    /// Its characters.
+    /// Returns its characters.
     pub fn spelling(self) -> &'static str
         ensures { result.now ≡ punctuator self }
     {
@@ -93,7 +93,7 @@ fn write_integer<W: fmt::Write>(integer: Integer, f: &mut fmt::Formatter<W>) -> 
     Ok(())
 }
 
-// The spelling of an ordinary token, and nothing of a directive.
+// The spelling of an ordinary token, and nothing for a directive.
 fn write_word<W: fmt::Write>(value: &TokenValue, f: &mut fmt::Formatter<W>) -> fmt::Result
     ensures { WritesOnOk W.write_str_gives f.old result
         (encode_utf8_all (spelling value.now)) f.new }

@@ -7,7 +7,7 @@ use std::marker::Model;
 
 /// A text, which contracts see as the list of its characters.
 ///
-/// It is made from a `String` and gives it back without taking memory.
+/// It is made from a `String` and gives it back without an allocation.
 #[derive(Drop, Debug)]
 pub struct Text {
     text: String,
@@ -25,7 +25,7 @@ impl Model for Text {
 impl Text {
     ghost use Rattle.std.specs.Str.{chars};
 
-    /// The empty text. It takes no memory.
+    /// Returns the empty text. It allocates nothing.
     pub fn new(alloc: Global) -> Self
         ensures { result ≡ [] }
     {
@@ -34,21 +34,21 @@ impl Text {
         }
     }
 
-    /// The text as a `&str`.
+    /// Returns the text as a `&str`.
     pub fn as_str(&self) -> &str
         ensures { chars result.now ≡ self.now }
     {
         self.text.as_str()
     }
 
-    /// Whether it has no character.
+    /// Returns whether the text has no character.
     pub fn is_empty(&self) -> bool
         ensures { IsTrue result ↔ (self.now ≡ []) }
     {
         self.text.is_empty()
     }
 
-    /// Puts a character at the end. Where memory is refused, the text stays.
+    /// Appends a character. If the allocation fails, the text stays as it is.
     pub fn push(&mut self, character: char) -> Result<(), AllocError>
         ensures ok { OnOk result (self.new ≡ self.old ++ character ∷ []) }
         ensures err { OnErr result (self.new ≡ self.old) }
@@ -56,7 +56,7 @@ impl Text {
         self.text.push(character)
     }
 
-    /// The text as a `String`. It takes no memory.
+    /// Returns the text as a `String`. It allocates nothing.
     pub fn into_string(self) -> String
         ensures { chars (string_bytes result) ≡ self }
     {
@@ -64,7 +64,7 @@ impl Text {
         text
     }
 
-    /// A copy. Its error is that memory was refused.
+    /// Returns a copy. The error is that an allocation failed.
     pub fn try_clone(&self, alloc: Global) -> Result<Self, AllocError>
         ensures { IfOk result (λ copy. copy ≡ self.now) }
     {

@@ -13,7 +13,8 @@ use Rattle.pp_model.specs.declared.definition.Placed.{Placed}
 
 abbrev pub tokens_from : Lexeme → Result (List Token) Fault → Result (List Token) Fault
 tokens_from (Err fault) later = Err fault
-tokens_from (Ok token) later = if is_newline token.value then Ok [] else (conversion token >>= λ first. first_before first later)
+tokens_from (Ok token) later =
+    if is_newline token.value then Ok [] else (conversion token >>= λ first. first_before first later)
 
 abbrev pub after_first_token : List Seen → List Seen
 after_first_token rest = drop 1 rest

@@ -10,7 +10,8 @@ use Rattle.pp_model.specs.declared.read.Taken.{Taken}
 use Rattle.pp_model.specs.declared.read.Taken.TheVariants as taken
 
 abbrev pub opening_by : Token → Name → Option Definition → Option Opening
-opening_by token name definition = option_map (λ definition. record { token = token; name = name; definition = definition }) definition
+opening_by token name definition =
+    option_map (λ definition. record { token = token; name = name; definition = definition }) definition
 
 abbrev pub after_listed : List Read → List Read
 after_listed tokens = drop 1 tokens
@@ -20,4 +21,6 @@ first_listed tokens = option_map_or taken.Token (slice_get tokens 0) taken.End
 
 -- its tokens in order, and then the end
 abbrev pub ReadsListed : Listed → Taken → Listed → Type 0
-ReadsListed old given new = (given ≡ option_map_or taken.Token (slice_get old.tokens 0) taken.End) × (new ≡ record old { tokens = drop 1 old.tokens })
+ReadsListed old given new =
+    (given ≡ option_map_or taken.Token (slice_get old.tokens 0) taken.End)
+    × (new ≡ record old { tokens = drop 1 old.tokens })

@@ -12,7 +12,8 @@ use Rattle.pp_model.specs.SourceReader.{SourceReader}
 
 abbrev pub content_from : Lexeme → Result (List Token) Fault → Result (List Token) Fault
 content_from (Err fault) later = Err fault
-content_from (Ok token) later = if is_newline token.value then later else (conversion token >>= λ first. first_before first later)
+content_from (Ok token) later =
+    if is_newline token.value then later else (conversion token >>= λ first. first_before first later)
 
 abbrev pub adding : Name → List Token → SourceReader → SourceReader
 adding name tokens reader = record reader { definitions = changed reader.definitions name (Some (object_like tokens)) }

@@ -12,11 +12,25 @@ use Rattle.pp_model.specs.declared.read.Taken.{Taken}
 use Rattle.pp_model.specs.declared.word.LineKind.{LineKind}
 
 -- what a `defined` comes to after its `(` and the name
-pub data Closes (kind : LineKind) (directive : Location) (A : Answers) (n : Name) : Expander Listed → Result Bool Fault → Expander Listed → Type 0 where
-  unclosed : (y : Taken) (e f : Expander Listed) (r : Result Bool Fault) → Emits line_reading A e y f → is_close_paren y ≡ false → r ≡ Err (unwanted_word kind directive y) → Closes kind directive A n e r f
-  closed : (y : Taken) (e f : Expander Listed) (r : Result Bool Fault) → Emits line_reading A e y f → is_close_paren y ≡ true → r ≡ Ok (is_defined f n) → Closes kind directive A n e r f
+pub data Closes (kind : LineKind) (directive : Location) (A : Answers) (n : Name)
+    : Expander Listed → Result Bool Fault → Expander Listed → Type 0 where
+  unclosed : (y : Taken) (e f : Expander Listed) (r : Result Bool Fault)
+      → Emits line_reading A e y f → is_close_paren y ≡ false
+      → r ≡ Err (unwanted_word kind directive y)
+      → Closes kind directive A n e r f
+  closed : (y : Taken) (e f : Expander Listed) (r : Result Bool Fault)
+      → Emits line_reading A e y f → is_close_paren y ≡ true
+      → r ≡ Ok (is_defined f n)
+      → Closes kind directive A n e r f
 
 -- what a `defined` comes to after its `(`
-pub data Parenthesized (kind : LineKind) (directive : Location) (A : Answers) : Expander Listed → Result Bool Fault → Expander Listed → Type 0 where
-  no_name : (x : Taken) (e f : Expander Listed) (r : Result Bool Fault) → Takes line_reading e x f → name_in x ≡ None → r ≡ Err (unwanted directive x) → Parenthesized kind directive A e r f
-  named : (x : Taken) (n : Name) (e f g : Expander Listed) (r : Result Bool Fault) → Takes line_reading e x f → name_in x ≡ Some n → Closes kind directive A n f r g → Parenthesized kind directive A e r g
+pub data Parenthesized (kind : LineKind) (directive : Location) (A : Answers)
+    : Expander Listed → Result Bool Fault → Expander Listed → Type 0 where
+  no_name : (x : Taken) (e f : Expander Listed) (r : Result Bool Fault)
+      → Takes line_reading e x f → name_in x ≡ None
+      → r ≡ Err (unwanted directive x)
+      → Parenthesized kind directive A e r f
+  named : (x : Taken) (n : Name) (e f g : Expander Listed) (r : Result Bool Fault)
+      → Takes line_reading e x f → name_in x ≡ Some n
+      → Closes kind directive A n f r g
+      → Parenthesized kind directive A e r g

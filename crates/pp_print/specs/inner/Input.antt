@@ -13,7 +13,8 @@ IsDeviceFault failure fault failed = ((fault ≡ failure) × (failed ≡ true)) 
 abbrev pub IsReadFault : RunFault → Bool → Option (List ℕ) → Type 0
 IsReadFault ReadFailed failed known = failed ≡ true
 IsReadFault TooLong failed known = (failed ≡ false) × IfSome known (λ bytes. 2 ^ 32 - 1 ≤ length bytes)
-IsReadFault NotUtf8 failed known = (failed ≡ false) × IfSome known (λ bytes. (length bytes < 2 ^ 32 - 1) × ¬ (IsUtf8 bytes))
+IsReadFault NotUtf8 failed known =
+    (failed ≡ false) × IfSome known (λ bytes. (length bytes < 2 ^ 32 - 1) × ¬ (IsUtf8 bytes))
 IsReadFault OutOfMemory failed known = failed ≡ false
 IsReadFault BadWord failed known = ⊥
 IsReadFault WriteFailed failed known = ⊥

@@ -10,7 +10,7 @@ use Rattle.pp_model.specs.declared.block.BlockLine.{BlockLine}
 use Rattle.pp_model.specs.declared.block.Part.{Part}
 use Rattle.pp_model.specs.declared.sight.Sight.{Sight}
 use Rattle.pp_model.specs.declared.sight.Sight.TheVariants as sight
-use Rattle.pp_expansion.specs.inner.OpenBlocks.{marks}
+use Rattle.pp_macros.specs.inner.OpenBlocks.{marks}
 
 module _ {X : Type 0} (P : X → Type 0) where
   pub each_weaker : (Q : X → Type 0) → ((x : X) → P x → Q x) → (xs : List X) → Each P xs → Each Q xs

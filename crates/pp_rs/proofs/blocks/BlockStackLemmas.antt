@@ -7,8 +7,8 @@ use Rattle.std.proofs.Math.Bool.{and-true}
 use Rattle.pp_lexer.specs.Lexed.{Seen}
 use Rattle.pp_model.specs.Blocks.{Block, blocks_at, innermost, Truths, is_live, are_surroundings_live}
 use Rattle.pp_model.specs.inner.Blocks.{is_branch_live}
-use Rattle.pp_expansion.specs.inner.OpenBlocks.{StandsForBlock, StandForBlocks}
-use Rattle.pp_expansion.specs.declared.blocks.OpenBlock.{OpenBlock}
+use Rattle.pp_macros.specs.inner.OpenBlocks.{StandsForBlock, StandForBlocks}
+use Rattle.pp_macros.specs.declared.blocks.OpenBlock.{OpenBlock}
 use Rattle.pp_rs.proofs.blocks.BlockPositionLemmas.{LiesBefore}
 use Rattle.pp_rs.proofs.blocks.TruthLemmas.{with_truth, branch_live_before, taken_branch_before, surroundings_before}
 use Rattle.pp_rs.proofs.blocks.BranchLemmas as branch

@@ -7,7 +7,7 @@ use Rattle.pp_model.specs.inner.Blocks.{is_known_true, is_known_false, is_branch
 use Rattle.pp_model.specs.declared.block.BlockLine.{BlockLine}
 use Rattle.pp_model.specs.declared.block.Part.{Part}
 use Rattle.pp_model.specs.declared.block.Part.TheVariants as part
-use Rattle.pp_expansion.specs.inner.OpenBlocks.{marks, all_fail, IsSettled}
+use Rattle.pp_macros.specs.inner.OpenBlocks.{marks, all_fail, IsSettled}
 use Rattle.pp_rs.proofs.blocks.OpenBlocksLemmas.{opened, parted}
 use Rattle.pp_rs.proofs.blocks.BlockPositionLemmas.{LiesBefore}
 use Rattle.pp_rs.proofs.blocks.TruthLemmas.{with_truth, IsUnread, truth_here, taken_branch_before, all_fail_before}

@@ -9,7 +9,7 @@ use Rattle.pp_model.specs.Blocks.{Truths, Block, opens, is_else, holds_at, is_la
 use Rattle.pp_model.specs.BlockLaws.{ElseIsLast}
 use Rattle.pp_model.specs.declared.block.BlockLine.{BlockLine}
 use Rattle.pp_rs.specs.LiveBranch.{IsChosen}
-use Rattle.pp_expansion.specs.inner.OpenBlocks.{marks, all_fail, IsSettled}
+use Rattle.pp_macros.specs.inner.OpenBlocks.{marks, all_fail, IsSettled}
 use Rattle.pp_rs.proofs.blocks.BlockPositionLemmas.{LiesBefore}
 use Rattle.pp_rs.proofs.blocks.BranchLemmas.{or_false, takes, branch_live_parted, taken_parted, else_parted, settled_before, opens_no_else, opened_live, opened_taken, opened_settled, unread_settled}
 use Rattle.pp_rs.proofs.blocks.OpenBlocksLemmas.{opened, parted}

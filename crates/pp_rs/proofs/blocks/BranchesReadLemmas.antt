@@ -6,8 +6,8 @@ use Rattle.pp_lexer.specs.Lexed.{Seen}
 use Rattle.pp_model.specs.Blocks.{Truths, Block, block_lines, opens, parts_block, open_blocks, blocks_at, is_live, are_surroundings_live, has_taken_branch, has_else}
 use Rattle.pp_model.specs.declared.block.BlockLine.{BlockLine}
 use Rattle.pp_model.specs.declared.block.Part.TheVariants as part
-use Rattle.pp_source.specs.inner.Lined.{AreLined}
-use Rattle.pp_expansion.specs.inner.OpenBlocks.{IsSettled, AreBefore}
+use Rattle.pp_directives.specs.inner.Lined.{AreLined}
+use Rattle.pp_macros.specs.inner.OpenBlocks.{IsSettled, AreBefore}
 use Rattle.pp_rs.proofs.blocks.BlockPositionLemmas.{each_weaker, each_before, each_after, LiesBefore, lies_before_later, blocks_lie_before, last_lies_before}
 use Rattle.pp_rs.proofs.blocks.BranchLemmas.{else_settled, skipped_settled, elif_settled}
 use Rattle.pp_rs.proofs.blocks.BranchedLemmas.{IsBranched, all_branched_before, opened_branched, unread_branched, parted_branched}

@@ -13,8 +13,8 @@ use Rattle.pp_model.specs.Blocks.{line_at, block_lines, Block, open_blocks, bloc
 use Rattle.pp_model.specs.declared.block.BlockLine.{BlockLine}
 use Rattle.pp_model.specs.declared.sight.Sight.{Sight}
 use Rattle.pp_model.specs.declared.sight.Sight.TheVariants as sight
-use Rattle.pp_expansion.proofs.work.QuietLemmas.{quiet_item}
-use Rattle.pp_expansion.proofs.work.DirectiveLineLemmas.{begins_directive}
+use Rattle.pp_macros.proofs.work.QuietLemmas.{quiet_item}
+use Rattle.pp_macros.proofs.work.DirectiveLineLemmas.{begins_directive}
 use Rattle.pp_rs.proofs.blocks.BlockPositionLemmas.{StandsWithin, line_stands, each_after, block_lines_within, last_lies_before}
 use Rattle.pp_rs.proofs.blocks.SurroundingsLemmas.{none_within, open_at}
 

@@ -16,13 +16,13 @@ use Rattle.pp_model.specs.declared.block.Part.TheVariants as part
 use Rattle.pp_model.specs.declared.directive.Directive.{Directive}
 use Rattle.pp_model.specs.declared.sight.Sight.{Sight}
 use Rattle.pp_model.specs.declared.sight.Sight.TheVariants as sight
-use Rattle.pp_source.specs.inner.Lined.{AreLined}
+use Rattle.pp_directives.specs.inner.Lined.{AreLined}
 use Rattle.pp_rs.proofs.blocks.BranchesReadLemmas.{BranchesRead, read_quiet, read_unread, read_opened, read_closed, read_else, read_skipped, read_elif}
-use Rattle.pp_expansion.proofs.work.DirectiveLineLemmas.{begins_directive, quiet_word}
+use Rattle.pp_macros.proofs.work.DirectiveLineLemmas.{begins_directive, quiet_word}
 use Rattle.pp_rs.proofs.blocks.LastLemmas.{last_split}
-use Rattle.pp_source.proofs.LinedLemmas.{lined_after}
+use Rattle.pp_directives.proofs.LinedLemmas.{lined_after}
 use Rattle.pp_rs.proofs.blocks.LinesBeforeLemmas.{AddsLines, directive_adds}
-use Rattle.pp_expansion.proofs.work.QuietLemmas.{is_one_item, quiet_item, quiet_one, begins_bare, is_bare}
+use Rattle.pp_macros.proofs.work.QuietLemmas.{is_one_item, quiet_item, quiet_one, begins_bare, is_bare}
 use Rattle.pp_rs.proofs.source.SkippedLemmas.{quiet_after_word}
 
 -- it is known at this reader

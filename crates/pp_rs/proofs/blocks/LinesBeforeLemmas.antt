@@ -11,8 +11,8 @@ use Rattle.pp_model.specs.inner.Blocks.{line_with}
 use Rattle.pp_model.specs.declared.block.BlockLine.{BlockLine}
 use Rattle.pp_model.specs.declared.directive.Directive.{Directive}
 use Rattle.pp_model.specs.declared.sight.Sight.TheVariants as sight
-use Rattle.pp_expansion.proofs.work.QuietLemmas.{quiet_item}
-use Rattle.pp_expansion.proofs.work.DirectiveLineLemmas.{begins_directive, take_two}
+use Rattle.pp_macros.proofs.work.QuietLemmas.{quiet_item}
+use Rattle.pp_macros.proofs.work.DirectiveLineLemmas.{begins_directive, take_two}
 use Rattle.pp_rs.proofs.blocks.BlockStepLemmas.{AddsLine}
 
 -- these lines of blocks stand before the position, whatever stands after it

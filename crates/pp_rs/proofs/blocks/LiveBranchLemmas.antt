@@ -14,7 +14,7 @@ use Rattle.pp_rs.proofs.blocks.BranchActsLemmas.{step_keeps_branches}
 use Rattle.pp_rs.proofs.blocks.BranchedLemmas.{IsBranched}
 use Rattle.pp_rs.proofs.blocks.KnownAfterLemmas.{HasRead}
 use Rattle.pp_rs.proofs.blocks.LastLemmas.{last_split}
-use Rattle.pp_source.proofs.LinedLemmas.{items_lined}
+use Rattle.pp_directives.proofs.LinedLemmas.{items_lined}
 use Rattle.pp_rs.proofs.blocks.LinesBeforeLemmas.{no_lines_before}
 use Rattle.pp_rs.proofs.source.ReaderInvariantLemmas.{reached_keeps}
 

@@ -10,12 +10,12 @@ use Rattle.pp_model.specs.SourceReader.{has_directive, is_on_directive_line, has
 use Rattle.pp_model.specs.declared.directive.Directive.{Directive}
 use Rattle.pp_model.specs.declared.sight.Sight.{Sight}
 use Rattle.pp_model.specs.declared.sight.Sight.TheVariants as sight
-use Rattle.pp_expansion.specs.inner.OpenBlocks.{last_block, is_live_in}
-use Rattle.pp_expansion.specs.declared.blocks.OpenBlock.{OpenBlock}
-use Rattle.pp_expansion.specs.inner.Source.{Source, IsAfter}
-use Rattle.pp_expansion.specs.inner.SourceMoves.{Note, notes_text, notes_directive, directive_line}
+use Rattle.pp_macros.specs.inner.OpenBlocks.{last_block, is_live_in}
+use Rattle.pp_macros.specs.declared.blocks.OpenBlock.{OpenBlock}
+use Rattle.pp_macros.specs.inner.Source.{Source, IsAfter}
+use Rattle.pp_macros.specs.inner.SourceMoves.{Note, notes_text, notes_directive, directive_line}
 use Rattle.pp_rs.proofs.source.DirectiveBeforeLemmas.{begins_with_hash, hash_in_front, item_adds_none, AddsDirective, IsApart, directive_further, apart_further}
-use Rattle.pp_expansion.proofs.work.DirectiveLineLemmas.{begins_directive, take_two}
+use Rattle.pp_macros.proofs.work.DirectiveLineLemmas.{begins_directive, take_two}
 use Rattle.pp_rs.proofs.source.DirectivePlaceLemmas.{one_after, off_line_further, off_line_after}
 use Rattle.pp_rs.proofs.source.TextBeforeLemmas.{text_one, text_two, text_line}
 

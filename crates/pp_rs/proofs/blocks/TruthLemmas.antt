@@ -6,7 +6,7 @@ use Rattle.pp_lexer.specs.Lexed.{Seen}
 use Rattle.pp_model.specs.Blocks.{Block, blocks_at, Truths, truth_at, is_else, holds_at, fails_at, is_last_chosen, is_live, are_surroundings_live, has_taken_branch}
 use Rattle.pp_model.specs.inner.Blocks.{is_known_true, is_known_false, is_branch_live}
 use Rattle.pp_model.specs.declared.block.BlockLine.{BlockLine}
-use Rattle.pp_expansion.specs.inner.OpenBlocks.{marks, AreBefore}
+use Rattle.pp_macros.specs.inner.OpenBlocks.{marks, AreBefore}
 use Rattle.pp_rs.proofs.blocks.BlockPositionLemmas.{each_weaker, LiesBefore, lies_before_later, blocks_lie_before}
 
 -- what was read, and the condition at a position

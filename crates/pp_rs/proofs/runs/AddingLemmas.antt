@@ -12,19 +12,19 @@ use Rattle.pp_model.specs.inner.Run.{adding}
 use Rattle.pp_model.specs.SourceReader.{SourceReader}
 use Rattle.pp_model.specs.Emitting.{expansion_limit}
 use Rattle.pp_rs.specs.Adding.{IsAdded, refused, faulty, added}
-use Rattle.pp_expansion.specs.inner.Defined.{Defined, IsChanged, meaning_of}
+use Rattle.pp_macros.specs.inner.Defined.{Defined, IsChanged, meaning_of}
 use Rattle.pp_rs.specs.inner.Fit.{EndIsLast, IsFit, IsReported}
-use Rattle.pp_expansion.specs.inner.Frames.{Layer, names_of}
-use Rattle.pp_expansion.specs.Item.{Fault, Step}
+use Rattle.pp_macros.specs.inner.Frames.{Layer, names_of}
+use Rattle.pp_macros.specs.Item.{Fault, Step}
 use Rattle.pp_rs.specs.Kept.{Preprocessing, Stands, is_spent, most_items, errors_left, error_place}
-use Rattle.pp_expansion.specs.inner.Left.{AreDefinedAbove, work_of}
-use Rattle.pp_expansion.specs.inner.Machine.{Machine}
-use Rattle.pp_expansion.specs.inner.Reader.{of_source}
-use Rattle.pp_source.specs.inner.SettingContent.{IsSetIn}
-use Rattle.pp_expansion.specs.inner.Source.{Source, unreported_of}
-use Rattle.pp_expansion.specs.inner.Unreported.{unreported_with}
+use Rattle.pp_macros.specs.inner.Left.{AreDefinedAbove, work_of}
+use Rattle.pp_macros.specs.inner.Machine.{Machine}
+use Rattle.pp_macros.specs.inner.Reader.{of_source}
+use Rattle.pp_directives.specs.inner.SettingContent.{IsSetIn}
+use Rattle.pp_macros.specs.inner.Source.{Source, unreported_of}
+use Rattle.pp_macros.specs.inner.Unreported.{unreported_with}
 use Rattle.pp_rs.specs.inner.Stands.{StandsForReader, StandsForHeld, StandsFor}
-use Rattle.pp_expansion.specs.declared.step.StepExit.TheVariants.{Error, Continue, Finished}
+use Rattle.pp_macros.specs.declared.step.StepExit.TheVariants.{Error, Continue, Finished}
 use Rattle.pp_rs.proofs.runs.LeftLemmas.{no_more_work}
 
 module _ (name : Name) (tokens : List Token) (old new : Source) (h : IsSetIn name tokens old new) where

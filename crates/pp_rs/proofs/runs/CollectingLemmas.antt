@@ -7,13 +7,13 @@ use Rattle.pp_lexer.specs.declared.token.Token.{Token}
 use Rattle.pp_model.specs.declared.outcome.Outcome.TheVariants as outcome
 use Rattle.pp_rs.specs.Collecting.{tokens_before_error, first_error, error_or_end, AreItemsFrom, AreItemsOf, Reports, AreReported, HaveComeFrom, HaveCome, AreAll, AreAppended, AreAllAppended}
 use Rattle.pp_rs.specs.Comes.{State, IsRunFrom}
-use Rattle.pp_expansion.specs.Held.{ItemHoldsOrdinary}
-use Rattle.pp_expansion.specs.Item.{Fault, Item}
+use Rattle.pp_macros.specs.Held.{ItemHoldsOrdinary}
+use Rattle.pp_macros.specs.Item.{Fault, Item}
 use Rattle.pp_rs.specs.Kept.{Preprocessing, Stands, is_spent, errors_left, error_place}
 use Rattle.pp_rs.specs.Preprocessing.{is_refusal, IsErrorAt, ReportsError, IsRefusedItem, IsGivenItem, IsNextItem}
 use Rattle.pp_rs.specs.Preprocessing as error
 use Rattle.pp_rs.specs.Collecting as report
-use Rattle.pp_expansion.specs.LexerErrors.{ErrorAt}
+use Rattle.pp_macros.specs.LexerErrors.{ErrorAt}
 use Rattle.pp_lexer.specs.declared.token.Location.{Location}
 use Rattle.pp_rs.proofs.runs.ComesLemmas.{gives_nothing, gives_more}
 

@@ -5,20 +5,20 @@ use Rattle.pp_model.specs.declared.read.Read.{Read}
 use Rattle.pp_model.specs.Names.{Name, is_identifier, line_name}
 use Rattle.pp_model.specs.Painting.{unpainted}
 use Rattle.pp_model.proofs.SpelledRunLemmas.{or_none}
-use Rattle.pp_expansion.specs.inner.CallTurns.{TurnsTo, passes, gives, object, seeks}
-use Rattle.pp_expansion.specs.inner.Frames.{Layer}
-use Rattle.pp_expansion.specs.inner.Idle.{is_idle, gives_itself, IsHeld, HoldsWord}
-use Rattle.pp_expansion.specs.Item.{Step}
-use Rattle.pp_expansion.specs.inner.Machine.{Machine, taken_as, StepsFetching, StepsTaking, held, moved}
-use Rattle.pp_expansion.specs.inner.Reader.{Reader, of_source}
-use Rattle.pp_expansion.specs.inner.Reading.{painted_step}
-use Rattle.pp_expansion.specs.inner.Source.{Source}
+use Rattle.pp_macros.specs.inner.CallTurns.{TurnsTo, passes, gives, object, seeks}
+use Rattle.pp_macros.specs.inner.Frames.{Layer}
+use Rattle.pp_macros.specs.inner.Idle.{is_idle, gives_itself, IsHeld, HoldsWord}
+use Rattle.pp_macros.specs.Item.{Step}
+use Rattle.pp_macros.specs.inner.Machine.{Machine, taken_as, StepsFetching, StepsTaking, held, moved}
+use Rattle.pp_macros.specs.inner.Reader.{Reader, of_source}
+use Rattle.pp_macros.specs.inner.Reading.{painted_step}
+use Rattle.pp_macros.specs.inner.Source.{Source}
 use Rattle.pp_rs.specs.inner.SourceTurns.{StepsOver}
-use Rattle.pp_expansion.specs.inner.Turns.{masks, opens_value}
-use Rattle.pp_expansion.specs.declared.calls.Taken.{Taken}
-use Rattle.pp_expansion.specs.declared.calls.Taken.TheVariants as taken
-use Rattle.pp_expansion.specs.declared.step.StepExit.{StepExit}
-use Rattle.pp_expansion.proofs.taking.MachineLemmas.{fetches_shown, fetches_step, shows_token}
+use Rattle.pp_macros.specs.inner.Turns.{masks, opens_value}
+use Rattle.pp_macros.specs.declared.calls.Taken.{Taken}
+use Rattle.pp_macros.specs.declared.calls.Taken.TheVariants as taken
+use Rattle.pp_macros.specs.declared.step.StepExit.{StepExit}
+use Rattle.pp_macros.proofs.taking.MachineLemmas.{fetches_shown, fetches_step, shows_token}
 use Rattle.pp_rs.proofs.source.UnpaintedLemmas.{StepsReporting, reads_step}
 
 abbrev pub idle : Machine

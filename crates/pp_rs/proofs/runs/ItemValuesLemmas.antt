@@ -8,7 +8,7 @@ use Rattle.pp_lexer.specs.contracts.token.TokenValuePartialEq.TheImpl.{eq-value 
 use Rattle.pp_lexer.specs.declared.token.Token.{Token}
 use Rattle.pp_lexer.specs.declared.token.TokenValue.{TokenValue}
 use Rattle.pp_lexer.proofs.values.EqualityLemmas.{value_decides}
-use Rattle.pp_expansion.specs.Item.{Item}
+use Rattle.pp_macros.specs.Item.{Item}
 use Rattle.pp_rs.specs.Collecting.{tokens_before_error, first_error}
 use Rattle.pp_rs.specs.inner.ItemValues.{value_of_item}
 

@@ -10,12 +10,12 @@ use Rattle.pp_model.specs.SourceReader.{SourceReader}
 use Rattle.pp_model.specs.declared.outcome.Outcome.{Outcome}
 use Rattle.pp_model.specs.declared.outcome.Outcome.TheVariants as outcome
 use Rattle.pp_model.specs.declared.read.Taken.{Taken}
-use Rattle.pp_expansion.specs.Item.{Step}
+use Rattle.pp_macros.specs.Item.{Step}
 use Rattle.pp_rs.specs.Comes.{source_rules}
-use Rattle.pp_expansion.specs.inner.Source.{Source}
-use Rattle.pp_expansion.specs.inner.Machine.{Machine}
+use Rattle.pp_macros.specs.inner.Source.{Source}
+use Rattle.pp_macros.specs.inner.Machine.{Machine}
 use Rattle.pp_rs.specs.inner.Stands.{StandsFor}
-use Rattle.pp_expansion.specs.declared.step.StepExit.TheVariants.{Error, Continue, Finished}
+use Rattle.pp_macros.specs.declared.step.StepExit.TheVariants.{Error, Continue, Finished}
 
 -- this is the next item, without its paint
 pub record GivesItem (A : Answers) (e : Expander SourceReader) (o : Outcome) (f : Expander SourceReader) : Type 0 where

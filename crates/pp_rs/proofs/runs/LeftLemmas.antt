@@ -7,23 +7,23 @@ use Rattle.pp_lexer.specs.declared.token.Location.{Location}
 use Rattle.pp_lexer.specs.declared.token.Token.{Token}
 use Rattle.pp_model.specs.Names.{Name}
 use Rattle.pp_model.specs.declared.read.Read.{Read}
-use Rattle.pp_expansion.specs.inner.CallTurns.{TakesSomething}
-use Rattle.pp_expansion.specs.inner.Defined.{Defined}
-use Rattle.pp_expansion.specs.inner.Frames.{Layer}
-use Rattle.pp_expansion.specs.Item.{Step}
-use Rattle.pp_expansion.specs.inner.Left.{work_of, regions, regions_of, most_open, most_bodies, holding_step}
-use Rattle.pp_expansion.specs.inner.Machine.{Machine, StepsFetching, held, moved, taken_as}
-use Rattle.pp_expansion.specs.declared.blocks.OpenBlock.{OpenBlock}
-use Rattle.pp_expansion.specs.inner.Reach.{grown, through, total, work_in, frame_steps}
-use Rattle.pp_expansion.specs.inner.Reader.{Reader, of_source, of_list, Reads}
-use Rattle.pp_expansion.specs.inner.Source.{Source, StepsSource}
-use Rattle.pp_expansion.specs.inner.Reading.{unpainted_step, painted_step}
-use Rattle.pp_expansion.specs.inner.Turns.{Moves, masks}
-use Rattle.pp_expansion.specs.inner.Work.{is_end, most_reads}
-use Rattle.pp_expansion.specs.declared.step.StepExit.TheVariants.{Finished}
-use Rattle.pp_expansion.proofs.open_frames.AdvanceLemmas.{some_steps_left}
-use Rattle.pp_expansion.proofs.work.ReachLemmas.{through_up}
-use Rattle.pp_expansion.proofs.work.SpendLemmas.{total_one_more}
+use Rattle.pp_macros.specs.inner.CallTurns.{TakesSomething}
+use Rattle.pp_macros.specs.inner.Defined.{Defined}
+use Rattle.pp_macros.specs.inner.Frames.{Layer}
+use Rattle.pp_macros.specs.Item.{Step}
+use Rattle.pp_macros.specs.inner.Left.{work_of, regions, regions_of, most_open, most_bodies, holding_step}
+use Rattle.pp_macros.specs.inner.Machine.{Machine, StepsFetching, held, moved, taken_as}
+use Rattle.pp_macros.specs.declared.blocks.OpenBlock.{OpenBlock}
+use Rattle.pp_macros.specs.inner.Reach.{grown, through, total, work_in, frame_steps}
+use Rattle.pp_macros.specs.inner.Reader.{Reader, of_source, of_list, Reads}
+use Rattle.pp_macros.specs.inner.Source.{Source, StepsSource}
+use Rattle.pp_macros.specs.inner.Reading.{unpainted_step, painted_step}
+use Rattle.pp_macros.specs.inner.Turns.{Moves, masks}
+use Rattle.pp_macros.specs.inner.Work.{is_end, most_reads}
+use Rattle.pp_macros.specs.declared.step.StepExit.TheVariants.{Finished}
+use Rattle.pp_macros.proofs.open_frames.AdvanceLemmas.{some_steps_left}
+use Rattle.pp_macros.proofs.work.ReachLemmas.{through_up}
+use Rattle.pp_macros.proofs.work.SpendLemmas.{total_one_more}
 
 -- something is held that isn't the end
 abbrev pub HoldsMore : Option (Step Read) → Type 0

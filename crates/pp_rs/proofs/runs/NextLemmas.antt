@@ -12,19 +12,19 @@ use Rattle.pp_model.specs.SourceReader.{SourceReader}
 use Rattle.pp_model.specs.declared.outcome.Outcome.{Outcome}
 use Rattle.pp_rs.specs.Comes.{Comes}
 use Rattle.pp_rs.specs.inner.Fit.{EndIsLast, IsFit, IsReported}
-use Rattle.pp_expansion.specs.Held.{HoldsOrdinary}
-use Rattle.pp_expansion.specs.Item.{Item, Step, is_out_of_memory, wants_memory}
-use Rattle.pp_expansion.specs.inner.Left.{work_of}
-use Rattle.pp_expansion.specs.LexerErrors.{ErrorAt}
-use Rattle.pp_expansion.specs.inner.Machine.{Machine}
-use Rattle.pp_expansion.specs.inner.Reader.{of_source}
-use Rattle.pp_expansion.specs.inner.Source.{Source, unreported_of}
+use Rattle.pp_macros.specs.Held.{HoldsOrdinary}
+use Rattle.pp_macros.specs.Item.{Item, Step, is_out_of_memory, wants_memory}
+use Rattle.pp_macros.specs.inner.Left.{work_of}
+use Rattle.pp_macros.specs.LexerErrors.{ErrorAt}
+use Rattle.pp_macros.specs.inner.Machine.{Machine}
+use Rattle.pp_macros.specs.inner.Reader.{of_source}
+use Rattle.pp_macros.specs.inner.Source.{Source, unreported_of}
 use Rattle.pp_rs.specs.inner.SourceTurns.{TurnsSource, StepsOver}
 use Rattle.pp_rs.specs.inner.Stands.{StandsFor}
 use Rattle.pp_rs.specs.Kept.{Preprocessing, Stands, is_spent, most_items, errors_left, error_place}
 use Rattle.pp_rs.specs.Preprocessing.{IsLessLeft, IsErrorAt, of_lexer, of_its_own, IsRefusedItem, IsGivenItem, IsNextItem}
-use Rattle.pp_expansion.specs.inner.Unreported.{with_read, IsReportedBut}
-use Rattle.pp_expansion.specs.declared.step.StepExit.TheVariants.{Error, Continue, Finished}
+use Rattle.pp_macros.specs.inner.Unreported.{with_read, IsReportedBut}
+use Rattle.pp_macros.specs.declared.step.StepExit.TheVariants.{Error, Continue, Finished}
 use Rattle.pp_rs.proofs.runs.Leads.{GivesItem, LeadsFrom, Leads, leads_then}
 use Rattle.pp_rs.proofs.runs.LeftLemmas.{SomethingLeft, some_left, left_is_work, no_work}
 use Rattle.pp_rs.proofs.runs.UnreportedTurnLemmas.{errors_of, ErrorsLeft, turn_errors}

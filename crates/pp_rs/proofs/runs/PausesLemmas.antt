@@ -1,13 +1,13 @@
 -- The loop of `next` may pass any number of pauses of the open macros at once.
 use Rattle.std.proofs.Common.{◌≡◌, ◌≤◌, inl, refl, arith, Err}
 use Rattle.pp_model.specs.Emitting.{expansion_limit}
-use Rattle.pp_expansion.specs.inner.CallTurns.{passes}
-use Rattle.pp_expansion.specs.inner.Giving.{PausesEach, at_once, after}
-use Rattle.pp_expansion.specs.inner.Left.{work_of}
-use Rattle.pp_expansion.specs.inner.Machine.{Machine, StepsTaking}
-use Rattle.pp_expansion.specs.inner.Reader.{of_source}
-use Rattle.pp_expansion.specs.inner.Source.{Source}
-use Rattle.pp_expansion.specs.declared.step.StepExit.TheVariants.{Continue}
+use Rattle.pp_macros.specs.inner.CallTurns.{passes}
+use Rattle.pp_macros.specs.inner.Giving.{PausesEach, at_once, after}
+use Rattle.pp_macros.specs.inner.Left.{work_of}
+use Rattle.pp_macros.specs.inner.Machine.{Machine, StepsTaking}
+use Rattle.pp_macros.specs.inner.Reader.{of_source}
+use Rattle.pp_macros.specs.inner.Source.{Source}
+use Rattle.pp_macros.specs.declared.step.StepExit.TheVariants.{Continue}
 use Rattle.pp_rs.specs.inner.SourceTurns.{StepsOver}
 use Rattle.pp_rs.proofs.runs.NextLemmas.{Reached, reached_more, falls_more}
 

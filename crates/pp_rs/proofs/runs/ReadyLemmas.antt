@@ -9,19 +9,19 @@ use Rattle.pp_model.specs.Definitions.{Definition}
 use Rattle.pp_model.specs.Taking.{line_number}
 use Rattle.pp_model.specs.declared.read.Read.{Read}
 use Rattle.pp_model.specs.declared.read.Taken.TheVariants as given
-use Rattle.pp_expansion.specs.inner.CallTurns.{Sought, no_call, refused, gathered, sought_by, Seeks, alone, called, Finds, TurnsTo, passes, gives, object, seeks, paren_of, TakesSomething}
+use Rattle.pp_macros.specs.inner.CallTurns.{Sought, no_call, refused, gathered, sought_by, Seeks, alone, called, Finds, TurnsTo, passes, gives, object, seeks, paren_of, TakesSomething}
 use Rattle.pp_rs.specs.inner.Fit.{NothingIn, IsReady, EndIsLast}
-use Rattle.pp_expansion.specs.inner.Frames.{Layer, Advance, advance, outermost_frame_line}
-use Rattle.pp_expansion.specs.Item.{Step, wants_memory}
-use Rattle.pp_expansion.specs.inner.Source.{StepsSource}
-use Rattle.pp_expansion.specs.inner.Machine.{Machine, StepsFetching, StepsTaking, held, moved, TakesNext, now, later, GathersNext, closed, inside, overfull, ended, failed, step_of_outcome, taken_as}
-use Rattle.pp_expansion.specs.inner.Reader.{Reader, of_source, of_list, Reads, shown_line}
-use Rattle.pp_expansion.specs.inner.Reading.{painted_step}
-use Rattle.pp_expansion.specs.inner.Turns.{as_pause, frame_move, masks, Moves}
-use Rattle.pp_expansion.specs.declared.calls.Taken.{Taken}
-use Rattle.pp_expansion.specs.declared.step.StepExit.{StepExit}
-use Rattle.pp_expansion.specs.declared.step.StepExit.TheVariants.{Error, Continue, Finished}
-use Rattle.pp_expansion.proofs.open_frames.ReportedLemmas.{wants_taken, exit_reported, not_refused, painted_reported, taken_reported}
+use Rattle.pp_macros.specs.inner.Frames.{Layer, Advance, advance, outermost_frame_line}
+use Rattle.pp_macros.specs.Item.{Step, wants_memory}
+use Rattle.pp_macros.specs.inner.Source.{StepsSource}
+use Rattle.pp_macros.specs.inner.Machine.{Machine, StepsFetching, StepsTaking, held, moved, TakesNext, now, later, GathersNext, closed, inside, overfull, ended, failed, step_of_outcome, taken_as}
+use Rattle.pp_macros.specs.inner.Reader.{Reader, of_source, of_list, Reads, shown_line}
+use Rattle.pp_macros.specs.inner.Reading.{painted_step}
+use Rattle.pp_macros.specs.inner.Turns.{as_pause, frame_move, masks, Moves}
+use Rattle.pp_macros.specs.declared.calls.Taken.{Taken}
+use Rattle.pp_macros.specs.declared.step.StepExit.{StepExit}
+use Rattle.pp_macros.specs.declared.step.StepExit.TheVariants.{Error, Continue, Finished}
+use Rattle.pp_macros.proofs.open_frames.ReportedLemmas.{wants_taken, exit_reported, not_refused, painted_reported, taken_reported}
 use Rattle.pp_rs.proofs.source.EndLemmas.{source_end}
 use Rattle.pp_rs.proofs.source.UnpaintedLemmas.{unpainted_reported, unpainted_end}
 use Rattle.pp_rs.proofs.runs.UnspentLemmas.{steps_unspent}

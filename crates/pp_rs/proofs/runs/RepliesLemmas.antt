@@ -16,7 +16,7 @@ use Rattle.pp_model.proofs.RunChainLemmas.{chain_runs, chain_runs_to_error}
 use Rattle.pp_rs.specs.Adding.{IsAdded, refused, faulty, added}
 use Rattle.pp_rs.specs.inner.Answering.{IsAnswered, AreReplies, goes_on, ends}
 use Rattle.pp_rs.specs.Comes.{State, Comes}
-use Rattle.pp_expansion.specs.Item.{is_out_of_memory}
+use Rattle.pp_macros.specs.Item.{is_out_of_memory}
 use Rattle.pp_rs.specs.Kept.{Preprocessing, Stands, is_spent}
 use Rattle.pp_rs.specs.Preprocessing.{IsNextItem}
 

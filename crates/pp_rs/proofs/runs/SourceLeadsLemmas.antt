@@ -11,24 +11,24 @@ use Rattle.pp_model.specs.Painting.{unpainted}
 use Rattle.pp_model.specs.declared.outcome.Outcome.TheVariants as outcome
 use Rattle.pp_model.specs.declared.read.Read.{Read}
 use Rattle.pp_model.specs.declared.read.Taken.TheVariants as given
-use Rattle.pp_expansion.specs.inner.CallTurns.{TurnsTo}
-use Rattle.pp_expansion.specs.Item.{Step, wants_memory}
-use Rattle.pp_expansion.specs.inner.Machine.{Machine}
-use Rattle.pp_expansion.specs.inner.Reader.{Reader, of_source, of_list, Reads, hidden_of, shown_line, visible}
-use Rattle.pp_expansion.specs.inner.Reading.{unpainted_step}
+use Rattle.pp_macros.specs.inner.CallTurns.{TurnsTo}
+use Rattle.pp_macros.specs.Item.{Step, wants_memory}
+use Rattle.pp_macros.specs.inner.Machine.{Machine}
+use Rattle.pp_macros.specs.inner.Reader.{Reader, of_source, of_list, Reads, hidden_of, shown_line, visible}
+use Rattle.pp_macros.specs.inner.Reading.{unpainted_step}
 use Rattle.pp_model.specs.LineValues.{as_line_number}
 use Rattle.pp_model.specs.Reads.{here, later}
 use Rattle.pp_rs.specs.Comes.{source_rules}
-use Rattle.pp_expansion.specs.inner.Source.{Source}
+use Rattle.pp_macros.specs.inner.Source.{Source}
 use Rattle.pp_rs.specs.inner.Stands.{StandsForReader}
-use Rattle.pp_expansion.specs.declared.calls.Taken.{Taken}
-use Rattle.pp_expansion.specs.declared.step.StepExit.TheVariants.{Error, Continue, Finished}
-use Rattle.pp_expansion.proofs.open_frames.ReportedLemmas.{wants_taken}
-use Rattle.pp_expansion.proofs.taking.SearchSimulates.{ReadsTo, StandsIn}
+use Rattle.pp_macros.specs.declared.calls.Taken.{Taken}
+use Rattle.pp_macros.specs.declared.step.StepExit.TheVariants.{Error, Continue, Finished}
+use Rattle.pp_macros.proofs.open_frames.ReportedLemmas.{wants_taken}
+use Rattle.pp_macros.proofs.taking.SearchSimulates.{ReadsTo, StandsIn}
 use Rattle.pp_rs.proofs.source.Simulates.{Simulates}
 use Rattle.pp_rs.proofs.source.SourceSimulates.{source_simulates}
 use Rattle.pp_rs.proofs.source.UnpaintedLemmas.{unpainted_reported}
-use Rattle.pp_expansion.proofs.taking.TurnLeadsLemmas.{LeadsTo, turn_leads}
+use Rattle.pp_macros.proofs.taking.TurnLeadsLemmas.{LeadsTo, turn_leads}
 
 abbrev pub IsSource : Reader → SourceReader → Type 0
 IsSource (of_source source) x = StandsForReader source x

@@ -14,39 +14,39 @@ use Rattle.pp_model.specs.declared.read.Read.{Read}
 use Rattle.pp_model.specs.declared.read.Taken.{Taken as Given}
 use Rattle.pp_model.specs.declared.read.Taken.TheVariants as given
 use Rattle.pp_model.specs.declared.splice.Entry.{Entry}
-use Rattle.pp_expansion.specs.inner.Calling.{PendingCall}
-use Rattle.pp_expansion.specs.inner.CallTurns.{TurnsTo, TurnsOrRefuses, TakesSomething}
-use Rattle.pp_expansion.specs.inner.Defined.{Defined, meaning_of}
-use Rattle.pp_expansion.specs.inner.Finishing.{site_at, Finishes, IsOpened}
+use Rattle.pp_macros.specs.inner.Calling.{PendingCall}
+use Rattle.pp_macros.specs.inner.CallTurns.{TurnsTo, TurnsOrRefuses, TakesSomething}
+use Rattle.pp_macros.specs.inner.Defined.{Defined, meaning_of}
+use Rattle.pp_macros.specs.inner.Finishing.{site_at, Finishes, IsOpened}
 use Rattle.pp_rs.specs.inner.Fit.{EndIsLast, IsFit}
-use Rattle.pp_expansion.specs.inner.Frames.{layer, flat, names_of}
-use Rattle.pp_expansion.specs.Halting.{exit_of}
-use Rattle.pp_expansion.specs.Item.{Step, wants_memory}
-use Rattle.pp_expansion.specs.inner.Left.{work_of, most_alone, most_bodies, most_open, reads_left, regions, regions_of, one_more, holding_step, IsSound}
-use Rattle.pp_expansion.specs.inner.Machine.{Machine}
-use Rattle.pp_expansion.specs.inner.Reader.{of_source}
+use Rattle.pp_macros.specs.inner.Frames.{layer, flat, names_of}
+use Rattle.pp_macros.specs.Halting.{exit_of}
+use Rattle.pp_macros.specs.Item.{Step, wants_memory}
+use Rattle.pp_macros.specs.inner.Left.{work_of, most_alone, most_bodies, most_open, reads_left, regions, regions_of, one_more, holding_step, IsSound}
+use Rattle.pp_macros.specs.inner.Machine.{Machine}
+use Rattle.pp_macros.specs.inner.Reader.{of_source}
 use Rattle.pp_rs.specs.Comes.{source_rules}
-use Rattle.pp_expansion.specs.inner.Source.{Source}
+use Rattle.pp_macros.specs.inner.Source.{Source}
 use Rattle.pp_rs.specs.inner.SourceTurns.{FollowsCall, opened, refused, FollowsTurn, TurnsSource, StepsOver}
 use Rattle.pp_rs.specs.inner.Stands.{StandsForReader, StandsForHeld, StandsFor}
-use Rattle.pp_expansion.specs.declared.calls.Taken.{Taken}
-use Rattle.pp_expansion.specs.declared.calls.Taken.TheVariants as taken
-use Rattle.pp_expansion.specs.declared.halt.Halt.{Halt}
-use Rattle.pp_expansion.specs.declared.halt.Halt.TheVariants as halt
-use Rattle.pp_expansion.specs.declared.step.StepExit.{StepExit}
-use Rattle.pp_expansion.specs.declared.step.StepExit.TheVariants.{Error, Continue, Finished}
-use Rattle.pp_expansion.proofs.work.CallFallsLemmas.{IsLess, IsPending, turn_falls, pending_opens}
-use Rattle.pp_expansion.proofs.open_frames.FlatLemmas.{open_flat}
+use Rattle.pp_macros.specs.declared.calls.Taken.{Taken}
+use Rattle.pp_macros.specs.declared.calls.Taken.TheVariants as taken
+use Rattle.pp_macros.specs.declared.halt.Halt.{Halt}
+use Rattle.pp_macros.specs.declared.halt.Halt.TheVariants as halt
+use Rattle.pp_macros.specs.declared.step.StepExit.{StepExit}
+use Rattle.pp_macros.specs.declared.step.StepExit.TheVariants.{Error, Continue, Finished}
+use Rattle.pp_macros.proofs.work.CallFallsLemmas.{IsLess, IsPending, turn_falls, pending_opens}
+use Rattle.pp_macros.proofs.open_frames.FlatLemmas.{open_flat}
 use Rattle.pp_rs.proofs.runs.Leads.{GivesItem, LeadsFrom, Leads}
-use Rattle.pp_expansion.proofs.open_frames.OpenSoundLemmas.{sound_rest}
-use Rattle.pp_expansion.proofs.open_frames.ReportedLemmas.{wants_taken}
-use Rattle.pp_expansion.proofs.work.ReachLemmas.{frame_steps_level}
+use Rattle.pp_macros.proofs.open_frames.OpenSoundLemmas.{sound_rest}
+use Rattle.pp_macros.proofs.open_frames.ReportedLemmas.{wants_taken}
+use Rattle.pp_macros.proofs.work.ReachLemmas.{frame_steps_level}
 use Rattle.pp_rs.proofs.runs.ReadyLemmas.{turn_ready, turn_last, turn_end, turn_some}
-use Rattle.pp_expansion.proofs.taking.SearchSimulates.{StandsIn, StandsHeld}
+use Rattle.pp_macros.proofs.taking.SearchSimulates.{StandsIn, StandsHeld}
 use Rattle.pp_rs.proofs.runs.SourceLeadsLemmas.{IsSource, sources_simulate, source_shows, source_hides, source_sees, source_leads}
-use Rattle.pp_expansion.proofs.work.SpendLemmas.{Falls, no_more_falls, one_more_falls}
-use Rattle.pp_expansion.proofs.taking.TurnLeadsLemmas.{LeadsTo}
-use Rattle.pp_expansion.proofs.work.WorkFallsLemmas.{frame_of, falls_work}
+use Rattle.pp_macros.proofs.work.SpendLemmas.{Falls, no_more_falls, one_more_falls}
+use Rattle.pp_macros.proofs.taking.TurnLeadsLemmas.{LeadsTo}
+use Rattle.pp_macros.proofs.work.WorkFallsLemmas.{frame_of, falls_work}
 
 -- what follows of a call that is not finished, unless memory is refused
 pub follows_halt : (levels l : ℕ) (ds es : List Defined) (hidden : List Name) (c : PendingCall) (m n : Machine) (h : Halt) (step : Step Token)

@@ -6,8 +6,8 @@ use Rattle.pp_lexer.specs.Items.{places_of}
 use Rattle.pp_lexer.specs.Spots.{spots_of}
 use Rattle.pp_model.specs.Run.{items_of, start}
 use Rattle.pp_rs.specs.Kept.{Preprocessing, Stands, errors_left}
-use Rattle.pp_expansion.specs.LexerErrors.{lexer_errors}
-use Rattle.pp_source.proofs.LinedLemmas.{items_lined}
+use Rattle.pp_macros.specs.LexerErrors.{lexer_errors}
+use Rattle.pp_directives.proofs.LinedLemmas.{items_lined}
 
 -- what it keeps
 abbrev pub start_of : List ℕ → Preprocessing

@@ -6,27 +6,27 @@ use Rattle.pp_model.specs.declared.read.Read.{Read}
 use Rattle.pp_model.specs.Calls.{Fault, Gathered, before}
 use Rattle.pp_model.specs.Definitions.{Definition}
 use Rattle.pp_model.specs.Names.{Name}
-use Rattle.pp_expansion.specs.inner.Calling.{PendingCall}
-use Rattle.pp_expansion.specs.inner.CallTurns.{Sought, no_call, sought_by, Seeks, alone, called, Finds, TurnsTo, passes, gives, object, seeks, paren_of, is_refusal}
-use Rattle.pp_expansion.specs.inner.Defined.{Defined}
+use Rattle.pp_macros.specs.inner.Calling.{PendingCall}
+use Rattle.pp_macros.specs.inner.CallTurns.{Sought, no_call, sought_by, Seeks, alone, called, Finds, TurnsTo, passes, gives, object, seeks, paren_of, is_refusal}
+use Rattle.pp_macros.specs.inner.Defined.{Defined}
 use Rattle.pp_rs.specs.inner.Fit.{IsReported}
-use Rattle.pp_expansion.specs.inner.Frames.{Layer}
-use Rattle.pp_expansion.specs.Item.{Step, is_out_of_memory, wants_memory}
-use Rattle.pp_expansion.specs.LexerErrors.{ErrorAt}
-use Rattle.pp_expansion.specs.inner.Machine.{Machine, StepsFetching, StepsTaking, held, moved, TakesNext, now, later, GathersNext, closed, inside, overfull, ended, failed, taken_as}
-use Rattle.pp_expansion.specs.inner.Reader.{Reader, of_source, of_list, Reads}
-use Rattle.pp_expansion.specs.inner.Source.{Source, unreported_of}
+use Rattle.pp_macros.specs.inner.Frames.{Layer}
+use Rattle.pp_macros.specs.Item.{Step, is_out_of_memory, wants_memory}
+use Rattle.pp_macros.specs.LexerErrors.{ErrorAt}
+use Rattle.pp_macros.specs.inner.Machine.{Machine, StepsFetching, StepsTaking, held, moved, TakesNext, now, later, GathersNext, closed, inside, overfull, ended, failed, taken_as}
+use Rattle.pp_macros.specs.inner.Reader.{Reader, of_source, of_list, Reads}
+use Rattle.pp_macros.specs.inner.Source.{Source, unreported_of}
 use Rattle.pp_rs.specs.inner.SourceTurns.{FollowsCall, opened, refused as call_refused, FollowsTurn, TurnsSource}
-use Rattle.pp_expansion.specs.inner.Reading.{painted_step}
-use Rattle.pp_expansion.specs.inner.Turns.{Moves, masks}
-use Rattle.pp_expansion.specs.inner.Unreported.{Unreported, with_read, ExitReports, StepReports, unreported_with, IsReportedBut}
-use Rattle.pp_expansion.specs.declared.calls.Taken.{Taken}
-use Rattle.pp_expansion.specs.declared.calls.Taken.TheVariants as taken
-use Rattle.pp_expansion.specs.declared.step.StepExit.{StepExit}
-use Rattle.pp_expansion.specs.declared.step.StepExit.TheVariants.{Error, Continue, Finished}
+use Rattle.pp_macros.specs.inner.Reading.{painted_step}
+use Rattle.pp_macros.specs.inner.Turns.{Moves, masks}
+use Rattle.pp_macros.specs.inner.Unreported.{Unreported, with_read, ExitReports, StepReports, unreported_with, IsReportedBut}
+use Rattle.pp_macros.specs.declared.calls.Taken.{Taken}
+use Rattle.pp_macros.specs.declared.calls.Taken.TheVariants as taken
+use Rattle.pp_macros.specs.declared.step.StepExit.{StepExit}
+use Rattle.pp_macros.specs.declared.step.StepExit.TheVariants.{Error, Continue, Finished}
 use Rattle.pp_rs.proofs.runs.ReadyLemmas.{step_free, next_free, gather_free}
 use Rattle.pp_rs.proofs.source.UnpaintedLemmas.{unpainted_tells}
-use Rattle.pp_source.proofs.UnreportedLemmas.{nothing_met}
+use Rattle.pp_directives.proofs.UnreportedLemmas.{nothing_met}
 
 -- a list of tokens has no errors of the lexer
 abbrev unreported_in : Reader → Unreported

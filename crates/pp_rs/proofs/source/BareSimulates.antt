@@ -8,17 +8,17 @@ use Rattle.pp_model.specs.SourceReader.{SourceReader, is_on_directive_line}
 use Rattle.pp_model.specs.Acts.{passed, moved, live_act, dead_act}
 use Rattle.pp_model.specs.declared.sight.Sight.{Sight}
 use Rattle.pp_model.specs.declared.sight.Sight.TheVariants as sight
-use Rattle.pp_expansion.specs.Item.{Step}
+use Rattle.pp_macros.specs.Item.{Step}
 use Rattle.pp_lexer.specs.declared.token.Token.{Token}
-use Rattle.pp_source.specs.inner.Lined.{AreLined}
-use Rattle.pp_expansion.specs.inner.OpenBlocks.{last_block, is_live_in}
-use Rattle.pp_expansion.specs.inner.SourceMoves as moves
-use Rattle.pp_expansion.specs.inner.SourceMoves.{notes_text, notes_directive}
-use Rattle.pp_expansion.specs.inner.Source.{Source, Pauses}
+use Rattle.pp_directives.specs.inner.Lined.{AreLined}
+use Rattle.pp_macros.specs.inner.OpenBlocks.{last_block, is_live_in}
+use Rattle.pp_macros.specs.inner.SourceMoves as moves
+use Rattle.pp_macros.specs.inner.SourceMoves.{notes_text, notes_directive}
+use Rattle.pp_macros.specs.inner.Source.{Source, Pauses}
 use Rattle.pp_rs.specs.inner.Stands.{StandsForReader}
 use Rattle.pp_rs.proofs.source.DirectiveBeforeLemmas.{begins_with_hash, AddsDirective, lone_adds}
 use Rattle.pp_rs.proofs.source.DirectivePlaceLemmas.{one_after, off_line_after_end}
-use Rattle.pp_expansion.proofs.work.QuietLemmas.{is_bare, BeginsBare, begins_bare, lone_ends, quiet_item}
+use Rattle.pp_macros.proofs.work.QuietLemmas.{is_bare, BeginsBare, begins_bare, lone_ends, quiet_item}
 use Rattle.pp_rs.proofs.source.Simulates.{Simulates}
 use Rattle.pp_rs.proofs.source.StandsAfterLemmas.{lined_here}
 use Rattle.pp_rs.proofs.source.StepHereLemmas.{acts_on, pauses_here}

@@ -20,11 +20,11 @@ use Rattle.pp_model.specs.declared.outcome.Outcome.TheVariants as outcome
 use Rattle.pp_model.specs.declared.sight.Sight.{Sight}
 use Rattle.pp_model.specs.declared.sight.Sight.TheVariants as sight
 use Rattle.pp_model.specs.declared.step.Step.TheVariants as step
-use Rattle.pp_expansion.specs.Item.{Step}
-use Rattle.pp_expansion.specs.inner.OpenBlocks.{last_block, is_live_in, block_skipped, skips_branches}
-use Rattle.pp_expansion.specs.declared.blocks.OpenBlock.{OpenBlock}
-use Rattle.pp_expansion.specs.inner.Source.{Source, Pauses, Decides, holds, faulty, Renumbers, numbers, unnumbered as faulty_number, Makes}
-use Rattle.pp_expansion.specs.inner.SourceMoves as moves
+use Rattle.pp_macros.specs.Item.{Step}
+use Rattle.pp_macros.specs.inner.OpenBlocks.{last_block, is_live_in, block_skipped, skips_branches}
+use Rattle.pp_macros.specs.declared.blocks.OpenBlock.{OpenBlock}
+use Rattle.pp_macros.specs.inner.Source.{Source, Pauses, Decides, holds, faulty, Renumbers, numbers, unnumbered as faulty_number, Makes}
+use Rattle.pp_macros.specs.inner.SourceMoves as moves
 use Rattle.pp_rs.specs.inner.Stands.{StandsForReader}
 use Rattle.pp_rs.proofs.source.Simulates.{Simulates}
 use Rattle.pp_rs.proofs.source.StandsAfterLemmas.{block_here, none_here, innermost_here}

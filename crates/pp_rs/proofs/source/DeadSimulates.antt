@@ -14,15 +14,15 @@ use Rattle.pp_model.specs.declared.directive.Directive.{Directive}
 use Rattle.pp_model.specs.declared.directive.Directive.TheVariants as d
 use Rattle.pp_model.specs.declared.sight.Sight.{Sight}
 use Rattle.pp_model.specs.declared.sight.Sight.TheVariants as sight
-use Rattle.pp_expansion.specs.Item.{Step}
-use Rattle.pp_source.specs.inner.Lined.{AreLined}
-use Rattle.pp_expansion.specs.inner.OpenBlocks.{last_block, is_live_in}
-use Rattle.pp_expansion.specs.inner.SourceMoves as moves
-use Rattle.pp_expansion.specs.inner.Source.{Source, Pauses, Makes}
+use Rattle.pp_macros.specs.Item.{Step}
+use Rattle.pp_directives.specs.inner.Lined.{AreLined}
+use Rattle.pp_macros.specs.inner.OpenBlocks.{last_block, is_live_in}
+use Rattle.pp_macros.specs.inner.SourceMoves as moves
+use Rattle.pp_macros.specs.inner.Source.{Source, Pauses, Makes}
 use Rattle.pp_rs.specs.inner.Stands.{StandsForReader}
 use Rattle.pp_rs.proofs.source.DirectiveBeforeLemmas.{word_adds, no_word_adds}
-use Rattle.pp_expansion.proofs.work.DirectiveLineLemmas.{begins_directive, quiet_word}
-use Rattle.pp_expansion.proofs.work.QuietLemmas.{is_one_item}
+use Rattle.pp_macros.proofs.work.DirectiveLineLemmas.{begins_directive, quiet_word}
+use Rattle.pp_macros.proofs.work.QuietLemmas.{is_one_item}
 use Rattle.pp_rs.proofs.source.BareSimulates.{bare_passes, lone_passes}
 use Rattle.pp_rs.proofs.source.Simulates.{Simulates}
 use Rattle.pp_rs.proofs.source.StandsAfterLemmas.{lined_here}

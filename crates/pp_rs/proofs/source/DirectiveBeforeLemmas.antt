@@ -16,9 +16,9 @@ use Rattle.pp_model.specs.SourceReader.{has_directive}
 use Rattle.pp_model.specs.declared.directive.Directive.{Directive}
 use Rattle.pp_model.specs.declared.sight.Sight.{Sight}
 use Rattle.pp_model.specs.declared.sight.Sight.TheVariants as sight
-use Rattle.pp_source.specs.inner.Lined.{AreLined}
-use Rattle.pp_expansion.proofs.work.DirectiveLineLemmas.{begins_directive}
-use Rattle.pp_expansion.proofs.work.QuietLemmas.{begins_bare}
+use Rattle.pp_directives.specs.inner.Lined.{AreLined}
+use Rattle.pp_macros.proofs.work.DirectiveLineLemmas.{begins_directive}
+use Rattle.pp_macros.proofs.work.QuietLemmas.{begins_bare}
 
 -- the number sign of a directive stands there, and an item after it that isn't an error
 abbrev pub begins_with_hash : Sight → Bool

@@ -13,16 +13,16 @@ use Rattle.pp_model.specs.declared.directive.Directive.{Directive}
 use Rattle.pp_model.specs.declared.directive.Directive.TheVariants as d
 use Rattle.pp_model.specs.declared.sight.Sight.{Sight}
 use Rattle.pp_model.specs.declared.sight.Sight.TheVariants as sight
-use Rattle.pp_expansion.specs.Item.{Step}
-use Rattle.pp_expansion.specs.inner.OpenBlocks.{last_block, is_live_among, block_parted, block_skipped, skips_branches}
-use Rattle.pp_expansion.specs.declared.blocks.OpenBlock.{OpenBlock}
-use Rattle.pp_expansion.specs.inner.DirectiveItems.{version, extension, pragma, line_entries}
-use Rattle.pp_expansion.specs.inner.SourceMoves.{Effect, gives_item, fails, passes, defines, undefines, opens_where, opens_if, opens_unread, parts, parts_if, closes, renumbers, Move, failing, line_move, skip_by, skip_move, else_effect, endif_move, elif_move, live_move, dead_move, directive_move, move_at, move_of}
-use Rattle.pp_expansion.specs.inner.Source.{Source, HasEffect, IsRefusedStep, Makes}
-use Rattle.pp_expansion.specs.declared.step.StepExit.TheVariants.{Finished}
+use Rattle.pp_macros.specs.Item.{Step}
+use Rattle.pp_macros.specs.inner.OpenBlocks.{last_block, is_live_among, block_parted, block_skipped, skips_branches}
+use Rattle.pp_macros.specs.declared.blocks.OpenBlock.{OpenBlock}
+use Rattle.pp_macros.specs.inner.DirectiveItems.{version, extension, pragma, line_entries}
+use Rattle.pp_macros.specs.inner.SourceMoves.{Effect, gives_item, fails, passes, defines, undefines, opens_where, opens_if, opens_unread, parts, parts_if, closes, renumbers, Move, failing, line_move, skip_by, skip_move, else_effect, endif_move, elif_move, live_move, dead_move, directive_move, move_at, move_of}
+use Rattle.pp_macros.specs.inner.Source.{Source, HasEffect, IsRefusedStep, Makes}
+use Rattle.pp_macros.specs.declared.step.StepExit.TheVariants.{Finished}
 use Rattle.pp_rs.proofs.source.ItemThereLemmas.{item_there}
 use Rattle.pp_rs.proofs.source.StandsAfterLemmas.{no_blocks_kept}
-use Rattle.pp_expansion.proofs.work.FinishedLemmas.{is_end_effect, finished_ends}
+use Rattle.pp_macros.proofs.work.FinishedLemmas.{is_end_effect, finished_ends}
 
 line_goes_on : {A : Type 0} (r : Result A Fault) (effect : A → Effect) (taken : ℕ) → ((value : A) → is_end_effect (effect value) ≡ false)
     → is_end_effect (line_move r effect taken).effect ≡ false

@@ -9,13 +9,13 @@ use Rattle.pp_model.specs.Blocks.{Block, blocks_at, innermost}
 use Rattle.pp_model.specs.SourceReader.{SourceReader}
 use Rattle.pp_model.specs.Acts.{ended_by, ended}
 use Rattle.pp_model.specs.declared.sight.Sight.TheVariants as sight
-use Rattle.pp_expansion.specs.Item.{Step}
-use Rattle.pp_expansion.specs.inner.OpenBlocks.{last_block, is_live_in}
-use Rattle.pp_expansion.specs.declared.blocks.OpenBlock.{OpenBlock}
-use Rattle.pp_expansion.specs.inner.SourceMoves as moves
-use Rattle.pp_expansion.specs.inner.Source.{Source, HasEffect}
+use Rattle.pp_macros.specs.Item.{Step}
+use Rattle.pp_macros.specs.inner.OpenBlocks.{last_block, is_live_in}
+use Rattle.pp_macros.specs.declared.blocks.OpenBlock.{OpenBlock}
+use Rattle.pp_macros.specs.inner.SourceMoves as moves
+use Rattle.pp_macros.specs.inner.Source.{Source, HasEffect}
 use Rattle.pp_rs.specs.inner.Stands.{StandsForReader}
-use Rattle.pp_expansion.specs.declared.step.StepExit.TheVariants.{Error}
+use Rattle.pp_macros.specs.declared.step.StepExit.TheVariants.{Error}
 use Rattle.pp_rs.proofs.source.Simulates.{Simulates}
 use Rattle.pp_rs.proofs.source.StandsAfterLemmas.{block_here, none_here, innermost_here}
 use Rattle.pp_rs.proofs.source.ItemThereLemmas.{none_left}

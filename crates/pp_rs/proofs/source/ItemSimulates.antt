@@ -17,11 +17,11 @@ use Rattle.pp_model.specs.Acts.{given, line_item, after_word, after_line, live_a
 use Rattle.pp_model.specs.declared.directive.Directive.{Directive}
 use Rattle.pp_model.specs.declared.directive.Directive.TheVariants as d
 use Rattle.pp_model.specs.declared.sight.Sight.TheVariants as sight
-use Rattle.pp_expansion.specs.Item.{Step}
-use Rattle.pp_expansion.specs.inner.DirectiveItems.{DirectiveItem, version, extension, pragma, value_of}
-use Rattle.pp_expansion.specs.inner.OpenBlocks.{last_block, is_live_in}
-use Rattle.pp_expansion.specs.inner.SourceMoves as moves
-use Rattle.pp_expansion.specs.inner.Source.{Source, Makes}
+use Rattle.pp_macros.specs.Item.{Step}
+use Rattle.pp_macros.specs.inner.DirectiveItems.{DirectiveItem, version, extension, pragma, value_of}
+use Rattle.pp_macros.specs.inner.OpenBlocks.{last_block, is_live_in}
+use Rattle.pp_macros.specs.inner.SourceMoves as moves
+use Rattle.pp_macros.specs.inner.Source.{Source, Makes}
 use Rattle.pp_rs.specs.inner.Stands.{StandsForReader}
 use Rattle.pp_rs.proofs.source.Simulates.{Simulates}
 use Rattle.pp_rs.proofs.source.StandsAfterLemmas.{after_here}

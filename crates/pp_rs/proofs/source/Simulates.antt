@@ -8,10 +8,10 @@ use Rattle.pp_model.specs.Reads.{Steps}
 use Rattle.pp_model.specs.SourceReader.{SourceReader}
 use Rattle.pp_model.specs.declared.outcome.Outcome.{Outcome}
 use Rattle.pp_model.specs.declared.outcome.Outcome.TheVariants as outcome
-use Rattle.pp_expansion.specs.Item.{Step, wants_memory}
-use Rattle.pp_expansion.specs.inner.Source.{Source, StepsSource}
+use Rattle.pp_macros.specs.Item.{Step, wants_memory}
+use Rattle.pp_macros.specs.inner.Source.{Source, StepsSource}
 use Rattle.pp_rs.specs.inner.Stands.{StandsForReader}
-use Rattle.pp_expansion.specs.declared.step.StepExit.TheVariants.{Error, Continue, Finished}
+use Rattle.pp_macros.specs.declared.step.StepExit.TheVariants.{Error, Continue, Finished}
 
 -- a step that gives nothing, a token or the end, and the reader after it
 pub record Simulated (o : Option Outcome) (r : SourceReader) (new : Source) : Type 0 where

@@ -7,9 +7,9 @@ use Rattle.pp_model.specs.Lines.{ends_line, line_length}
 use Rattle.pp_model.specs.Sights.{sight_of, is_directive_hash}
 use Rattle.pp_model.specs.declared.directive.Directive.{Directive}
 use Rattle.pp_model.specs.declared.sight.Sight.TheVariants as sight
-use Rattle.pp_source.specs.inner.Lined.{BeginsNoDirective, AreLined}
-use Rattle.pp_expansion.proofs.work.QuietLemmas.{quiet_item, take_more, IsQuietLine}
-use Rattle.pp_expansion.proofs.work.DirectiveLineLemmas.{begins_directive}
+use Rattle.pp_directives.specs.inner.Lined.{BeginsNoDirective, AreLined}
+use Rattle.pp_macros.proofs.work.QuietLemmas.{quiet_item, take_more, IsQuietLine}
+use Rattle.pp_macros.proofs.work.DirectiveLineLemmas.{begins_directive}
 
 quiet_first : (position : ℕ) (s : Seen) (rest after : List Seen) (last : Bool) → ends_line s.item ≡ last → is_directive_hash s.item ≡ false
     → (ends_line s.item ≡ false → IsQuietLine (position + 1) rest after (line_length rest))

@@ -4,12 +4,12 @@ use Rattle.std.specs.Prelude.{Err, MatchBool}
 use Rattle.pp_lexer.specs.declared.token.Token.{Token}
 use Rattle.pp_model.specs.Sights.{sight_of}
 use Rattle.pp_model.specs.SourceReader.{SourceReader}
-use Rattle.pp_expansion.specs.Item.{Step, wants_memory}
-use Rattle.pp_expansion.specs.inner.OpenBlocks.{last_block, is_live_in}
-use Rattle.pp_expansion.specs.inner.SourceMoves as moves
-use Rattle.pp_expansion.specs.inner.Source.{Source, Makes, IsRefusedStep}
+use Rattle.pp_macros.specs.Item.{Step, wants_memory}
+use Rattle.pp_macros.specs.inner.OpenBlocks.{last_block, is_live_in}
+use Rattle.pp_macros.specs.inner.SourceMoves as moves
+use Rattle.pp_macros.specs.inner.Source.{Source, Makes, IsRefusedStep}
 use Rattle.pp_rs.specs.inner.Stands.{StandsForReader}
-use Rattle.pp_expansion.specs.declared.step.StepExit.TheVariants.{Finished}
+use Rattle.pp_macros.specs.declared.step.StepExit.TheVariants.{Finished}
 use Rattle.pp_rs.proofs.source.Simulates.{Simulates, SourceSimulates}
 use Rattle.pp_rs.proofs.source.LiveSimulates.{live_simulates}
 use Rattle.pp_rs.proofs.source.DeadSimulates.{dead_simulates}

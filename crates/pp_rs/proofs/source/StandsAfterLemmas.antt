@@ -8,15 +8,15 @@ use Rattle.pp_model.specs.Blocks.{Truths, open_blocks, block_lines, blocks_at, i
 use Rattle.pp_model.specs.SourceReader.{SourceReader}
 use Rattle.pp_model.specs.Acts.{after_word}
 use Rattle.pp_model.specs.declared.block.BlockLine.{BlockLine}
-use Rattle.pp_expansion.specs.inner.Defined.{meaning_of}
-use Rattle.pp_source.specs.inner.Lined.{AreLined}
-use Rattle.pp_expansion.specs.inner.OpenBlocks.{last_block, outer_blocks, is_live_in, StandForBlocks, AreBefore}
-use Rattle.pp_expansion.specs.declared.blocks.OpenBlock.{OpenBlock}
-use Rattle.pp_expansion.specs.inner.Source.{Source}
+use Rattle.pp_macros.specs.inner.Defined.{meaning_of}
+use Rattle.pp_directives.specs.inner.Lined.{AreLined}
+use Rattle.pp_macros.specs.inner.OpenBlocks.{last_block, outer_blocks, is_live_in, StandForBlocks, AreBefore}
+use Rattle.pp_macros.specs.declared.blocks.OpenBlock.{OpenBlock}
+use Rattle.pp_macros.specs.inner.Source.{Source}
 use Rattle.pp_rs.specs.inner.Stands.{StandsForReader}
 use Rattle.pp_rs.proofs.blocks.BlockStackLemmas.{Innermost, innermost_last, stands_innermost, none_stand, live_outside, live_inside}
 use Rattle.pp_rs.proofs.blocks.LastLemmas.{last_split}
-use Rattle.pp_source.proofs.LinedLemmas.{lined_after}
+use Rattle.pp_directives.proofs.LinedLemmas.{lined_after}
 use Rattle.pp_rs.proofs.blocks.LinesBeforeLemmas.{AreLinesBefore, AddsLines, lines_here, lines_further}
 use Rattle.pp_rs.proofs.blocks.RememberedLemmas.{IsRemembered}
 

@@ -11,11 +11,11 @@ use Rattle.pp_model.specs.declared.block.Part.{Part}
 use Rattle.pp_model.specs.declared.block.Part.TheVariants as part
 use Rattle.pp_model.specs.declared.directive.Directive.{Directive}
 use Rattle.pp_model.specs.declared.sight.Sight.TheVariants as sight
-use Rattle.pp_expansion.specs.Item.{Step}
-use Rattle.pp_expansion.specs.inner.OpenBlocks.{last_block, outer_blocks, is_live_in, block_opened, block_unread, block_parted, block_skipped, block_decided, AreBefore}
-use Rattle.pp_expansion.specs.declared.blocks.OpenBlock.{OpenBlock}
-use Rattle.pp_expansion.specs.inner.SourceMoves as moves
-use Rattle.pp_expansion.specs.inner.Source.{Source, Pauses}
+use Rattle.pp_macros.specs.Item.{Step}
+use Rattle.pp_macros.specs.inner.OpenBlocks.{last_block, outer_blocks, is_live_in, block_opened, block_unread, block_parted, block_skipped, block_decided, AreBefore}
+use Rattle.pp_macros.specs.declared.blocks.OpenBlock.{OpenBlock}
+use Rattle.pp_macros.specs.inner.SourceMoves as moves
+use Rattle.pp_macros.specs.inner.Source.{Source, Pauses}
 use Rattle.pp_rs.specs.inner.Stands.{StandsForReader}
 use Rattle.pp_rs.proofs.blocks.BlockStepLemmas.{AddsLine, opens_read, opens_unread, closes_last, parts_else, parts_skipped, parts_read}
 use Rattle.pp_rs.proofs.blocks.LinesBeforeLemmas.{AddsLines, adds_one}

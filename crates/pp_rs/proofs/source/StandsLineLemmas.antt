@@ -15,15 +15,15 @@ use Rattle.pp_model.specs.declared.block.BlockLine.{BlockLine}
 use Rattle.pp_model.specs.declared.block.Part.{Part}
 use Rattle.pp_model.specs.declared.directive.Directive.{Directive}
 use Rattle.pp_model.specs.declared.sight.Sight.TheVariants as sight
-use Rattle.pp_expansion.specs.Item.{Step}
-use Rattle.pp_expansion.specs.inner.Defined.{meaning_of}
-use Rattle.pp_expansion.specs.inner.OpenBlocks.{StandForBlocks, AreBefore}
-use Rattle.pp_expansion.specs.declared.blocks.OpenBlock.{OpenBlock}
-use Rattle.pp_expansion.specs.inner.SourceMoves as moves
-use Rattle.pp_expansion.specs.inner.Source.{Source, IsAfter, Pauses}
+use Rattle.pp_macros.specs.Item.{Step}
+use Rattle.pp_macros.specs.inner.Defined.{meaning_of}
+use Rattle.pp_macros.specs.inner.OpenBlocks.{StandForBlocks, AreBefore}
+use Rattle.pp_macros.specs.declared.blocks.OpenBlock.{OpenBlock}
+use Rattle.pp_macros.specs.inner.SourceMoves as moves
+use Rattle.pp_macros.specs.inner.Source.{Source, IsAfter, Pauses}
 use Rattle.pp_rs.specs.inner.Stands.{StandsForReader}
-use Rattle.pp_expansion.proofs.work.BodyLemmas.{line_length_least}
-use Rattle.pp_expansion.proofs.work.DirectiveLineLemmas.{begins_directive}
+use Rattle.pp_macros.proofs.work.BodyLemmas.{line_length_least}
+use Rattle.pp_macros.proofs.work.DirectiveLineLemmas.{begins_directive}
 use Rattle.pp_rs.proofs.blocks.LinesBeforeLemmas.{AddsLines, directive_adds}
 use Rattle.pp_rs.proofs.blocks.RememberedLemmas.{IsRemembered, line_remembered}
 use Rattle.pp_rs.proofs.source.SkippedLemmas.{quiet_after_word}

@@ -7,16 +7,16 @@ use Rattle.pp_model.specs.Blocks.{block_lines, Block, blocks_at}
 use Rattle.pp_model.specs.SourceReader.{SourceReader, is_on_directive_line}
 use Rattle.pp_model.specs.Acts.{moved}
 use Rattle.pp_model.specs.declared.sight.Sight.{Sight}
-use Rattle.pp_expansion.specs.inner.Defined.{meaning_of}
-use Rattle.pp_expansion.specs.inner.OpenBlocks.{last_block, is_live_in, StandForBlocks}
-use Rattle.pp_expansion.specs.declared.blocks.OpenBlock.{OpenBlock}
-use Rattle.pp_expansion.specs.inner.SourceMoves as moves
-use Rattle.pp_expansion.specs.inner.SourceMoves.{notes_text, notes_directive}
-use Rattle.pp_expansion.specs.inner.Source.{Source, IsAfter}
+use Rattle.pp_macros.specs.inner.Defined.{meaning_of}
+use Rattle.pp_macros.specs.inner.OpenBlocks.{last_block, is_live_in, StandForBlocks}
+use Rattle.pp_macros.specs.declared.blocks.OpenBlock.{OpenBlock}
+use Rattle.pp_macros.specs.inner.SourceMoves as moves
+use Rattle.pp_macros.specs.inner.SourceMoves.{notes_text, notes_directive}
+use Rattle.pp_macros.specs.inner.Source.{Source, IsAfter}
 use Rattle.pp_rs.specs.inner.Stands.{StandsForReader}
 use Rattle.pp_rs.proofs.source.DirectiveBeforeLemmas.{begins_with_hash, AddsDirective}
 use Rattle.pp_rs.proofs.blocks.LinesBeforeLemmas.{AddsLines}
-use Rattle.pp_expansion.proofs.work.QuietLemmas.{is_one_item, quiet_one, one_there, one_in_front}
+use Rattle.pp_macros.proofs.work.QuietLemmas.{is_one_item, quiet_one, one_there, one_in_front}
 use Rattle.pp_rs.proofs.blocks.RememberedLemmas.{IsRemembered, one_remembered, two_remembered}
 use Rattle.pp_rs.proofs.source.StandsAfterLemmas.{live_now, remembered_here, stands_further, blocks_stay}
 use Rattle.pp_rs.proofs.blocks.TruthLemmas.{before_later}

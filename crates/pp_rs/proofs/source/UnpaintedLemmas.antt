@@ -2,12 +2,12 @@
 use Rattle.std.proofs.Common.{◌≡◌, false, refl}
 use Rattle.std.specs.Prelude.{Ok, Err}
 use Rattle.pp_lexer.specs.declared.token.Token.{Token}
-use Rattle.pp_expansion.specs.Item.{Step, wants_memory}
-use Rattle.pp_expansion.specs.inner.Reader.{of_source, Reads}
-use Rattle.pp_expansion.specs.inner.Reading.{unpainted_step}
-use Rattle.pp_expansion.specs.inner.Source.{Source, StepsSource, unreported_of}
-use Rattle.pp_expansion.specs.inner.Unreported.{Unreported, StepReports}
-use Rattle.pp_expansion.specs.declared.step.StepExit.TheVariants.{Error, Continue, Finished}
+use Rattle.pp_macros.specs.Item.{Step, wants_memory}
+use Rattle.pp_macros.specs.inner.Reader.{of_source, Reads}
+use Rattle.pp_macros.specs.inner.Reading.{unpainted_step}
+use Rattle.pp_macros.specs.inner.Source.{Source, StepsSource, unreported_of}
+use Rattle.pp_macros.specs.inner.Unreported.{Unreported, StepReports}
+use Rattle.pp_macros.specs.declared.step.StepExit.TheVariants.{Error, Continue, Finished}
 
 pub unpainted_reported : (given : Step Token) → wants_memory (unpainted_step given) ≡ false → wants_memory given ≡ false
 unpainted_reported (Ok token) h = refl

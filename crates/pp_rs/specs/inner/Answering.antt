@@ -9,14 +9,19 @@ use Rattle.pp_model.specs.declared.outcome.Outcome.TheVariants as outcome
 use Rattle.pp_rs.specs.Comes.{State, Comes}
 use Rattle.pp_rs.specs.Kept.{Preprocessing, Stands, is_spent}
 
--- What one call answers in each state that the preprocessor stood for. It stands for the state after it; of the state after an error
--- item nothing is said.
+-- What one call answers in each state that the preprocessor stood for. It stands for the state after it; of the state
+-- after an error item nothing is said.
 pub data IsAnswered (old : Preprocessing) (call : Call) (answer : Reply) (new : Preprocessing) : Type 0 where
-  goes_on : ends_run answer ≡ false → is_spent new ≡ false
-      → ((state : State) → Stands old state → (after : State) × AnswersIn Comes state call answer after × Stands new after)
+  goes_on : ends_run answer ≡ false
+      → is_spent new ≡ false
+      → ((state : State) → Stands old state
+      → (after : State) × AnswersIn Comes state call answer after × Stands new after)
       → IsAnswered old call answer new
-  ends : (fault : Fault) → answer ≡ reply.Given (outcome.Fault fault) → call ≡ next
-      → ((state : State) → Stands old state → (after : State) × Comes state (outcome.Fault fault) after) → IsAnswered old call answer new
+  ends : (fault : Fault)
+      → answer ≡ reply.Given (outcome.Fault fault)
+      → call ≡ next
+      → ((state : State) → Stands old state → (after : State) × Comes state (outcome.Fault fault) after)
+      → IsAnswered old call answer new
 
 -- The replies to a list of calls, up to and with the first error item, in each state that the preprocessor stood for.
 abbrev pub AreReplies : Preprocessing → List Call → List Reply → Type 0

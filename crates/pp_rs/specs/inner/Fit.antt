@@ -1,14 +1,14 @@
 -- What holds of an expander over a source between any two calls, unless memory was refused.
 use Rattle.std.specs.Prelude.{◌≡◌, false, List, [], Option, Some, Err, ⊤}
 use Rattle.pp_model.specs.declared.read.Read.{Read}
-use Rattle.pp_expansion.specs.inner.Frames.{Layer}
-use Rattle.pp_expansion.specs.Item.{Step}
-use Rattle.pp_expansion.specs.inner.Left.{IsSound}
-use Rattle.pp_expansion.specs.inner.Machine.{Machine}
-use Rattle.pp_expansion.specs.inner.Reader.{Reader, of_source, of_list}
-use Rattle.pp_expansion.specs.inner.Source.{Source, unreported_of}
-use Rattle.pp_expansion.specs.inner.Unreported.{IsReportedBut}
-use Rattle.pp_expansion.specs.declared.step.StepExit.TheVariants.{Finished}
+use Rattle.pp_macros.specs.inner.Frames.{Layer}
+use Rattle.pp_macros.specs.Item.{Step}
+use Rattle.pp_macros.specs.inner.Left.{IsSound}
+use Rattle.pp_macros.specs.inner.Machine.{Machine}
+use Rattle.pp_macros.specs.inner.Reader.{Reader, of_source, of_list}
+use Rattle.pp_macros.specs.inner.Source.{Source, unreported_of}
+use Rattle.pp_macros.specs.inner.Unreported.{IsReportedBut}
+use Rattle.pp_macros.specs.declared.step.StepExit.TheVariants.{Finished}
 
 -- a source with no item left, and no open block
 abbrev pub NothingIn : Reader → Type 0

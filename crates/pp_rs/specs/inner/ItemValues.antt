@@ -1,7 +1,7 @@
 -- The value of an item, places aside.
 use Rattle.std.specs.Prelude.{Result, Ok, Err}
 use Rattle.pp_lexer.specs.declared.token.TokenValue.{TokenValue}
-use Rattle.pp_expansion.specs.Item.{Fault, Item}
+use Rattle.pp_macros.specs.Item.{Fault, Item}
 
 abbrev pub value_of_item : Item → Result TokenValue Fault
 value_of_item (Ok token) = Ok token.value

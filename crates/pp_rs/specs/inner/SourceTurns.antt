@@ -4,24 +4,29 @@ use Rattle.pp_lexer.specs.PreprocessorError.{out_of_memory}
 use Rattle.pp_lexer.specs.declared.token.Token.{Token}
 use Rattle.pp_model.specs.Calls.{Fault}
 use Rattle.pp_model.specs.Emitting.{answers_at}
-use Rattle.pp_expansion.specs.inner.Calling.{PendingCall}
-use Rattle.pp_expansion.specs.inner.CallTurns.{TurnsTo, TakesSomething}
-use Rattle.pp_expansion.specs.inner.Defined.{Defined}
-use Rattle.pp_expansion.specs.inner.Finishing.{site_at, IsOpened}
-use Rattle.pp_expansion.specs.inner.Frames.{names_of}
-use Rattle.pp_expansion.specs.Item.{Step}
-use Rattle.pp_expansion.specs.inner.Machine.{Machine}
-use Rattle.pp_expansion.specs.inner.Reader.{of_source}
-use Rattle.pp_expansion.specs.inner.Source.{Source}
-use Rattle.pp_expansion.specs.declared.calls.Taken.{Taken}
-use Rattle.pp_expansion.specs.declared.calls.Taken.TheVariants as taken
-use Rattle.pp_expansion.specs.declared.step.StepExit.TheVariants.{Error, Continue}
+use Rattle.pp_macros.specs.inner.Calling.{PendingCall}
+use Rattle.pp_macros.specs.inner.CallTurns.{TurnsTo, TakesSomething}
+use Rattle.pp_macros.specs.inner.Defined.{Defined}
+use Rattle.pp_macros.specs.inner.Finishing.{site_at, IsOpened}
+use Rattle.pp_macros.specs.inner.Frames.{names_of}
+use Rattle.pp_macros.specs.Item.{Step}
+use Rattle.pp_macros.specs.inner.Machine.{Machine}
+use Rattle.pp_macros.specs.inner.Reader.{of_source}
+use Rattle.pp_macros.specs.inner.Source.{Source}
+use Rattle.pp_macros.specs.declared.calls.Taken.{Taken}
+use Rattle.pp_macros.specs.declared.calls.Taken.TheVariants as taken
+use Rattle.pp_macros.specs.declared.step.StepExit.TheVariants.{Error, Continue}
 
 -- after a call its frame is open, which pauses, or its fault is given
-pub data FollowsCall (levels : ℕ) (definitions : List Defined) (call : PendingCall) (old : Machine) (step : Step Token) (new : Machine) : Type 0 where
-  opened : step ≡ Err Continue → IsOpened levels definitions (names_of old.frames ++ []) call old new → FollowsCall levels definitions call old step new
-  refused : (fault : Fault) → step ≡ Err (Error fault)
-      → answers_at levels call.definition (site_at call definitions (names_of old.frames ++ [])) (Err fault) → new ≡ old
+pub data FollowsCall (levels : ℕ) (definitions : List Defined) (call : PendingCall) (old : Machine) (step : Step Token)
+    (new : Machine) : Type 0 where
+  opened : step ≡ Err Continue
+      → IsOpened levels definitions (names_of old.frames ++ []) call old new
+      → FollowsCall levels definitions call old step new
+  refused : (fault : Fault)
+      → step ≡ Err (Error fault)
+      → answers_at levels call.definition (site_at call definitions (names_of old.frames ++ [])) (Err fault)
+      → new ≡ old
       → FollowsCall levels definitions call old step new
 
 -- what follows of a turn: a token is given without its paint
@@ -30,7 +35,8 @@ FollowsTurn levels definitions (Ok (taken.Token read)) old step new = (step ≡ 
 FollowsTurn levels definitions (Ok (taken.Call call)) old step new = FollowsCall levels definitions call old step new
 FollowsTurn levels definitions (Err exit) old step new = (step ≡ Err exit) × (new ≡ old)
 
-pub record TurnsSource (levels : ℕ) (old : Machine) (source : Source) (step : Step Token) (new : Machine) (after : Source) : Type 0 where
+pub record TurnsSource (levels : ℕ) (old : Machine) (source : Source) (step : Step Token) (new : Machine)
+    (after : Source) : Type 0 where
   pub taken : Step Taken
   pub between : Machine
   pub turns : TurnsTo old (of_source source) taken between (of_source after)
@@ -43,4 +49,5 @@ pub record IsRefusedOver (old : Machine) (source : Source) (step : Step Token) :
 
 -- a turn, unless memory is refused
 abbrev pub StepsOver : ℕ → Machine → Source → Step Token → Machine → Source → Type 0
-StepsOver levels old source step new after = TurnsSource levels old source step new after ⊎ IsRefusedOver old source step
+StepsOver levels old source step new after =
+    TurnsSource levels old source step new after ⊎ IsRefusedOver old source step

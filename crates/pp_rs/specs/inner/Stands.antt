@@ -1,22 +1,24 @@
--- The state of a run that a preprocessor stands for. It keeps less: neither what was read, nor the list into which its frames are spliced.
+-- The state of a run that a preprocessor stands for. It keeps less: neither what was read, nor the list
+-- into which its frames are spliced.
 use Rattle.std.specs.Prelude.{◌≡◌, ◌≢◌, ◌≤◌, true, false, ◌||◌, List, [], ◌++◌, length, take, drop, Option, Some, Err, option_map, ⊤}
 use Rattle.pp_lexer.specs.Lexed.{Seen}
 use Rattle.pp_model.specs.declared.read.Read.{Read}
 use Rattle.pp_model.specs.Reading.{Expander}
 use Rattle.pp_model.specs.Blocks.{block_lines, blocks_at}
 use Rattle.pp_model.specs.SourceReader.{SourceReader, has_directive, is_on_directive_line, has_live_text_before}
-use Rattle.pp_expansion.specs.inner.Defined.{meaning_of}
-use Rattle.pp_expansion.specs.inner.Frames.{flat}
-use Rattle.pp_expansion.specs.Item.{Step}
-use Rattle.pp_source.specs.inner.Lined.{AreLined}
-use Rattle.pp_expansion.specs.inner.Machine.{Machine, outcome_of_step}
-use Rattle.pp_expansion.specs.inner.OpenBlocks.{last_block, is_live_in, StandForBlocks, AreBefore}
-use Rattle.pp_expansion.specs.inner.Source.{Source}
-use Rattle.pp_expansion.specs.declared.step.StepExit.TheVariants.{Error, Continue}
+use Rattle.pp_macros.specs.inner.Defined.{meaning_of}
+use Rattle.pp_macros.specs.inner.Frames.{flat}
+use Rattle.pp_macros.specs.Item.{Step}
+use Rattle.pp_directives.specs.inner.Lined.{AreLined}
+use Rattle.pp_macros.specs.inner.Machine.{Machine, outcome_of_step}
+use Rattle.pp_macros.specs.inner.OpenBlocks.{last_block, is_live_in, StandForBlocks, AreBefore}
+use Rattle.pp_macros.specs.inner.Source.{Source}
+use Rattle.pp_macros.specs.declared.step.StepExit.TheVariants.{Error, Continue}
 
--- A reader of a source: what is left to read stands after its position, the lines of blocks are those before it and those after it, and
--- the blocks that are kept are those that are open there. It remembers whether a live token of the text was read, and a directive. No
--- number sign of a directive stands directly before its position; in live text the position isn't on a directive's line, but at the end.
+-- A reader of a source: what is left to read stands after its position, the lines of blocks are those before it and
+-- those after it, and the blocks that are kept are those that are open there. It remembers whether a live token of the
+-- text was read, and a directive. No number sign of a directive stands directly before its position; in live text the
+-- position isn't on a directive's line, but at the end.
 pub record StandsForReader (source : Source) (reader : SourceReader) : Type 0 where
   pub rest : source.rest ≡ drop reader.position reader.items
   pub within : reader.position ≤ length reader.items
@@ -34,7 +36,9 @@ pub record StandsForReader (source : Source) (reader : SourceReader) : Type 0 wh
   pub remembers_directive : source.has_directive ≡ has_directive (take reader.position reader.items)
   pub directives : (after : List Seen) → has_directive (take reader.position reader.items ++ after)
       ≡ (has_directive (take reader.position reader.items) || has_directive after)
-  pub off_line : is_live_in (last_block source.blocks) ≡ true → source.rest ≢ [] → is_on_directive_line reader.items reader.position ≡ false
+  pub off_line : is_live_in (last_block source.blocks) ≡ true
+      → source.rest ≢ []
+      → is_on_directive_line reader.items reader.position ≡ false
 
 -- what is held comes next; after a fault that is held nothing is said of the reader, and a pause is never held
 abbrev pub StandsForHeld : Option (Step Read) → Source → SourceReader → Type 0

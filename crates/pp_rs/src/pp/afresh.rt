@@ -1,4 +1,4 @@
-//! Output that is read afresh.
+//! Preprocessing the output again.
 
 ghost use Rattle.std.specs.Prelude.{◌≡◌, ◌↔◌, ◌-◌, ◌^◌, ◌<◌, true, length, IfOk, IfErr, IsTrue, All, Ok, map};
 ghost use Rattle.pp_lexer.specs.PreprocessorError.{out_of_memory};
@@ -52,11 +52,11 @@ fn items_of_text(
     items
 }
 
-/// Whether the text that spells the tokens with single spaces gives tokens of the same values when it is preprocessed afresh,
-/// and then the end. pp-rs 0.2.1 has no such function.
+/// Returns whether the text that spells the tokens with single spaces, preprocessed again, gives exactly tokens of the
+/// same values. pp-rs 0.2.1 has no such function.
 ///
-/// It is so of all plain tokens that a run of some source gives, if their text has fewer than 2^32 - 1 bytes; of a longer text
-/// the answer is no. The one error is `OutOfMemory`, where memory is refused.
+/// True for every ordinary token list that a run of some source gives, if its text has fewer than 2^32 - 1 bytes. False
+/// for a longer text. The only error is `OutOfMemory`, if an allocation fails.
 pub fn are_read_afresh(
     alloc: Global,
     tokens: &[Token],

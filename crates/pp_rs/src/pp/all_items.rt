@@ -3,7 +3,7 @@
 ghost use Rattle.std.specs.Prelude.{◌≡◌, [], false, Some, IfOk, OnOk, IfErr, OnErr, All};
 ghost use Rattle.pp_lexer.specs.PreprocessorError.{out_of_memory};
 ghost use Rattle.pp_rs.specs.Collecting.{AreItemsOf, AreReported, AreAppended, AreAllAppended, IsGivenUp};
-ghost use Rattle.pp_expansion.specs.Held.{ItemHoldsOrdinary};
+ghost use Rattle.pp_macros.specs.Held.{ItemHoldsOrdinary};
 ghost use Rattle.pp_rs.specs.Kept.{is_spent, most_items, errors_left};
 ghost use Rattle.pp_rs.specs.Preprocessing.{is_refusal};
 
@@ -11,14 +11,14 @@ use crate::pp::preprocessor::{Preprocessor, PreprocessorItem};
 use crate::token::{Location, PreprocessorError, out_of_memory};
 use std::alloc::{AllocError, Global};
 
-// Whether the item says that memory was refused.
+// Whether the item is the error `OutOfMemory`.
 fn is_refusal(item: &PreprocessorItem) -> bool
     ensures { result ≡ is_refusal (Some item.now) }
 {
     matches!(item, Err((PreprocessorError::OutOfMemory, _)))
 }
 
-// Puts the items up to the end at the end of the list. Room for an item is asked for before it is read.
+// Appends the items up to the end to the list. Room for an item is allocated before the item is read.
 fn gather(pp: &mut Preprocessor<'_>, items: &mut Vec<PreprocessorItem>) -> Result<(), AllocError>
     ensures all { OnOk result (AreAllAppended pp.old items.old.items items.new.items pp.new) }
     ensures appended { OnErr result (AreAppended pp.old items.old.items items.new.items pp.new) }
@@ -36,11 +36,12 @@ fn gather(pp: &mut Preprocessor<'_>, items: &mut Vec<PreprocessorItem>) -> Resul
     }
 }
 
-/// Calls `next` until it gives `None`, and puts the items at the end of the list, error items among them. pp-rs 0.2.1 has no
+/// Calls `next` until it returns `None`, and appends the items to the list, error items among them. pp-rs 0.2.1 has no
 /// such function.
 ///
-/// The error is `OutOfMemory`, if memory is refused. No item is lost then: those that came are in the list. If the list can't
-/// grow, `next` goes on after them; if memory for an item is refused, `next` gives `None` for good.
+/// The error is `OutOfMemory`, if an allocation fails. No item is lost then: the list holds all items that were read.
+/// If the list can't grow, `next` goes on after these items. If memory for an item runs out, `next` returns `None` from
+/// then on.
 pub fn append_all(
     pp: &mut Preprocessor<'_>,
     items: &mut Vec<PreprocessorItem>,
@@ -55,12 +56,12 @@ pub fn append_all(
     }
 }
 
-/// Calls `next` until it gives `None`, and gives all items that were left, error items among them. pp-rs 0.2.1 has no such
-/// function.
+/// Calls `next` until it returns `None`, and returns all items that were left, error items among them. pp-rs 0.2.1 has
+/// no such function.
 ///
-/// The error is `OutOfMemory`, if memory is refused, and what was gathered is given up: [`append_all`] keeps it. If memory for
-/// an item is refused, `next` gives `None` for good. If the list of the items can't grow, `next` goes on after those that were
-/// gathered.
+/// The error is `OutOfMemory`, if an allocation fails. The items that were read are dropped then; [`append_all`] keeps
+/// them. If memory for an item runs out, `next` returns `None` from then on. If the list of the items can't grow,
+/// `next` goes on after the items that were read.
 pub fn preprocess_all(
     alloc: Global,
     pp: &mut Preprocessor<'_>,
@@ -79,10 +80,10 @@ pub fn preprocess_all(
     Ok(items)
 }
 
-/// Calls `next` until it gives `None`, and drops the items. pp-rs 0.2.1 has no such function.
+/// Calls `next` until it returns `None`, and drops the items. pp-rs 0.2.1 has no such function.
 ///
-/// It comes to an end after any calls, also where errors were given or memory was refused, and takes no memory of its own. From
-/// then on `next` gives `None`, whatever is added.
+/// It ends after any calls, also after errors and after a failed allocation, and allocates nothing of its own. From
+/// then on `next` returns `None`, whatever is added.
 pub fn drain(pp: &mut Preprocessor<'_>)
     ensures ended { most_items pp.new ≡ 0 }
 {

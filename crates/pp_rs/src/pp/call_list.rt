@@ -3,16 +3,16 @@
 ghost use Rattle.std.specs.Prelude.{◌≡◌, ◌-◌, ◌^◌, ◌<◌, false, length, map, All, IfOk};
 ghost use Rattle.pp_model.specs.Run.{add_define, next, call_of, HasRoom, IsRun, ends_run};
 ghost use Rattle.pp_rs.specs.inner.Answering.{IsAnswered, AreReplies};
-ghost use Rattle.pp_expansion.specs.Item.{is_out_of_memory};
+ghost use Rattle.pp_macros.specs.Item.{is_out_of_memory};
 ghost use Rattle.pp_rs.specs.Kept.{is_spent};
 
 use crate::pp::preprocessor::Preprocessor;
-use pp_expansion::step::is_out_of_memory;
+use pp_macros::step::is_out_of_memory;
 use pp_model::call::{Call, Reply};
 use pp_model::outcome::{Fault, Outcome};
 use std::alloc::{AllocError, Global};
 
-// The error, where it isn't that memory was refused.
+// The error, unless it is `OutOfMemory`.
 fn reported_fault(fault: Fault) -> Result<Fault, AllocError>
     ensures { IfOk result (λ reported. (reported ≡ fault) × (is_out_of_memory reported.0 ≡ false)) }
 {
@@ -92,11 +92,11 @@ fn replies_to(
     Ok(replies)
 }
 
-/// What a preprocessor of the source answers to the calls, one after another, up to and with the first error item. pp-rs
-/// 0.2.1 has no such function.
+/// Returns the replies of a preprocessor of the source to the calls, made one after another, up to and with the first
+/// error item. pp-rs 0.2.1 has no such function.
 ///
-/// The source and each added content have fewer than 2^32 - 1 bytes. The one error is that memory was refused, for an answer
-/// or for the list of them, and then nothing is said.
+/// The source and each added content must have fewer than 2^32 - 1 bytes. The only error is that an allocation failed,
+/// for a reply or for the list of replies. No replies are returned then.
 pub fn replies(alloc: Global, source: &str, calls: &[Call<'_>]) -> Result<Vec<Reply>, AllocError>
     requires size { length source.now < 2 ^ 32 - 1 }
     requires contents { All HasRoom calls.now }

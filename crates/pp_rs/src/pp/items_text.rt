@@ -10,10 +10,10 @@ ghost use Rattle.pp_rs.specs.inner.ItemsText.{after_item, before_item, item_piec
 use crate::token::{Location, PreprocessorError, Token, out_of_memory};
 use std::alloc::{AllocError, Global};
 
-/// Puts the text of an item at the end: the spelling of an ordinary token, or a directive's word
-/// with each token of its line after a space. pp-rs 0.2.1 has no such function.
+/// Appends the text of an item: the spelling of an ordinary token, or a directive's word with each
+/// token of its line after a space. pp-rs 0.2.1 has no such function.
 ///
-/// Fails only if memory is refused, and a part of it may have been put there then.
+/// Fails only if an allocation fails. A part of the text may have been appended then.
 pub fn push_token(text: &mut String, token: &Token) -> Result<(), AllocError>
     ensures { OnOk result (string_bytes text.new
         ≡ string_bytes text.old ++ encode_utf8_all (item_text token.now.value)) }
@@ -21,11 +21,11 @@ pub fn push_token(text: &mut String, token: &Token) -> Result<(), AllocError>
     write!(text, "{token}")
 }
 
-/// The items as lines: each longest run of ordinary tokens is one, with one space between each two,
-/// and each directive one. A newline ends each line. No items give the empty text. pp-rs 0.2.1 has
-/// no such function.
+/// Returns the items as lines. Each longest run of ordinary tokens is one line, with one space
+/// between each two tokens, and each directive is one line. A newline ends each line. No items give
+/// the empty text. pp-rs 0.2.1 has no such function.
 ///
-/// The one refusal is `OutOfMemory`, at the start of the source.
+/// The only error is `OutOfMemory`, with the place (0, 0, line 1), if an allocation fails.
 pub fn spell_items(alloc: Global, tokens: &[Token]) -> Result<String, (PreprocessorError, Location)>
     ensures { MatchResult result (λ text. string_bytes text ≡ output tokens.now)
         (λ e. e ≡ out_of_memory) }
@@ -53,7 +53,7 @@ fn join_items(alloc: Global, tokens: &[Token]) -> Result<String, AllocError>
     Ok(text)
 }
 
-// Puts an item at the end, which may be within a line of ordinary tokens.
+// Appends an item, which may continue a line of ordinary tokens.
 fn push_item(text: &mut String, in_line: bool, token: &Token) -> Result<(), AllocError>
     ensures { OnOk result (string_bytes text.new
         ≡ string_bytes text.old ++ item_piece in_line token.now.value) }
@@ -63,7 +63,8 @@ fn push_item(text: &mut String, in_line: bool, token: &Token) -> Result<(), Allo
     push_after(text, token)
 }
 
-// Within a line a space stands before an ordinary token, and the line's end before a directive.
+// Appends what comes before an item within a line: a space before an ordinary token, the line's end
+// before a directive.
 fn push_before(text: &mut String, in_line: bool, token: &Token) -> Result<(), AllocError>
     ensures { OnOk result (string_bytes text.new
         ≡ string_bytes text.old ++ before_item in_line token.now.value) }
@@ -79,7 +80,7 @@ fn push_before(text: &mut String, in_line: bool, token: &Token) -> Result<(), Al
     Ok(())
 }
 
-// A directive ends its line.
+// Appends what comes after an item: the end of the line after a directive.
 fn push_after(text: &mut String, token: &Token) -> Result<(), AllocError>
     ensures { OnOk result (string_bytes text.new
         ≡ string_bytes text.old ++ after_item token.now.value) }

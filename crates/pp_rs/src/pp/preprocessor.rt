@@ -7,26 +7,26 @@ ghost use Rattle.pp_lexer.specs.PreprocessorError.{out_of_memory};
 ghost use Rattle.pp_model.specs.Run.{items_of, start};
 ghost use Rattle.pp_rs.specs.Adding.{IsAdded};
 ghost use Rattle.pp_rs.specs.CallLine.{IsCallLine};
-ghost use Rattle.pp_expansion.specs.Item.{is_out_of_memory};
+ghost use Rattle.pp_macros.specs.Item.{is_out_of_memory};
 ghost use Rattle.pp_rs.specs.Kept.{Stands, is_spent, most_items, errors_left, error_place};
-ghost use Rattle.pp_expansion.specs.LexerErrors.{lexer_errors};
+ghost use Rattle.pp_macros.specs.LexerErrors.{lexer_errors};
 ghost use Rattle.pp_rs.specs.Preprocessing.{IsNextItem};
 
 use crate::pp::source_turn::turn_source;
 use crate::token::{Location, NOWHERE, PreprocessorError, Token, out_of_memory};
-use pp_expansion::calls::Caller;
-use pp_expansion::halt::Halt;
-use pp_expansion::step::{StepExit, is_out_of_memory};
-use pp_source::directives::DirectiveProcessor;
+use pp_directives::directives::DirectiveProcessor;
+use pp_macros::calls::Caller;
+use pp_macros::halt::Halt;
+use pp_macros::step::{StepExit, is_out_of_memory};
 use std::alloc::Global;
 use std::marker::Model;
 
-/// What the preprocessor gives: a token, or an error with its place.
+/// An item of the preprocessor: a token, or an error with its place.
 pub type PreprocessorItem = Result<Token, (PreprocessorError, Location)>;
 
-/// A source as an iterator of its preprocessed tokens.
+/// An iterator of the preprocessed tokens of a source.
 ///
-/// It goes on after each error but `OutOfMemory`, after which it gives `None` for good.
+/// It goes on after every error except `OutOfMemory`. After `OutOfMemory`, `next` returns `None` from then on.
 #[derive(Drop)]
 pub struct Preprocessor<'a> {
     alloc: Global,
@@ -48,7 +48,7 @@ impl<'a> Model for Preprocessor<'a> {
     ghost invariant = { λ p. p.spent ≡ false → IsFit p.caller p.source × IsReported p.caller p.source };
 }
 
-// The error, where `OutOfMemory` has its one place.
+// The error. `OutOfMemory` always gets the same place.
 fn place_refusal(error: (PreprocessorError, Location)) -> (PreprocessorError, Location)
     ensures { result ≡ if is_out_of_memory error.0 then out_of_memory else error }
 {
@@ -60,9 +60,9 @@ fn place_refusal(error: (PreprocessorError, Location)) -> (PreprocessorError, Lo
 }
 
 impl<'a> Preprocessor<'a> {
-    /// A preprocessor of a source of fewer than 2^32 - 1 bytes.
+    /// Returns a preprocessor of a source of fewer than 2^32 - 1 bytes.
     ///
-    /// Takes no memory and reads nothing yet.
+    /// It allocates nothing and reads nothing yet.
     pub fn new(alloc: Global, input: &'a str) -> Preprocessor<'a>
         requires { length input.now < 2 ^ 32 - 1 }
         ensures unspent { is_spent result ≡ false }
@@ -79,39 +79,43 @@ impl<'a> Preprocessor<'a> {
         }
     }
 
-    /// Where the error stands that `next` gave last.
+    /// Returns the place of the last error that `next` returned, in byte offsets and a 1-based line of the source.
     ///
-    /// For an error of the lexer, whose item says (0, 0, line 1), these are the byte offsets and the line of what it took,
-    /// in the text, on the line of a directive, in dead text or on a line that is skipped; for any other it is the place in
-    /// its item. Tokens, the end and `add_define` leave it as it is. Before the first error it is [`NOWHERE`], and once
-    /// memory was refused nothing is said of it.
+    /// An error of the lexer has the place (0, 0, line 1) in its item. Here its place is that of the characters that it
+    /// took, in the text, on the line of a directive, in dead text or on a line that is skipped. For any other error it
+    /// is the place in its item. Tokens, the end and `add_define` leave it as it is. Before the first error it is
+    /// [`NOWHERE`]. After an `OutOfMemory` its value is not specified.
     pub fn place(&self) -> Location
         ensures { result ≡ error_place self.now }
     {
         self.place
     }
 
-    /// The line of the macro call from which the token comes that `next` gave last, as a token's place has it.
+    /// Returns the line of the macro call that gave the last token that `next` returned, numbered as in a token's
+    /// place.
     ///
-    /// It is that of the outermost macro that is open: the line of its name, or of the `)` of its call. `None` if no macro is
-    /// open, as after a token of the source itself; so too after the name of a macro with parameters that ends the body of
-    /// another, if no `(` follows. The place of a token that a macro gives is in that macro's definition, or in the content
-    /// that `add_define` was given. It is as `next` left it, and after an error nothing is said of it.
+    /// It is the line of the outermost macro that is open: the line of its name, or of the `)` of its call. It is
+    /// `None` if no macro is open, as after a token of the source itself. It is also `None` after the name of a macro
+    /// with parameters that ends the body of another macro, if no `(` follows. (The place of a token that a macro gives
+    /// is in that macro's definition, or in the content that `add_define` was given.) It stays as the last `next` left
+    /// it. After an error its value is not specified.
     pub fn call_line(&self) -> Option<u32>
         ensures { IsCallLine result self.now }
     {
         self.caller.outermost_line()
     }
 
-    /// Lets the name stand for an object-like macro from now on, whatever it stood for, as `Preprocessor::add_define` of
-    /// pp-rs 0.2.1 does.
+    /// Defines the name as an object-like macro, replacing any definition of it, as `Preprocessor::add_define` of pp-rs
+    /// 0.2.1 does.
     ///
-    /// The tokens of the content are its body, without the newlines. Their places are byte offsets and 1-based lines in
-    /// the content, which has fewer than 2^32 - 1 bytes. The name isn't checked: one that is no identifier is never met.
+    /// The macro's body is the tokens of the content, without the newlines. Their places are byte offsets and 1-based
+    /// lines in the content, which must have fewer than 2^32 - 1 bytes. The name isn't checked: a name that is no
+    /// identifier never matches a token.
     ///
-    /// The error is the first in the content: the lexer's, or `UnexpectedHash` at a number sign. It is `OutOfMemory`, in
-    /// place of any other, where memory is refused. After an error nothing is changed. It may be called between any two
-    /// calls of `next`, also once memory was refused there, though `next` stays at `None` then.
+    /// The error is the first one in the content: an error of the lexer, or `UnexpectedHash` at a number sign. If an
+    /// allocation fails, the error is `OutOfMemory` instead. After an error nothing is changed. Call it between any two
+    /// calls of `next`. It may also be called after `next` returned `OutOfMemory`, though `next` returns only `None`
+    /// then.
     pub fn add_define(
         &mut self,
         name: &str,

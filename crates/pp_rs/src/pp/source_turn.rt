@@ -6,27 +6,27 @@ ghost use Rattle.pp_lexer.specs.declared.token.PreprocessorError.TheVariants.{Li
 ghost use Rattle.pp_model.specs.Emitting.{expansion_limit};
 ghost use Rattle.pp_model.specs.Painting.{unpainted};
 ghost use Rattle.pp_model.specs.declared.read.Taken.TheVariants as given;
-ghost use Rattle.pp_expansion.specs.Held.{HoldsOrdinary};
-ghost use Rattle.pp_expansion.specs.inner.Idle.{gives_itself, HoldsWord};
-ghost use Rattle.pp_expansion.specs.inner.Reader.{of_source};
+ghost use Rattle.pp_macros.specs.Held.{HoldsOrdinary};
+ghost use Rattle.pp_macros.specs.inner.Idle.{gives_itself, HoldsWord};
+ghost use Rattle.pp_macros.specs.inner.Reader.{of_source};
 ghost use Rattle.pp_rs.specs.inner.SourceTurns.{FollowsCall, StepsOver};
-ghost use Rattle.pp_expansion.specs.inner.Turns.{taken_in};
-ghost use Rattle.pp_expansion.specs.declared.step.StepExit.TheVariants.{Error};
+ghost use Rattle.pp_macros.specs.inner.Turns.{taken_in};
+ghost use Rattle.pp_macros.specs.declared.step.StepExit.TheVariants.{Error};
 
 use crate::pp::preprocessor_step::step_source;
 use crate::token::{Token, TokenValue};
-use pp_expansion::arguments::finish_call;
-use pp_expansion::calls::{Call, Caller, Taken};
-use pp_expansion::expander::{is_line_name, make_line_number};
-use pp_expansion::open_around::OpenAround;
-use pp_expansion::reader::MeLexer;
-use pp_expansion::step::{Step, StepExit};
-use pp_source::directives::DirectiveProcessor;
-use pp_source::limit::expansion_limit;
+use pp_directives::directives::DirectiveProcessor;
+use pp_directives::limit::expansion_limit;
+use pp_macros::arguments::finish_call;
+use pp_macros::calls::{Call, Caller, Taken};
+use pp_macros::expander::{is_line_name, make_line_number};
+use pp_macros::open_around::OpenAround;
+use pp_macros::reader::MeLexer;
+use pp_macros::step::{Step, StepExit};
 use std::alloc::Global;
 
-// Finishes a call, over the definitions of the source, with nothing open around. It stands apart,
-// so that other steps are moved without it.
+// Finishes a call, over the definitions of the source, with nothing open around. It is a function of its own, so that
+// the results of other steps are moved without it.
 #[inline(never)]
 fn follow_call(
     alloc: Global,
@@ -50,7 +50,7 @@ fn follow_call(
     Err(StepExit::Continue)
 }
 
-// One step of the expander over a source, after which a call is finished at once.
+// One step of the expander over a source. A call that it finds is finished at once.
 #[inline(always)]
 fn turn_caller(
     alloc: Global,
@@ -66,7 +66,7 @@ fn turn_caller(
     }
 }
 
-// Whether the value is given as it stands in the source, where no macro is open.
+// Whether a value of the source is given unchanged if no macro is open.
 #[inline(always)]
 fn gives_itself(source: &DirectiveProcessor<'_>, value: &TokenValue) -> bool
     ensures { result ≡ gives_itself source.now value.now }
@@ -77,8 +77,7 @@ fn gives_itself(source: &DirectiveProcessor<'_>, value: &TokenValue) -> bool
     }
 }
 
-// What a token of the source becomes when it is taken, where no macro is open: `__LINE__` is a
-// number at once.
+// A token of the source as it is taken if no macro is open: `__LINE__` becomes a number at once.
 fn take_in(source: &DirectiveProcessor<'_>, token: Token) -> Step<Token>
     requires { HoldsOrdinary token.value }
     ensures taken { MatchResult result
@@ -98,8 +97,8 @@ fn take_in(source: &DirectiveProcessor<'_>, token: Token) -> Step<Token>
     Ok(make_line_number(shown, location))
 }
 
-// Holds a token of the source that is `__LINE__` or may open a macro, where none is open: it is then
-// the next step of the expander.
+// Holds a token of the source that is `__LINE__` or may open a macro, while no macro is open. The next step of the
+// expander then takes it.
 #[inline(never)]
 fn hold_word(caller: &mut Caller, source: &DirectiveProcessor<'_>, word: Token) -> Step<()>
     requires { HoldsOrdinary word.value }
@@ -110,9 +109,9 @@ fn hold_word(caller: &mut Caller, source: &DirectiveProcessor<'_>, word: Token) 
     Ok(())
 }
 
-/// One step of the expander over a source, after which a call is finished at once.
+/// One step of the expander over a source. A call that it finds is finished at once.
 ///
-/// A plain token of the source, where no macro is open, is given at once.
+/// If no macro is open, an ordinary token of the source that opens none is given at once.
 #[inline(always)]
 pub fn turn_source(
     alloc: Global,

@@ -9,11 +9,11 @@ ghost use Rattle.pp_lexer.specs.Spelling.{integer_literal, spelling, spelled_tex
 use crate::token::{Integer, Location, PreprocessorError, Token, TokenValue, out_of_memory};
 use std::alloc::{AllocError, Global};
 
-/// The text of ordinary tokens, with one space between each two and none at the ends.
+/// Returns the text of ordinary tokens, with one space between each two and none at the ends.
 ///
-/// A word and a float have their text, an integer its decimal digits with `u` where it is
-/// unsigned, a punctuator its characters. No tokens give the empty text. The one refusal is
-/// `OutOfMemory`, at the start of the source.
+/// A word and a float have their text, an integer its decimal digits and a `u` if it is unsigned, a
+/// punctuator its characters. No tokens give the empty text. The only error is `OutOfMemory`, with
+/// the place (0, 0, line 1), if an allocation fails.
 pub fn spell_tokens(
     alloc: Global,
     tokens: &[Token],
@@ -46,9 +46,9 @@ fn join_spellings(alloc: Global, tokens: &[Token]) -> Result<String, AllocError>
     Ok(text)
 }
 
-/// Puts the text of an ordinary token at the end, as `spell_tokens` spells it.
+/// Appends the text of an ordinary token, as `spell_tokens` spells it.
 ///
-/// Fails only where memory is refused, and a part of it may have been put there then.
+/// Fails only if an allocation fails. A part of the text may have been appended then.
 pub fn push_value(text: &mut String, value: &TokenValue) -> Result<(), AllocError>
     requires { IsTrue (is_ordinary value.now) }
     ensures { OnOk result (chars (string_bytes text.new)

@@ -1,10 +1,10 @@
-//! Calls that test themselves whether a text is short enough.
+//! Calls that check themselves whether a text is short enough.
 
 ghost use Rattle.std.specs.Prelude.{◌≡◌, ◌-◌, ◌^◌, ◌<◌, ◌↔◌, false, length, IsSome, IfSome, Some};
 ghost use Rattle.std.specs.IoError.{error_kind};
 ghost use Rattle.pp_lexer.specs.Location.{nowhere};
 ghost use Rattle.pp_model.specs.Run.{items_of, start};
-ghost use Rattle.pp_expansion.specs.LexerErrors.{lexer_errors};
+ghost use Rattle.pp_macros.specs.LexerErrors.{lexer_errors};
 ghost use Rattle.pp_rs.specs.Kept.{Stands, is_spent, errors_left, error_place};
 ghost use Rattle.pp_rs.specs.Trying.{IsTried, add_sentence};
 
@@ -20,7 +20,7 @@ use std::{fmt, io};
 pub enum AddError {
     /// The content has [`SOURCE_LIMIT`] bytes or more.
     TooLong,
-    /// The content has this error, at its place in the content, or memory was refused.
+    /// The content has this error, at its place in the content, or an allocation failed.
     Refused(PlacedError),
 }
 
@@ -50,9 +50,10 @@ impl From<AddError> for io::Error {
 }
 
 impl<'a> Preprocessor<'a> {
-    /// A preprocessor of the source, or `None` for a source of [`SOURCE_LIMIT`] bytes or more.
+    /// Returns a preprocessor of the source, or `None` for a source of [`SOURCE_LIMIT`] bytes or
+    /// more.
     ///
-    /// Takes no memory and reads nothing yet.
+    /// It allocates nothing and reads nothing yet.
     pub fn try_new(alloc: Global, input: &'a str) -> Option<Preprocessor<'a>>
         ensures short { IsSome result ↔ (length input.now < 2 ^ 32 - 1) }
         ensures unspent { IfSome result (λ pp. is_spent pp ≡ false) }
@@ -66,7 +67,8 @@ impl<'a> Preprocessor<'a> {
         Some(Preprocessor::new(alloc, input))
     }
 
-    /// The same as `add_define`, and `TooLong` for a content of [`SOURCE_LIMIT`] bytes or more.
+    /// Does the same as `add_define`, but returns `TooLong` for a content of [`SOURCE_LIMIT`] bytes
+    /// or more.
     ///
     /// After an error nothing is changed.
     pub fn try_add_define(&mut self, name: &str, content: &str) -> Result<(), AddError>

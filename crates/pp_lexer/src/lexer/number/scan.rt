@@ -1,4 +1,4 @@
-//! How far the longest number goes.
+//! The length of the longest number.
 
 ghost use Rattle.std.specs.Prelude.{◌≡◌, ◌≤◌, ◌==◌, ◌||◌, if◌then◌else◌, IsTrue, IsSome, option_map};
 ghost use Rattle.std.specs.Char.{is_digit};
@@ -81,7 +81,7 @@ fn take_digits(radix: u32, text: &mut Scanner<'_>)
     }
 }
 
-// Takes the next character if it is one of the two, and says whether it did.
+// Takes the next character if it is one of the two, and returns whether it did.
 fn take_either(first: char, second: char, text: &mut Scanner<'_>) -> bool
     ensures test { result ≡ begins_with (λ c. (c == first) || (c == second)) (upcoming text.old) }
     ensures moved { text.new ≡ further (if result then 1 else 0) text.old }
@@ -96,7 +96,7 @@ fn take_either(first: char, second: char, text: &mut Scanner<'_>) -> bool
     true
 }
 
-// Takes the next character if it is the wanted one, and says whether it did.
+// Takes the next character if it is `wanted`, and returns whether it did.
 fn take_char(wanted: char, text: &mut Scanner<'_>) -> bool
     ensures test { result ≡ begins_with (λ c. c == wanted) (upcoming text.old) }
     ensures moved { text.new ≡ further (if result then 1 else 0) text.old }
@@ -111,7 +111,7 @@ fn take_char(wanted: char, text: &mut Scanner<'_>) -> bool
     true
 }
 
-// Takes an exponent, if one stands here.
+// Takes an exponent, if there is one here.
 fn take_exponent(text: &mut Scanner<'_>)
     ensures { Takes exponent text.old text.new }
 {
@@ -130,7 +130,7 @@ fn take_fraction(text: &mut Scanner<'_>)
     take_exponent(text)
 }
 
-// Takes what stands after `0x`.
+// Takes what follows `0x`.
 fn take_hex(text: &mut Scanner<'_>)
     ensures { Takes (many is_hex hex_tail) text.old text.new }
 {
@@ -169,7 +169,7 @@ fn take_longest(text: &mut Scanner<'_>)
     take_decimal(text)
 }
 
-// Takes the longest number here, and says how many characters it has.
+// Takes the longest number here, and returns how many characters it has.
 pub fn take_number(inner: &mut LexerCharIterator<'_>) -> u32
     requires { IsTrue (begins_number (letters inner.old.rest)) }
     ensures length { result ≡ longest is_number (letters inner.old.rest) }

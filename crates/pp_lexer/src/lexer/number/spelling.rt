@@ -1,4 +1,4 @@
-//! The spelling of a number, read again without memory.
+//! The spelling of a number, read again without an allocation.
 
 ghost use Rattle.std.specs.Prelude.{◌≡◌, ◌==◌, ◌||◌, take};
 ghost use Rattle.pp_lexer.specs.NumberValue.{float_text};
@@ -10,7 +10,7 @@ ghost use Rattle.pp_lexer.specs.Surroundings.{begins_with};
 use crate::lexer::char_iterator::LexerCharIterator;
 use std::marker::Model;
 
-// The characters at the front of a reader, so many of them.
+// The characters at the front of a reader, as many as `left` says.
 #[derive(Drop)]
 pub struct Spelling<'a> {
     inner: LexerCharIterator<'a>,
@@ -57,7 +57,7 @@ impl<'a> Spelling<'a> {
         Some(c)
     }
 
-    // The next character, which stays where it is.
+    // Peeks at the next character.
     pub fn peek(&self) -> Option<char>
         ensures { result ≡ next_of self.now }
     {
@@ -86,7 +86,7 @@ impl<'a> Model for FloatText<'a> {
     ghost view = { λ s. float_text s.spelling };
 }
 
-// The next character of the float's text that the rest of the spelling gives.
+// Takes the next character of the float's text from the rest of the spelling.
 fn next_of_text(spelling: &mut Spelling<'_>) -> Option<char>
     ensures value { result ≡ next_of (float_text spelling.old) }
     ensures state { float_text spelling.new ≡ after_first (float_text spelling.old) }
@@ -118,7 +118,7 @@ impl<'a> FloatText<'a> {
         next_of_text(&mut self.spelling)
     }
 
-    // The next character, which stays where it is.
+    // Peeks at the next character.
     fn peek(&self) -> Option<char>
         ensures { result ≡ next_of self.now }
     {

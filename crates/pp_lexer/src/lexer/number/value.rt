@@ -1,4 +1,4 @@
-//! What a number is worth.
+//! The value of a number literal.
 
 ghost use Rattle.std.specs.Prelude.{◌≡◌, ◌≤◌, ◌==◌, ◌||◌, drop, if◌then◌else◌, IfOk};
 ghost use Rattle.std.specs.List.{list_any};
@@ -42,7 +42,7 @@ fn has_octal_mark(word: &Spelling<'_>) -> bool
     }
 }
 
-// Whether there is a point, or outside of the `0x` form an `e`.
+// Whether there is a point or, in a number without `0x`, an `e`.
 fn has_float_mark(hex: bool, word: &mut Spelling<'_>) -> bool
     ensures { result ≡ list_any (is_float_mark hex) word.old }
 {
@@ -63,7 +63,7 @@ pub fn is_float(word: &Spelling<'_>) -> bool
     has_float_mark(has_hex_mark(word), &mut word.twin())
 }
 
-// The value of one digit or more.
+// The value of at least one digit.
 fn whole_value(base: u32, text: &mut Spelling<'_>) -> Option<u64>
     requires low { 2 ≤ base }
     requires high { base ≤ 36 }
@@ -96,7 +96,7 @@ fn integer(signed: bool, value: Option<u64>) -> Result<TokenValue, PreprocessorE
     }
 }
 
-// The integer that is spelled so.
+// The integer with this spelling.
 pub fn read_integer(signed: bool, word: &Spelling<'_>) -> Result<TokenValue, PreprocessorError>
     ensures { result ≡ integer_value signed word.now }
 {
@@ -112,7 +112,7 @@ pub fn read_integer(signed: bool, word: &Spelling<'_>) -> Result<TokenValue, Pre
     integer(signed, whole_value(10, &mut text))
 }
 
-// Passes the digits, and says whether there was one.
+// Passes the digits, and returns whether there was one.
 fn skip_digits(text: &mut FloatText<'_>) -> bool
     ensures any { result ≡ begins_with is_decimal text.old }
     ensures state { text.new ≡ drop (front_len is_decimal text.old) text.old }
@@ -126,7 +126,7 @@ fn skip_digits(text: &mut FloatText<'_>) -> bool
     }
 }
 
-// Passes the next character if it is one of the two, and says whether it did.
+// Passes the next character if it is one of the two, and returns whether it did.
 fn skip_either(first: char, second: char, text: &mut FloatText<'_>) -> bool
     ensures test { result ≡ begins_with (λ c. (c == first) || (c == second)) text.old }
     ensures state { text.new ≡ drop (if result then 1 else 0) text.old }
@@ -138,7 +138,7 @@ fn skip_either(first: char, second: char, text: &mut FloatText<'_>) -> bool
     found
 }
 
-// Passes the next character if it is the wanted one, and says whether it did.
+// Passes the next character if it is `wanted`, and returns whether it did.
 fn skip_char(wanted: char, text: &mut FloatText<'_>) -> bool
     ensures test { result ≡ begins_with (λ c. c == wanted) text.old }
     ensures state { text.new ≡ drop (if result then 1 else 0) text.old }
@@ -150,7 +150,7 @@ fn skip_char(wanted: char, text: &mut FloatText<'_>) -> bool
     found
 }
 
-// Whether an exponent with a digit, or nothing, is all that is left.
+// Whether the rest is an exponent with a digit, or nothing.
 fn ends_in_exponent(text: &mut FloatText<'_>) -> bool
     ensures { result ≡ float_exponent text.old }
 {
@@ -195,7 +195,7 @@ fn gather(alloc: Global, text: &mut FloatText<'_>) -> Result<Text, AllocError>
     }
 }
 
-// The float that is spelled so. The outer error is that its text found no memory.
+// The float with this spelling. The outer error is that its text could not be allocated.
 pub fn read_float(
     alloc: Global,
     word: &Spelling<'_>,

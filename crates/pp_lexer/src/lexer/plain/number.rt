@@ -1,4 +1,4 @@
-//! Decimal integers and floats of plain text.
+//! Decimal integers and floats of ASCII text.
 
 ghost use Rattle.std.specs.Prelude.{⊤, ◌≡◌, ◌<◌, ◌≤◌, true, false, length, take, IsTrue, IfSome, MatchOption};
 ghost use Rattle.std.specs.List.{list_all};
@@ -17,7 +17,7 @@ fn is_digit(byte: u8) -> bool
     byte >= 48 && byte < 58
 }
 
-// How many decimal digits stand at the front.
+// How many decimal digits there are at the front.
 #[inline(always)]
 fn digits_length(bytes: &[u8]) -> usize
     ensures within { result ≤ length bytes.now }
@@ -45,7 +45,7 @@ fn decimal_value(digits: &[u8]) -> Option<u64>
     Some(value)
 }
 
-// Whether the text ends there, or goes on with a byte which shows that the number ends there and has no suffix.
+// Whether the text ends at `at`, or goes on with a byte which shows that the number ends there and has no suffix.
 #[inline(always)]
 fn ends_number(bytes: &[u8], at: usize) -> bool
     ensures { IsTrue result → Stops continues_number bytes.now at }
@@ -57,7 +57,7 @@ fn ends_number(bytes: &[u8], at: usize) -> bool
     next < 128 && next != 92 && !(continues(next) || next == 46)
 }
 
-// Whether one of the two letters stands there, and the number ends after it.
+// Whether one of the two letters is at `at`, and the number ends after it.
 #[inline(always)]
 fn ends_in_suffix(bytes: &[u8], at: usize, small: u8, capital: u8) -> bool
     ensures { IsTrue result → IsSuffixed small capital bytes.now at }
@@ -68,7 +68,8 @@ fn ends_in_suffix(bytes: &[u8], at: usize, small: u8, capital: u8) -> bool
     ends_number(bytes, at + 1)
 }
 
-// The integer of so many digits at the front, and of a `u` after them.
+// The integer of the `digits` digits at the front, and of a `u` after them, if the bytes after it show that it ends
+// there.
 #[inline(always)]
 fn plain_integer(bytes: &[u8], digits: usize) -> Option<Word>
     requires utf8 { IsUtf8 bytes.now }
@@ -98,7 +99,7 @@ fn plain_integer(bytes: &[u8], digits: usize) -> Option<Word>
     None
 }
 
-/// The decimal integer or float at the front, if the bytes after it say that it ends there.
+/// The decimal integer or float at the front, if the bytes after it show that it ends there.
 #[inline(always)]
 pub fn plain_number(bytes: &[u8]) -> Option<Word>
     requires { IsUtf8 bytes.now }

@@ -1,4 +1,4 @@
-//! Punctuators of plain text, and `#`.
+//! Punctuators of ASCII text, and `#`.
 
 ghost use Rattle.std.specs.Prelude.{⊤, ◌≡◌, ◌<◌, ◌∷◌, [], ◌&&◌, ◌||◌, length, slice_index, Some, MatchOption};
 ghost use Rattle.std.specs.Str.{IsUtf8};
@@ -65,7 +65,7 @@ fn before_equals(first: u8) -> Option<Punct>
     }
 }
 
-// The punctuator of this character twice, which is no equals sign.
+// The punctuator of this character twice, for a character other than `=`.
 #[inline(always)]
 fn doubled(first: u8) -> Option<Punct>
     ensures { result ≡ doubled first }
@@ -114,7 +114,7 @@ fn triple(first: u8, second: u8, third: u8) -> Option<Punct>
     }
 }
 
-// The longest punctuator at the front, where the first two characters make this one.
+// The longest punctuator at the front, whose first two characters make the punctuator `two`.
 fn long_punctuator(bytes: &[u8], two: Punct) -> Option<Word>
     requires utf8 { IsUtf8 bytes.now }
     requires some { 1 < length bytes.now }
@@ -142,7 +142,7 @@ fn long_punctuator(bytes: &[u8], two: Punct) -> Option<Word>
     }
 }
 
-// Whether the first character is a comment's or a number's, as the next one shows.
+// Whether the first character begins a comment or a number, as the next one shows.
 #[inline(always)]
 fn begins_other(first: u8, second: u8) -> bool
     ensures { result ≡ ((is_point first && is_decimal second) || begins_comment first second) }
@@ -153,7 +153,7 @@ fn begins_other(first: u8, second: u8) -> bool
     first == 47 && (second == 47 || second == 42)
 }
 
-/// The punctuator or the `#` at the front, if the next bytes say that it ends there.
+/// The punctuator or the `#` at the front, if the next bytes show that it ends there.
 #[inline(always)]
 pub fn plain_punctuation(bytes: &[u8]) -> Option<Word>
     requires utf8 { IsUtf8 bytes.now }

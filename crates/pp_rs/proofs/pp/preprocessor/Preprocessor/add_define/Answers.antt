@@ -2,7 +2,7 @@ use Rattle.std.proofs.Common.{subst, sym}
 use Rattle.std.specs.Str.{chars}
 use Rattle.pp_rs.specs.inner.Fit.{IsFit, IsReported}
 use Rattle.pp_rs.specs.Kept.{Preprocessing}
-use Rattle.pp_expansion.specs.inner.Source.{Source}
+use Rattle.pp_macros.specs.inner.Source.{Source}
 use Rattle.pp_rs.proofs.runs.AddingLemmas.{added_now, faulty_now, refused_now, fit_added, reported_added}
 use Rattle.pp_rs.proofs.pp.preprocessor.Preprocessor.add_define.Goals.{in-Ok, in-Err-Fault, in-Err-OutOfMemory}
 use Rattle.pp_rs.proofs.pp.preprocessor.Preprocessor.add_define.Goals as goal

@@ -1,7 +1,7 @@
 use Rattle.std.proofs.Common.{◌∙◌, ap, sym}
 use Rattle.pp_model.specs.SpliceList.{outermost_line}
-use Rattle.pp_expansion.specs.inner.Frames.{outermost_frame_line}
-use Rattle.pp_expansion.proofs.open_frames.FlatLemmas.{outermost_flat}
+use Rattle.pp_macros.specs.inner.Frames.{outermost_frame_line}
+use Rattle.pp_macros.proofs.open_frames.FlatLemmas.{outermost_flat}
 use Rattle.pp_rs.specs.Kept.{Stands}
 use Rattle.pp_rs.proofs.pp.preprocessor.Preprocessor.call_line.Goals as goal
 

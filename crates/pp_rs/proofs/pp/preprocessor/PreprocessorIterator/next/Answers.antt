@@ -1,7 +1,7 @@
 use Rattle.std.proofs.Common.{◌≡◌, ◌∙◌, refl, ap, sym, false, Option, arith}
 use Rattle.std.specs.Prelude.{unwrap_or}
 use Rattle.pp_lexer.specs.declared.token.Location.{Location}
-use Rattle.pp_expansion.specs.Item.{Fault, is_out_of_memory}
+use Rattle.pp_macros.specs.Item.{Fault, is_out_of_memory}
 use Rattle.pp_rs.proofs.runs.PausesLemmas.{reached_on}
 use Rattle.pp_rs.proofs.runs.NextLemmas.{reached_first, reached_more, falls_more, token_fits, end_fits, fault_fits, next_token, next_end, next_error, next_none}
 use Rattle.pp_rs.proofs.pp.preprocessor.PreprocessorIterator.next.Goals as goal

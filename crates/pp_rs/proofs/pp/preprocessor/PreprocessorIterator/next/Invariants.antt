@@ -1,7 +1,7 @@
 use Rattle.std.proofs.Common.{◌≡◌, false}
 use Rattle.pp_model.specs.Emitting.{expansion_limit}
-use Rattle.pp_expansion.specs.inner.Left.{work_of}
-use Rattle.pp_expansion.specs.inner.Reader.{of_source}
+use Rattle.pp_macros.specs.inner.Left.{work_of}
+use Rattle.pp_macros.specs.inner.Reader.{of_source}
 use Rattle.pp_rs.proofs.runs.NextLemmas.{Reached}
 use Rattle.pp_rs.proofs.pp.preprocessor.PreprocessorIterator.next.Given as goal
 

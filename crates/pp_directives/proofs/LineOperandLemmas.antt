@@ -1,0 +1,104 @@
+-- The operand of a `defined`, as the code reads it.
+use Rattle.std.proofs.Common.{◌≡◌, ◌∙◌, ℕ, Bool, true, false, List, refl, sym, ap, Option, Some, None}
+use Rattle.std.specs.Prelude.{Result, Ok, Err, is_some}
+use Rattle.pp_lexer.specs.declared.token.Location.{Location}
+use Rattle.pp_model.specs.declared.read.Read.{Read}
+use Rattle.pp_model.specs.Names.{Name}
+use Rattle.pp_model.specs.Reading.{Expander, Listed, line_reading}
+use Rattle.pp_model.specs.Calls.{Fault}
+use Rattle.pp_model.specs.Emitting.{Emits, answers_at}
+use Rattle.pp_model.specs.LineWords.{Operand, is_defined, name_in, unwanted, unwanted_word}
+use Rattle.pp_model.specs.inner.LineWords.{is_open_paren, is_close_paren}
+use Rattle.pp_model.specs.LineWords as line
+use Rattle.pp_model.specs.inner.WordsRead.{Closes, Parenthesized, unclosed, closed, no_name, named}
+use Rattle.pp_model.specs.declared.read.Taken.TheVariants as given
+use Rattle.pp_model.specs.declared.word.LineKind.{LineKind}
+use Rattle.pp_model.proofs.WordLemmas.{operand_parenthesized}
+use Rattle.pp_macros.specs.inner.Defined.{Defined, meaning_of}
+use Rattle.pp_directives.specs.inner.LineItems.{ReadsOn, ReadsItem, ReadsTaken, ReadsClosed, ReadsParenthesized, ReadsOperand, expander_of, outcome_of, outcome_of_item}
+use Rattle.pp_macros.specs.inner.Machine.{Machine}
+use Rattle.pp_macros.specs.inner.Reader.{Listing}
+use Rattle.pp_macros.specs.declared.halt.Halt.{Halt}
+use Rattle.pp_macros.specs.declared.halt.Halt.TheVariants as halt
+use Rattle.pp_directives.proofs.LineReadLemmas.{reads_broken, reads_then}
+
+-- a name is defined there where it is defined
+defined_there : (levels : ℕ) (definitions : List Defined) (m n : Machine) (l k : Listing) (name : Name) (b : Bool)
+    → ReadsOn levels definitions m l n k → b ≡ is_some (meaning_of definitions name)
+    → ◌≡◌ {A = Result Bool Fault} (Ok b) (Ok (is_defined (expander_of n k) name))
+defined_there levels definitions m n l k name b after is = ap (λ (x : Bool). let r : Result Bool Fault = Ok x in r) (is
+    ∙ ap (λ (ds : List Defined). is_some (meaning_of ds name)) (sym after.stands.defined))
+
+reported_fault : (fault wanted : Fault) → fault ≡ wanted → ◌≡◌ {A = Result Bool Fault} (Err fault) (Err wanted)
+reported_fault fault wanted is = ap (λ (f : Fault). let r : Result Bool Fault = Err f in r) is
+
+module _ (kind : LineKind) (directive : Location) (levels : ℕ) (definitions : List Defined) (m : Machine) (l : Listing) (n : Machine) (k : Listing) where
+  -- after the `(` and the name
+  pub closed_broken : (name : Name) (h : Halt) (r : Result Bool Halt) → r ≡ Err h → ReadsItem levels definitions m l (Err h) n k
+      → ReadsClosed kind directive levels definitions name m l r n k
+  closed_broken name h r is reads =
+      reads_broken levels definitions m l (λ (item : Result (Option Read) Fault) (f : Expander Listed). Emits line_reading (answers_at levels)
+      (expander_of m l) (outcome_of_item item) f)
+      (λ (answer : Result Bool Fault) (f : Expander Listed). Closes kind directive (answers_at levels) name
+      (expander_of m l) answer f) h n n k k r is (λ fault f emits. unclosed (given.Fault fault) (expander_of m l) f (Err fault) emits refl refl) reads
+
+  module _ (found : Option Read) (item : ReadsItem levels definitions m l (Ok found) n k) where
+    pub closed_answer : (name : Name) (b : Bool) → is_close_paren (outcome_of found) ≡ true → b ≡ is_some (meaning_of definitions name)
+        → ReadsClosed kind directive levels definitions name m l (Ok b) n k
+    closed_answer name b close is = (
+      closed (outcome_of found) (expander_of m l) (expander_of n k) (Ok b) item.0 close
+          (defined_there levels definitions m n l k name b item.1 is),
+      item.1,
+    )
+
+    pub closed_fault : (name : Name) (fault : Fault) → is_close_paren (outcome_of found) ≡ false
+        → fault ≡ unwanted_word kind directive (outcome_of found) → ReadsClosed kind directive levels definitions name m l (Err (halt.Fault fault)) n k
+    closed_fault name fault still is = (
+      expander_of n k,
+      unclosed (outcome_of found) (expander_of m l) (expander_of n k) (Err fault) item.0 still
+          (reported_fault fault (unwanted_word kind directive (outcome_of found)) is),
+    )
+
+  module _ (found : Option Read) (taken : ReadsTaken levels definitions m l (Ok found) n k) where
+    -- after the `(`
+    pub parenthesized_name : (name : Name) (r : Result Bool Halt) (p : Machine) (q : Listing) → name_in (outcome_of found) ≡ Some name
+        → ReadsClosed kind directive levels definitions name n k r p q → ReadsParenthesized kind directive levels definitions m l r p q
+    parenthesized_name name r p q is reads =
+        reads_then levels definitions m l (λ (answer : Result Bool Fault) (f : Expander Listed). Closes kind directive (answers_at levels) name
+        (expander_of n k) answer f)
+        (λ (answer : Result Bool Fault) (f : Expander Listed). Parenthesized kind directive (answers_at levels) (expander_of m l) answer f) n p k q r taken.1
+        (λ answer f closes. named (outcome_of found) name (expander_of m l) (expander_of n k) f answer taken.0 is closes) reads
+
+    pub parenthesized_fault : (fault : Fault) → (name_in (outcome_of found) ≡ None) × (fault ≡ unwanted directive (outcome_of found))
+        → ReadsParenthesized kind directive levels definitions m l (Err (halt.Fault fault)) n k
+    parenthesized_fault fault is = (
+      expander_of n k,
+      no_name (outcome_of found) (expander_of m l) (expander_of n k) (Err fault) taken.0 is.0
+          (reported_fault fault (unwanted directive (outcome_of found)) is.1),
+    )
+
+    -- the whole operand
+    pub operand_opened : (r : Result Bool Halt) (p : Machine) (q : Listing) → is_open_paren (outcome_of found) ≡ true
+        → ReadsParenthesized kind directive levels definitions n k r p q → ReadsOperand kind directive levels definitions m l r p q
+    operand_opened r p q open_paren reads =
+        reads_then levels definitions m l (λ (answer : Result Bool Fault) (f : Expander Listed). Parenthesized kind directive (answers_at levels)
+        (expander_of n k) answer f)
+        (λ (answer : Result Bool Fault) (f : Expander Listed). Operand kind directive (answers_at levels) (expander_of m l) answer f) n p k q r taken.1
+        (λ answer f within. operand_parenthesized kind directive (answers_at levels) (outcome_of found) (expander_of m l)
+        (expander_of n k) f answer taken.0 open_paren within) reads
+
+    pub operand_name : (name : Name) (b : Bool) → name_in (outcome_of found) ≡ Some name → b ≡ is_some (meaning_of definitions name)
+        → ReadsOperand kind directive levels definitions m l (Ok b) n k
+    operand_name name b is answer = (
+      line.name (outcome_of found) name (expander_of m l) (expander_of n k) (Ok b) taken.0 is
+          (defined_there levels definitions m n l k name b taken.1 answer),
+      taken.1,
+    )
+
+    pub operand_fault : (fault : Fault) → is_open_paren (outcome_of found) ≡ false → (name_in (outcome_of found) ≡ None)
+        × (fault ≡ unwanted directive (outcome_of found)) → ReadsOperand kind directive levels definitions m l (Err (halt.Fault fault)) n k
+    operand_fault fault still is = (
+      expander_of n k,
+      line.neither (outcome_of found) (expander_of m l) (expander_of n k)
+          (Err fault) taken.0 is.0 still (reported_fault fault (unwanted directive (outcome_of found)) is.1),
+    )

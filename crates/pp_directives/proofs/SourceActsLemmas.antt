@@ -1,0 +1,204 @@
+-- A directive acts after its word, and after its number sign.
+use Rattle.std.proofs.Common.{◌≡◌, ℕ, ◌+◌, ◌<◌, ◌≤◌, Bool, true, List, length, drop, Option, Some, None, Result, Ok, Err, inl, inr, refl, sym, ◌∙◌, ap, subst, arith}
+use Rattle.std.specs.Prelude.{ℤ, ◌-ℤ◌, pos}
+use Rattle.std.specs.Result.{IsErrAnd}
+use Rattle.std.proofs.lemmas.List.{drop-drop}
+use Rattle.pp_lexer.specs.declared.token.Location.{Location}
+use Rattle.pp_lexer.specs.declared.token.Token.{Token}
+use Rattle.pp_model.specs.Calls.{Fault}
+use Rattle.pp_model.specs.Definitions.{Definition}
+use Rattle.pp_model.specs.declared.definition.Named.{Named}
+use Rattle.pp_model.specs.DefineLines.{defined_on}
+use Rattle.pp_model.specs.Lines.{line_length}
+use Rattle.pp_model.specs.declared.directive.Directive.TheVariants as d
+use Rattle.pp_macros.specs.inner.Defined.{Defined, meaning_of}
+use Rattle.pp_macros.specs.inner.LineReading.{Meets, TakesItems, HasTaken}
+use Rattle.pp_macros.specs.inner.OpenBlocks.{last_block}
+use Rattle.pp_macros.specs.declared.blocks.OpenBlock.{OpenBlock}
+use Rattle.pp_macros.specs.inner.Source.{Source, IsAfter, IsAfterFault, DefinesOver, HasEffect, Decides, holds, faulty, Renumbers, numbers, unnumbered}
+use Rattle.pp_directives.specs.inner.SourceActs.{HasKept, RedefinesWith, FailsWith, Acts, Gives, defining}
+use Rattle.pp_macros.specs.inner.SourceLexed.{SourceLexed}
+use Rattle.pp_macros.specs.inner.SourceMoves.{Effect, gives, gives_item, fails, ends, passes, defines, undefines, opens_where, opens_if, opens_unread, parts, parts_if, closes, unfinished, renumbers, Note, unnoted, Move, directive_move, line_move}
+use Rattle.pp_macros.specs.inner.Turns.{as_pause}
+use Rattle.pp_macros.specs.declared.halt.Halt.{Halt}
+use Rattle.pp_macros.specs.declared.halt.Halt.TheVariants as halt
+use Rattle.pp_macros.specs.declared.step.StepExit.TheVariants.{Error, Finished}
+use Rattle.pp_directives.proofs.LineReadingLemmas.{drop_fewer}
+
+-- an error that is known is the result
+pub err_result : {A E : Type 0} (r : Result A E) (h : E) → IsErrAnd r (λ e. e ≡ h) → r ≡ Err h
+err_result (Ok value) h e = absurd e
+err_result (Err other) h e = ap Err e
+
+-- a source after this lexer
+abbrev pub source_of : SourceLexed → List Defined → List OpenBlock → ℤ → Bool → Bool → Bool → Source
+source_of l definitions blocks line_offset has_text has_directive dead =
+    record {
+      rest = l.rest;
+      places = l.places;
+      error_place = l.error_place;
+      definitions = definitions;
+      blocks = blocks;
+      line_offset = line_offset;
+      spent = l.spent;
+      has_text = has_text;
+      has_directive = has_directive;
+      dead_for_good = dead;
+    }
+
+-- a line at fault, or without memory for it; the blocks that are open then are no more
+pub acts_failed : {A B : Type 0} (shows : A → B) (h : Halt) (line : Result B Fault) (effect : B → Effect) (n taken : ℕ) (definitions : List Defined)
+    (blocks after : List OpenBlock) → length after ≤ length blocks
+    → (line_offset : ℤ) (has_text has_directive dead : Bool) (old new : SourceLexed)
+    → Meets shows (Err h) line → TakesItems {A = A} taken old (Err h) new
+    → Acts (line_move line effect n) (source_of old definitions blocks line_offset has_text has_directive dead) (Err h)
+    (source_of new definitions after line_offset has_text has_directive dead)
+acts_failed shows (halt.Fault fault) line effect n taken definitions blocks after few line_offset has_text has_directive dead old new m t =
+    rw m (refl, record { left = omega (arith, t.rest, few); names = omega arith; tokens = omega arith; spent = t.spent })
+acts_failed shows halt.OutOfMemory line effect n taken definitions blocks after few line_offset has_text has_directive dead old new m t = tt
+
+pub pause_no_fault : (given : Option Token) (fault : Fault) → as_pause given ≡ Err (Error fault) → ⊥
+pause_no_fault (Some token) fault e = cc
+pause_no_fault None fault e = cc
+
+pub pause_no_end : (given : Option Token) → as_pause given ≡ Err Finished → ⊥
+pause_no_end (Some token) e = cc
+pause_no_end None e = cc
+
+-- after some items and some more
+both_after : (old mid : SourceLexed) (n more total : ℕ) → total ≡ n + more → mid.rest ≡ drop n old.rest
+    → (definitions : List Defined) (blocks : List OpenBlock) (line_offset : ℤ) (has_text has_directive dead : Bool) (note : Note)
+    (still_open : List OpenBlock) (new : Source) → IsAfter more note still_open
+    (source_of mid definitions blocks line_offset has_text has_directive dead) new
+    → IsAfter total note still_open (source_of old definitions blocks line_offset has_text has_directive dead) new
+both_after old mid n more total sum taken definitions blocks line_offset has_text has_directive dead note still_open new b = record {
+  rest = b.rest ∙ ap (drop more) taken ∙ drop-drop more n old.rest ∙ ap (λ k. drop k old.rest) (sym sum);
+  blocks = b.blocks;
+  line_offset = b.line_offset;
+  spent = b.spent;
+  has_text = b.has_text;
+  has_directive = b.has_directive;
+  dead_for_good = b.dead_for_good;
+}
+
+-- what an effect means where some items were taken before
+module _ (definitions : List Defined) (blocks : List OpenBlock)
+    (line_offset : ℤ) (has_text has_directive dead : Bool) (old mid : SourceLexed) (n more total : ℕ) (sum : total ≡ n + more)
+    (taken : mid.rest ≡ drop n old.rest) where
+  module _ (note : Note) where
+    after_both : (still_open : List OpenBlock) (new : Source)
+        → IsAfter more note still_open (source_of mid definitions blocks line_offset has_text has_directive dead) new
+        → IsAfter total note still_open (source_of old definitions blocks line_offset has_text has_directive dead) new
+    after_both still_open new b = both_after old mid n more total sum taken definitions blocks line_offset has_text has_directive dead note still_open new b
+
+    module _ (given : Option Token) (new : Source) where
+      defines_after : (named : Named) (before : Option Definition)
+          → DefinesOver named before more note (source_of mid definitions blocks line_offset has_text has_directive dead) (as_pause given) new
+          → DefinesOver named before total note (source_of old definitions blocks line_offset has_text has_directive dead) (as_pause given) new
+      defines_after named None h = (h.0, after_both _ new h.1, h.2)
+      defines_after named (Some before) (inl h) = inl (h.0, h.1, after_both _ new h.2, h.3)
+      defines_after named (Some before) (inr h) = absurd (pause_no_fault given _ h.1)
+
+      decides_after : (word : Location) (tokens : List Token) (after : Bool → List OpenBlock)
+          → Decides word tokens after more note (source_of mid definitions blocks line_offset has_text has_directive dead) (as_pause given) new
+          → Decides word tokens after total note (source_of old definitions blocks line_offset has_text has_directive dead) (as_pause given) new
+      decides_after word tokens after (holds value condition h) = holds value condition (h.0, after_both _ new h.1, h.2)
+      decides_after word tokens after (faulty fault condition failed left) = absurd (pause_no_fault given fault failed)
+
+      renumbers_after : (word : Location) (tokens : List Token)
+          → Renumbers word tokens more note (source_of mid definitions blocks line_offset has_text has_directive dead) (as_pause given) new
+          → Renumbers word tokens total note (source_of old definitions blocks line_offset has_text has_directive dead) (as_pause given) new
+      renumbers_after word tokens (numbers m number h) =
+          numbers m number (
+            h.0,
+            both_after old mid n more total sum taken definitions blocks
+                (pos m -ℤ pos word.line) has_text has_directive dead note blocks new h.1,
+            h.2,
+          )
+      renumbers_after word tokens (unnumbered fault number failed left) = absurd (pause_no_fault given fault failed)
+
+      pub effect_after : (effect : Effect) → HasEffect effect more note (source_of mid definitions blocks line_offset has_text has_directive dead)
+          (as_pause given) new → HasEffect effect total note (source_of old definitions blocks line_offset has_text has_directive dead) (as_pause given) new
+      effect_after (gives token) h = (h.0, after_both _ new h.1, h.2)
+      effect_after (gives_item item word) h = (h.0, after_both _ new h.1, h.2)
+      effect_after (fails fault) h = absurd (pause_no_fault given fault h.0)
+      effect_after ends h = absurd (pause_no_end given h.0)
+      effect_after passes h = (h.0, after_both _ new h.1, h.2)
+      effect_after (defines named) h = defines_after named (meaning_of definitions named.name) h
+      effect_after (undefines name) h = (h.0, after_both _ new h.1, h.2)
+      effect_after (opens_where wanted word name) h = (h.0, after_both _ new h.1, h.2)
+      effect_after (opens_if word tokens) h = decides_after word tokens _ h
+      effect_after (opens_unread word) h = (h.0, after_both _ new h.1, h.2)
+      effect_after (parts block) h = (h.0, after_both _ new h.1, h.2)
+      effect_after (parts_if block word tokens) h = decides_after word tokens _ h
+      effect_after closes h = (h.0, after_both _ new h.1, h.2)
+      effect_after (unfinished word) h = absurd (pause_no_fault given _ h.0)
+      effect_after (renumbers word tokens) h = renumbers_after word tokens h
+
+    kept_after : (new : Source) → HasKept (source_of mid definitions blocks line_offset has_text has_directive dead) new
+        → HasKept (source_of old definitions blocks line_offset has_text has_directive dead) new
+    kept_after new k = record { left = omega (arith, k.left, drop_fewer old.rest mid.rest n taken); names = k.names; tokens = k.tokens; spent = k.spent }
+
+    -- so do what a directive does, and what it gives
+    pub acts_after : (effect : Effect) (result : Result (Unit {0}) Halt) (new : Source)
+        → Acts (record { effect = effect; taken = more; note = note }) (source_of mid definitions blocks line_offset has_text has_directive dead) result new
+        → Acts (record { effect = effect; taken = total; note = note }) (source_of old definitions blocks line_offset has_text has_directive dead) result new
+    acts_after effect (Ok done) new h = effect_after None new effect h
+    acts_after effect (Err (halt.Fault fault)) new h = (h.0, kept_after new h.1)
+    acts_after effect (Err halt.OutOfMemory) new h = tt
+
+    pub gives_after : (effect : Effect) (result : Result (Option Token) Halt) (new : Source)
+        → Gives (record { effect = effect; taken = more; note = note }) (source_of mid definitions blocks line_offset has_text has_directive dead) result new
+        → Gives (record { effect = effect; taken = total; note = note }) (source_of old definitions blocks line_offset has_text has_directive dead) result new
+    gives_after effect (Ok given) new h = effect_after given new effect h
+    gives_after effect (Err (halt.Fault fault)) new h = (h.0, kept_after new h.1)
+    gives_after effect (Err halt.OutOfMemory) new h = tt
+
+-- a `#define`, by its line
+module _ (definitions : List Defined) (blocks : List OpenBlock)
+    (line_offset : ℤ) (has_text has_directive dead : Bool) (old new : SourceLexed) (word : Location) where
+  pub define_failed : {A : Type 0} (shows : A → Named) (h : Halt) → Meets shows (Err h) (defined_on word old.rest)
+      → TakesItems {A = A} (line_length old.rest) old (Err h) new
+      → Acts (directive_move true (last_block blocks) d.Define word old.rest) (source_of old definitions blocks line_offset has_text has_directive dead)
+      (Err h) (source_of new definitions blocks line_offset has_text has_directive dead)
+  define_failed shows h m t = acts_failed shows h (defined_on word old.rest) defines (line_length old.rest)
+      (line_length old.rest) definitions blocks blocks (omega arith) line_offset has_text has_directive dead old new m t
+
+  pub define_acts : (named : Named) (result : Result (Unit {0}) Halt) (after : Source) → defined_on word old.rest ≡ Ok named
+      → HasTaken (line_length old.rest) old new → Acts (defining named) (source_of new definitions blocks line_offset has_text has_directive dead) result after
+      → Acts (directive_move true (last_block blocks) d.Define word old.rest) (source_of old definitions blocks line_offset has_text has_directive dead) result after
+  define_acts named result after e t acts =
+      subst (λ (move : Move). Acts move (source_of old definitions blocks line_offset has_text has_directive dead) result after)
+      (sym (ap (λ line. line_move line defines (line_length old.rest)) e))
+      (acts_after definitions blocks line_offset has_text has_directive dead old new (line_length old.rest) 0 (line_length old.rest)
+      (omega arith) t.rest unnoted (defines named) result after acts)
+
+-- a fault after something that was read
+module _ (definitions : List Defined) (blocks : List OpenBlock)
+    (line_offset : ℤ) (has_text has_directive dead : Bool) (old mid : SourceLexed) (new : Source) (fault : Fault)
+    (fewer : length mid.rest < length old.rest) (kept : HasKept (source_of mid definitions blocks line_offset has_text has_directive dead) new) where
+  further : IsAfterFault (source_of old definitions blocks line_offset has_text has_directive dead) new
+  further = record { fewer = omega (arith, kept.left); names = kept.names; tokens = kept.tokens; spent = kept.spent }
+
+  redefines : (named : Named) (before : Option Definition) (taken : ℕ) (note : Note) → RedefinesWith named before fault
+      → DefinesOver named before taken note (source_of old definitions blocks line_offset has_text has_directive dead) (Err (Error fault)) new
+  redefines named None taken note h = absurd h
+  redefines named (Some before) taken note h = inr (h.0, ap (λ f. Err (Error f)) h.1, further)
+
+  pub fault_makes : (effect : Effect) (taken : ℕ) (note : Note) → FailsWith effect definitions fault
+      → HasEffect effect taken note (source_of old definitions blocks line_offset has_text has_directive dead) (Err (Error fault)) new
+  fault_makes (gives token) taken note h = absurd h
+  fault_makes (gives_item item word) taken note h = absurd h
+  fault_makes (fails wanted) taken note h = (ap (λ f. Err (Error f)) h, further)
+  fault_makes ends taken note h = absurd h
+  fault_makes passes taken note h = absurd h
+  fault_makes (defines named) taken note h = redefines named (meaning_of definitions named.name) taken note h
+  fault_makes (undefines name) taken note h = absurd h
+  fault_makes (opens_where wanted word name) taken note h = absurd h
+  fault_makes (opens_if word tokens) taken note h = faulty fault h refl further
+  fault_makes (opens_unread word) taken note h = absurd h
+  fault_makes (parts block) taken note h = absurd h
+  fault_makes (parts_if block word tokens) taken note h = faulty fault h refl further
+  fault_makes closes taken note h = absurd h
+  fault_makes (unfinished word) taken note h = absurd h
+  fault_makes (renumbers word tokens) taken note h = unnumbered fault h refl further

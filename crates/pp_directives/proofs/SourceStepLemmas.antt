@@ -1,0 +1,192 @@
+-- One step of a source, from its first token.
+use Rattle.std.proofs.Common.{◌≡◌, ◌⊎◌, ℕ, ◌+◌, ◌<◌, Bool, true, false, List, [], ◌∷◌, length, drop, Option, Some, None, Result, Ok, Err, inl, inr, refl, sym, ◌∙◌, ap, subst, arith}
+use Rattle.std.specs.Prelude.{MatchBool, if◌then◌else◌, ℤ}
+use Rattle.std.proofs.lemmas.Bool.{false_from_ne_true}
+use Rattle.std.proofs.lemmas.List.{drop-drop}
+use Rattle.pp_lexer.specs.Items.{Lexeme}
+use Rattle.pp_lexer.specs.Lexed.{Seen}
+use Rattle.pp_lexer.specs.declared.lexer.item.Token.{Token as LexerToken}
+use Rattle.pp_lexer.specs.declared.lexer.item.TokenValue.TheVariants.{Hash}
+use Rattle.pp_lexer.specs.declared.token.Location.{Location}
+use Rattle.pp_lexer.specs.declared.token.Token.{Token}
+use Rattle.pp_model.specs.Calls.{Fault}
+use Rattle.pp_model.specs.Conversions.{is_newline, identifier_of, refused_token}
+use Rattle.pp_model.specs.Lines.{first_token}
+use Rattle.pp_model.specs.Names.{Name}
+use Rattle.pp_model.specs.declared.sight.Sight.TheVariants as sight
+use Rattle.pp_model.specs.Sights.{directive_of, named_directive, token_sight, sight_of}
+use Rattle.pp_model.specs.inner.Sights.{directive_sight}
+use Rattle.pp_macros.specs.inner.Defined.{Defined}
+use Rattle.pp_macros.specs.Halting.{step_of}
+use Rattle.pp_macros.specs.Item.{Step}
+use Rattle.pp_macros.specs.inner.LineReading.{HasTaken, as_next, next_token}
+use Rattle.pp_macros.specs.inner.OpenBlocks.{last_block, is_live_among}
+use Rattle.pp_macros.specs.declared.blocks.OpenBlock.{OpenBlock}
+use Rattle.pp_macros.specs.inner.Source.{Source, Makes, IsRefusedStep, StepsSource}
+use Rattle.pp_directives.specs.inner.SourceActs.{Gives, lone, live_name_move, live_word_move, dead_word_move, dead_name_move, word_move}
+use Rattle.pp_macros.specs.inner.SourceLexed.{SourceLexed, EndStays}
+use Rattle.pp_macros.specs.inner.SourceMoves.{failing, Effect, fails, passes, Note, unnoted, directive_line, Move, directive_move, taking_more, move_at, move_of}
+use Rattle.pp_macros.specs.declared.halt.Halt.{Halt}
+use Rattle.pp_macros.specs.declared.halt.Halt.TheVariants as halt
+use Rattle.pp_directives.proofs.SourceActsLemmas.{source_of, gives_after, fault_makes}
+
+match_false : (P Q : Type 0) (b : Bool) → b ≡ false → Q → MatchBool b P Q
+match_false P Q true e q = cc
+match_false P Q false e q = q
+
+steps_unspent : (old : Source) (step : Step Token) (new : Source) → old.spent ≡ false → IsRefusedStep old step
+    ⊎ Makes (move_of old.dead_for_good old.blocks old.rest) old step new → StepsSource old step new
+steps_unspent old step new e h = match_false _ _ old.spent e h
+
+-- the token that comes first is what is shown
+token_shown : (rest : List Seen) (token : LexerToken) → next_token rest ≡ Ok (Some token) → sight_of rest ≡ token_sight token (drop 1 rest)
+token_shown [] token e = cc
+token_shown (s ∷ rest) token e = item_shown s.item s.had_comments rest token e
+  where
+    item_shown : (item : Lexeme) (had : Bool) (rest : List Seen) (token : LexerToken)
+        → next_token (record { item = item; had_comments = had } ∷ rest) ≡ Ok (Some token)
+        → sight_of (record { item = item; had_comments = had } ∷ rest) ≡ token_sight token rest
+    item_shown (Err fault) had rest token e = cc
+    item_shown (Ok other) had rest token e = let same : other ≡ token = cc in ap (λ t. token_sight t rest) same
+
+hash_sight : (token : LexerToken) (rest : List Seen) → token.value ≡ Hash → token.start_of_line ≡ true
+    → token_sight token rest ≡ directive_sight (first_token token.location rest)
+hash_sight token rest v s = rw (v, s) refl
+
+-- what a directive comes to after its number sign, by the token after it
+abbrev word_move_by : Bool → Option OpenBlock → Result LexerToken Fault → List Seen → Move
+word_move_by live block first after = if live then live_word_move block first after else dead_word_move block first after
+
+module _ (definitions : List Defined) (blocks : List OpenBlock)
+    (line_offset : ℤ) (has_text has_directive dead : Bool) (old mid : SourceLexed) (new : Source) (taken : mid.rest ≡ drop 1 old.rest)
+    (fewer : length mid.rest < length old.rest) where
+  -- what a move means after the number sign is a step of the source, or memory was refused
+  abbrev StepsBy : Result (Option Token) Halt → Move → Type 0
+  StepsBy result move = IsRefusedStep (source_of old definitions blocks line_offset has_text has_directive dead) (step_of result)
+      ⊎ Makes move (source_of old definitions blocks line_offset has_text has_directive dead) (step_of result) new
+
+  acts_make : (effect : Effect) (more total : ℕ) (note : Note) → total ≡ 1 + more → (result : Result (Option Token) Halt)
+      → Gives (record { effect = effect; taken = more; note = note }) (source_of mid definitions blocks line_offset has_text has_directive dead) result new
+      → StepsBy result (record { effect = effect; taken = total; note = note })
+  acts_make effect more total note sum (Ok given) h =
+      inr (gives_after definitions blocks line_offset has_text has_directive dead old mid 1 more total sum taken note effect (Ok given) new h)
+  acts_make effect more total note sum (Err (halt.Fault fault)) h =
+      inr (fault_makes definitions blocks line_offset has_text has_directive dead old mid new fault fewer h.1 effect total note h.0)
+  acts_make effect more total note sum (Err halt.OutOfMemory) h = inl (record { some_left = λ e. absurd (omega (arith, ap length e)); fault = refl })
+
+  directive_makes : (live : Bool) (block : Option OpenBlock) (name : Name) (word : Location) (result : Result (Option Token) Halt)
+      → Gives (taking_more 1 (directive_move live block (directive_of name) word (drop 1 mid.rest)))
+      (source_of mid definitions blocks line_offset has_text has_directive dead) result new
+      → StepsBy result (taking_more 2 (directive_move live block (directive_of name) word (drop 2 old.rest)))
+  directive_makes live block name word result h =
+      let move = directive_move live block (directive_of name) word (drop 2 old.rest) in
+      let after : drop 1 mid.rest ≡ drop 2 old.rest = ap (drop 1) taken ∙ drop-drop 1 1 old.rest in
+      acts_make move.effect (1 + move.taken) (2 + move.taken) directive_line (omega arith) result
+      (subst (λ (rest : List Seen). Gives (taking_more 1 (directive_move live block (directive_of name) word rest))
+      (source_of mid definitions blocks line_offset has_text has_directive dead) result new) after h)
+
+  -- a number sign without a word in live text, and in dead text
+  live_bare_makes : (newline : Bool) (fault : Fault) (block : Option OpenBlock) (result : Result (Option Token) Halt)
+      → Gives (if newline then lone else failing fault) (source_of mid definitions blocks line_offset has_text has_directive dead) result new
+      → StepsBy result (move_at true block (if newline then sight.Lone else sight.NoWord fault) old.rest)
+  live_bare_makes true fault block result h = acts_make passes 1 2 directive_line refl result h
+  live_bare_makes false fault block result h = acts_make (fails fault) 0 1 unnoted refl result h
+
+  dead_bare_makes : (newline : Bool) (fault : Fault) (block : Option OpenBlock) (result : Result (Option Token) Halt)
+      → Gives (if newline then lone else record { effect = passes; taken = 1; note = unnoted })
+      (source_of mid definitions blocks line_offset has_text has_directive dead) result new
+      → StepsBy result (move_at false block (if newline then sight.Lone else sight.NoWord fault) old.rest)
+  dead_bare_makes true fault block result h = acts_make passes 1 2 directive_line refl result h
+  dead_bare_makes false fault block result h = acts_make passes 1 2 unnoted refl result h
+
+  live_makes : (block : Option OpenBlock) (token : LexerToken) (name : Option Name) (result : Result (Option Token) Halt)
+      → Gives (live_name_move block token name (drop 1 mid.rest)) (source_of mid definitions blocks line_offset has_text has_directive dead) result new
+      → StepsBy result (move_at true block (named_directive token name) old.rest)
+  live_makes block token None result h = live_bare_makes (is_newline token.value) (refused_token token) block result h
+  live_makes block token (Some name) result h = directive_makes true block name token.location result h
+
+  dead_makes : (block : Option OpenBlock) (token : LexerToken) (name : Option Name) (result : Result (Option Token) Halt)
+      → Gives (dead_name_move block token name (drop 1 mid.rest)) (source_of mid definitions blocks line_offset has_text has_directive dead) result new
+      → StepsBy result (move_at false block (named_directive token name) old.rest)
+  dead_makes block token None result h = dead_bare_makes (is_newline token.value) (refused_token token) block result h
+  dead_makes block token (Some name) result h = directive_makes false block name token.location result h
+
+  word_makes : (live : Bool) (block : Option OpenBlock) (first : Result LexerToken Fault) (result : Result (Option Token) Halt)
+      → Gives (word_move_by live block first (drop 1 mid.rest)) (source_of mid definitions blocks line_offset has_text has_directive dead) result new
+      → StepsBy result (move_at live block (directive_sight first) old.rest)
+  word_makes true block (Ok token) result h = live_makes block token (identifier_of token.value) result h
+  word_makes true block (Err fault) result h = acts_make (fails fault) 0 1 unnoted refl result h
+  word_makes false block (Ok token) result h = dead_makes block token (identifier_of token.value) result h
+  word_makes false block (Err fault) result h = acts_make (fails fault) 0 1 unnoted refl result h
+
+fewer_after : (rest after : List Seen) (token : LexerToken) → next_token rest ≡ Ok (Some token) → after ≡ drop 1 rest → length after < length rest
+fewer_after [] after token e d = cc
+fewer_after (s ∷ rest) after token e d = omega (arith, ap length d)
+
+-- a lexer that gives a token is not spent
+gives_token : (next : Option LexerToken) (token : LexerToken) → next ≡ Some token → ◌≡◌ {A = Result (Option LexerToken) Halt} (Ok next) (Ok None) → ⊥
+gives_token (Some other) token e f = cc
+gives_token None token e f = cc
+
+-- the lexer gave a token, which is after the source now
+module _ (definitions : List Defined) (blocks : List OpenBlock)
+    (line_offset : ℤ) (has_text has_directive dead : Bool) (old mid : SourceLexed) (next : Option LexerToken) (token : LexerToken) (is : next ≡ Some token)
+    (spent : old.spent ≡ true → ◌≡◌ {A = Result (Option LexerToken) Halt} (Ok next) (Ok None) × (mid ≡ old))
+    (gave : old.spent ≡ false → next_token old.rest ≡ Ok next) (took : old.spent ≡ false → HasTaken 1 old mid) where
+  unspent : old.spent ≡ false
+  unspent = false_from_ne_true old.spent (λ all. gives_token next token is (spent all).0)
+
+  gave_token : next_token old.rest ≡ Ok (Some token)
+  gave_token = gave unspent ∙ ap Ok is
+
+  -- the source shows this
+  shown : sight_of old.rest ≡ token_sight token mid.rest
+  shown = token_shown old.rest token gave_token ∙ ap (token_sight token) (sym (took unspent).rest)
+
+  steps_by : (step : Step Token) (new : Source) → IsRefusedStep (source_of old definitions blocks line_offset has_text has_directive dead) step
+      ⊎ Makes (move_at (is_live_among dead blocks) (last_block blocks) (token_sight token mid.rest) old.rest)
+      (source_of old definitions blocks line_offset has_text has_directive dead) step new
+      → StepsSource (source_of old definitions blocks line_offset has_text has_directive dead) step new
+  steps_by step new h = steps_unspent (source_of old definitions blocks line_offset has_text has_directive dead) step new unspent (rw shown h)
+
+  pub step_directive : (result : Result (Option Token) Halt) (new : Source) → token.value ≡ Hash → token.start_of_line ≡ true
+      → Gives (word_move (is_live_among dead blocks) (last_block blocks) token.location mid.rest)
+      (source_of mid definitions blocks line_offset has_text has_directive dead) result new
+      → StepsSource (source_of old definitions blocks line_offset has_text has_directive dead) (step_of result) new
+  step_directive result new v s acts =
+      let taken = (took unspent).rest in
+      let made = word_makes definitions blocks line_offset has_text has_directive dead old mid new taken
+      (fewer_after old.rest mid.rest token gave_token taken) (is_live_among dead blocks) (last_block blocks)
+      (first_token token.location mid.rest) result acts in
+      steps_by (step_of result) new (rw (hash_sight token mid.rest v s) made)
+
+-- the lexer gave nothing, and stands where it stood
+module _ (definitions : List Defined) (blocks : List OpenBlock) (line_offset : ℤ) (has_text has_directive dead : Bool) (old mid : SourceLexed) where
+  same_source : mid.rest ≡ old.rest → mid.places ≡ old.places → mid.error_place ≡ old.error_place → mid.spent ≡ old.spent
+      → source_of mid definitions blocks line_offset has_text has_directive dead ≡ source_of old definitions blocks line_offset has_text has_directive dead
+  same_source rest places error_place spent = rw (rest, places, error_place, spent) refl
+
+  nothing_left : (rest : List Seen) → ◌≡◌ {A = Result (Option LexerToken) Fault} (next_token rest) (Ok None) → rest ≡ []
+  nothing_left [] e = refl
+  nothing_left (s ∷ rest) e = go s.item e
+    where
+      go : (item : Lexeme) → ◌≡◌ {A = Result (Option LexerToken) Fault} (as_next item) (Ok None) → s ∷ rest ≡ []
+      go (Ok token) e = cc
+      go (Err fault) e = cc
+
+  pub step_ends : (next : Option LexerToken) → next ≡ None → (old.spent ≡ true → ◌≡◌ {A = Result (Option LexerToken) Halt} (Ok next) (Ok None)
+      × (mid ≡ old)) → (old.spent ≡ false → next_token old.rest ≡ Ok next) → (old.spent ≡ false → HasTaken 1 old mid)
+      → EndStays (Ok next) old mid → (step : Step Token) (new : Source)
+      → StepsSource (source_of mid definitions blocks line_offset has_text has_directive dead) step new
+      → StepsSource (source_of old definitions blocks line_offset has_text has_directive dead) step new
+  step_ends next none spent gave took ended step new h = subst (λ (s : Source). StepsSource s step new) (go old.spent refl) h
+    where
+      stays : (mid.places ≡ old.places) × (mid.error_place ≡ old.error_place)
+      stays = rw none at ended
+
+      go : (b : Bool) → old.spent ≡ b
+          → source_of mid definitions blocks line_offset has_text has_directive dead ≡ source_of old definitions blocks line_offset has_text has_directive dead
+      go true e = ap (λ (l : SourceLexed). source_of l definitions blocks line_offset has_text has_directive dead) (spent e).1
+      go false e =
+          let empty = nothing_left old.rest (gave e ∙ ap (λ (o : Option LexerToken). Ok o) none) in
+          same_source ((took e).rest ∙ ap (drop 1) empty ∙ sym empty) stays.0 stays.1 ((took e).spent ∙ sym e)

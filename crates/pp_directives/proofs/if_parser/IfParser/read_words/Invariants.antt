@@ -1,0 +1,11 @@
+use Rattle.pp_macros.specs.inner.Left.{work_of}
+use Rattle.pp_macros.specs.inner.Reader.{of_list}
+use Rattle.pp_directives.proofs.LineWordsLemmas.{WordsOn}
+use Rattle.pp_directives.proofs.if_parser.IfParser.read_words.Given as goal
+
+abbrev pub invariant-words : goal.invariant-words
+invariant-words l = WordsOn l.self.kind l.self.directive l.self.levels l.self.definitions.now l.initial.line.caller l.initial.line.lexer
+    l.words.items l.line.caller l.line.lexer
+
+abbrev pub decreases-words : goal.decreases-words
+decreases-words l = work_of l.self.levels l.line.caller (of_list l.line.lexer)

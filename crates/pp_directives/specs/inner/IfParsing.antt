@@ -1,0 +1,68 @@
+-- What the reader of the words of an `#if`, `#elif` or `#line` line gives (docs/RULES.md, Expressions 1 to 3).
+use Rattle.std.specs.Prelude.{◌≡◌, ℕ, List, [], map, Bool, Option, Some, None, Result, MatchResult, IfOk, IfSome}
+use Rattle.pp_lexer.specs.declared.token.Location.{Location}
+use Rattle.pp_lexer.specs.declared.token.Token.{Token}
+use Rattle.pp_model.specs.declared.read.Read.{Read}
+use Rattle.pp_model.specs.Painting.{unpainted}
+use Rattle.pp_model.specs.Names.{Name}
+use Rattle.pp_model.specs.Calls.{Fault}
+use Rattle.pp_model.specs.Emitting.{answers_at}
+use Rattle.pp_model.specs.LineWords.{Words, LineWords, name_in, unwanted}
+use Rattle.pp_model.specs.Reading.{reading_of}
+use Rattle.pp_model.specs.declared.word.LineKind.{LineKind}
+use Rattle.pp_macros.specs.inner.Defined.{Defined, meaning_of}
+use Rattle.pp_directives.specs.inner.LineItems.{IsOnLine, IsWorkLess, ReadsItem, ReadsTaken, ReadsOperand, ReadsParenthesized, ReadsClosed, expander_of, outcome_of}
+use Rattle.pp_macros.specs.declared.halt.Halt.{Halt}
+use Rattle.pp_directives.specs.declared.if_parser.IfParser.{IfParser}
+use Rattle.pp_directives.specs.declared.if_parser.LineExpander.{LineExpander}
+
+-- the line is read
+abbrev pub Stands : IfParser → LineExpander → Type 0
+Stands parser line = IsOnLine parser.definitions.now line.caller line.lexer
+
+-- the next item
+abbrev pub GivesItem : IfParser → LineExpander → Result (Option Read) Halt → LineExpander → Type 0
+GivesItem parser old result new =
+    ReadsItem parser.levels parser.definitions.now old.caller old.lexer result new.caller new.lexer
+
+-- after a token less of the line is left
+abbrev pub TakesOff : IfParser → LineExpander → Result (Option Read) Halt → LineExpander → Type 0
+TakesOff parser old result new =
+    IfOk result (λ found. IfSome found (λ read. IsWorkLess parser.levels old.caller old.lexer new.caller new.lexer))
+
+-- what is taken next
+abbrev pub GivesTaken : IfParser → LineExpander → Result (Option Read) Halt → LineExpander → Type 0
+GivesTaken parser old result new =
+    ReadsTaken parser.levels parser.definitions.now old.caller old.lexer result new.caller new.lexer
+
+-- the name of an identifier, or the fault of anything else where a part of `defined` is wanted
+abbrev pub IsNameOrFault : Location → Option Read → Result Name Fault → Type 0
+IsNameOrFault directive found result =
+    MatchResult result (λ name. name_in (outcome_of found) ≡ Some name)
+    (λ fault. (name_in (outcome_of found) ≡ None) × (fault ≡ unwanted directive (outcome_of found)))
+
+-- what the operand of a `defined` comes to; the same after its `(`, and after that and the name
+abbrev pub GivesOperand : IfParser → LineExpander → Result Bool Halt → LineExpander → Type 0
+GivesOperand parser old result new =
+    ReadsOperand parser.kind parser.directive parser.levels parser.definitions.now old.caller old.lexer
+    result new.caller new.lexer
+
+abbrev pub GivesParenthesized : IfParser → LineExpander → Result Bool Halt → LineExpander → Type 0
+GivesParenthesized parser old result new =
+    ReadsParenthesized parser.kind parser.directive parser.levels parser.definitions.now old.caller
+    old.lexer result new.caller new.lexer
+
+abbrev pub GivesClosed : IfParser → Name → LineExpander → Result Bool Halt → LineExpander → Type 0
+GivesClosed parser name old result new =
+    ReadsClosed parser.kind parser.directive parser.levels parser.definitions.now name old.caller
+    old.lexer result new.caller new.lexer
+
+-- the words that the rest of the line comes to
+abbrev pub AreWordsOf : IfParser → LineExpander → Words → Type 0
+AreWordsOf parser line words =
+    LineWords parser.kind parser.directive (answers_at parser.levels) (expander_of line.caller line.lexer) words
+
+-- the words that the whole line comes to
+abbrev pub AreWordsOfLine : LineKind → Location → ℕ → List Token → List Defined → Words → Type 0
+AreWordsOfLine kind directive levels tokens definitions words =
+    LineWords kind directive (answers_at levels) (reading_of (map unpainted tokens) (meaning_of definitions) []) words

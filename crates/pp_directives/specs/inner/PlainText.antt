@@ -1,0 +1,47 @@
+-- A word of plain text, before memory is taken for it.
+use Rattle.std.specs.Prelude.{◌≡◌, ◌≢◌, Bool, true, false, Option, Some, Ok, MatchBool, MatchOption}
+use Rattle.std.specs.Str.{IsAscii}
+use Rattle.pp_lexer.specs.PlainItems.{token_of, begins_newline}
+use Rattle.pp_lexer.specs.declared.lexer.plain.Form.TheVariants.{Hash}
+use Rattle.pp_lexer.specs.declared.lexer.plain_item.PlainItem.{PlainItem}
+use Rattle.pp_macros.specs.inner.LineReading.{HasTaken, next_token}
+use Rattle.pp_macros.specs.inner.SourceLexed.{SourceLexed, unreported_at}
+use Rattle.pp_macros.specs.inner.Source.{Source, StepsSource, unreported_of}
+use Rattle.pp_macros.specs.inner.Unreported.{StepReports}
+use Rattle.pp_macros.specs.Held.{HoldsOrdinary}
+use Rattle.pp_macros.specs.Item.{Step}
+use Rattle.pp_lexer.specs.declared.token.Token.{Token}
+
+-- the token that comes first is this word, which is no `#`, and it was taken
+pub record TakesPlain (old : SourceLexed) (item : PlainItem) (new : SourceLexed) : Type 0 where
+  pub unspent : old.spent ≡ false
+  pub is : next_token old.rest ≡ Ok (Some (token_of item))
+  pub no_hash : item.form ≢ Hash
+  pub ascii : IsAscii item.spelling.now
+  pub takes : HasTaken 1 old new
+  pub errors : unreported_at new ≡ unreported_at old
+
+-- a word of plain text, or no token was taken: comments before the first of them may have been passed
+abbrev pub GivesPlain : SourceLexed → Option PlainItem → SourceLexed → Type 0
+GivesPlain old answer new =
+    MatchOption answer (new ≡ record old { had_comments = new.had_comments }) (λ item. TakesPlain old item new)
+
+-- a newline comes first, and it was taken
+pub record TakesNewline (old new : SourceLexed) : Type 0 where
+  pub unspent : old.spent ≡ false
+  pub is : begins_newline old.rest ≡ true
+  pub takes : HasTaken 1 old new
+  pub errors : unreported_at new ≡ unreported_at old
+
+-- a newline was passed, or all is as it was
+abbrev pub PassesNewline : SourceLexed → Bool → SourceLexed → Type 0
+PassesNewline old answer new = MatchBool answer (TakesNewline old new) (new ≡ old)
+
+-- one step of a source, which reports its errors
+pub record IsStep (old : Source) (step : Step Token) (new : Source) : Type 0 where
+  pub reads : StepsSource old step new
+  pub errors : StepReports step (unreported_of old) (unreported_of new)
+
+-- a step at a word of plain text, or all is as it was
+abbrev pub StepsPlain : Source → Option (Step Token) → Source → Type 0
+StepsPlain old answer new = MatchOption answer (new ≡ old) (λ step. IsStep old step new)

@@ -1,0 +1,19 @@
+-- What was read of a line, as the definitions name it.
+use Rattle.std.specs.Prelude.{List}
+use Rattle.pp_model.specs.DefineLines.{Parameters}
+use Rattle.pp_model.specs.Names.{Name}
+use Rattle.pp_macros.specs.inner.SourceLexed.{SourceLexed}
+use Rattle.pp_model.specs.declared.definition.Named.{Named}
+use Rattle.pp_model.specs.declared.definition.Placed.{Placed}
+use Rattle.pp_directives.specs.declared.lines.DefineLine.{DefineLine}
+use Rattle.pp_directives.specs.declared.lines.PlacedName.{PlacedName}
+
+abbrev pub placed : PlacedName → Placed
+placed first = record { name = first.name; location = first.location }
+
+abbrev pub named : DefineLine → Named
+named line = record { name = line.name; location = line.location; definition = line.define }
+
+-- these parameters, after which the lexer stands here
+abbrev pub parameters_to : List Name → SourceLexed → Parameters
+parameters_to names lexer = record { names = names; after = lexer.rest }

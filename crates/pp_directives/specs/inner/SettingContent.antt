@@ -1,0 +1,22 @@
+-- What a content that is set makes of the source, before the answer of `add_define` is made of it.
+use Rattle.std.specs.Prelude.{◌≡◌, List, Some, Result, Ok, Err}
+use Rattle.pp_lexer.specs.declared.token.Token.{Token}
+use Rattle.pp_model.specs.Names.{Name}
+use Rattle.pp_model.specs.Definitions.{object_like}
+use Rattle.pp_macros.specs.inner.Defined.{IsChanged}
+use Rattle.pp_macros.specs.Item.{Fault}
+use Rattle.pp_macros.specs.inner.Source.{Source}
+use Rattle.pp_macros.specs.declared.halt.Halt.{Halt}
+use Rattle.pp_macros.specs.declared.halt.Halt.TheVariants as halt
+
+-- the name stands for a macro of these tokens in the source, of which nothing else changes
+pub record IsSetIn (name : Name) (tokens : List Token) (old new : Source) : Type 0 where
+  pub definitions : IsChanged name (Some (object_like tokens)) old.definitions new.definitions
+  pub others : new ≡ record old { definitions = new.definitions }
+
+-- the name stands for the tokens of a content, and for what it stood for where the content
+-- has a fault or memory is refused
+abbrev pub SetsContent : Name → Result (List Token) Fault → Source → Result (Unit {0}) Halt → Source → Type 0
+SetsContent name content old (Ok done) new = (tokens : List Token) × (content ≡ Ok tokens) × IsSetIn name tokens old new
+SetsContent name content old (Err (halt.Fault fault)) new = (content ≡ Err fault) × (new ≡ old)
+SetsContent name content old (Err halt.OutOfMemory) new = new ≡ old

@@ -1,0 +1,668 @@
+//! The source's reader: directives act, and the tokens between them are given.
+
+ghost use Rattle.std.specs.Prelude.{◌≡◌, ◌≢◌, ◌||◌, ◌-◌, ◌^◌, ◌<◌, [], length, drop, false, true, Ok, Err, is_ok, IfOk, IfSome, option_map, Some, None, pos, ◌+ℤ◌, ◌-ℤ◌};
+ghost use Rattle.std.specs.Str.{chars};
+ghost use Rattle.pp_lexer.specs.declared.lexer.item.TokenValue.TheVariants.{NewLine};
+ghost use Rattle.pp_model.specs.Conversions.{conversion};
+ghost use Rattle.pp_model.specs.Lines.{only_name, line_tokens, line_length, first_token};
+ghost use Rattle.pp_model.specs.LineValues.{as_line_number};
+ghost use Rattle.pp_model.specs.Run.{items_of, content_tokens};
+ghost use Rattle.pp_model.specs.declared.directive.Directive.TheVariants as d;
+ghost use Rattle.pp_macros.specs.inner.Defined.{meaning_of};
+ghost use Rattle.pp_macros.specs.inner.DirectiveItems.{is_item};
+ghost use Rattle.pp_macros.specs.Held.{HoldsOrdinary};
+ghost use Rattle.pp_macros.specs.Item.{as_step};
+ghost use Rattle.pp_directives.specs.inner.PlainText.{StepsPlain};
+ghost use Rattle.pp_directives.specs.inner.ReadNames.{named};
+ghost use Rattle.pp_macros.specs.inner.OpenBlocks.{last_block, is_live_among, block_skipped};
+ghost use Rattle.pp_directives.specs.inner.SettingContent.{SetsContent};
+ghost use Rattle.pp_macros.specs.inner.Source.{StepsSource, unreported_of};
+ghost use Rattle.pp_directives.specs.inner.SourceActs.{Acts, ActsAs, Gives, live_word_move, dead_word_move, word_move, defining};
+ghost use Rattle.pp_directives.specs.inner.Starting.{source_start};
+ghost use Rattle.pp_macros.specs.inner.SourceMoves as moves;
+ghost use Rattle.pp_macros.specs.inner.Unreported.{Reports, ExitReports, StepReports};
+
+use crate::content::content_tokens;
+use crate::convert::{convert_lexer_token_to_step, word_token};
+use crate::line_value::{condition, line_number};
+use crate::lines::{
+    DefineLine, define_line, ended_line, endif_end, first_name, first_token, line_tokens,
+    only_name, refused_token, rest_of_line, skip_line,
+};
+use crate::source_lexer::SourceLexer;
+use pp_lexer::lexer;
+use pp_lexer::token::{
+    Extension, Location, Pragma, PreprocessorError, Text, Token, TokenValue, Version, out_of_memory,
+};
+use pp_macros::blocks::{Blocks, OpenBlock};
+use pp_macros::define::Define;
+use pp_macros::definitions::Definitions;
+use pp_macros::halt::Halt;
+use pp_macros::step::{Step, StepExit};
+use pp_model::directive::{Directive, directive_of};
+use std::alloc::Global;
+use std::marker::Model;
+use std::rc::Rc;
+
+/// A reader of the source after the lexer, with its directives.
+#[derive(Drop)]
+pub struct DirectiveProcessor<'a> {
+    alloc: Global,
+    lexer: SourceLexer<'a>,
+    definitions: Definitions,
+    blocks: Blocks,
+    line_offset: i64,
+    has_text: bool,
+    has_directive: bool,
+    // Whether an `#elif` outside of all blocks made the rest of the source dead.
+    dead_for_good: bool,
+}
+
+impl<'a> Model for DirectiveProcessor<'a> {
+    ghost use Rattle.pp_macros.specs.inner.Source.{Source};
+
+    ghost Value = { Source };
+
+    ghost view = { λ p. record { rest = p.lexer.rest; places = p.lexer.places; error_place = p.lexer.error_place; definitions = p.definitions; blocks = p.blocks; line_offset = p.line_offset; spent = p.lexer.spent; has_text = p.has_text; has_directive = p.has_directive; dead_for_good = p.dead_for_good } };
+}
+
+// Whether the directive is an item in live text.
+fn is_item(directive: Directive) -> bool
+    ensures { result ≡ is_item directive }
+{
+    matches!(
+        directive,
+        Directive::Version | Directive::Extension | Directive::Pragma
+    )
+}
+
+impl<'a> DirectiveProcessor<'a> {
+    /// A reader at the start of a source of fewer than 2^32 - 1 bytes.
+    ///
+    /// It allocates nothing and reads nothing yet.
+    pub fn new(alloc: Global, input: &'a str) -> DirectiveProcessor<'a>
+        requires { length input.now < 2 ^ 32 - 1 }
+        ensures { result ≡ source_start input.now }
+    {
+        DirectiveProcessor {
+            alloc,
+            lexer: SourceLexer::new(alloc, input),
+            definitions: Definitions::new(alloc),
+            blocks: Blocks::new(alloc),
+            line_offset: 0,
+            has_text: false,
+            has_directive: false,
+            dead_for_good: false,
+        }
+    }
+
+    /// The definition of the name.
+    pub fn find(&self, name: &str) -> Option<&Rc<Define>>
+        ensures { option_map (λ d. d.now.value) result
+            ≡ meaning_of self.now.definitions (chars name.now) }
+    {
+        self.definitions.find(name)
+    }
+
+    /// The definitions that hold now.
+    pub fn definitions(&self) -> &Definitions
+        ensures { result.now ≡ self.now.definitions }
+    {
+        &self.definitions
+    }
+
+    /// The line that `__LINE__` shows for a line of the source, if it fits in 32 bits.
+    pub fn shown_line(&self, line: u32) -> Option<u32>
+        ensures { result ≡ as_line_number (pos line +ℤ self.now.line_offset) }
+    {
+        let shown = self.line_offset.checked_add(i64::from(line))?;
+        u32::try_from(shown).ok()
+    }
+
+    /// Takes the place of the lexer's error that was read and not reported yet. The caller reports it now.
+    pub fn take_error_place(&mut self) -> Option<Location>
+        ensures place { result ≡ self.old.error_place }
+        ensures others { self.new ≡ record self.old { error_place = None } }
+    {
+        self.lexer.take_error_place()
+    }
+
+    /// Defines the name as the tokens of a content of fewer than 2^32 - 1 bytes, replacing any definition of it. After
+    /// an error nothing is changed.
+    pub fn set_content(&mut self, name: &str, content: &str) -> Result<(), Halt>
+        requires { length content.now < 2 ^ 32 - 1 }
+        ensures { SetsContent (chars name.now)
+            (content_tokens (items_of content.now)) self.old result self.new }
+    {
+        let body = content_tokens(self.alloc, content)?;
+        let define = Rc::new(self.alloc, Define::object_like(self.alloc, body))?;
+        let name = Text::from(String::from_str(self.alloc, name)?);
+        self.definitions.set(name, define)?;
+        Ok(())
+    }
+
+    // Whether the text is live.
+    fn is_live(&self) -> bool
+        ensures { result ≡ is_live_among self.now.dead_for_good self.now.blocks }
+    {
+        !self.dead_for_good && self.blocks.are_live()
+    }
+
+    // Defines a name as its line says. If the name has the same definition already, the old one stays.
+    fn add(&mut self, line: DefineLine) -> Result<(), Halt>
+        requires { self.old.spent ≡ false }
+        ensures acts { Acts (defining (named line)) self.old result self.new }
+        ensures errors { Reports result (unreported_of self.old) (unreported_of self.new) }
+    {
+        if let Some(before) = self.definitions.find(line.name.as_str()) {
+            let is_same = before.is_same(&line.define);
+            let location = line.location;
+            drop(line);
+            if is_same {
+                return Ok(());
+            }
+            return Err(Halt::Fault((PreprocessorError::DefineRedefined, location)));
+        }
+        let define = Rc::new(self.alloc, line.define)?;
+        self.definitions.set(line.name, define)?;
+        Ok(())
+    }
+
+    // Acts on a `#define` line, after its word.
+    fn define(&mut self, word: Location) -> Result<(), Halt>
+        requires { self.old.spent ≡ false }
+        ensures acts { Acts (moves.directive_move true
+            (last_block self.old.blocks) d.Define word self.old.rest) self.old result self.new }
+        ensures errors { Reports result (unreported_of self.old) (unreported_of self.new) }
+    {
+        let line = define_line(self.alloc, word, &mut self.lexer)?;
+        self.add(line)
+    }
+
+    // Acts on an `#undef` line, after its word. A name that is followed by more tokens is undefined too.
+    fn undef(&mut self, word: Location) -> Result<(), Halt>
+        requires { self.old.spent ≡ false }
+        ensures acts { Acts (moves.line_move (only_name word self.old.rest) moves.undefines
+            (line_length self.old.rest)) self.old result self.new }
+        ensures errors { Reports result (unreported_of self.old) (unreported_of self.new) }
+    {
+        let first = first_name(word, &mut self.lexer)?;
+        self.definitions.remove(first.name.as_str());
+        drop(first);
+        ended_line(word, &mut self.lexer)
+    }
+
+    // Opens a block whose condition is that the name on the line is defined, or (if not `wanted`) that it isn't.
+    fn open_where(&mut self, wanted: bool, word: Location) -> Result<(), Halt>
+        requires { self.old.spent ≡ false }
+        ensures acts { Acts (moves.line_move (only_name word self.old.rest)
+            (moves.opens_where wanted word) (line_length self.old.rest)) self.old result self.new }
+        ensures errors { Reports result (unreported_of self.old) (unreported_of self.new) }
+    {
+        let name = only_name(word, &mut self.lexer)?;
+        let is_defined = self.definitions.find(name.as_str()).is_some();
+        drop(name);
+        self.blocks
+            .push(OpenBlock::opened(word, is_defined == wanted))?;
+        Ok(())
+    }
+
+    // Opens a block with the condition on the line.
+    fn open_if(&mut self, word: Location) -> Result<(), Halt>
+        requires { self.old.spent ≡ false }
+        ensures acts { Acts (moves.line_move (line_tokens self.old.rest) (moves.opens_if word)
+            (line_length self.old.rest)) self.old result self.new }
+        ensures errors { Reports result (unreported_of self.old) (unreported_of self.new) }
+    {
+        let tokens = rest_of_line(self.alloc, &mut self.lexer)?;
+        let holds = condition(self.alloc, word, tokens, &self.definitions)?;
+        self.blocks.push(OpenBlock::opened(word, holds))?;
+        Ok(())
+    }
+
+    // Opens a block in dead text, without reading its line.
+    fn open_unread(&mut self, word: Location) -> Result<(), Halt>
+        requires { self.old.spent ≡ false }
+        ensures acts { Acts
+            (moves.skip_move (moves.opens_unread word) self.old.rest) self.old result self.new }
+        ensures errors { Reports result (unreported_of self.old) (unreported_of self.new) }
+    {
+        self.blocks.push(OpenBlock::unread(word))?;
+        skip_line(&mut self.lexer)
+    }
+
+    // Skips the branch after an `#elif` of the innermost block, also if its line has a fault.
+    fn skip_branch(&mut self, block: OpenBlock) -> Result<(), Halt>
+        requires unspent { self.old.spent ≡ false }
+        requires innermost { last_block self.old.blocks ≡ Some block }
+        ensures acts { Acts
+            (moves.skip_move (moves.parts (block_skipped block)) self.old.rest)
+            self.old result self.new }
+        ensures errors { Reports result (unreported_of self.old) (unreported_of self.new) }
+    {
+        self.blocks.replace_last(block.skipped());
+        skip_line(&mut self.lexer)
+    }
+
+    // Begins a new branch of the innermost block by the condition on the line. After a fault the branch is dead.
+    fn part_if(&mut self, block: OpenBlock, word: Location) -> Result<(), Halt>
+        requires unspent { self.old.spent ≡ false }
+        requires innermost { last_block self.old.blocks ≡ Some block }
+        ensures acts { Acts (moves.line_move (line_tokens self.old.rest)
+            (moves.parts_if block word) (line_length self.old.rest)) self.old result self.new }
+        ensures errors { Reports result (unreported_of self.old) (unreported_of self.new) }
+    {
+        self.blocks.replace_last(block.skipped());
+        let tokens = rest_of_line(self.alloc, &mut self.lexer)?;
+        let holds = condition(self.alloc, word, tokens, &self.definitions)?;
+        self.blocks.replace_last(block.decided(holds));
+        Ok(())
+    }
+
+    // Acts on an `#elif` line, after its word. After a fault the text that follows is dead.
+    fn elif_line(&mut self, word: Location) -> Result<(), Halt>
+        requires { self.old.spent ≡ false }
+        ensures acts { Acts
+            (moves.elif_move (last_block self.old.blocks) word self.old.rest)
+            self.old result self.new }
+        ensures errors { Reports result (unreported_of self.old) (unreported_of self.new) }
+    {
+        let Some(block) = self.blocks.last() else {
+            self.dead_for_good = true;
+            return Err(Halt::Fault((PreprocessorError::ElifOutsideOfBlock, word)));
+        };
+        if block.with_else {
+            self.blocks.replace_last(block.skipped());
+            return Err(Halt::Fault((PreprocessorError::ElifAfterElse, word)));
+        }
+        if block.skips_branches() {
+            return self.skip_branch(block);
+        }
+        self.part_if(block, word)
+    }
+
+    // Acts on an `#else` line, after its word.
+    fn else_line(&mut self, word: Location) -> Result<(), Halt>
+        requires { self.old.spent ≡ false }
+        ensures acts { Acts
+            (moves.else_move (last_block self.old.blocks) word self.old.rest)
+            self.old result self.new }
+        ensures errors { Reports result (unreported_of self.old) (unreported_of self.new) }
+    {
+        ended_line(word, &mut self.lexer)?;
+        let Some(block) = self.blocks.last() else {
+            return Err(Halt::Fault((PreprocessorError::ElseOutsideOfBlock, word)));
+        };
+        if block.with_else {
+            return Err(Halt::Fault((PreprocessorError::MoreThanOneElse, word)));
+        }
+        self.blocks.replace_last(block.parted());
+        Ok(())
+    }
+
+    // Acts on an `#endif` line, after its word: the block closes, also if more tokens follow on the line.
+    fn endif_line(&mut self, word: Location) -> Result<(), Halt>
+        requires { self.old.spent ≡ false }
+        ensures acts { Acts
+            (moves.endif_move (last_block self.old.blocks) word self.old.rest)
+            self.old result self.new }
+        ensures errors { Reports result (unreported_of self.old) (unreported_of self.new) }
+    {
+        let Some(block) = self.blocks.pop() else {
+            return Err(Halt::Fault((PreprocessorError::EndifOutsideOfBlock, word)));
+        };
+        endif_end(block.live_around, word, &mut self.lexer)
+    }
+
+    // Shows the line as this number from now on, and the lines after it accordingly.
+    fn count_from(&mut self, line: u32, number: u32)
+        ensures { self.new ≡ record self.old { line_offset = pos number -ℤ pos line } }
+    {
+        self.line_offset = i64::from(number) - i64::from(line);
+    }
+
+    // Acts on a `#line` line, after its word: the next lines are numbered from its first number, also if only what
+    // follows that number has a fault.
+    fn number_lines(&mut self, word: Location) -> Result<(), Halt>
+        requires { self.old.spent ≡ false }
+        ensures acts { Acts (moves.line_move (line_tokens self.old.rest) (moves.renumbers word)
+            (line_length self.old.rest)) self.old result self.new }
+        ensures errors { Reports result (unreported_of self.old) (unreported_of self.new) }
+    {
+        let tokens = rest_of_line(self.alloc, &mut self.lexer)?;
+        match line_number(self.alloc, word, tokens, &self.definitions) {
+            Ok(number) => {
+                self.count_from(word.line, number);
+                Ok(())
+            }
+            Err(unnumbered) => match unnumbered.number {
+                Some(number) => {
+                    self.count_from(word.line, number);
+                    Err(unnumbered.halt)
+                }
+                None => Err(unnumbered.halt),
+            },
+        }
+    }
+
+    // Skips the line.
+    fn skip(&mut self) -> Result<(), Halt>
+        requires { self.old.spent ≡ false }
+        ensures acts { Acts (moves.skip_move moves.passes self.old.rest) self.old result self.new }
+        ensures errors { Reports result (unreported_of self.old) (unreported_of self.new) }
+    {
+        skip_line(&mut self.lexer)
+    }
+
+    // A `#version` line as an item.
+    fn version(&mut self, word: Location) -> Result<Token, Halt>
+        requires unspent { self.old.spent ≡ false }
+        requires left { self.old.rest ≢ [] }
+        ensures acts { ActsAs (λ token. Ok token)
+            (moves.live_move (last_block self.old.blocks) d.Version word self.old.rest)
+            self.old result self.new }
+        ensures holds { IfOk result (λ token. HoldsOrdinary token.value) }
+        ensures errors { Reports result (unreported_of self.old) (unreported_of self.new) }
+    {
+        let tokens = line_tokens(self.alloc, &mut self.lexer)?;
+        let value = TokenValue::Version(Version {
+            tokens,
+            is_first_directive: !(self.has_directive || self.has_text),
+            has_comments_before: self.lexer.had_comments(),
+        });
+        Ok(Token {
+            value,
+            location: word,
+        })
+    }
+
+    // An `#extension` line as an item.
+    fn extension(&mut self, word: Location) -> Result<Token, Halt>
+        requires unspent { self.old.spent ≡ false }
+        requires left { self.old.rest ≢ [] }
+        ensures acts { ActsAs (λ token. Ok token)
+            (moves.live_move (last_block self.old.blocks) d.Extension word self.old.rest)
+            self.old result self.new }
+        ensures holds { IfOk result (λ token. HoldsOrdinary token.value) }
+        ensures errors { Reports result (unreported_of self.old) (unreported_of self.new) }
+    {
+        let tokens = line_tokens(self.alloc, &mut self.lexer)?;
+        let value = TokenValue::Extension(Extension {
+            tokens,
+            has_non_directive_before: self.has_text,
+        });
+        Ok(Token {
+            value,
+            location: word,
+        })
+    }
+
+    // A `#pragma` line as an item.
+    fn pragma(&mut self, word: Location) -> Result<Token, Halt>
+        requires unspent { self.old.spent ≡ false }
+        requires left { self.old.rest ≢ [] }
+        ensures acts { ActsAs (λ token. Ok token)
+            (moves.live_move (last_block self.old.blocks) d.Pragma word self.old.rest)
+            self.old result self.new }
+        ensures holds { IfOk result (λ token. HoldsOrdinary token.value) }
+        ensures errors { Reports result (unreported_of self.old) (unreported_of self.new) }
+    {
+        let tokens = line_tokens(self.alloc, &mut self.lexer)?;
+        Ok(Token {
+            value: TokenValue::Pragma(Pragma { tokens }),
+            location: word,
+        })
+    }
+
+    // Acts in live text on a directive that is no item, after its word.
+    fn act_live(&mut self, directive: Directive, word: Location) -> Result<(), Halt>
+        requires unspent { self.old.spent ≡ false }
+        requires silent { is_item directive ≡ false }
+        ensures acts { Acts (moves.directive_move true
+            (last_block self.old.blocks) directive word self.old.rest) self.old result self.new }
+        ensures errors { Reports result (unreported_of self.old) (unreported_of self.new) }
+    {
+        match directive {
+            Directive::Define => self.define(word),
+            Directive::Undef => self.undef(word),
+            Directive::If => self.open_if(word),
+            Directive::Ifdef => self.open_where(true, word),
+            Directive::Ifndef => self.open_where(false, word),
+            Directive::Elif => self.elif_line(word),
+            Directive::Else => self.else_line(word),
+            Directive::Endif => self.endif_line(word),
+            Directive::Line => self.number_lines(word),
+            Directive::Error => Err(Halt::Fault((PreprocessorError::ErrorDirective, word))),
+            Directive::Unknown => Err(Halt::Fault((PreprocessorError::UnknownDirective, word))),
+            Directive::Version | Directive::Extension | Directive::Pragma => unreachable!(),
+        }
+    }
+
+    // The item that a directive gives in live text, if it gives one, after its word.
+    fn give_live(&mut self, directive: Directive, word: Location) -> Result<Option<Token>, Halt>
+        requires unspent { self.old.spent ≡ false }
+        requires left { self.old.rest ≢ [] }
+        ensures gives { Gives (moves.directive_move true
+            (last_block self.old.blocks) directive word self.old.rest) self.old result self.new }
+        ensures holds { IfOk result (λ given. IfSome given (λ token. HoldsOrdinary token.value)) }
+        ensures errors { Reports result (unreported_of self.old) (unreported_of self.new) }
+    {
+        match directive {
+            Directive::Version => Ok(Some(self.version(word)?)),
+            Directive::Extension => Ok(Some(self.extension(word)?)),
+            Directive::Pragma => Ok(Some(self.pragma(word)?)),
+            Directive::Define
+            | Directive::Undef
+            | Directive::If
+            | Directive::Ifdef
+            | Directive::Ifndef
+            | Directive::Elif
+            | Directive::Else
+            | Directive::Endif
+            | Directive::Line
+            | Directive::Error
+            | Directive::Unknown => {
+                self.act_live(directive, word)?;
+                Ok(None)
+            }
+        }
+    }
+
+    // Acts on a directive in dead text, after its word.
+    fn act_dead(&mut self, directive: Directive, word: Location) -> Result<(), Halt>
+        requires { self.old.spent ≡ false }
+        ensures acts { Acts (moves.directive_move false
+            (last_block self.old.blocks) directive word self.old.rest) self.old result self.new }
+        ensures errors { Reports result (unreported_of self.old) (unreported_of self.new) }
+    {
+        match directive {
+            Directive::If | Directive::Ifdef | Directive::Ifndef => self.open_unread(word),
+            Directive::Elif => self.elif_line(word),
+            Directive::Else => self.else_line(word),
+            Directive::Endif => self.endif_line(word),
+            Directive::Unknown => Ok(()),
+            Directive::Define
+            | Directive::Undef
+            | Directive::Line
+            | Directive::Error
+            | Directive::Version
+            | Directive::Extension
+            | Directive::Pragma => self.skip(),
+        }
+    }
+
+    // The item that a directive gives in live text, if it gives one, after its number sign. A number sign alone on its
+    // line gives nothing. A line that would be an item counts as a directive even if it has a fault.
+    fn read_live(&mut self, hash: Location) -> Result<Option<Token>, Halt>
+        requires { self.old.spent ≡ false }
+        ensures gives { Gives (live_word_move (last_block self.old.blocks)
+            (first_token hash self.old.rest) (drop 1 self.old.rest)) self.old result self.new }
+        ensures holds { IfOk result (λ given. IfSome given (λ token. HoldsOrdinary token.value)) }
+        ensures errors { Reports result (unreported_of self.old) (unreported_of self.new) }
+    {
+        let token = first_token(hash, &mut self.lexer)?;
+        let word = token.location;
+        match token.value {
+            lexer::TokenValue::Ident(name) => {
+                let directive = directive_of(&name);
+                drop(name);
+                match self.give_live(directive, word) {
+                    Ok(given) => {
+                        self.has_directive = true;
+                        Ok(given)
+                    }
+                    Err(halt) => {
+                        self.has_directive |= is_item(directive);
+                        Err(halt)
+                    }
+                }
+            }
+            lexer::TokenValue::NewLine => {
+                self.has_directive = true;
+                Ok(None)
+            }
+            _ => Err(Halt::Fault(refused_token(token))),
+        }
+    }
+
+    // Acts on a directive in dead text, after its number sign. Without a word after the number sign it does nothing.
+    fn read_dead(&mut self, hash: Location) -> Result<(), Halt>
+        requires { self.old.spent ≡ false }
+        ensures acts { Acts (dead_word_move (last_block self.old.blocks)
+            (first_token hash self.old.rest) (drop 1 self.old.rest)) self.old result self.new }
+        ensures errors { Reports result (unreported_of self.old) (unreported_of self.new) }
+    {
+        let token = first_token(hash, &mut self.lexer)?;
+        let word = token.location;
+        match token.value {
+            lexer::TokenValue::Ident(name) => {
+                let directive = directive_of(&name);
+                drop(name);
+                self.act_dead(directive, word)?;
+                self.has_directive = true;
+                Ok(())
+            }
+            lexer::TokenValue::NewLine => {
+                self.has_directive = true;
+                Ok(())
+            }
+            _ => Ok(()),
+        }
+    }
+
+    // The item that a directive gives, if it gives one, after its number sign.
+    fn read_directive(&mut self, hash: Location) -> Result<Option<Token>, Halt>
+        requires { self.old.spent ≡ false }
+        ensures gives { Gives (word_move
+            (is_live_among self.old.dead_for_good self.old.blocks)
+            (last_block self.old.blocks) hash self.old.rest) self.old result self.new }
+        ensures holds { IfOk result (λ given. IfSome given (λ token. HoldsOrdinary token.value)) }
+        ensures errors { Reports result (unreported_of self.old) (unreported_of self.new) }
+    {
+        if self.is_live() {
+            return self.read_live(hash);
+        }
+        self.read_dead(hash)?;
+        Ok(None)
+    }
+
+    // A token of live text. A number sign is an error.
+    fn give_token(&mut self, token: lexer::Token) -> Step<Token>
+        requires { token.value ≢ NewLine }
+        ensures is { result ≡ as_step (conversion token) }
+        ensures holds { IfOk result (λ token. HoldsOrdinary token.value) }
+        ensures remembers { self.new
+            ≡ record self.old { has_text = is_ok result || self.old.has_text } }
+        ensures errors { StepReports result (unreported_of self.old) (unreported_of self.new) }
+    {
+        let token = convert_lexer_token_to_step(token)?;
+        self.has_text = true;
+        Ok(token)
+    }
+
+    // Reports the innermost block that is open at the end of the source or, without one, the end.
+    fn end(&mut self) -> StepExit
+        requires { self.old.spent ≡ false → self.old.rest ≡ [] }
+        ensures reads { StepsSource self.old (Err result) self.new }
+        ensures errors { ExitReports result (unreported_of self.old) (unreported_of self.new) }
+    {
+        if self.lexer.is_spent() {
+            return StepExit::Finished;
+        }
+        match self.blocks.pop() {
+            Some(block) => StepExit::Error((PreprocessorError::UnfinishedBlock, block.word)),
+            None => StepExit::Finished,
+        }
+    }
+
+    // A step at a word of plain text, if one comes first: a token in live text, and a pause without memory in dead
+    // text. A newline of plain text is a pause too.
+    #[inline(always)]
+    fn step_plain(&mut self) -> Option<Step<Token>>
+        ensures reads { StepsPlain self.old result self.new }
+        ensures holds { IfSome result (λ step. IfOk step (λ token. HoldsOrdinary token.value)) }
+    {
+        let Some(item) = self.lexer.next_plain() else {
+            return self.lexer.pass_newline().then_some(Err(StepExit::Continue));
+        };
+        if !self.is_live() {
+            return Some(Err(StepExit::Continue));
+        }
+        let Ok(token) = word_token(self.alloc, item) else {
+            self.lexer.spend();
+            return Some(Err(StepExit::Error(out_of_memory())));
+        };
+        self.has_text = true;
+        Some(Ok(token))
+    }
+
+    // A step at any item, or at the end.
+    fn step_any(&mut self) -> Step<Token>
+        ensures reads { StepsSource self.old result self.new }
+        ensures holds { IfOk result (λ token. HoldsOrdinary token.value) }
+        ensures errors { StepReports result (unreported_of self.old) (unreported_of self.new) }
+    {
+        let Some(token) = self.lexer.next_token()? else {
+            return Err(self.end());
+        };
+        match token.value {
+            lexer::TokenValue::NewLine => {
+                drop(token);
+                Err(StepExit::Continue)
+            }
+            lexer::TokenValue::Hash if token.start_of_line => {
+                let hash = token.location;
+                drop(token);
+                match self.read_directive(hash)? {
+                    Some(item) => Ok(item),
+                    None => Err(StepExit::Continue),
+                }
+            }
+            _ if self.is_live() => self.give_token(token),
+            _ => {
+                drop(token);
+                Err(StepExit::Continue)
+            }
+        }
+    }
+
+    /// Reads one token, or one line of a directive.
+    ///
+    /// A newline, a directive that acts, and each token of dead text is a pause. These directives act: `#define`,
+    /// `#undef`, `#if`, `#ifdef`, `#ifndef`, `#elif`, `#else`, `#endif` and `#line`. In live text `#version`,
+    /// `#extension` and `#pragma` are tokens at their word, which hold the tokens of their line; `#error` is
+    /// `ErrorDirective` at its word, and a number sign that begins no line is `UnexpectedHash` at its place. The
+    /// lexer's errors are passed on as they are. At the end `UnfinishedBlock` is reported for each block that is open,
+    /// the innermost first.
+    #[inline(always)]
+    pub fn step(&mut self) -> Step<Token>
+        ensures reads { StepsSource self.old result self.new }
+        ensures holds { IfOk result (λ token. HoldsOrdinary token.value) }
+        ensures errors { StepReports result (unreported_of self.old) (unreported_of self.new) }
+    {
+        if let Some(step) = self.step_plain() {
+            return step;
+        }
+        self.step_any()
+    }
+}

@@ -1,0 +1,307 @@
+//! The lines of directives, read token by token.
+
+ghost use Rattle.std.specs.Prelude.{◌≡◌, ◌≢◌, [], false, Some, Ok, IsTrue, All, IfOk, IfSome};
+ghost use Rattle.pp_lexer.specs.Lexed.{comments_before};
+ghost use Rattle.pp_lexer.specs.TokenValue.{is_ordinary};
+ghost use Rattle.pp_model.specs.Conversions as conversions;
+ghost use Rattle.pp_model.specs.DefineLines.{is_attached_paren, definition_at, defined_on};
+ghost use Rattle.pp_model.specs.Lines.{first_token, first_name, ended_line, only_name, line_tokens, line_length, comments_before_end};
+ghost use Rattle.pp_macros.specs.inner.DirectiveItems.{line_entries};
+ghost use Rattle.pp_macros.specs.Held.{is_ordinary_leaf};
+ghost use Rattle.pp_macros.specs.inner.LineReading as spec;
+ghost use Rattle.pp_directives.specs.inner.ReadNames.{named, placed};
+ghost use Rattle.pp_macros.specs.inner.ParameterReading.{function_at};
+ghost use Rattle.pp_macros.specs.inner.SourceLexed.{unreported_at};
+ghost use Rattle.pp_macros.specs.inner.Unreported.{Reports};
+
+use crate::convert::convert_lexer_token;
+use crate::parameters::parameters;
+use crate::source_lexer::SourceLexer;
+use pp_lexer::lexer;
+use pp_lexer::token::{Location, PreprocessorError, Punct, Text, Token, TokenValue, Tokens};
+use pp_macros::define::Define;
+use pp_macros::halt::Halt;
+use std::alloc::Global;
+
+/// The next token. The end of the source is an error at the directive's word.
+pub fn first_token(word: Location, lexer: &mut SourceLexer<'_>) -> Result<lexer::Token, Halt>
+    requires { lexer.old.spent ≡ false }
+    ensures is { spec.Meets (λ t. t) result (first_token word lexer.old.rest) }
+    ensures takes { spec.TakesItems 1 lexer.old result lexer.new }
+    ensures errors { Reports result (unreported_at lexer.old) (unreported_at lexer.new) }
+    ensures left { IfOk result (λ token. spec.LeavesSome (Some token) lexer.new.rest) }
+{
+    match lexer.next_token()? {
+        Some(token) => Ok(token),
+        None => Err(Halt::Fault((PreprocessorError::UnexpectedEndOfInput, word))),
+    }
+}
+
+/// The fault of a token where the directive doesn't allow it.
+pub fn refused_token(token: lexer::Token) -> (PreprocessorError, Location)
+    ensures { result ≡ conversions.refused_token token }
+{
+    let location = token.location;
+    let error = match token.value {
+        lexer::TokenValue::Hash => PreprocessorError::UnexpectedHash,
+        lexer::TokenValue::NewLine => PreprocessorError::UnexpectedNewLine,
+        lexer::TokenValue::Ident(name) => {
+            PreprocessorError::UnexpectedToken(TokenValue::Ident(name))
+        }
+        lexer::TokenValue::Integer(integer) => {
+            PreprocessorError::UnexpectedToken(TokenValue::Integer(integer))
+        }
+        lexer::TokenValue::Float(float) => {
+            PreprocessorError::UnexpectedToken(TokenValue::Float(float))
+        }
+        lexer::TokenValue::Punct(punct) => {
+            PreprocessorError::UnexpectedToken(TokenValue::Punct(punct))
+        }
+    };
+    (error, location)
+}
+
+/// A name with its place.
+#[derive(Drop)]
+pub struct PlacedName {
+    pub name: Text,
+    pub location: Location,
+}
+
+/// The name that comes next. Anything else is an error.
+pub fn first_name(word: Location, lexer: &mut SourceLexer<'_>) -> Result<PlacedName, Halt>
+    requires { lexer.old.spent ≡ false }
+    ensures is { spec.Meets placed result (first_name word lexer.old.rest) }
+    ensures takes { spec.TakesItems 1 lexer.old result lexer.new }
+    ensures errors { Reports result (unreported_at lexer.old) (unreported_at lexer.new) }
+    ensures left { IfOk result (λ name. lexer.new.rest ≢ []) }
+{
+    let token = first_token(word, lexer)?;
+    let location = token.location;
+    match token.value {
+        lexer::TokenValue::Ident(name) => Ok(PlacedName { name, location }),
+        _ => Err(Halt::Fault(refused_token(token))),
+    }
+}
+
+/// Fails unless the line ends here.
+pub fn ended_line(word: Location, lexer: &mut SourceLexer<'_>) -> Result<(), Halt>
+    requires { lexer.old.spent ≡ false }
+    ensures is { spec.Meets (λ t. t) result (ended_line word lexer.old.rest) }
+    ensures takes { spec.TakesItems 1 lexer.old result lexer.new }
+    ensures errors { Reports result (unreported_at lexer.old) (unreported_at lexer.new) }
+{
+    let token = first_token(word, lexer)?;
+    match token.value {
+        lexer::TokenValue::NewLine => Ok(()),
+        _ => Err(Halt::Fault(refused_token(token))),
+    }
+}
+
+/// The name that is alone on the line. Anything else is an error.
+pub fn only_name(word: Location, lexer: &mut SourceLexer<'_>) -> Result<Text, Halt>
+    requires { lexer.old.spent ≡ false }
+    ensures is { spec.Meets (λ t. t) result (only_name word lexer.old.rest) }
+    ensures takes { spec.TakesItems (line_length lexer.old.rest) lexer.old result lexer.new }
+    ensures errors { Reports result (unreported_at lexer.old) (unreported_at lexer.new) }
+{
+    let first = first_name(word, lexer)?;
+    ended_line(word, lexer)?;
+    Ok(first.name)
+}
+
+// Passes a token. Returns whether the line continues after it.
+fn pass_token(lexer: &mut SourceLexer<'_>) -> Result<bool, Halt>
+    requires { lexer.old.spent ≡ false }
+    ensures is { spec.Meets (λ t. t) result (spec.line_goes_on lexer.old.rest) }
+    ensures takes { spec.TakesItems 1 lexer.old result lexer.new }
+    ensures errors { Reports result (unreported_at lexer.old) (unreported_at lexer.new) }
+    ensures fault { spec.FaultTakesSome result lexer.old lexer.new }
+{
+    match lexer.next_token()? {
+        Some(token) => Ok(!matches!(token.value, lexer::TokenValue::NewLine)),
+        None => Ok(false),
+    }
+}
+
+/// Passes the rest of the line. An error of the lexer on it is returned.
+pub fn skip_line(lexer: &mut SourceLexer<'_>) -> Result<(), Halt>
+    requires { lexer.old.spent ≡ false }
+    ensures is { spec.Meets (λ t. t) result (spec.skipped_line lexer.old.rest) }
+    ensures takes { spec.TakesItems (line_length lexer.old.rest) lexer.old result lexer.new }
+    ensures errors { Reports result (unreported_at lexer.old) (unreported_at lexer.new) }
+    ensures fault { spec.FaultTakesSome result lexer.old lexer.new }
+{
+    'line: while pass_token(lexer)? {}
+    Ok(())
+}
+
+/// Reads the end of an `#endif` line, or skips it if the block's surroundings are dead.
+pub fn endif_end(live_around: bool, word: Location, lexer: &mut SourceLexer<'_>) -> Result<(), Halt>
+    requires { lexer.old.spent ≡ false }
+    ensures is { spec.Meets (λ t. t) result (spec.endif_end live_around word lexer.old.rest) }
+    ensures takes { spec.TakesItems (line_length lexer.old.rest) lexer.old result lexer.new }
+    ensures errors { Reports result (unreported_at lexer.old) (unreported_at lexer.new) }
+{
+    if live_around {
+        ended_line(word, lexer)
+    } else {
+        skip_line(lexer)
+    }
+}
+
+// A token of the line, or `None` if the line ends.
+fn line_token(token: Option<lexer::Token>) -> Result<Option<Token>, Halt>
+    ensures is { spec.Meets (λ t. t) result (spec.line_token token) }
+    ensures ordinary { spec.IsOrdinaryIfOk result }
+    ensures within { IfOk result (λ next. IfSome next (λ t. spec.IsWithinLine token)) }
+{
+    match token {
+        Some(token) if !matches!(token.value, lexer::TokenValue::NewLine) => {
+            Ok(Some(convert_lexer_token(token)?))
+        }
+        _ => Ok(None),
+    }
+}
+
+/// The next token of the line, or `None` if the line ends.
+pub fn next_line_token(lexer: &mut SourceLexer<'_>) -> Result<Option<Token>, Halt>
+    requires { lexer.old.spent ≡ false }
+    ensures is { spec.Meets (λ t. t) result (spec.next_line_token lexer.old.rest) }
+    ensures takes { spec.TakesItems 1 lexer.old result lexer.new }
+    ensures errors { Reports result (unreported_at lexer.old) (unreported_at lexer.new) }
+    ensures ordinary { spec.IsOrdinaryIfOk result }
+    ensures comments { IfOk result (λ next. lexer.new.had_comments
+        ≡ comments_before lexer.old.rest lexer.old.at_end) }
+    ensures left { IfOk result (λ next. IfSome next (λ t. lexer.new.rest ≢ [])) }
+{
+    line_token(lexer.next_token()?)
+}
+
+// Whether it is a `(` without a blank before it.
+fn is_attached_paren(token: &lexer::Token) -> bool
+    ensures { result ≡ is_attached_paren (Ok token.now) }
+{
+    matches!(token.value, lexer::TokenValue::Punct(Punct::LeftParen)) && !token.leading_whitespace
+}
+
+/// The tokens of a line from its first one, which was read already, or none if the line was empty.
+pub fn line_tokens_from(
+    alloc: Global,
+    first: Option<Token>,
+    lexer: &mut SourceLexer<'_>,
+) -> Result<Vec<Token>, Halt>
+    requires unspent { lexer.old.spent ≡ false }
+    requires ordinary { IfSome first (λ t. IsTrue (is_ordinary t.value)) }
+    requires left { IfSome first (λ t. lexer.old.rest ≢ []) }
+    ensures is { spec.Meets (λ tokens. tokens.items) result (spec.tokens_after first
+        lexer.old.rest) }
+    ensures takes { spec.TakesItems
+        (spec.length_after first lexer.old.rest) lexer.old result lexer.new }
+    ensures errors { Reports result (unreported_at lexer.old) (unreported_at lexer.new) }
+    ensures comments { IfOk result (λ tokens. lexer.new.had_comments
+        ≡ spec.comments_after first lexer.old.rest lexer.old.had_comments) }
+    ensures ordinary { IfOk result (λ tokens. All (λ t. IsTrue
+        (is_ordinary t.value)) tokens.items) }
+{
+    let mut tokens = Vec::new(alloc);
+    let mut next = first;
+    while let Some(token) = next {
+        tokens.push(token)?;
+        next = next_line_token(lexer)?;
+    }
+    Ok(tokens)
+}
+
+/// The tokens of the rest of the line.
+pub fn rest_of_line(alloc: Global, lexer: &mut SourceLexer<'_>) -> Result<Vec<Token>, Halt>
+    requires { lexer.old.spent ≡ false }
+    ensures is { spec.Meets (λ tokens. tokens.items) result (line_tokens lexer.old.rest) }
+    ensures takes { spec.TakesItems (line_length lexer.old.rest) lexer.old result lexer.new }
+    ensures errors { Reports result (unreported_at lexer.old) (unreported_at lexer.new) }
+    ensures comments { IfOk result (λ tokens. lexer.old.rest ≢ [] → lexer.new.had_comments
+        ≡ comments_before_end lexer.old.rest) }
+    ensures ordinary { IfOk result (λ tokens. All (λ t. IsTrue
+        (is_ordinary t.value)) tokens.items) }
+{
+    let first = next_line_token(lexer)?;
+    line_tokens_from(alloc, first, lexer)
+}
+
+/// The tokens of the rest of the line, as a directive item holds them.
+pub fn line_tokens(alloc: Global, lexer: &mut SourceLexer<'_>) -> Result<Tokens, Halt>
+    requires unspent { lexer.old.spent ≡ false }
+    requires left { lexer.old.rest ≢ [] }
+    ensures is { spec.Meets (λ t. t) result (line_entries lexer.old.rest) }
+    ensures takes { spec.TakesItems (line_length lexer.old.rest) lexer.old result lexer.new }
+    ensures errors { Reports result (unreported_at lexer.old) (unreported_at lexer.new) }
+    ensures comments { IfOk result (λ tokens. lexer.new.had_comments
+        ≡ comments_before_end lexer.old.rest) }
+    ensures ordinary { IfOk result
+        (λ tokens. All (λ entry. IsTrue (is_ordinary_leaf entry.leaf)) tokens) }
+{
+    let first = next_line_token(lexer)?;
+    let tokens = line_tokens_from(alloc, first, lexer)?;
+    Ok(Tokens::from(tokens))
+}
+
+/// A `#define` line that was read.
+#[derive(Drop)]
+pub struct DefineLine {
+    pub name: Text,
+    pub location: Location,
+    pub define: Define,
+}
+
+// The definition after a macro's name and the `(` directly after the name.
+fn function_after(
+    alloc: Global,
+    word: Location,
+    lexer: &mut SourceLexer<'_>,
+) -> Result<Define, Halt>
+    requires { lexer.old.spent ≡ false }
+    ensures is { spec.Meets (λ d. d) result (function_at word lexer.old.rest) }
+    ensures takes { spec.TakesItems (line_length lexer.old.rest) lexer.old result lexer.new }
+    ensures errors { Reports result (unreported_at lexer.old) (unreported_at lexer.new) }
+{
+    let names = parameters(alloc, word, lexer)?;
+    let body = rest_of_line(alloc, lexer)?;
+    Ok(Define::function_like(alloc, names, body)?)
+}
+
+// The definition after a macro's name.
+fn definition(alloc: Global, word: Location, lexer: &mut SourceLexer<'_>) -> Result<Define, Halt>
+    requires { lexer.old.spent ≡ false }
+    ensures is { spec.Meets (λ d. d) result (definition_at word lexer.old.rest) }
+    ensures takes { spec.TakesItems (line_length lexer.old.rest) lexer.old result lexer.new }
+    ensures errors { Reports result (unreported_at lexer.old) (unreported_at lexer.new) }
+{
+    match lexer.next_token()? {
+        Some(token) if is_attached_paren(&token) => function_after(alloc, word, lexer),
+        token => {
+            let first = line_token(token)?;
+            let body = line_tokens_from(alloc, first, lexer)?;
+            Ok(Define::object_like(alloc, body))
+        }
+    }
+}
+
+/// Reads a `#define` line, after its word.
+pub fn define_line(
+    alloc: Global,
+    word: Location,
+    lexer: &mut SourceLexer<'_>,
+) -> Result<DefineLine, Halt>
+    requires { lexer.old.spent ≡ false }
+    ensures is { spec.Meets named result (defined_on word lexer.old.rest) }
+    ensures takes { spec.TakesItems (line_length lexer.old.rest) lexer.old result lexer.new }
+    ensures errors { Reports result (unreported_at lexer.old) (unreported_at lexer.new) }
+{
+    let PlacedName { name, location } = first_name(word, lexer)?;
+    let define = definition(alloc, word, lexer)?;
+    Ok(DefineLine {
+        name,
+        location,
+        define,
+    })
+}

@@ -1,0 +1,100 @@
+//! The parameters of a macro, read token by token.
+
+ghost use Rattle.std.specs.Prelude.{◌≡◌, ◌++◌, ◌∷◌, [], false, IfOk};
+ghost use Rattle.pp_model.specs.DefineLines.{parameters};
+ghost use Rattle.pp_model.specs.Names.{is_in};
+ghost use Rattle.pp_macros.specs.inner.LineReading as spec;
+ghost use Rattle.pp_macros.specs.inner.ParameterReading.{ends_parameters, one_parameter, first_parameter, alone, GoesOn};
+ghost use Rattle.pp_macros.specs.inner.SourceLexed.{unreported_at};
+ghost use Rattle.pp_macros.specs.inner.Unreported.{Reports};
+ghost use Rattle.pp_directives.specs.inner.ReadNames.{parameters_to};
+
+use crate::lines::{first_token, refused_token};
+use crate::source_lexer::SourceLexer;
+use pp_lexer::lexer;
+use pp_lexer::token::{Location, PreprocessorError, Punct, Text};
+use pp_macros::halt::Halt;
+use pp_macros::parameter_names::ParameterNames;
+use std::alloc::Global;
+
+// The name of one more parameter, which comes next.
+fn one_parameter(
+    names: &ParameterNames,
+    word: Location,
+    lexer: &mut SourceLexer<'_>,
+) -> Result<Text, Halt>
+    requires { lexer.old.spent ≡ false }
+    ensures is { spec.Meets (λ name. names.now ++ name ∷ []) result
+        (one_parameter word names.now lexer.old.rest) }
+    ensures new { IfOk result (λ name. is_in name names.now ≡ false) }
+    ensures takes { spec.TakesItems 1 lexer.old result lexer.new }
+    ensures errors { Reports result (unreported_at lexer.old) (unreported_at lexer.new) }
+{
+    let token = first_token(word, lexer)?;
+    let location = token.location;
+    match token.value {
+        lexer::TokenValue::Ident(name) => {
+            if names.contains(&name) {
+                drop(name);
+                return Err(Halt::Fault((PreprocessorError::DuplicateParameter, location)));
+            }
+            Ok(name)
+        }
+        _ => Err(Halt::Fault(refused_token(token))),
+    }
+}
+
+// The name of the first parameter, or `None` if there is none.
+fn first_parameter(word: Location, lexer: &mut SourceLexer<'_>) -> Result<Option<Text>, Halt>
+    requires { lexer.old.spent ≡ false }
+    ensures is { spec.Meets alone result (first_parameter word lexer.old.rest) }
+    ensures takes { spec.TakesItems 1 lexer.old result lexer.new }
+    ensures errors { Reports result (unreported_at lexer.old) (unreported_at lexer.new) }
+{
+    let token = first_token(word, lexer)?;
+    match token.value {
+        lexer::TokenValue::Punct(Punct::RightParen) => Ok(None),
+        lexer::TokenValue::Ident(name) => Ok(Some(name)),
+        _ => Err(Halt::Fault(refused_token(token))),
+    }
+}
+
+// Reads what follows a parameter: a `)` ends the parameters, and after a comma they go on. Returns
+// whether they end.
+fn ends_parameters(word: Location, lexer: &mut SourceLexer<'_>) -> Result<bool, Halt>
+    requires { lexer.old.spent ≡ false }
+    ensures is { spec.Meets (λ b. b) result (ends_parameters word lexer.old.rest) }
+    ensures takes { spec.TakesItems 1 lexer.old result lexer.new }
+    ensures errors { Reports result (unreported_at lexer.old) (unreported_at lexer.new) }
+{
+    let token = first_token(word, lexer)?;
+    match token.value {
+        lexer::TokenValue::Punct(Punct::RightParen) => Ok(true),
+        lexer::TokenValue::Punct(Punct::Comma) => Ok(false),
+        _ => Err(Halt::Fault(refused_token(token))),
+    }
+}
+
+/// The parameters of a macro, after its `(`.
+pub fn parameters(
+    alloc: Global,
+    word: Location,
+    lexer: &mut SourceLexer<'_>,
+) -> Result<ParameterNames, Halt>
+    requires { lexer.old.spent ≡ false }
+    ensures is { spec.Meets (λ names. parameters_to names lexer.new) result
+        (parameters word lexer.old.rest) }
+    ensures goes { GoesOn result lexer.old lexer.new }
+    ensures errors { Reports result (unreported_at lexer.old) (unreported_at lexer.new) }
+{
+    let none = ParameterNames::new(alloc);
+    let Some(first) = first_parameter(word, lexer)? else {
+        return Ok(none);
+    };
+    let mut names = none.with(alloc, first)?;
+    'parameters: while !ends_parameters(word, lexer)? {
+        let name = one_parameter(&names, word, lexer)?;
+        names = names.with(alloc, name)?;
+    }
+    Ok(names)
+}

@@ -1,0 +1,37 @@
+//! The source as a reader of tokens.
+
+ghost use Rattle.pp_macros.specs.inner.Reader.{of_source};
+
+use crate::directives::DirectiveProcessor;
+use pp_lexer::token::{Location, PreprocessorError};
+use pp_macros::define::Define;
+use pp_macros::reader::MeLexer;
+use pp_macros::step::{Step, StepExit};
+use pp_model::read::Read;
+use std::rc::Rc;
+
+impl<'a> MeLexer for DirectiveProcessor<'a> {
+    ghost reader = { λ source. of_source source };
+
+    fn step(&mut self) -> Step<Read> {
+        match DirectiveProcessor::step(self) {
+            Ok(token) => Ok(Read::unpainted(token)),
+            Err(exit) => Err(exit),
+        }
+    }
+
+    fn get_define(&self, name: &str) -> Option<&Rc<Define>> {
+        self.find(name)
+    }
+
+    fn is_hidden(&self, _name: &str) -> bool {
+        false
+    }
+
+    fn apply_line_offset(&self, line: u32, location: Location) -> Step<u32> {
+        match self.shown_line(line) {
+            Some(shown) => Ok(shown),
+            None => Err(StepExit::Error((PreprocessorError::LineOverflow, location))),
+        }
+    }
+}

@@ -1,0 +1,20 @@
+use Rattle.std.proofs.Common.{◌∙◌, ap}
+use Rattle.pp_lexer.specs.Lexed.{Lexed}
+use Rattle.pp_lexer.proofs.items.PlainLexLemmas.{lexed_same}
+use Rattle.pp_lexer.proofs.lexer.Lexer.next_plain.Goals as goal
+
+pub returns-in_default : goal.returns-in_default
+returns-in_default c =
+    let l = c.self.inside in
+    let e = c.skip_spaces_and_comments.ensures in
+    let g = c.skip_spaces_and_comments.new.flags in
+    lexed_same l.flags g l.inner c.skip_spaces_and_comments.new.inner l.place l.spent e.same e.at_end e.places
+    ∙ ap (λ (x : Lexed). record x { had_comments = g.had_comments }) c.self.view_is
+
+pub returns-then-matches : goal.returns-then-matches
+returns-then-matches c =
+    let l = c.self.inside in
+    let e = c.skip_spaces_and_comments.ensures in
+    let g = c.skip_spaces_and_comments.new.flags in
+    lexed_same l.flags g l.inner c.skip_spaces_and_comments.new.inner l.place l.spent e.same e.at_end e.places
+    ∙ ap (λ (x : Lexed). record x { had_comments = g.had_comments }) c.self.view_is

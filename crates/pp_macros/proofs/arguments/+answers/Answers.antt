@@ -1,0 +1,266 @@
+use Rattle.std.proofs.Common.{◌≡◌, ◌≢◌, ◌+◌, ◌-◌, ◌≤◌, get_or, drop, refl, arith, ◌∙◌, sym, ap, rules, List, [], length-append, ◌∷◌, ◌++◌, length}
+use Rattle.std.specs.Prelude.{Ok, Err, None}
+use Rattle.pp_model.specs.Calls.{arguments_of, misfit}
+use Rattle.pp_macros.specs.declared.argument_lists.Part.{Part}
+use Rattle.pp_macros.specs.inner.Frames.{names_of}
+use Rattle.pp_macros.specs.inner.Parts.{added, list_of, lists_of}
+use Rattle.std.proofs.lemmas.Result.{err_from_is_err_and, IfOk-weaker}
+use Rattle.pp_model.specs.Emitting.{first_failed, more, none}
+use Rattle.pp_model.specs.inner.Emitting.{list_before}
+use Rattle.pp_model.proofs.CollectLemmas.{after_lists-before, after_items-end}
+use Rattle.pp_macros.specs.declared.step.StepExit.TheVariants.{Error}
+use Rattle.std.proofs.lemmas.List.{append-nil, drop_more, drop_all}
+use Rattle.std.proofs.lemmas.List.Edits.{length-between}
+use Rattle.std.proofs.lemmas.List.Elements.{All-push}
+use Rattle.std.proofs.lemmas.Slice.{drop-put_mid}
+use Rattle.pp_model.specs.declared.read.Read.{Read}
+use Rattle.pp_macros.specs.Held.{HoldsOrdinary}
+use Rattle.pp_macros.proofs.taking.AnswerLemmas.{satisfies_exit, satisfies_fault, fault_of, finish_fault, answers_each, of_call, satisfies_more, finishes_without, short_more, short_list}
+use Rattle.pp_macros.proofs.taking.ListLeadsLemmas.{reached_start, reached_token, token_less, reached_pause, pause_less, reached_end, reached_fault, reached_call_fault, call_less, reached_call}
+use Rattle.pp_macros.proofs.taking.GivingLemmas.{reached_added}
+use Rattle.pp_macros.proofs.taking.ListedLeadsLemmas.{turned}
+use Rattle.pp_macros.proofs.taking.PartLemmas.{AreLeft, added_is, added_push, left_within, left_first, left_rest, lists_more, in_order_push, part_has, part_all}
+use Rattle.pp_macros.proofs.taking.PlainLemmas.{plain_alone, plain_short, plain_each, plain_are_short}
+use Rattle.pp_macros.proofs.arguments.+answers.Goals as goal
+
+pub expand_list-items-init : goal.expand_list-items-init
+expand_list-items-init t c =
+    let none_added : added c.args.items.now.items c.args.items.now.items ≡ [] = added_is c.args.items.now.items c.args.items.now.items [] (sym (append-nil c.args.items.now.items)) in
+    record {
+      keeps = sym (append-nil c.args.items.now.items) ∙ ap (λ (out : List Read). c.args.items.now.items ++ out) (sym none_added);
+      reached = reached_start _ _ _ _ _ _ _ c.requires.start.idle c.requires.start.argument none_added;
+      holds = c.requires.before;
+    }
+
+pub expand_list-items-smaller-in-Continue-branch-2 : goal.expand_list-items-smaller-in-Continue-branch-2
+expand_list-items-smaller-in-Continue-branch-2 t c =
+    let on = reached_added _ _ _ _ _ _ c.args.items.now.items _ _ _ c.items.invariant.keeps c.items.invariant.reached c.in_ok-give_frames.ensures.gives in
+    omega (
+      arith,
+      on.least,
+      token_less _ _ _ _ _ _ _ on.reached _ _ c.in-Ok-Token.read (turned _ _ _ _ _
+          (rw c.in-Ok-Token.field-0-is at c.in-Ok-Token.ensures.turns) refl),
+    )
+
+pub expand_list-items-preserved-in-Continue-branch-2 : goal.expand_list-items-preserved-in-Continue-branch-2
+expand_list-items-preserved-in-Continue-branch-2 t c =
+    let on = reached_added _ _ _ _ _ _ c.args.items.now.items _ _ _ c.items.invariant.keeps c.items.invariant.reached c.in_ok-give_frames.ensures.gives in
+    let put = added_push c.args.items.now.items c.give_frames.new.items.items c.push.new.self.items c.in-Ok-Token.read on.keeps
+    c.in_ok-push-in-Ok-Token.ensures.items in
+    let one_more : added c.args.items.now.items c.push.new.self.items ≡ added c.args.items.now.items c.give_frames.new.items.items ++ c.in-Ok-Token.read ∷ [] =
+    added_is c.args.items.now.items c.push.new.self.items _ put in
+    record {
+      keeps = put ∙ ap (λ (out : List Read). c.args.items.now.items ++ out) (sym one_more);
+      reached =
+          reached_token _ _ _ _ _ _ _ on.reached _ _ c.in-Ok-Token.read _
+          (turned _ _ _ _ _ (rw c.in-Ok-Token.field-0-is at c.in-Ok-Token.ensures.turns) refl) one_more;
+      holds =
+          rw c.in_ok-push-in-Ok-Token.ensures.items (All-push (λ (read : Read). HoldsOrdinary read.token.value) _ _ c.in_ok-give_frames.ensures.holds
+          (rw c.in-Ok-Token.field-0-is at c.in-Ok-Token.ensures.holds));
+    }
+
+pub expand_list-items-smaller-in-Continue-branch-3 : goal.expand_list-items-smaller-in-Continue-branch-3
+expand_list-items-smaller-in-Continue-branch-3 t c =
+    let on = reached_added _ _ _ _ _ _ c.args.items.now.items _ _ _ c.items.invariant.keeps c.items.invariant.reached c.in_ok-give_frames.ensures.gives in
+    omega (
+      arith,
+      on.least,
+      call_less _ _ _ _ _ _ _ on.reached _ _ c.in-Ok-Call.call (turned _ _ _ _ _
+          (rw c.in-Ok-Call.field-0-is at c.in-Ok-Call.ensures.turns) refl) _ c.in_ok-finish_call-in-Ok-Call.ensures,
+    )
+
+pub expand_list-items-preserved-in-Continue-branch-3 : goal.expand_list-items-preserved-in-Continue-branch-3
+expand_list-items-preserved-in-Continue-branch-3 t c =
+    let on = reached_added _ _ _ _ _ _ c.args.items.now.items _ _ _ c.items.invariant.keeps c.items.invariant.reached c.in_ok-give_frames.ensures.gives in
+    record {
+      keeps = on.keeps;
+      reached =
+          reached_call _ _ _ _ _ _ _ on.reached _ _ c.in-Ok-Call.call
+          (turned _ _ _ _ _ (rw c.in-Ok-Call.field-0-is at c.in-Ok-Call.ensures.turns) refl) _ c.in_ok-finish_call-in-Ok-Call.ensures;
+      holds = c.in_ok-give_frames.ensures.holds;
+    }
+
+pub expand_list-items-smaller : goal.expand_list-items-smaller
+expand_list-items-smaller t c =
+    let on = reached_added _ _ _ _ _ _ c.args.items.now.items _ _ _ c.items.invariant.keeps c.items.invariant.reached c.in_ok-give_frames.ensures.gives in
+    omega (
+      arith,
+      on.least,
+      pause_less _ _ _ _ _ _ _ on.reached _ _ (turned _ _ _ _ _
+          (rw c.in-Err-Continue.field-0-is at c.in-Err-Continue.ensures.turns) refl),
+    )
+
+pub expand_list-items-preserved : goal.expand_list-items-preserved
+expand_list-items-preserved t c =
+    let on = reached_added _ _ _ _ _ _ c.args.items.now.items _ _ _ c.items.invariant.keeps c.items.invariant.reached c.in_ok-give_frames.ensures.gives in
+    record {
+      keeps = on.keeps;
+      reached = reached_pause _ _ _ _ _ _ _ on.reached _ _
+          (turned _ _ _ _ _ (rw c.in-Err-Continue.field-0-is at c.in-Err-Continue.ensures.turns) refl);
+      holds = c.in_ok-give_frames.ensures.holds;
+    }
+
+pub expand_list-returns-in-Err-Finished-clause-alone : goal.expand_list-returns-in-Err-Finished-clause-alone
+expand_list-returns-in-Err-Finished-clause-alone t c =
+    let on = reached_added _ _ _ _ _ _ c.args.items.now.items _ _ _ c.items.invariant.keeps c.items.invariant.reached c.in_ok-give_frames.ensures.gives in
+    reached_end _ _ _ _ _ _ _ on.reached _ _
+    (turned _ _ _ _ _ (rw c.in-Err-Finished.field-0-is at c.in-Err-Finished.ensures.turns) refl)
+
+pub expand_list-returns-in-Err-Finished-clause-keeps : goal.expand_list-returns-in-Err-Finished-clause-keeps
+expand_list-returns-in-Err-Finished-clause-keeps t c =
+    let on = reached_added _ _ _ _ _ _ c.args.items.now.items _ _ _ c.items.invariant.keeps c.items.invariant.reached c.in_ok-give_frames.ensures.gives in
+    on.keeps
+
+pub expand_list-returns-in-Err-Finished-clause-least : goal.expand_list-returns-in-Err-Finished-clause-least
+expand_list-returns-in-Err-Finished-clause-least t c =
+    let on = reached_added _ _ _ _ _ _ c.args.items.now.items _ _ _ c.items.invariant.keeps c.items.invariant.reached c.in_ok-give_frames.ensures.gives in
+    omega (arith, on.reached.least)
+
+pub expand_list-returns-in-Err-Error-clause-alone : goal.expand_list-returns-in-Err-Error-clause-alone
+expand_list-returns-in-Err-Error-clause-alone t c =
+    let on = reached_added _ _ _ _ _ _ c.args.items.now.items _ _ _ c.items.invariant.keeps c.items.invariant.reached c.in_ok-give_frames.ensures.gives in
+    satisfies_fault c.halt_of.result c.in-Err-Error.fault _ c.halt_of.ensures
+    (λ reported. reached_fault _ _ _ _ _ _ _ on.reached _ _ c.in-Err-Error.fault
+    (turned _ _ _ _ (Err (Error c.in-Err-Error.fault)) (rw c.in-Err-Error.field-0-is at c.in-Err-Error.ensures.turns) reported) reported)
+
+pub expand_list-returns-in_err-finish_call-in-Ok-Call-clause-alone : goal.expand_list-returns-in_err-finish_call-in-Ok-Call-clause-alone
+expand_list-returns-in_err-finish_call-in-Ok-Call-clause-alone t c =
+    let e = err_from_is_err_and c.from_residual-in_err-finish_call-in-Ok-Call.result c.from_residual-in_err-finish_call-in-Ok-Call.ensures.1 in
+    let on = reached_added _ _ _ _ _ _ c.args.items.now.items _ _ _ c.items.invariant.keeps c.items.invariant.reached c.in_ok-give_frames.ensures.gives in
+    satisfies_exit _ c.in_err-finish_call-in-Ok-Call.field-0.0 _ (e.1 ∙ ap Err e.2)
+    (λ fault is. reached_call_fault _ _ _ _ _ _ _ on.reached _ _ c.in-Ok-Call.call fault
+    (turned _ _ _ _ _ (rw c.in-Ok-Call.field-0-is at c.in-Ok-Call.ensures.turns) refl)
+    (finish_fault c.args.levels c.args.definitions.now c.args.hidden.now c.in-Ok-Call.call c.step_list.new.caller c.finish_call.new.caller
+    c.in_err-finish_call-in-Ok-Call.field-0.0 fault is c.in_err-finish_call-in-Ok-Call.ensures))
+
+pub expand_argument-returns-then-are_plain-clause-alone : goal.expand_argument-returns-then-are_plain-clause-alone
+expand_argument-returns-then-are_plain-clause-alone t c =
+    rw (added_is c.args.items.now.items c.append.new.items.items c.args.tokens.now c.in_ok-append.ensures)
+    (plain_alone c.args.levels c.args.definitions.now c.args.hidden.now c.args.tokens.now (sym c.are_plain.ensures ∙ c.if-are_plain.true))
+
+pub expand_argument-returns-then-are_plain-clause-least : goal.expand_argument-returns-then-are_plain-clause-least
+expand_argument-returns-then-are_plain-clause-least t c =
+    rw (added_is c.args.items.now.items c.append.new.items.items c.args.tokens.now c.in_ok-append.ensures)
+    (plain_short c.args.levels c.args.definitions.now (length c.args.tokens.now))
+
+pub expand_parts-offset_bounds-tokens-part : goal.expand_parts-offset_bounds-tokens-part
+expand_parts-offset_bounds-tokens-part t c =
+    let part : Part = get_or c.args.parts.now c.loop-part.part-index (record { start = 0; end = 0 }) in
+    let within = left_within c.args.tokens.now c.loop-part.tokens part _
+    (rw (drop_more c.args.parts.now c.loop-part.part-index (record { start = 0; end = 0 }) (omega arith)) at c.loop-part.invariant.left) in
+    omega (arith, within.0, within.1, c.loop-part.auto.tokens)
+
+pub expand_parts-slice_bounds-argument-end : goal.expand_parts-slice_bounds-argument-end
+expand_parts-slice_bounds-argument-end t c =
+    let part : Part = get_or c.args.parts.now c.loop-part.part-index (record { start = 0; end = 0 }) in
+    let within = left_within c.args.tokens.now c.loop-part.tokens part _
+    (rw (drop_more c.args.parts.now c.loop-part.part-index (record { start = 0; end = 0 }) (omega arith)) at c.loop-part.invariant.left) in
+    rw c.loop-part.auto.tokens within.1
+
+pub expand_parts-expand_argument-requires : goal.expand_parts-expand_argument-requires
+expand_parts-expand_argument-requires t c =
+    let part : Part = get_or c.args.parts.now c.loop-part.part-index (record { start = 0; end = 0 }) in
+    let same : list_of c.loop-part.tokens part ≡ list_of c.args.tokens.now part = left_first c.args.tokens.now c.loop-part.tokens part _
+    (rw (drop_more c.args.parts.now c.loop-part.part-index (record { start = 0; end = 0 }) (omega arith)) at c.loop-part.invariant.left) in (
+      omega arith,
+      (
+        rw same (part_all (λ (read : Read). HoldsOrdinary read.token.value) c.args.tokens.now part c.requires.holds),
+        c.loop-part.invariant.holds,
+      ),
+    )
+
+pub expand_parts-returns-in_err-expand_argument-clause-each : goal.expand_parts-returns-in_err-expand_argument-clause-each
+expand_parts-returns-in_err-expand_argument-clause-each t c =
+    let part : Part = get_or c.args.parts.now c.loop-part.part-index (record { start = 0; end = 0 }) in
+    let here : drop c.loop-part.part-index c.args.parts.now ≡ part ∷ drop (c.loop-part.part-index + 1) c.args.parts.now
+    = drop_more c.args.parts.now c.loop-part.part-index (record { start = 0; end = 0 }) (omega arith) in
+    let same : list_of c.loop-part.tokens part ≡ list_of c.args.tokens.now part =
+    left_first c.args.tokens.now c.loop-part.tokens part _ (rw here at c.loop-part.invariant.left) in
+    let e = err_from_is_err_and c.from_residual-in_err-expand_argument.result c.from_residual-in_err-expand_argument.ensures.1 in
+    satisfies_exit _ c.in_err-expand_argument.field-0.0 _ (e.1 ∙ ap Err e.2)
+    (λ fault is. c.loop-part.invariant.goes_on (Err fault)
+    (rw here (first_failed (list_of c.args.tokens.now part) _ fault (Err fault)
+    (rw same at (fault_of c.in_err-expand_argument.field-0.0 fault _ is c.in_err-expand_argument.ensures.alone)) refl)))
+
+pub expand_parts-loop-part-preserved : goal.expand_parts-loop-part-preserved
+expand_parts-loop-part-preserved t c =
+    let part : Part = get_or c.args.parts.now c.loop-part.part-index (record { start = 0; end = 0 }) in
+    let here : drop c.loop-part.part-index c.args.parts.now ≡ part ∷ drop (c.loop-part.part-index + 1) c.args.parts.now
+    = drop_more c.args.parts.now c.loop-part.part-index (record { start = 0; end = 0 }) (omega arith) in
+    let left : AreLeft c.args.tokens.now c.loop-part.tokens (part ∷ drop (c.loop-part.part-index + 1) c.args.parts.now)
+    = rw here at c.loop-part.invariant.left in
+    let same : list_of c.loop-part.tokens part ≡ list_of c.args.tokens.now part = left_first c.args.tokens.now c.loop-part.tokens part _ left in
+    let out = added c.loop-part.items.items c.expand_argument.new.items.items in
+    let put : c.push.new.self.items ≡ c.loop-part.expanded.items
+    ++ record { start = length c.loop-part.items.items; end = length c.expand_argument.new.items.items } ∷ [] = search rules in
+    let lists : lists_of c.expand_argument.new.items.items c.push.new.self.items ≡ lists_of c.loop-part.items.items c.loop-part.expanded.items ++ out ∷ []
+    = lists_more c.loop-part.items.items c.expand_argument.new.items.items c.loop-part.expanded.items c.push.new.self.items
+    c.loop-part.invariant.order c.in_ok-expand_argument.ensures.keeps put in
+    let longer : length c.loop-part.items.items ≤ length c.expand_argument.new.items.items
+    = rw c.in_ok-expand_argument.ensures.keeps (simp length-append (omega arith)) in
+    let within = left_within c.args.tokens.now c.loop-part.tokens part _ left in
+    record {
+      goes_on = λ next h. rw (lists, ← after_lists-before (lists_of c.loop-part.items.items c.loop-part.expanded.items) out next)
+          (c.loop-part.invariant.goes_on (list_before out next)
+          (rw here (more (list_of c.args.tokens.now part) out _ next (list_before out next) (rw same at c.in_ok-expand_argument.ensures.alone) h refl)));
+      short = λ n all. short_more _ (lists_of c.loop-part.items.items c.loop-part.expanded.items) _ out (c.loop-part.invariant.short n all)
+          (short_list c.args.levels c.args.definitions.now n (list_of c.args.tokens.now part) out
+          (part_has (λ (list : List Read). length list ≤ n) c.args.tokens.now c.args.parts.now c.loop-part.part-index (record { start = 0; end = 0 }) (omega arith) all)
+          (rw same at c.in_ok-expand_argument.ensures.least)) lists;
+      order = rw put (in_order_push 0 (length c.loop-part.items.items) (length c.expand_argument.new.items.items) c.loop-part.expanded.items _
+          c.loop-part.invariant.order (omega arith) longer (omega arith));
+      left = left_rest c.args.tokens.now c.loop-part.tokens part _ left _
+          (drop-put_mid part.start (part.end - part.start) c.loop-part.tokens c.expand_argument.new.tokens part.end
+          (omega (arith, within.0)) (omega (arith, within.0, within.1, c.loop-part.auto.tokens))
+          (c.expand_argument.auto.tokens ∙ length-between c.loop-part.tokens part.start part.end (omega (arith, within.1, c.loop-part.auto.tokens))));
+      holds = c.in_ok-expand_argument.ensures.holds;
+    }
+
+pub expand_parts-returns-clause-each : goal.expand_parts-returns-clause-each
+expand_parts-returns-clause-each t c =
+    rw (c.new.ensures, ← after_items-end (lists_of c.loop-part.items.items c.loop-part.expanded.items))
+    (c.loop-part.invariant.goes_on (Ok []) (rw (drop_all c.loop-part.part-index c.args.parts.now (omega arith)) (none (Ok []) refl)))
+
+pub expand_parts-returns-clause-least : goal.expand_parts-returns-clause-least
+expand_parts-returns-clause-least t c = λ n all. rw c.new.ensures (c.loop-part.invariant.short n all)
+
+pub expand_arguments-returns-then-are_plain-clause-each : goal.expand_arguments-returns-then-are_plain-clause-each
+expand_arguments-returns-then-are_plain-clause-each t c =
+    rw (c.new.ensures, ← c.into_parts-tokens.ensures.is)
+    (plain_each c.args.levels c.args.definitions.now c.args.hidden.now _ _ (rw c.deref.ensures.value at (sym c.are_plain.ensures ∙ c.if-are_plain.true)))
+
+pub expand_arguments-returns-then-are_plain-clause-least : goal.expand_arguments-returns-then-are_plain-clause-least
+expand_arguments-returns-then-are_plain-clause-least t c =
+    rw (c.new.ensures, c.into_parts-tokens.ensures.is) (plain_are_short c.args.levels c.args.definitions.now c.args.arguments)
+
+pub expand_call-returns : goal.expand_call-returns
+expand_call-returns t c =
+    let left : c.take_tokens.new.self ≡ record c.args.call.now { tokens = [] } = c.take_tokens.ensures.left in
+    let cut : c.in_ok-arguments.arguments ≡ arguments_of c.args.call.now.tokens =
+    c.in_ok-arguments.ensures ∙ ap arguments_of c.take_tokens.ensures.taken in
+    let fits : misfit c.args.call.now.definition.parameters (arguments_of c.args.call.now.tokens) ≡ None =
+    let known : misfit c.define.result.now.parameters c.in_ok-arguments.arguments ≡ None = sym c.misfit.ensures ∙ c.in-None.is in
+    rw (c.define.ensures, left, cut) at known in
+    let some : c.args.levels ≢ 0 = λ e. omega (arith, e, c.if-levels-eq0.false) in
+    let around = names_of c.args.caller.now.frames ++ c.args.hidden.now in
+    record {
+      answers = satisfies_more c.expand_within.result _ _ (answers_each c.args.levels c.args.definitions.now around c.args.call.now some fits)
+          (rw cut at c.expand_within.ensures.each);
+      least = IfOk-weaker c.expand_within.result _ _ (of_call c.args.levels c.args.definitions.now c.args.call.now)
+          (rw cut at c.expand_within.ensures.least);
+      left = left;
+    }
+
+pub finish_call-returns-in_err-expanded : goal.finish_call-returns-in_err-expanded
+finish_call-returns-in_err-expanded t c =
+    let e = err_from_is_err_and c.from_residual.result c.from_residual.ensures.1 in
+    finishes_without c.args.levels c.args.definitions.now c.args.hidden.now c.args.call c.args.caller.now c.args.caller.now _
+    c.in_err-expanded.field-0.0 (e.1 ∙ ap Err e.2) c.in_err-expanded.ensures.answers refl
+
+pub finish_call-returns : goal.finish_call-returns
+finish_call-returns t c = record {
+  arguments = c.in_ok-expanded.expanded;
+  answers = c.in_ok-expanded.ensures.answers;
+  least = c.in_ok-expanded.ensures.least;
+  opens = rw c.in_ok-expanded.ensures.left at c.in_ok-open_call.ensures;
+}

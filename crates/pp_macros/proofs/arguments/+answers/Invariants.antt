@@ -1,0 +1,62 @@
+use Rattle.std.proofs.Common.{◌≡◌, ◌+◌, ◌*◌, ◌≤◌, List, ◌++◌, length, drop, ℕ, All}
+use Rattle.std.specs.Prelude.{Result}
+use Rattle.pp_model.specs.declared.read.Read.{Read}
+use Rattle.pp_model.specs.Calls.{Fault}
+use Rattle.pp_model.specs.Emitting.{Each, Alone}
+use Rattle.pp_model.proofs.CollectLemmas.{after_items}
+use Rattle.pp_macros.specs.inner.Defined.{meaning_of}
+use Rattle.pp_macros.specs.inner.Parts.{added, lists_of, AreInOrder}
+use Rattle.pp_macros.specs.inner.Reading.{AllReadOrdinary}
+use Rattle.pp_macros.specs.inner.Left.{work_of, most_alone}
+use Rattle.pp_macros.specs.inner.Reader.{of_list}
+use Rattle.pp_macros.proofs.taking.ListLeadsLemmas.{Reached}
+use Rattle.pp_macros.proofs.taking.PartLemmas.{AreLeft}
+use Rattle.pp_macros.proofs.arguments.+answers.Given as goal
+
+abbrev pub decreases-finish_call : goal.decreases-finish_call
+decreases-finish_call l = 8 * l.levels + 1
+
+abbrev pub decreases-expand_call : goal.decreases-expand_call
+decreases-expand_call l = 8 * l.levels
+
+abbrev pub decreases-expand_list : goal.decreases-expand_list
+decreases-expand_list l = 8 * l.levels + 2
+
+abbrev pub decreases-expand_tokens : goal.decreases-expand_tokens
+decreases-expand_tokens l = 8 * l.levels + 3
+
+abbrev pub decreases-expand_argument : goal.decreases-expand_argument
+decreases-expand_argument l = 8 * l.levels + 4
+
+abbrev pub decreases-expand_parts : goal.decreases-expand_parts
+decreases-expand_parts l = 8 * l.levels + 5
+
+abbrev pub decreases-expand_arguments : goal.decreases-expand_arguments
+decreases-expand_arguments l = 8 * l.levels + 6
+
+abbrev pub decreases-expand_within : goal.decreases-expand_within
+decreases-expand_within l = 8 * l.levels + 7
+
+-- what was added so far, and the state from which the rest comes
+abbrev pub invariant-expand_list-items : goal.invariant-expand_list-items
+invariant-expand_list-items l = record {
+  keeps : l.items.items ≡ l.fn.items.items ++ added l.fn.items.items l.items.items;
+  reached : Reached l.levels l.definitions l.hidden l.fn.lexer.tokens l.caller l.lexer (added l.fn.items.items l.items.items);
+  holds : AllReadOrdinary l.items.items;
+}
+
+abbrev pub decreases-expand_list-items : goal.decreases-expand_list-items
+decreases-expand_list-items l = work_of l.levels l.caller (of_list l.lexer)
+
+-- the lists so far, and the parts that are left
+abbrev pub invariant-expand_parts-loop-part : goal.invariant-expand_parts-loop-part
+invariant-expand_parts-loop-part l = record {
+  goes_on : (out : Result (List (List Read)) Fault)
+      → Each (Alone l.levels) (meaning_of l.definitions) l.hidden (lists_of l.fn.tokens (drop l.part-index l.parts)) out
+      → Each (Alone l.levels) (meaning_of l.definitions) l.hidden (lists_of l.fn.tokens l.parts) (after_items (lists_of l.items.items l.expanded.items) out);
+  short : (n : ℕ) → All (λ (a : List Read). length a ≤ n) (lists_of l.fn.tokens l.parts)
+      → All (λ (a : List Read). length a ≤ most_alone l.levels l.definitions n) (lists_of l.items.items l.expanded.items);
+  order : AreInOrder 0 l.expanded.items (length l.items.items);
+  left : AreLeft l.fn.tokens l.tokens (drop l.part-index l.parts);
+  holds : AllReadOrdinary l.items.items;
+}

@@ -1,0 +1,95 @@
+-- The parameters of a macro, found by their names.
+use Rattle.std.proofs.Common.{◌≡◌, ◌∙◌, ℕ, ◌+◌, Bool, true, false, cond, List, [], ◌∷◌, ◌++◌, map, length, Option, Some, None, refl, sym, ap, arith, slice_get}
+use Rattle.std.specs.Prelude.{◌||◌, is_some, position}
+use Rattle.std.specs.BTreeMap as tree
+use Rattle.std.specs.BTreeMap.{BTreeMap, is_at}
+use Rattle.std.specs.List.{list_any, position_from}
+use Rattle.std.specs.Map.{lookup}
+use Rattle.std.specs.Option.{option_flatten, option_map}
+use Rattle.std.specs.declared.string.String.{String}
+use Rattle.std.specs.String.{string_cmp}
+use Rattle.std.proofs.lemmas.Iterator.Adapters.{position_from-zero}
+use Rattle.std.proofs.lemmas.Option.{slice_get-map}
+use Rattle.pp_lexer.specs.declared.token.Token.{Token}
+use Rattle.pp_lexer.specs.declared.token.TokenValue.{TokenValue}
+use Rattle.pp_lexer.specs.declared.token.TokenValue.TheVariants.{Ident}
+use Rattle.pp_model.specs.Names.{Name, is_same_name, is_in}
+use Rattle.pp_model.specs.SpliceList.{parameter_of}
+use Rattle.pp_macros.specs.inner.ParameterPositions.{FindsEach, PlacesEach, parameter_at}
+use Rattle.pp_macros.proofs.defined_names.NameKeysLemmas.{names_same, lookup_changed, text_name, texts_same}
+
+module _ {B : Type 0} (p : B → Bool) where
+  -- a position among items that start at i, with one more item at their end
+  from_kept : (i : ℕ) (xs : List B) (x : B) → p x ≡ false → position_from p i (xs ++ x ∷ []) ≡ position_from p i xs
+  from_kept i [] x e = ap (λ b. cond b (Some i) None) e
+  from_kept i (y ∷ ys) x e = ap (λ o. cond (p y) (Some i) o) (from_kept (i + 1) ys x e)
+
+  from_found : (i : ℕ) (xs : List B) (x : B) → list_any p xs ≡ false → p x ≡ true → position_from p i (xs ++ x ∷ []) ≡ Some (i + length xs)
+  from_found i [] x none e = rw e (ap (λ n. Some n) (omega arith))
+  from_found i (y ∷ ys) x none e = by (p y) none (λ h. from_found (i + 1) ys x h e)
+    where
+      by : (b : Bool) → (b || list_any p ys) ≡ false
+          → (list_any p ys ≡ false → position_from p (i + 1) (ys ++ x ∷ []) ≡ Some (i + 1 + length ys))
+          → cond b (Some i) (position_from p (i + 1) (ys ++ x ∷ [])) ≡ Some (i + length (y ∷ ys))
+      by true h later = absurd (cc)
+      by false h later = later h ∙ ap (λ n. Some n) (omega arith)
+
+  from_any : (i : ℕ) (xs : List B) → is_some (position_from p i xs) ≡ list_any p xs
+  from_any i [] = refl
+  from_any i (y ∷ ys) = by (p y) (from_any (i + 1) ys)
+    where
+      by : (b : Bool) → is_some (position_from p (i + 1) ys) ≡ list_any p ys
+          → is_some (cond b (Some i) (position_from p (i + 1) ys)) ≡ (b || list_any p ys)
+      by true later = refl
+      by false later = later
+
+  pub position_kept : (xs : List B) (x : B) → p x ≡ false → position p (xs ++ x ∷ []) ≡ position p xs
+  position_kept xs x e = position_from-zero p (xs ++ x ∷ []) ∙ from_kept 0 xs x e ∙ sym (position_from-zero p xs)
+
+  pub position_found : (xs : List B) (x : B) → list_any p xs ≡ false → p x ≡ true → position p (xs ++ x ∷ []) ≡ Some (length xs)
+  position_found xs x none e = position_from-zero p (xs ++ x ∷ []) ∙ from_found 0 xs x none e ∙ ap (λ n. Some n) (omega arith)
+
+  -- what is found tells whether there is one
+  pub is_some-position : (xs : List B) → is_some (position p xs) ≡ list_any p xs
+  is_some-position xs = ap is_some (position_from-zero p xs) ∙ from_any 0 xs
+
+-- a new parameter is found at the end, and the others where they were
+pub finds_more : {Z : Type 0} (m n : BTreeMap (String Z) ℕ) (key : String Z) (names : List Name)
+    → tree.Updates string_cmp m n key (Some (length names)) → is_in (text_name key) names ≡ false → FindsEach m.entries names
+    → FindsEach n.entries (names ++ text_name key ∷ [])
+finds_more {Z} m n key names updates new finds other = by (is_same_name other (text_name key)) refl
+  where
+    found : (b : Bool) → is_same_name other (text_name key) ≡ b
+        → lookup (λ (k : String Z). is_same_name other (text_name k)) n.entries
+        ≡ cond b (Some (length names)) (lookup (λ (k : String Z). is_same_name other (text_name k)) m.entries)
+    found b e = lookup_changed text_name _ texts_same (text_name key) (is_at (string_cmp key)) (texts_same key) m.entries n.entries (Some (length names))
+        updates.1 updates.3 other b e
+
+    by : (b : Bool) → is_same_name other (text_name key) ≡ b
+        → lookup (λ (k : String Z). is_same_name other (text_name k)) n.entries ≡ position (is_same_name other) (names ++ text_name key ∷ [])
+    by true e =
+        let none : list_any (is_same_name other) names ≡ false = rw (names_same other (text_name key) e) new in
+        found true e ∙ sym (position_found (is_same_name other) names (text_name key) none e)
+    by false e = found false e ∙ finds other ∙ sym (position_kept (is_same_name other) names (text_name key) e)
+
+-- no parameter, no token of a body that is one
+no_parameter : (value : TokenValue) → parameter_of [] value ≡ None
+no_parameter (Ident name) = refl
+no_parameter value = refl
+
+-- a body without parameters
+pub places_none : (body : List Token) → PlacesEach [] body []
+places_none body k = by (slice_get body k)
+  where
+    by : (o : Option Token) → None ≡ parameter_at [] o
+    by None = refl
+    by (Some token) = sym (no_parameter token.value)
+
+-- the positions of all tokens
+pub places_each : (parameters : List Name) (body : List Token) (positions : List (Option ℕ))
+    → positions ≡ map (λ (t : Token). parameter_of parameters t.value) body → PlacesEach parameters body positions
+places_each parameters body positions is k = rw (is, slice_get-map (λ (t : Token). parameter_of parameters t.value) body k) (by (slice_get body k))
+  where
+    by : (o : Option Token) → option_flatten (option_map (λ (t : Token). parameter_of parameters t.value) o) ≡ parameter_at parameters o
+    by None = refl
+    by (Some token) = refl

@@ -1,0 +1,114 @@
+-- A turn of the innermost frame, as the code makes it.
+use Rattle.std.proofs.Common.{◌≡◌, ◌∙◌, ◌⊎◌, refl, sym, ap, subst, Bool, true, false, List, [], ◌∷◌, ◌++◌, Option, Some, None, Ok, Err, inl, inr}
+use Rattle.std.specs.Prelude.{IfSome, is_some, is_none}
+use Rattle.std.proofs.lemmas.Bool.{and_parts}
+use Rattle.pp_lexer.specs.PreprocessorError.{out_of_memory}
+use Rattle.pp_model.specs.declared.read.Read.{Read}
+use Rattle.pp_model.specs.Names.{Name, is_identifier, line_name}
+use Rattle.pp_macros.specs.Item.{Step}
+use Rattle.pp_macros.specs.inner.Ahead.{given_by, given_next, frames_after}
+use Rattle.pp_macros.specs.inner.CallTurns.{TurnsOrRefuses}
+use Rattle.pp_macros.specs.inner.Frames.{Layer, Advance, advance, outermost_frame_line}
+use Rattle.pp_macros.specs.inner.Machine.{Machine, StepsFetching, StepsTaking, moved, taken_as}
+use Rattle.pp_macros.specs.inner.Reader.{Reader, hidden_of}
+use Rattle.pp_macros.specs.inner.Seeking.{FollowsToken}
+use Rattle.pp_macros.specs.inner.Turns.{Moves, as_pause, frame_move, masks, opens}
+use Rattle.pp_macros.specs.inner.Reading.{painted_step}
+use Rattle.pp_model.specs.Painting.{painted_among}
+use Rattle.pp_macros.specs.declared.calls.Taken.{Taken}
+use Rattle.pp_macros.specs.declared.step.StepExit.TheVariants.{Error, Continue}
+use Rattle.pp_macros.specs.inner.Frames.{names_of}
+use Rattle.pp_macros.specs.inner.Giving.{GivesOne, pause, token, is_at_pause}
+use Rattle.pp_macros.proofs.open_frames.AdvanceLemmas.{Advances, advance_lowers}
+use Rattle.pp_macros.proofs.taking.SeekLemmas.{turns_token, turns_exit}
+
+gives_alike : (fs : List Layer) (a : Option Advance) → as_pause (given_by a) ≡ (frame_move fs a).gives
+gives_alike fs (Some a) = refl
+gives_alike fs None = refl
+
+-- the innermost frame steps
+pub frames_move : (frames : List Layer) (r : Reader) → is_some (outermost_frame_line frames) ≡ true
+    → Moves frames r (as_pause (given_next frames)) (frames_after frames) r
+frames_move [] r some = cc
+frames_move (f ∷ fs) r some = (refl, inl (gives_alike fs (advance f), refl))
+
+-- a frame that gives a token stays open
+given_names : (fs : List Layer) (f : Layer) (a : Option Advance) (read : Read) → IfSome a (Advances f) → given_by a ≡ Some read
+    → names_of (frame_move fs a).after ≡ names_of (f ∷ fs)
+given_names fs f (Some a) read lowers is = rw lowers.name refl
+given_names fs f None read lowers is = cc
+
+names_stay : (frames : List Layer) (read : Read) → given_next frames ≡ Some read → names_of (frames_after frames) ≡ names_of frames
+names_stay [] read is = cc
+names_stay (f ∷ fs) read is = given_names fs f (advance f) read (advance_lowers f) is
+
+-- nothing is held, and a macro is open
+module _ (m : Machine) (r : Reader) (free : m.held ≡ None) (some : is_some (outermost_frame_line m.frames) ≡ true) where
+  abbrev passed : Machine
+  passed = record m { frames = frames_after m.frames }
+
+  frame_fetches : (given : Option Read) (step : Step Read) → given ≡ given_next m.frames → step ≡ taken_as (as_pause given) (frames_after m.frames) r
+      → StepsFetching m r step passed r
+  frame_fetches given step is same = moved (as_pause given) step m passed r r free
+      (subst (λ (o : Option Read). Moves m.frames r (as_pause o) (frames_after m.frames) r) (sym is) (frames_move m.frames r some)) same free
+
+  frame_takes : (given : Option Read) (step : Step Read) → given ≡ given_next m.frames → step ≡ taken_as (as_pause given) (frames_after m.frames) r
+      → StepsTaking m r (painted_step (masks (frames_after m.frames) r) step) passed r
+  frame_takes given step is same = record { first = step; fetches = frame_fetches given step is same; paints = refl }
+
+  -- it pauses
+  pub frame_pauses : None ≡ given_next m.frames → TurnsOrRefuses m r (Err Continue) passed r
+  frame_pauses is = turns_exit m passed r r Continue (frame_takes None (Err Continue) is refl)
+
+  module _ (read : Read) (is : Some read ≡ given_next m.frames) (apart : is_identifier line_name read.token.value ≡ false) where
+    abbrev painted : Read
+    painted = painted_among (masks (frames_after m.frames) r) read
+
+    token_taken : StepsTaking m r (Ok painted) passed r
+    token_taken = frame_takes (Some read) (Ok read) is (rw apart refl)
+
+    -- a token is followed
+    pub frame_follows : (copy : Read) (after : List Layer) (step : Step Taken) (n : Machine) (t : Reader)
+        → copy ≡ painted_among (masks after r) read → after ≡ frames_after m.frames
+        → FollowsToken (opens r copy) copy (record m { frames = after }) r step n t ⊎ (step ≡ Err (Error out_of_memory)) → TurnsOrRefuses m r step n t
+    frame_follows copy after step n t same passes follows =
+        let whole : copy ≡ painted = same ∙ ap (λ (fs : List Layer). painted_among (masks fs r) read) passes in
+        turns_token m passed n r r t painted step token_taken (opens r painted) refl
+        (subst (λ (fs : List Layer). FollowsToken (opens r painted) painted (record m { frames = fs }) r step n t ⊎ (step ≡ Err (Error out_of_memory))) passes
+        (subst (λ (x : Read). FollowsToken (opens r x) x (record m { frames = after }) r step n t ⊎ (step ≡ Err (Error out_of_memory))) whole follows))
+
+    -- memory is refused
+    pub frame_refuses : (step : Step Taken) (n : Machine) → step ≡ Err (Error out_of_memory) → TurnsOrRefuses m r step n r
+    frame_refuses step n refused = inr (record {
+      some =
+          record { step = Ok painted; after = passed; reader = r; takes = token_taken; goes = refl };
+      fault = refused;
+    })
+
+  -- it pauses, and gives no token
+  pub frame_gives_none : (items : List Read) → None ≡ given_next m.frames → GivesOne r m items passed items
+  frame_gives_none items is = pause (frame_takes None (Err Continue) is refl) refl
+
+  -- it gives a token that opens no macro
+  pub frame_gives : (read : Read) (painted : Bool) (items more : List Read) → Some read ≡ given_next m.frames
+      → is_identifier line_name read.token.value ≡ false → painted ≡ (painted_among (masks m.frames r) read).painted
+      → opens r (record { token = read.token; painted = painted }) ≡ None → more ≡ items ++ record { token = read.token; painted = painted } ∷ []
+      → GivesOne r m items passed more
+  frame_gives read painted items more is apart same plain put =
+      let names : masks (frames_after m.frames) r ≡ masks m.frames r =
+      ap (λ (names : List Name). names ++ hidden_of r) (names_stay m.frames read (sym is)) in
+      let whole : painted_among (masks (frames_after m.frames) r) read ≡ record { token = read.token; painted = painted } =
+      rw (names, same) refl in
+      token (record { token = read.token; painted = painted }) (rw whole at (token_taken read is apart)) plain put
+
+none_of : {A : Type 0} (o : Option A) → is_none o ≡ true → o ≡ None
+none_of None e = refl
+none_of (Some value) e = cc
+
+-- a pause of the frames, whatever is read after them
+pub pause_passes : (m : Machine) (fs : List Layer) → is_at_pause m ≡ true → fs ≡ frames_after m.frames → (r : Reader)
+    → StepsTaking m r (Err Continue) (record m { frames = fs }) r
+pause_passes m fs pauses is r =
+    let parts = and_parts (is_none m.held) _ pauses in
+    let others = and_parts (is_some (outermost_frame_line m.frames)) _ parts.1 in
+    rw is (frame_takes m r (none_of m.held parts.0) others.0 None (Err Continue) (sym (none_of (given_next m.frames) others.1)) refl)

@@ -1,0 +1,50 @@
+-- No effect but the end of a source ends a step.
+use Rattle.std.proofs.Common.{◌≡◌, inl, inr, ℕ, Bool, true, false, List, refl, Option, Some, None}
+use Rattle.std.specs.Prelude.{Err}
+use Rattle.pp_lexer.specs.declared.token.Location.{Location}
+use Rattle.pp_lexer.specs.declared.token.Token.{Token}
+use Rattle.pp_model.specs.Definitions.{Definition}
+use Rattle.pp_model.specs.declared.definition.Named.{Named}
+use Rattle.pp_macros.specs.inner.Defined.{meaning_of}
+use Rattle.pp_macros.specs.declared.blocks.OpenBlock.{OpenBlock}
+use Rattle.pp_macros.specs.inner.SourceMoves.{Effect, gives, gives_item, fails, ends, passes, defines, undefines, opens_where, opens_if, opens_unread, parts, parts_if, closes, unfinished, renumbers, Note}
+use Rattle.pp_macros.specs.inner.Source.{Source, DefinesOver, HasEffect, Decides, holds, faulty, Renumbers, numbers, unnumbered}
+use Rattle.pp_macros.specs.declared.step.StepExit.TheVariants.{Finished}
+
+abbrev pub is_end_effect : Effect → Bool
+is_end_effect ends = true
+is_end_effect _ = false
+
+defines_on : (named : Named) (before : Option Definition) (taken : ℕ) (note : Note) (old new : Source)
+    → DefinesOver named before taken note old (Err Finished) new → ⊥
+defines_on named None taken note old new h = let e = h.0 in cc
+defines_on named (Some before) taken note old new (inl h) = let e = h.1 in cc
+defines_on named (Some before) taken note old new (inr h) = let e = h.1 in cc
+
+decides_on : (word : Location) (tokens : List Token) (blocks : Bool → List OpenBlock) (taken : ℕ) (note : Note) (old new : Source)
+    → Decides word tokens blocks taken note old (Err Finished) new → ⊥
+decides_on word tokens blocks taken note old new (holds value condition h) = let e = h.0 in cc
+decides_on word tokens blocks taken note old new (faulty fault condition failed left) = cc
+
+renumbers_on : (word : Location) (tokens : List Token) (taken : ℕ) (note : Note) (old new : Source)
+    → Renumbers word tokens taken note old (Err Finished) new → ⊥
+renumbers_on word tokens taken note old new (numbers n number h) = let e = h.0 in cc
+renumbers_on word tokens taken note old new (unnumbered fault number failed left) = cc
+
+pub finished_ends : (effect : Effect) (taken : ℕ) (note : Note) (old new : Source) → HasEffect effect taken note old (Err Finished) new
+    → is_end_effect effect ≡ true
+finished_ends (gives token) taken note old new h = let e = h.0 in cc
+finished_ends (gives_item item word) taken note old new h = let e = h.0 in cc
+finished_ends (fails fault) taken note old new h = let e = h.0 in cc
+finished_ends ends taken note old new h = refl
+finished_ends passes taken note old new h = let e = h.0 in cc
+finished_ends (defines named) taken note old new h = absurd (defines_on named (meaning_of old.definitions named.name) taken note old new h)
+finished_ends (undefines name) taken note old new h = let e = h.0 in cc
+finished_ends (opens_where wanted word name) taken note old new h = let e = h.0 in cc
+finished_ends (opens_if word tokens) taken note old new h = absurd (decides_on word tokens _ taken note old new h)
+finished_ends (opens_unread word) taken note old new h = let e = h.0 in cc
+finished_ends (parts block) taken note old new h = let e = h.0 in cc
+finished_ends (parts_if block word tokens) taken note old new h = absurd (decides_on word tokens _ taken note old new h)
+finished_ends closes taken note old new h = let e = h.0 in cc
+finished_ends (unfinished word) taken note old new h = let e = h.0 in cc
+finished_ends (renumbers word tokens) taken note old new h = absurd (renumbers_on word tokens taken note old new h)

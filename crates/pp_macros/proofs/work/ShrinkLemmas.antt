@@ -1,0 +1,121 @@
+-- A step of a source shrinks it: fewer items and open blocks are left, and no more names or tokens are defined than were left or defined before.
+use Rattle.std.proofs.Common.{◌≡◌, ◌≢◌, ◌∙◌, ℕ, ◌+◌, ◌-◌, ◌<◌, ◌≤◌, ◌⊎◌, Bool, true, false, List, [], ◌∷◌, ◌++◌, length, length-drop, refl, ap, arith, Option, Some, None, Err, MatchBool, inl, inr}
+use Rattle.std.proofs.lemmas.List.{length-take, length_push}
+use Rattle.std.specs.Prelude.{pos, ◌-ℤ◌}
+use Rattle.pp_lexer.specs.declared.token.Location.{Location}
+use Rattle.pp_lexer.specs.declared.token.Token.{Token}
+use Rattle.pp_model.specs.Definitions.{Definition}
+use Rattle.pp_model.specs.declared.definition.Named.{Named}
+use Rattle.pp_macros.specs.inner.Defined.{meaning_of, body_tokens}
+use Rattle.pp_macros.specs.Item.{Step}
+use Rattle.pp_macros.specs.inner.OpenBlocks.{outer_blocks, block_opened, block_unread, block_decided}
+use Rattle.pp_macros.specs.declared.blocks.OpenBlock.{OpenBlock}
+use Rattle.pp_macros.specs.inner.Source.{Source, IsAfter, IsAfterFault, IsAfterBlock, DefinesOver, holds_where, HasEffect, Makes, IsRefusedStep, StepsSource, Decides, holds, faulty, Renumbers, numbers, unnumbered}
+use Rattle.pp_macros.specs.inner.SourceMoves.{Effect, gives, gives_item, fails, ends, passes, defines, undefines, opens_where, opens_if, opens_unread, parts, parts_if, closes, unfinished, renumbers, Note, Move, move_of}
+use Rattle.pp_macros.specs.inner.Work.{goes_on, most_reads, most_names, most_steps}
+use Rattle.pp_macros.specs.declared.step.StepExit.TheVariants.{Finished}
+use Rattle.pp_macros.proofs.work.ShortenLemmas.{Shortens, move_of_shortens}
+use Rattle.pp_macros.proofs.taking.StepLemmas.{goes_on_not_end, goes_on_not_want}
+
+-- fewer items and open blocks are left, and there is no need for more names or steps
+pub record Shrinks (old new : Source) : Type 0 where
+  pub shorter : most_reads new < most_reads old
+  pub names : most_names new ≤ most_names old
+  pub steps : most_steps new ≤ most_steps old
+
+parted_least : (blocks : List OpenBlock) (block : OpenBlock) → length (outer_blocks blocks ++ block ∷ []) ≤ length blocks + 1
+parted_least blocks block = omega (arith, length_push (outer_blocks blocks) block, length-take (length blocks - 1) blocks)
+
+module _ (old new : Source) where
+  after_shrinks : (taken adds : ℕ) (note : Note) (blocks : List OpenBlock) → IsAfter taken note blocks old new
+      → length new.definitions ≤ length old.definitions + 1
+      → body_tokens new.definitions + length blocks ≤ body_tokens old.definitions + length old.blocks + adds
+      → length old.rest - taken + length old.blocks + adds < length old.rest + length old.blocks → length blocks ≤ length old.blocks + adds → Shrinks old new
+  after_shrinks taken adds note blocks after names more low few =
+      let left : length new.rest ≡ length old.rest - taken = ap length after.rest ∙ length-drop taken old.rest in
+      let still : length new.blocks ≡ length blocks = ap length after.blocks in
+      record { shorter = omega arith; names = omega arith; steps = omega arith }
+
+  passed_shrinks : (taken adds : ℕ) (note : Note) (blocks : List OpenBlock) → IsAfter taken note blocks old new → new.definitions ≡ old.definitions
+      → length old.rest - taken + length old.blocks + adds < length old.rest + length old.blocks → length blocks ≤ length old.blocks + adds → Shrinks old new
+  passed_shrinks taken adds note blocks after same low few =
+      let names : length new.definitions ≡ length old.definitions = ap length same in
+      let more : body_tokens new.definitions ≡ body_tokens old.definitions = ap body_tokens same in
+      after_shrinks taken adds note blocks after (omega arith) (omega arith) low few
+
+  stays_shrinks : new.definitions ≡ old.definitions → most_reads new < most_reads old → Shrinks old new
+  stays_shrinks same shorter =
+      let names : length new.definitions ≡ length old.definitions = ap length same in
+      let more : body_tokens new.definitions ≡ body_tokens old.definitions = ap body_tokens same in
+      record { shorter = shorter; names = omega arith; steps = omega arith }
+
+  fault_shrinks : IsAfterFault old new → Shrinks old new
+  fault_shrinks after = record { shorter = omega (arith, after.fewer); names = omega (arith, after.fewer, after.names); steps = omega (arith, after.fewer, after.tokens) }
+
+  block_shrinks : IsAfterBlock old new → length old.rest + (length old.blocks - 1) < length old.rest + length old.blocks → Shrinks old new
+  block_shrinks after low =
+      stays_shrinks after.definitions (omega (arith, ap length after.rest, ap length after.blocks, length-take (length old.blocks - 1) old.blocks))
+
+  define_shrinks : (named : Named) (o : Option Definition) (taken : ℕ) (note : Note) (step : Step Token)
+      → length old.rest - taken + length old.blocks + length named.definition.body < length old.rest + length old.blocks
+      → DefinesOver named o taken note old step new → Shrinks old new
+  define_shrinks named None taken note step low h = after_shrinks taken (length named.definition.body) note old.blocks h.1 h.2.names
+      (omega (arith, h.2.tokens)) low (omega arith)
+  define_shrinks named (Some before) taken note step low (inl h) = passed_shrinks taken (length named.definition.body) note old.blocks h.2 h.3 low (omega arith)
+  define_shrinks named (Some before) taken note step low (inr h) = fault_shrinks h.2
+
+  decides_shrinks : (word : Location) (tokens : List Token) (blocks : Bool → List OpenBlock) (taken : ℕ) (note : Note) (step : Step Token)
+      → length old.rest - taken + length old.blocks + 1 < length old.rest + length old.blocks
+      → ((value : Bool) → length (blocks value) ≤ length old.blocks + 1) → Decides word tokens blocks taken note old step new → Shrinks old new
+  decides_shrinks word tokens blocks taken note step low few (holds value condition h) = passed_shrinks taken 1 note (blocks value) h.1 h.2 low (few value)
+  decides_shrinks word tokens blocks taken note step low few (faulty fault condition failed left) = fault_shrinks left
+
+renumbers_shrinks : (old new : Source) (word : Location) (tokens : List Token) (taken : ℕ) (note : Note) (step : Step Token)
+    → length old.rest - taken + length old.blocks + 0 < length old.rest + length old.blocks
+    → Renumbers word tokens taken note old step new → Shrinks old new
+renumbers_shrinks old new word tokens taken note step low (numbers n number h) =
+    let k = passed_shrinks (record old { line_offset = pos n -ℤ pos word.line }) new taken 0 note old.blocks h.1 h.2 low (omega arith) in
+    record { shorter = k.shorter; names = k.names; steps = k.steps }
+renumbers_shrinks old new word tokens taken note step low (unnumbered fault number failed left) = fault_shrinks old new left
+
+module _ (old new : Source) where
+  effect_shrinks : (effect : Effect) (taken : ℕ) (note : Note) (step : Step Token)
+      → Shortens (record { effect = effect; taken = taken; note = note }) (length old.rest) (length old.blocks)
+      → HasEffect effect taken note old step new → step ≢ Err Finished → Shrinks old new
+  effect_shrinks (gives token) taken note step low h not_end = passed_shrinks old new taken 0 note old.blocks h.1 h.2 (low refl) (omega arith)
+  effect_shrinks (gives_item item word) taken note step low h not_end = passed_shrinks old new taken 0 note old.blocks h.1 h.2 (low refl) (omega arith)
+  effect_shrinks (fails fault) taken note step low h not_end = fault_shrinks old new h.1
+  effect_shrinks ends taken note step low h not_end = absurd (not_end h.0)
+  effect_shrinks passes taken note step low h not_end = passed_shrinks old new taken 0 note old.blocks h.1 h.2 (low refl) (omega arith)
+  effect_shrinks (defines named) taken note step low h not_end =
+      define_shrinks old new named (meaning_of old.definitions named.name) taken note step (low refl) h
+  effect_shrinks (undefines name) taken note step low h not_end =
+      let names : length new.definitions ≤ length old.definitions + 0 = h.2.names in
+      after_shrinks old new taken 0 note old.blocks h.1 (omega arith) (omega (arith, h.2.tokens)) (low refl) (omega arith)
+  effect_shrinks (opens_where wanted word name) taken note step low h not_end =
+      let block = block_opened word (holds_where wanted (meaning_of old.definitions name)) in
+      passed_shrinks old new taken 1 note (old.blocks ++ block ∷ []) h.1 h.2 (low refl) (omega (arith, length_push old.blocks block))
+  effect_shrinks (opens_if word tokens) taken note step low h not_end =
+      decides_shrinks old new word tokens _ taken note step (low refl) (λ value. omega (arith, length_push old.blocks (block_opened word value))) h
+  effect_shrinks (opens_unread word) taken note step low h not_end =
+      passed_shrinks old new taken 1 note (old.blocks ++ block_unread word ∷ []) h.1 h.2 (low refl) (omega (arith, length_push old.blocks (block_unread word)))
+  effect_shrinks (parts block) taken note step low h not_end =
+      passed_shrinks old new taken 1 note (outer_blocks old.blocks ++ block ∷ []) h.1 h.2 (low refl) (parted_least old.blocks block)
+  effect_shrinks (parts_if block word tokens) taken note step low h not_end =
+      decides_shrinks old new word tokens _ taken note step (low refl) (λ value. parted_least old.blocks (block_decided block value)) h
+  effect_shrinks closes taken note step low h not_end = passed_shrinks old new taken 0 note (outer_blocks old.blocks) h.1 h.2 (low refl)
+      (omega (arith, length-take (length old.blocks - 1) old.blocks))
+  effect_shrinks (unfinished word) taken note step low h not_end = block_shrinks old new h.1 (low refl)
+  effect_shrinks (renumbers word tokens) taken note step low h not_end = renumbers_shrinks old new word tokens taken note step (low refl) h
+
+  -- so does a step after which reading goes on
+  pub source_shrinks : (step : Step Token) → StepsSource old step new → goes_on step ≡ true → Shrinks old new
+  source_shrinks step h on = go old.spent h
+    where
+      move : Move
+      move = move_of old.dead_for_good old.blocks old.rest
+
+      go : (b : Bool) → MatchBool b ((step ≡ Err Finished) × (new ≡ old)) (IsRefusedStep old step ⊎ Makes move old step new) → Shrinks old new
+      go true h = absurd (goes_on_not_end step on h.0)
+      go false (inl h) = absurd (goes_on_not_want step on h.fault)
+      go false (inr h) = effect_shrinks move.effect move.taken move.note step (move_of_shortens old.dead_for_good old.blocks old.rest) h (goes_on_not_end step on)

@@ -1,0 +1,119 @@
+-- One step of an expander with calls: a token is taken, and is given, or opens its macro, or begins a call that is
+-- gathered (docs/RULES.md, Expansion 1 to 7 and 10).
+use Rattle.std.specs.Prelude.{◌≡◌, ◌⊎◌, if◌then◌else◌, Bool, false, true, [], ◌∷◌, Option, Some, None, Result, Ok, Err, ⊤}
+use Rattle.pp_lexer.specs.PreprocessorError.{out_of_memory}
+use Rattle.pp_lexer.specs.declared.token.Location.{Location}
+use Rattle.pp_model.specs.declared.read.Read.{Read}
+use Rattle.pp_model.specs.Names.{Name}
+use Rattle.pp_model.specs.Definitions.{Definition}
+use Rattle.pp_model.specs.Calls.{Fault, Gathered, is_left_paren}
+use Rattle.pp_macros.specs.Item.{Step, is_out_of_memory}
+use Rattle.pp_macros.specs.inner.Frames.{layer}
+use Rattle.pp_macros.specs.Held.{HoldsOrdinary}
+use Rattle.pp_macros.specs.inner.Machine.{Machine, StepsTaking, TakesNext, GathersNext}
+use Rattle.pp_macros.specs.inner.Reader.{Reader}
+use Rattle.pp_macros.specs.inner.Turns.{opens}
+use Rattle.pp_macros.specs.inner.Work.{is_end}
+use Rattle.pp_macros.specs.declared.calls.Taken.{Taken}
+use Rattle.pp_macros.specs.declared.calls.Taken.TheVariants as taken
+use Rattle.pp_macros.specs.declared.step.StepExit.{StepExit}
+use Rattle.pp_macros.specs.declared.step.StepExit.TheVariants.{Error, Continue}
+
+-- a step is a `(`, with its place
+abbrev pub paren_of : Step Read → Option Location
+paren_of (Ok read) = if is_left_paren read.token.value then Some read.token.location else None
+paren_of (Err exit) = None
+
+-- a step whose fault is that memory was refused
+abbrev pub is_refusal : Step Read → Bool
+is_refusal (Err (Error fault)) = is_out_of_memory fault.0
+is_refusal _ = false
+
+-- what is after the name of a function-like macro: no call, the fault of one, or one whose tokens are gathered
+pub data Sought : Type 0 where
+  no_call : Step Read → Sought
+  refused : Fault → Sought
+  gathered : Location → Gathered → Sought
+
+abbrev pub sought_by : Location → Result Gathered Fault → Sought
+sought_by paren (Ok g) = gathered paren g
+sought_by paren (Err fault) = refused fault
+
+pub data Seeks : Machine → Reader → Sought → Machine → Reader → Type 0 where
+  alone : (next : Step Read) (m n : Machine) (r s : Reader) (c : Sought)
+      → TakesNext m r next n s
+      → paren_of next ≡ None
+      → is_refusal next ≡ false
+      → c ≡ no_call next
+      → Seeks m r c n s
+  called : (next : Step Read) (paren : Location) (m n p : Machine) (r s t : Reader) (g : Result Gathered Fault)
+      (c : Sought)
+      → TakesNext m r next n s
+      → paren_of next ≡ Some paren
+      → GathersNext 0 paren n s g p t
+      → c ≡ sought_by paren g
+      → Seeks m r c p t
+
+-- what is sought after a name that was taken
+abbrev pub Finds : Read → Name → Definition → Sought → Step Taken → Machine → Machine → Type 0
+Finds read name definition (no_call next) step n p =
+    (step ≡ Ok (taken.Token read)) × (p ≡ record n { held = Some next })
+Finds read name definition (refused fault) step n p = (step ≡ Err (Error fault)) × (p ≡ n)
+Finds read name definition (gathered paren g) step n p =
+    (step ≡ Ok (taken.Call (record {
+      name = name;
+      definition = definition;
+      paren = paren;
+      closing = g.closing;
+      tokens = g.tokens;
+    })))
+    × (p ≡ n)
+
+pub data TurnsTo : Machine → Reader → Step Taken → Machine → Reader → Type 0 where
+  -- a pause, a fault or the end
+  passes : (exit : StepExit) (step : Step Taken) (m n : Machine) (r s : Reader)
+      → StepsTaking m r (Err exit) n s
+      → step ≡ Err exit
+      → TurnsTo m r step n s
+  -- a token that opens no macro
+  gives : (read : Read) (step : Step Taken) (m n : Machine) (r s : Reader)
+      → StepsTaking m r (Ok read) n s → opens s read ≡ None
+      → step ≡ Ok (taken.Token read)
+      → TurnsTo m r step n s
+  -- the name of an object-like macro
+  object : (read : Read) (name : Name) (definition : Definition) (step : Step Taken) (m n p : Machine) (r s : Reader)
+      → StepsTaking m r (Ok read) n s → opens s read ≡ Some (name, definition)
+      → definition.function_like ≡ false
+      → step ≡ Err Continue
+      → p ≡ record n { frames = layer name read.token.location.line definition [] ∷ n.frames }
+      → TurnsTo m r step p s
+  -- the name of a function-like macro
+  seeks : (read : Read) (name : Name) (definition : Definition) (c : Sought) (step : Step Taken) (m n p q : Machine)
+      (r s t : Reader)
+      → StepsTaking m r (Ok read) n s → opens s read ≡ Some (name, definition)
+      → definition.function_like ≡ true
+      → Seeks n s c p t
+      → Finds read name definition c step p q
+      → TurnsTo m r step q t
+
+-- a token that is given holds ordinary tokens; the tokens of a call are its own matter
+abbrev pub TakenHoldsOrdinary : Taken → Type 0
+TakenHoldsOrdinary (taken.Token read) = HoldsOrdinary read.token.value
+TakenHoldsOrdinary (taken.Call call) = ⊤
+
+-- something is taken, and not the end
+pub record TakesSomething (m : Machine) (r : Reader) : Type 0 where
+  pub step : Step Read
+  pub after : Machine
+  pub reader : Reader
+  pub takes : StepsTaking m r step after reader
+  pub goes : is_end step ≡ false
+
+-- a turn that was refused memory, where something was taken
+pub record IsRefusedTurn (m : Machine) (r : Reader) (step : Step Taken) : Type 0 where
+  pub some : TakesSomething m r
+  pub fault : step ≡ Err (Error out_of_memory)
+
+-- a turn, unless memory is refused
+abbrev pub TurnsOrRefuses : Machine → Reader → Step Taken → Machine → Reader → Type 0
+TurnsOrRefuses m r step n s = TurnsTo m r step n s ⊎ IsRefusedTurn m r step

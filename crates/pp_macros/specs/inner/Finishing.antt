@@ -1,0 +1,66 @@
+-- How a call goes on whose tokens were gathered: its arguments are expanded, and its frame opens
+-- (docs/RULES.md, Expansion 7 to 9).
+use Rattle.std.specs.Prelude.{◌≡◌, ◌≤◌, ◌-◌, ℕ, false, List, [], ◌∷◌, ◌++◌, All, length, None, Result, Ok, Err, ⊤}
+use Rattle.pp_model.specs.declared.read.Read.{Read}
+use Rattle.pp_model.specs.Calls.{Fault, Site, arguments_of}
+use Rattle.pp_model.specs.Emitting.{answers_at}
+use Rattle.pp_model.specs.Names.{Name}
+use Rattle.pp_macros.specs.inner.Calling.{PendingCall}
+use Rattle.pp_macros.specs.inner.Defined.{Defined, meaning_of}
+use Rattle.pp_macros.specs.inner.Frames.{layer, names_of}
+use Rattle.pp_macros.specs.inner.Left.{most_alone}
+use Rattle.pp_macros.specs.inner.Machine.{Machine}
+use Rattle.pp_macros.specs.inner.Reader.{Listing}
+use Rattle.pp_macros.specs.declared.halt.Halt.{Halt}
+use Rattle.pp_macros.specs.declared.halt.Halt.TheVariants as halt
+
+-- where the call stands: what is defined there, and open
+abbrev pub site_at : PendingCall → List Defined → List Name → Site
+site_at call definitions around =
+    record {
+      paren = call.paren;
+      arguments = arguments_of call.tokens;
+      visible = meaning_of definitions;
+      open_around = around;
+    }
+
+-- no argument of the call is longer than it may be
+abbrev pub AreOfCall : ℕ → List Defined → PendingCall → List (List Read) → Type 0
+AreOfCall levels definitions call arguments =
+    All (λ argument. length argument ≤ most_alone (levels - 1) definitions (length call.tokens)) arguments
+
+-- its frame is open, with arguments that it comes to, which are no longer than they may be
+pub record IsOpened (levels : ℕ) (definitions : List Defined) (around : List Name) (call : PendingCall)
+    (old new : Machine) : Type 0 where
+  pub arguments : List (List Read)
+  pub answers : answers_at levels call.definition (site_at call definitions around) (Ok arguments)
+  pub least : AreOfCall levels definitions call arguments
+  pub opens : new ≡ record old { frames = layer call.name call.closing.line call.definition arguments ∷ old.frames }
+
+-- the frame opens, or the call has a fault; of a refusal of memory nothing is said
+abbrev pub Finishes : ℕ → List Defined → List Name → PendingCall → Machine → Result (Unit {0}) Halt → Machine → Type 0
+Finishes levels definitions hidden call old (Ok done) new =
+    IsOpened levels definitions (names_of old.frames ++ hidden) call old new
+Finishes levels definitions hidden call old (Err (halt.Fault fault)) new =
+    answers_at levels call.definition (site_at call definitions (names_of old.frames ++ hidden)) (Err fault)
+    × (new ≡ old)
+Finishes levels definitions hidden call old (Err halt.OutOfMemory) new = ⊤
+
+-- an argument alone, no longer than it may be
+abbrev pub IsShort : ℕ → List Defined → ℕ → List Read → Type 0
+IsShort levels definitions n out = length out ≤ most_alone levels definitions n
+
+-- each argument, where none of them had more tokens than this
+abbrev pub AreShort : ℕ → List Defined → List (List Read) → List (List Read) → Type 0
+AreShort levels definitions arguments outs = (n : ℕ) → All (λ argument. length argument ≤ n) arguments
+    → All (λ out. length out ≤ most_alone levels definitions n) outs
+
+-- nothing is open or held, and the list is an argument where these definitions and names stand
+pub record IsAtStart (definitions : List Defined) (hidden : List Name) (m : Machine) (l : Listing) : Type 0 where
+  pub idle : m ≡ record { held = None; frames = [] }
+  pub argument : l ≡ record { tokens = l.tokens; definitions = definitions; hidden = hidden; is_line = false }
+
+-- what a list comes to whose items are these, where it was read to its end
+abbrev pub read_to_end : List Read → Result (Unit {0}) Fault → Result (List Read) Fault
+read_to_end items (Ok done) = Ok items
+read_to_end items (Err fault) = Err fault

@@ -1,0 +1,72 @@
+-- How much is left to do of an expander with calls.
+use Rattle.std.specs.Prelude.{ℕ, suc, ◌+◌, if◌then◌else◌, List, [], ◌∷◌, length, Option, Some, None, IsSome, ⊤}
+use Rattle.pp_model.specs.declared.read.Read.{Read}
+use Rattle.pp_model.specs.ApartMarks.{AreApart}
+use Rattle.pp_model.specs.Names.{Name}
+use Rattle.pp_macros.specs.inner.Defined.{Defined, meaning_of, body_tokens}
+use Rattle.pp_macros.specs.Item.{Step}
+use Rattle.pp_macros.specs.inner.Frames.{Layer, names_of}
+use Rattle.pp_macros.specs.inner.Machine.{Machine}
+use Rattle.pp_macros.specs.inner.Reader.{Reader, of_source, of_list, definitions_of}
+use Rattle.pp_macros.specs.inner.Reach.{work_in, frame_steps, most_tokens}
+use Rattle.pp_macros.specs.inner.Work.{most_reads, steps_left, is_end}
+
+-- what comes of a reader at most, and what may still be defined there
+abbrev pub reads_left : Reader → ℕ
+reads_left (of_source source) = most_reads source
+reads_left (of_list list) = length list.tokens
+
+-- no more names open over each other: those that are defined, those that may still be, and one that
+-- was defined when its call began
+abbrev pub most_open : Reader → ℕ
+most_open (of_source source) = length source.definitions + most_reads source + 1
+most_open (of_list list) = length list.definitions + 1
+
+-- all bodies, and what is still to be defined, have no more tokens together
+abbrev pub most_bodies : Reader → ℕ
+most_bodies (of_source source) = body_tokens source.definitions + most_reads source
+most_bodies (of_list list) = body_tokens list.definitions
+
+-- one step more of the innermost region
+abbrev pub one_more : List ℕ → List ℕ
+one_more [] = 1 ∷ []
+one_more (s ∷ regions) = suc s ∷ regions
+
+-- what is held is one more step of the innermost region, but for the end
+abbrev pub holding_step : Option (Step Read) → List ℕ → List ℕ
+holding_step None regions = regions
+holding_step (Some step) regions = if is_end step then regions else one_more regions
+
+-- the steps that are left in each frame, the innermost first, and in the reader
+abbrev pub regions_of : List Layer → ℕ → List ℕ
+regions_of [] reads = reads ∷ []
+regions_of (f ∷ fs) reads = steps_left f ∷ regions_of fs reads
+
+abbrev pub regions : Machine → Reader → List ℕ
+regions m r = holding_step m.held (regions_of m.frames (reads_left r))
+
+-- how much is left, where arguments may be read inside each other so many levels deeper
+abbrev pub work_of : ℕ → Machine → Reader → ℕ
+work_of levels m r = work_in (frame_steps (most_bodies r) (most_open r) levels) (most_open r) (regions m r)
+
+-- all names but the outermost are defined
+abbrev pub AreDefinedAbove : List Defined → List Name → Type 0
+AreDefinedAbove definitions [] = ⊤
+AreDefinedAbove definitions (x ∷ []) = ⊤
+AreDefinedAbove definitions (x ∷ y ∷ names) =
+    IsSome (meaning_of definitions x) × AreDefinedAbove definitions (y ∷ names)
+
+-- names that are open differ, and are defined: but the outermost may be undefined, where its call
+-- was read over lines of the source
+pub record AreOpenSoundly (definitions : List Defined) (names : List Name) : Type 0 where
+  pub apart : AreApart names
+  pub defined : AreDefinedAbove definitions names
+
+abbrev pub IsSound : Machine → Reader → Type 0
+IsSound m r = AreOpenSoundly (definitions_of r) (names_of m.frames)
+
+-- tokens that are read alone come to at most so many, where arguments may be read inside
+-- each other so many levels deeper
+abbrev pub most_alone : ℕ → List Defined → ℕ → ℕ
+most_alone levels definitions n =
+    most_tokens (frame_steps (body_tokens definitions) (length definitions + 1) levels) (length definitions + 1) n

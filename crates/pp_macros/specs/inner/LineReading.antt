@@ -1,0 +1,116 @@
+-- What the reading of a part of a line gives, and where the lexer stands after it.
+use Rattle.std.specs.Prelude.{◌≡◌, ◌≢◌, ℕ, ◌≤◌, ◌<◌, Bool, false, if◌then◌else◌, not, List, [], ◌∷◌, length, drop, Option, Some, None, Result, Ok, Err, ⊤, IsTrue, IfOk, IfSome}
+use Rattle.pp_lexer.specs.Lexed.{Seen}
+use Rattle.pp_lexer.specs.Items.{Lexeme}
+use Rattle.pp_lexer.specs.TokenValue.{is_ordinary}
+use Rattle.pp_lexer.specs.declared.lexer.item.Token.{Token as LexerToken}
+use Rattle.pp_lexer.specs.declared.token.Location.{Location}
+use Rattle.pp_lexer.specs.declared.token.Token.{Token}
+use Rattle.pp_model.specs.Calls.{Fault}
+use Rattle.pp_model.specs.Conversions.{is_newline, conversion}
+use Rattle.pp_model.specs.inner.Emitting.{token_before}
+use Rattle.pp_model.specs.Lines.{line_tokens, line_length, line_fault, comments_before_end, ended_line}
+use Rattle.pp_expression.specs.Answers.{◌>>=◌}
+use Rattle.pp_macros.specs.inner.SourceLexed.{SourceLexed}
+use Rattle.pp_macros.specs.declared.halt.Halt.{Halt}
+use Rattle.pp_macros.specs.declared.halt.Halt.TheVariants as halt
+
+-- a value or a fault is that of the definitions
+abbrev pub Meets : {A B : Type 0} → (A → B) → Result A Halt → Result B Fault → Type 0
+Meets shows (Ok value) wanted = wanted ≡ Ok (shows value)
+Meets shows (Err (halt.Fault fault)) wanted = wanted ≡ Err fault
+Meets shows (Err halt.OutOfMemory) wanted = ⊤
+
+-- so many items were taken
+pub record HasTaken (taken : ℕ) (old new : SourceLexed) : Type 0 where
+  pub rest : new.rest ≡ drop taken old.rest
+  pub spent : new.spent ≡ false
+
+-- after a fault: nothing is said of how far the lexer went
+pub record HasGoneOn (old new : SourceLexed) : Type 0 where
+  pub rest : length new.rest ≤ length old.rest
+  pub spent : new.spent ≡ false
+
+-- a value takes so many items
+abbrev pub TakesItems : {A : Type 0} → ℕ → SourceLexed → Result A Halt → SourceLexed → Type 0
+TakesItems taken old (Ok value) new = HasTaken taken old new
+TakesItems taken old (Err (halt.Fault fault)) new = HasGoneOn old new
+TakesItems taken old (Err halt.OutOfMemory) new = ⊤
+
+-- after a fault something was taken
+abbrev pub FaultTakesSome : {A : Type 0} → Result A Halt → SourceLexed → SourceLexed → Type 0
+FaultTakesSome (Ok value) old new = ⊤
+FaultTakesSome (Err (halt.Fault fault)) old new = length new.rest < length old.rest
+FaultTakesSome (Err halt.OutOfMemory) old new = ⊤
+
+-- memory is refused only where something is left
+abbrev pub RefusedWithin : {A : Type 0} → Result A Halt → List Seen → Type 0
+RefusedWithin (Ok value) rest = ⊤
+RefusedWithin (Err (halt.Fault fault)) rest = ⊤
+RefusedWithin (Err halt.OutOfMemory) rest = rest ≢ []
+
+-- the token doesn't end its line
+abbrev pub IsWithinLine : Option LexerToken → Type 0
+IsWithinLine None = ⊥
+IsWithinLine (Some token) = is_newline token.value ≡ false
+
+-- after a token that doesn't end its line something is left
+abbrev pub LeavesSome : Option LexerToken → List Seen → Type 0
+LeavesSome token rest = IsWithinLine token → rest ≢ []
+
+-- whether a comment stands before the end of a line whose first token was read, where this is known of what was read
+abbrev pub comments_after : Option Token → List Seen → Bool → Bool
+comments_after None rest before = before
+comments_after (Some token) rest before = comments_before_end rest
+
+abbrev pub as_next : Lexeme → Result (Option LexerToken) Fault
+as_next (Ok token) = Ok (Some token)
+as_next (Err fault) = Err fault
+
+-- the token that comes first, or nothing at the end
+abbrev pub next_token : List Seen → Result (Option LexerToken) Fault
+next_token [] = Ok None
+next_token (s ∷ rest) = as_next s.item
+
+abbrev pub some_token : Token → Result (Option Token) Fault
+some_token token = Ok (Some token)
+
+-- a token of a line, or nothing where the line ends
+abbrev pub line_token : Option LexerToken → Result (Option Token) Fault
+line_token None = Ok None
+line_token (Some token) = if is_newline token.value then Ok None else (conversion token >>= some_token)
+
+abbrev pub next_line_token : List Seen → Result (Option Token) Fault
+next_line_token rest = next_token rest >>= line_token
+
+-- the tokens of a line whose first one was read
+abbrev pub tokens_after : Option Token → List Seen → Result (List Token) Fault
+tokens_after None rest = Ok []
+tokens_after (Some token) rest = token_before token (line_tokens rest)
+
+abbrev pub length_after : Option Token → List Seen → ℕ
+length_after None rest = 0
+length_after (Some token) rest = line_length rest
+
+abbrev pub unless_fault : {A : Type 0} → Option Fault → Result A Fault → Result A Fault
+unless_fault (Some fault) line = Err fault
+unless_fault None line = line
+
+abbrev pub goes_on_after : Lexeme → Result Bool Fault
+goes_on_after item = item >>= λ token. Ok (not (is_newline token.value))
+
+-- whether the line goes on after its first token
+abbrev pub line_goes_on : List Seen → Result Bool Fault
+line_goes_on [] = Ok false
+line_goes_on (s ∷ rest) = goes_on_after s.item
+
+-- a line that is skipped, but for the lexer's errors
+abbrev pub skipped_line : List Seen → Result (Unit {0}) Fault
+skipped_line rest = unless_fault (line_fault rest) (Ok tt)
+
+-- the end of an `#endif` line, which is skipped where the block's surroundings are dead
+abbrev pub endif_end : Bool → Location → List Seen → Result (Unit {0}) Fault
+endif_end live_around word rest = if live_around then ended_line word rest else skipped_line rest
+
+abbrev pub IsOrdinaryIfOk : Result (Option Token) Halt → Type 0
+IsOrdinaryIfOk result = IfOk result (λ token. IfSome token (λ t. IsTrue (is_ordinary t.value)))

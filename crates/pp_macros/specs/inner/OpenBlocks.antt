@@ -1,0 +1,79 @@
+-- What is kept of the blocks that are open, and the blocks of the definitions that this stands for
+-- (docs/RULES.md, Directives 7 to 11).
+use Rattle.std.specs.Prelude.{◌≡◌, ℕ, ◌<◌, ◌-◌, Bool, true, false, not, ◌&&◌, ◌||◌, List, ◌∷◌, length, take, slice_get, Option, Some, None}
+use Rattle.std.specs.List.{AllByRecursion as Each, AllZip, list_all}
+use Rattle.pp_lexer.specs.Lexed.{Seen}
+use Rattle.pp_lexer.specs.declared.token.Location.{Location}
+use Rattle.pp_model.specs.Blocks.{Block, Truths, fails_at, are_surroundings_live, has_taken_branch, has_else}
+use Rattle.pp_model.specs.inner.Blocks.{is_branch_live}
+use Rattle.pp_model.specs.declared.block.BlockLine.{BlockLine}
+-- A block that is open: the place of its first line's word, whether its surroundings are live, whether a branch of it
+-- was taken, whether it has an `#else`, and whether the branch that is being read is chosen.
+pub use Rattle.pp_macros.specs.declared.blocks.OpenBlock.{OpenBlock}
+
+-- the innermost of the blocks that are open is the last one
+abbrev pub last_block : List OpenBlock → Option OpenBlock
+last_block blocks = slice_get blocks (length blocks - 1)
+
+abbrev pub outer_blocks : List OpenBlock → List OpenBlock
+outer_blocks blocks = take (length blocks - 1) blocks
+
+-- the text is live outside all blocks, and in a chosen branch of a block whose surroundings are live
+abbrev pub is_live_in : Option OpenBlock → Bool
+is_live_in None = true
+is_live_in (Some block) = block.live_around && block.chosen
+
+-- the same, if these blocks are open, and all text is dead for good or not
+abbrev pub is_live_among : Bool → List OpenBlock → Bool
+is_live_among dead_for_good blocks = not dead_for_good && is_live_in (last_block blocks)
+
+-- a block that a line opens: in live text its condition holds or not, in dead text it is not read
+abbrev pub block_opened : Location → Bool → OpenBlock
+block_opened word holds = record { word = word; live_around = true; taken = holds; with_else = false; chosen = holds }
+
+abbrev pub block_unread : Location → OpenBlock
+block_unread word = record { word = word; live_around = false; taken = false; with_else = false; chosen = false }
+
+-- the block after its `#else`, whose branch is chosen where no other was taken
+abbrev pub block_parted : OpenBlock → OpenBlock
+block_parted block = record block { with_else = true; chosen = block.live_around && not block.taken }
+
+-- the block after an `#elif` that is skipped
+abbrev pub block_skipped : OpenBlock → OpenBlock
+block_skipped block = record block { chosen = false }
+
+-- the block after an `#elif` whose condition holds or not, where no branch was taken before
+abbrev pub block_decided : OpenBlock → Bool → OpenBlock
+block_decided block holds = record block { taken = holds; chosen = holds }
+
+-- whether an `#elif` of the block is skipped: its surroundings are dead, or a branch was taken
+abbrev pub skips_branches : OpenBlock → Bool
+skips_branches block = not block.live_around || block.taken
+
+-- the branch marks of a block
+abbrev pub marks : Block → List BlockLine
+marks block = block.first ∷ block.partings
+
+-- every condition of the block was read and is false
+abbrev pub all_fail : Truths → Block → Bool
+all_fail truths block = list_all (fails_at truths) (marks block)
+
+-- All conditions of a block were read and are false just where its surroundings are live and no branch was taken.
+abbrev pub IsSettled : Bool → Truths → Block → Type 0
+IsSettled live truths block = all_fail truths block ≡ live && not (has_taken_branch truths block)
+
+pub record StandsForBlock (source : List Seen) (truths : Truths) (kept : OpenBlock) (block : Block) : Type 0 where
+  pub word : block.first.word ≡ kept.word
+  pub live_around : are_surroundings_live source truths block ≡ kept.live_around
+  pub taken : has_taken_branch truths block ≡ kept.taken
+  pub with_else : has_else block ≡ kept.with_else
+  pub chosen : is_branch_live truths block ≡ kept.chosen
+  pub settled : IsSettled kept.live_around truths block
+
+-- the blocks that are kept stand for these
+abbrev pub StandForBlocks : List Seen → Truths → List OpenBlock → List Block → Type 0
+StandForBlocks source truths kept blocks = AllZip (StandsForBlock source truths) kept blocks
+
+-- each condition that was read stands before the position
+abbrev pub AreBefore : ℕ → Truths → Type 0
+AreBefore position truths = Each (λ truth. truth.position < position) truths

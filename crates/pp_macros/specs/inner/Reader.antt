@@ -1,0 +1,74 @@
+-- What stands after the frames, as the interface object of a reader shows it.
+use Rattle.std.specs.Prelude.{◌≡◌, ◌⊎◌, ℕ, pos, ◌+ℤ◌, Bool, ◌&&◌, if◌then◌else◌, List, [], ◌∷◌, Option, Some, None, Ok, Err}
+use Rattle.pp_lexer.specs.PreprocessorError.{out_of_memory}
+use Rattle.pp_lexer.specs.declared.token.Token.{Token}
+use Rattle.pp_model.specs.Definitions.{Definitions}
+use Rattle.pp_model.specs.LineValues.{as_line_number}
+use Rattle.pp_model.specs.Names.{Name, is_same_name, defined_name}
+use Rattle.pp_model.specs.declared.read.Read.{Read}
+use Rattle.pp_model.specs.inner.Reading.{after_listed}
+use Rattle.pp_macros.specs.Item.{Step}
+use Rattle.pp_macros.specs.inner.Reading.{unpainted_step}
+use Rattle.pp_macros.specs.inner.Defined.{Defined, meaning_of}
+use Rattle.pp_macros.specs.inner.Source.{Source, unreported_of, StepsSource}
+use Rattle.pp_macros.specs.inner.Unreported.{StepReports}
+use Rattle.pp_macros.specs.declared.step.StepExit.TheVariants.{Error, Finished}
+
+-- The tokens of an argument, or of the line of a directive, with what is defined there and the names that are open
+-- around. Where a line is read, `defined` is an operator.
+pub record Listing : Type 0 where
+  pub tokens : List Read
+  pub definitions : List Defined
+  pub hidden : List Name
+  pub is_line : Bool
+
+pub data Reader : Type 0 where
+  of_source : Source → Reader
+  of_list : Listing → Reader
+
+abbrev pub listed_step : List Read → Step Read
+listed_step [] = Err Finished
+listed_step (read ∷ tokens) = Ok read
+
+-- the next token, or the end, unless memory is refused
+abbrev pub StepsListed : Listing → Step Read → Listing → Type 0
+StepsListed old step new =
+    ((step ≡ listed_step old.tokens) × (new ≡ record old { tokens = after_listed old.tokens }))
+    ⊎ (step ≡ Err (Error out_of_memory))
+
+-- one step of a source: what it gives is unpainted, and it reports the errors of the lexer too
+pub record ReadsSource (old : Source) (step : Step Read) (new : Source) : Type 0 where
+  pub given : Step Token
+  pub steps : StepsSource old given new
+  pub reports : StepReports given (unreported_of old) (unreported_of new)
+  pub is : step ≡ unpainted_step given
+
+-- one step of a reader, which stays of its kind
+abbrev pub Reads : Reader → Step Read → Reader → Type 0
+Reads (of_source old) step (of_source new) = ReadsSource old step new
+Reads (of_list old) step (of_list new) = StepsListed old step new
+Reads _ step _ = ⊥
+
+-- the name never opens there
+abbrev pub is_reserved : Listing → Name → Bool
+is_reserved list name = list.is_line && is_same_name name defined_name
+
+-- the names that are open around
+abbrev pub hidden_of : Reader → List Name
+hidden_of (of_source source) = []
+hidden_of (of_list list) = list.hidden
+
+-- the definitions that are seen there
+abbrev pub visible : Reader → Definitions
+visible (of_source source) = meaning_of source.definitions
+visible (of_list list) = λ name. if is_reserved list name then None else meaning_of list.definitions name
+
+-- the number that `__LINE__` shows for a line, unless it is out of range
+abbrev pub shown_line : Reader → ℕ → Option ℕ
+shown_line (of_source source) line = as_line_number (pos line +ℤ source.line_offset)
+shown_line (of_list list) line = Some line
+
+-- what is defined there, where a line is read `defined` too
+abbrev pub definitions_of : Reader → List Defined
+definitions_of (of_source source) = source.definitions
+definitions_of (of_list list) = list.definitions

@@ -1,0 +1,21 @@
+-- Tokens with their paint, as the code keeps them.
+use Rattle.std.specs.Prelude.{List, All, Ok, Err}
+use Rattle.pp_lexer.specs.declared.token.Token.{Token}
+use Rattle.pp_model.specs.Names.{Name}
+use Rattle.pp_model.specs.Painting.{unpainted, painted_among}
+use Rattle.pp_model.specs.declared.read.Read.{Read}
+use Rattle.pp_macros.specs.Held.{HoldsOrdinary}
+use Rattle.pp_macros.specs.Item.{Step}
+
+abbrev pub AllReadOrdinary : List Read → Type 0
+AllReadOrdinary reads = All (λ read. HoldsOrdinary read.token.value) reads
+
+-- what a source gives, unpainted
+abbrev pub unpainted_step : Step Token → Step Read
+unpainted_step (Ok token) = Ok (unpainted token)
+unpainted_step (Err exit) = Err exit
+
+-- what is taken where these names are open
+abbrev pub painted_step : List Name → Step Read → Step Read
+painted_step names (Ok read) = Ok (painted_among names read)
+painted_step names (Err exit) = Err exit

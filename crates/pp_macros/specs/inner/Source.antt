@@ -1,0 +1,170 @@
+-- What the reader of a source keeps, and one step of it.
+use Rattle.std.specs.Prelude.{◌≡◌, ◌≢◌, ℕ, ◌+◌, ◌<◌, ◌≤◌, ◌⊎◌, Bool, false, if◌then◌else◌, not, ◌||◌, is_some, List, [], ◌∷◌, ◌++◌, length, drop, Option, Some, None, Result, Ok, Err, MatchBool, ℤ, pos, ◌-ℤ◌}
+use Rattle.pp_lexer.specs.Lexed.{Seen}
+use Rattle.pp_lexer.specs.PreprocessorError.{out_of_memory}
+use Rattle.pp_lexer.specs.declared.token.PreprocessorError.TheVariants.{DefineRedefined, UnfinishedBlock}
+use Rattle.pp_lexer.specs.declared.token.Token.{Token}
+use Rattle.pp_lexer.specs.declared.token.Location.{Location}
+use Rattle.pp_model.specs.Calls.{Fault}
+use Rattle.pp_model.specs.Definitions.{Definition, IsSameDefinition}
+use Rattle.pp_model.specs.Emitting.{answers_at, expansion_limit}
+use Rattle.pp_model.specs.LineValues.{IsCondition, IsLineNumber}
+use Rattle.pp_model.specs.declared.definition.Named.{Named}
+use Rattle.pp_macros.specs.inner.DirectiveItems.{value_of}
+use Rattle.pp_macros.specs.Item.{Step}
+use Rattle.pp_macros.specs.inner.Defined.{Defined, meaning_of, body_tokens, IsChanged}
+use Rattle.pp_macros.specs.inner.OpenBlocks.{outer_blocks, block_opened, block_unread, block_decided}
+use Rattle.pp_macros.specs.declared.blocks.OpenBlock.{OpenBlock}
+use Rattle.pp_macros.specs.inner.SourceMoves.{Effect, gives, gives_item, fails, ends, passes, defines, undefines, opens_where, opens_if, opens_unread, parts, parts_if, closes, unfinished, renumbers, Note, notes_text, notes_directive, Move, move_of}
+use Rattle.pp_macros.specs.inner.Unreported.{Unreported, unreported}
+use Rattle.pp_macros.specs.declared.step.StepExit.TheVariants.{Error, Continue, Finished}
+
+-- the items that are left and where they stand, where the error of the lexer stands that was read and not reported,
+-- what is defined, the blocks that are open, the outermost first, what `#line` adds to a line, whether memory was
+-- refused, whether a live token of the text was read so far, and a directive, and whether an `#elif` outside of all
+-- blocks made all that follows dead
+pub record Source : Type 0 where
+  pub rest : List Seen
+  pub places : List Location
+  pub error_place : Option Location
+  pub definitions : List Defined
+  pub blocks : List OpenBlock
+  pub line_offset : ℤ
+  pub spent : Bool
+  pub has_text : Bool
+  pub has_directive : Bool
+  pub dead_for_good : Bool
+
+-- its errors of the lexer that were not reported yet
+abbrev pub unreported_of : Source → Unreported
+unreported_of s = unreported s.rest s.places s.error_place
+
+-- after so many items, of which this is remembered, where these blocks are open
+pub record IsAfter (taken : ℕ) (note : Note) (still_open : List OpenBlock) (old new : Source) : Type 0 where
+  pub rest : new.rest ≡ drop taken old.rest
+  pub blocks : new.blocks ≡ still_open
+  pub line_offset : new.line_offset ≡ old.line_offset
+  pub spent : new.spent ≡ false
+  pub has_text : new.has_text ≡ (notes_text note || old.has_text)
+  pub has_directive : new.has_directive ≡ (notes_directive note || old.has_directive)
+  pub dead_for_good : new.dead_for_good ≡ old.dead_for_good
+
+-- after a fault: nothing is said of how far the reader went, nor of which blocks are open and which names are defined,
+-- but that fewer items and blocks are left, and no more is defined
+pub record IsAfterFault (old new : Source) : Type 0 where
+  pub fewer : length new.rest + length new.blocks < length old.rest + length old.blocks
+  pub names : length new.definitions ≤ length old.definitions
+  pub tokens : body_tokens new.definitions ≤ body_tokens old.definitions
+  pub spent : new.spent ≡ false
+
+-- the innermost block was reported at the end
+pub record IsAfterBlock (old new : Source) : Type 0 where
+  pub rest : new.rest ≡ old.rest
+  pub definitions : new.definitions ≡ old.definitions
+  pub blocks : new.blocks ≡ outer_blocks old.blocks
+  pub spent : new.spent ≡ false
+
+-- a `#define` of a name that stood for this
+abbrev pub DefinesOver : Named → Option Definition → ℕ → Note → Source → Step Token → Source → Type 0
+DefinesOver named None taken note old step new =
+    (step ≡ Err Continue)
+    × IsAfter taken note old.blocks old new
+    × IsChanged named.name (Some named.definition) old.definitions new.definitions
+DefinesOver named (Some before) taken note old step new =
+    (IsSameDefinition before named.definition
+    × (step ≡ Err Continue)
+    × IsAfter taken note old.blocks old new
+    × (new.definitions ≡ old.definitions))
+    ⊎ ((IsSameDefinition before named.definition → ⊥)
+    × (step ≡ Err (Error (DefineRedefined, named.location)))
+    × IsAfterFault old new)
+
+-- whether the condition of an `#ifdef` holds, or that of an `#ifndef`, of a name for which this is found
+abbrev pub holds_where : Bool → Option Definition → Bool
+holds_where wanted found = if wanted then is_some found else not (is_some found)
+
+-- a pause after so many items, of which this is remembered, where these blocks are open
+abbrev pub Pauses : ℕ → Note → List OpenBlock → Source → Step Token → Source → Type 0
+Pauses taken note blocks old step new =
+    (step ≡ Err Continue) × IsAfter taken note blocks old new × (new.definitions ≡ old.definitions)
+
+-- the condition of an `#if` or `#elif` with this word and these tokens holds or not, or is at fault
+abbrev pub Condition : Location → List Token → List Defined → Result Bool Fault → Type 0
+Condition word tokens definitions result =
+    IsCondition (answers_at expansion_limit) word tokens (meaning_of definitions) result
+
+-- the number that a `#line` with this word and these tokens gives, or its fault
+abbrev pub LineNumber : Location → List Token → List Defined → Result ℕ Fault → Type 0
+LineNumber word tokens definitions result =
+    IsLineNumber (answers_at expansion_limit) word tokens (meaning_of definitions) result
+
+-- a line with a condition: these blocks are then open, where it holds or not
+pub data Decides (word : Location) (tokens : List Token) (blocks : Bool → List OpenBlock) (taken : ℕ) (note : Note)
+    (old : Source) (step : Step Token) (new : Source) : Type 0 where
+  holds : (value : Bool)
+      → Condition word tokens old.definitions (Ok value)
+      → Pauses taken note (blocks value) old step new
+      → Decides word tokens blocks taken note old step new
+  faulty : (fault : Fault)
+      → Condition word tokens old.definitions (Err fault)
+      → step ≡ Err (Error fault)
+      → IsAfterFault old new
+      → Decides word tokens blocks taken note old step new
+
+-- a `#line`: the lines after it are numbered from there
+pub data Renumbers (word : Location) (tokens : List Token) (taken : ℕ) (note : Note) (old : Source) (step : Step Token)
+    (new : Source) : Type 0 where
+  numbers : (n : ℕ)
+      → LineNumber word tokens old.definitions (Ok n)
+      → Pauses taken note old.blocks (record old { line_offset = pos n -ℤ pos word.line }) step new
+      → Renumbers word tokens taken note old step new
+  unnumbered : (fault : Fault)
+      → LineNumber word tokens old.definitions (Err fault)
+      → step ≡ Err (Error fault)
+      → IsAfterFault old new
+      → Renumbers word tokens taken note old step new
+
+-- what an effect means for the step, and for the source after it
+abbrev pub HasEffect : Effect → ℕ → Note → Source → Step Token → Source → Type 0
+HasEffect (gives token) taken note old step new =
+    (step ≡ Ok token) × IsAfter taken note old.blocks old new × (new.definitions ≡ old.definitions)
+HasEffect (gives_item item word) taken note old step new =
+    (step ≡ Ok (record { value = value_of item old.has_text old.has_directive; location = word }))
+    × IsAfter taken note old.blocks old new
+    × (new.definitions ≡ old.definitions)
+HasEffect (fails fault) taken note old step new = (step ≡ Err (Error fault)) × IsAfterFault old new
+HasEffect ends taken note old step new = (step ≡ Err Finished) × (new ≡ old)
+HasEffect passes taken note old step new = Pauses taken note old.blocks old step new
+HasEffect (defines named) taken note old step new =
+    DefinesOver named (meaning_of old.definitions named.name) taken note old step new
+HasEffect (undefines name) taken note old step new = (step ≡ Err Continue) × IsAfter taken note old.blocks old new
+    × IsChanged name None old.definitions new.definitions
+HasEffect (opens_where wanted word name) taken note old step new =
+    Pauses taken note
+    (old.blocks ++ block_opened word (holds_where wanted (meaning_of old.definitions name)) ∷ [])
+    old step new
+HasEffect (opens_if word tokens) taken note old step new =
+    Decides word tokens (λ value. old.blocks ++ block_opened word value ∷ []) taken note old step new
+HasEffect (opens_unread word) taken note old step new =
+    Pauses taken note (old.blocks ++ block_unread word ∷ []) old step new
+HasEffect (parts block) taken note old step new = Pauses taken note (outer_blocks old.blocks ++ block ∷ []) old step new
+HasEffect (parts_if block word tokens) taken note old step new =
+    Decides word tokens (λ value. outer_blocks old.blocks ++ block_decided block value ∷ []) taken note old step new
+HasEffect closes taken note old step new = Pauses taken note (outer_blocks old.blocks) old step new
+HasEffect (unfinished word) taken note old step new =
+    (step ≡ Err (Error (UnfinishedBlock, word))) × IsAfterBlock old new
+HasEffect (renumbers word tokens) taken note old step new = Renumbers word tokens taken note old step new
+
+abbrev pub Makes : Move → Source → Step Token → Source → Type 0
+Makes move old step new = HasEffect move.effect move.taken move.note old step new
+
+-- memory was refused, where something is left to read
+pub record IsRefusedStep (old : Source) (step : Step Token) : Type 0 where
+  pub some_left : old.rest ≢ []
+  pub fault : step ≡ Err (Error out_of_memory)
+
+-- One step of a source. Of the source after a refusal of memory nothing is said, but that each further step is the end.
+abbrev pub StepsSource : Source → Step Token → Source → Type 0
+StepsSource old step new =
+    MatchBool old.spent ((step ≡ Err Finished) × (new ≡ old))
+    (IsRefusedStep old step ⊎ Makes (move_of old.dead_for_good old.blocks old.rest) old step new)

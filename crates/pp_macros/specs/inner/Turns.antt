@@ -1,0 +1,65 @@
+-- One step of the frames, or of the reader after them, and what a token that is taken becomes and opens (docs/RULES.md,
+-- Expansion 1 to 4 and 10).
+use Rattle.std.specs.Prelude.{◌≡◌, Bool, false, if◌then◌else◌, List, [], ◌∷◌, ◌++◌, Option, Some, None, Ok, Err, ◌⊎◌, unwrap_or}
+use Rattle.pp_lexer.specs.PreprocessorError.{out_of_memory}
+use Rattle.pp_lexer.specs.declared.token.TokenValue.{TokenValue}
+use Rattle.pp_lexer.specs.declared.token.TokenValue.TheVariants.{Ident}
+use Rattle.pp_model.specs.Names.{Name, is_identifier, line_name}
+use Rattle.pp_model.specs.Definitions.{Definition}
+use Rattle.pp_model.specs.Taking.{line_number}
+use Rattle.pp_model.specs.declared.read.Taken.{Taken as Given}
+use Rattle.pp_model.specs.declared.read.Taken.TheVariants as given
+use Rattle.pp_model.specs.declared.read.Read.{Read}
+use Rattle.pp_macros.specs.Item.{Step}
+use Rattle.pp_macros.specs.inner.Frames.{Layer, Advance, advance, names_of, outermost_frame_line}
+use Rattle.pp_macros.specs.inner.Reader.{Reader, Reads, visible, hidden_of, shown_line}
+use Rattle.pp_macros.specs.declared.step.StepExit.TheVariants.{Error, Continue}
+
+abbrev pub as_pause : {T : Type 0} → Option T → Step T
+as_pause (Some value) = Ok value
+as_pause None = Err Continue
+
+-- the innermost frame steps; a frame at its end is closed, which frees its name, and pauses
+pub record FrameMove : Type 0 where
+  pub gives : Step Read
+  pub after : List Layer
+
+abbrev pub frame_move : List Layer → Option Advance → FrameMove
+frame_move fs (Some a) = record { gives = as_pause a.gives; after = a.after ∷ fs }
+frame_move fs None = record { gives = Err Continue; after = fs }
+
+-- one step of the frames, or of the reader where there are none
+abbrev pub Moves : List Layer → Reader → Step Read → List Layer → Reader → Type 0
+Moves [] old step after new = (after ≡ []) × Reads old step new
+Moves (f ∷ fs) old step after new = (new ≡ old)
+    × ((step ≡ (frame_move fs (advance f)).gives) × (after ≡ (frame_move fs (advance f)).after)
+    ⊎ (step ≡ Err (Error out_of_memory)))
+
+-- a token that is taken: `__LINE__` becomes a number at once
+abbrev pub taken_in : List Layer → Reader → Read → Given
+taken_in frames reader read =
+    if is_identifier line_name read.token.value
+    then line_number read.token.location
+    (shown_line reader (unwrap_or (outermost_frame_line frames) read.token.location.line))
+    else given.Token read
+
+-- the names that are open here or around
+abbrev pub masks : List Layer → Reader → List Name
+masks frames reader = names_of frames ++ hidden_of reader
+
+-- the step gives `__LINE__`
+abbrev pub gives_line_name : Step Read → Bool
+gives_line_name (Ok read) = is_identifier line_name read.token.value
+gives_line_name (Err exit) = false
+
+abbrev pub opened_by : Name → Option Definition → Option (Name × Definition)
+opened_by name None = None
+opened_by name (Some definition) = Some (name, definition)
+
+abbrev pub opens_value : Reader → TokenValue → Option (Name × Definition)
+opens_value reader (Ident name) = opened_by name (visible reader name)
+opens_value reader _ = None
+
+-- the macro that a token opens: its name is defined, and it isn't painted
+abbrev pub opens : Reader → Read → Option (Name × Definition)
+opens reader read = if read.painted then None else opens_value reader read.token.value

@@ -1,0 +1,352 @@
+//! Arguments of calls, each expanded alone.
+
+ghost use Rattle.std.specs.Prelude.{◌≡◌, ◌&&◌, ◌==◌, ◌++◌, ◌-◌, ◌<◌, ◌^◌, [], IfOk, OnOk, length, Ok, Err};
+ghost use Rattle.std.specs.List.{list_all};
+ghost use Rattle.pp_model.specs.Calls.{arguments_of, misfit, is_comma, nesting_after};
+ghost use Rattle.pp_model.specs.Emitting.{Alone, Each, answers_at};
+ghost use Rattle.pp_macros.specs.inner.Defined.{meaning_of};
+ghost use Rattle.pp_macros.specs.inner.Finishing.{Finishes, IsAtStart, IsShort, AreShort, AreOfCall, read_to_end, site_at};
+ghost use Rattle.pp_macros.specs.inner.Frames.{names_of};
+ghost use Rattle.pp_macros.specs.inner.Parts.{added, lists_of, AreInOrder};
+ghost use Rattle.pp_macros.specs.inner.Reading.{AllReadOrdinary};
+ghost use Rattle.pp_macros.specs.inner.Machine.{Satisfies};
+ghost use Rattle.pp_macros.specs.inner.Plain.{is_plain};
+ghost use Rattle.pp_macros.specs.declared.step.StepExit.TheVariants.{Error};
+
+use crate::argument_lists::{ArgumentLists, Part};
+use crate::calls::{Call, Caller, Taken, is_left_paren, is_right_paren};
+use crate::define::Define;
+use crate::definitions::Definitions;
+use crate::expander::is_line_name;
+use crate::halt::{Halt, halt_of};
+use crate::list_lexer::{ListLexer, take_out};
+use crate::list_step::step_list;
+use crate::open_around::OpenAround;
+use crate::step::StepExit;
+use pp_lexer::token::{PreprocessorError, Punct, TokenValue};
+use pp_model::read::Read;
+use std::alloc::{AllocError, Global};
+
+// Whether it is a comma.
+fn is_comma(value: &TokenValue) -> bool
+    ensures { result ≡ is_comma value.now }
+{
+    matches!(value, TokenValue::Punct(Punct::Comma))
+}
+
+// Whether it is a comma outside inner parentheses.
+fn ends_argument(depth: usize, value: &TokenValue) -> bool
+    ensures { result ≡ (is_comma value.now && (depth == 0)) }
+{
+    is_comma(value) && depth == 0
+}
+
+// How many parentheses are open after a token, if `depth` are open before it.
+fn nesting_after(depth: usize, value: &TokenValue) -> usize
+    requires { depth < 2 ^ 63 }
+    ensures { result ≡ nesting_after depth value.now }
+{
+    if is_left_paren(value) {
+        depth + 1
+    } else if is_right_paren(value) {
+        depth.saturating_sub(1)
+    } else {
+        depth
+    }
+}
+
+// The parts between the commas that are outside inner parentheses.
+fn parts_of(alloc: Global, tokens: &[Read]) -> Result<Vec<Part>, AllocError>
+    ensures cut { IfOk result (λ parts. lists_of tokens.now parts.items ≡ arguments_of tokens.now) }
+    ensures order { IfOk result (λ parts. AreInOrder 0 parts.items (length tokens.now)) }
+{
+    let mut parts = Vec::with_capacity(alloc, 4)?;
+    let mut start = 0;
+    let mut depth: usize = 0;
+    for (at, read) in tokens.iter().enumerate() {
+        if ends_argument(depth, &read.token.value) {
+            parts.push(Part { start, end: at })?;
+            start = at + 1;
+            continue;
+        }
+        depth = nesting_after(depth, &read.token.value);
+    }
+    parts.push(Part {
+        start,
+        end: tokens.len(),
+    })?;
+    Ok(parts)
+}
+
+// The arguments of a call with these tokens.
+fn arguments_of(alloc: Global, tokens: Vec<Read>) -> Result<ArgumentLists, AllocError>
+    requires { AllReadOrdinary tokens.items }
+    ensures { IfOk result (λ arguments. arguments ≡ arguments_of tokens.items) }
+{
+    let parts = parts_of(alloc, &tokens)?;
+    Ok(ArgumentLists::new(tokens, parts))
+}
+
+// The error of a wrong number of arguments.
+fn misfit(define: &Define, arguments: &ArgumentLists) -> Option<PreprocessorError>
+    ensures { result ≡ misfit define.now.parameters arguments.now }
+{
+    let wanted = define.parameters().len();
+    let given = arguments.len();
+    if wanted == 0 && arguments.is_one_empty() {
+        None
+    } else if wanted < given {
+        Some(PreprocessorError::TooManyDefineArguments)
+    } else if given < wanted {
+        Some(PreprocessorError::TooFewDefineArguments)
+    } else {
+        None
+    }
+}
+
+/// Expands the arguments of a call, and opens its frame.
+#[cycle(answers)]
+pub fn finish_call(
+    alloc: Global,
+    caller: &mut Caller,
+    mut call: Call,
+    definitions: &Definitions,
+    hidden: &OpenAround<'_>,
+    levels: u32,
+) -> Result<(), Halt>
+    ensures { Finishes levels definitions.now hidden.now call caller.old result caller.new }
+{
+    let expanded = expand_call(alloc, &*caller, &mut call, definitions, hidden, levels)?;
+    caller.open_call(call, expanded)?;
+    Ok(())
+}
+
+// The arguments of a call, each expanded alone, if their number fits and a level is left.
+#[cycle(answers)]
+fn expand_call(
+    alloc: Global,
+    caller: &Caller,
+    call: &mut Call,
+    definitions: &Definitions,
+    hidden: &OpenAround<'_>,
+    levels: u32,
+) -> Result<ArgumentLists, Halt>
+    ensures answers { Satisfies result (λ out. answers_at levels call.old.definition
+        (site_at call.old definitions.now (names_of caller.now.frames ++ hidden.now)) out) }
+    ensures least { IfOk result (λ outs. AreOfCall levels definitions.now call.old outs) }
+    ensures left { call.new ≡ record call.old { tokens = [] } }
+{
+    let arguments = arguments_of(alloc, call.take_tokens(alloc))?;
+    match misfit(call.define(), &arguments) {
+        Some(error) => return Err(Halt::Fault((error, call.paren()))),
+        None => {}
+    }
+    if levels == 0 {
+        return Err(Halt::Fault((PreprocessorError::RecursionLimitReached, call.paren())));
+    }
+    expand_within(alloc, caller, arguments, definitions, hidden, levels - 1)
+}
+
+// The arguments, each expanded alone, with the macros of the caller and those around it open.
+#[cycle(answers)]
+fn expand_within(
+    alloc: Global,
+    caller: &Caller,
+    arguments: ArgumentLists,
+    definitions: &Definitions,
+    hidden: &OpenAround<'_>,
+    levels: u32,
+) -> Result<ArgumentLists, Halt>
+    ensures each { Satisfies result (λ out. Each (Alone levels) (meaning_of definitions.now)
+        (names_of caller.now.frames ++ hidden.now) arguments out) }
+    ensures least { IfOk result (λ outs. AreShort levels definitions.now arguments outs) }
+{
+    let around = (&*caller).around(&*hidden)?;
+    expand_arguments(alloc, arguments, definitions, &around, levels)
+}
+
+// The arguments, each expanded alone, or the first fault.
+#[cycle(answers)]
+fn expand_arguments(
+    alloc: Global,
+    arguments: ArgumentLists,
+    definitions: &Definitions,
+    hidden: &OpenAround<'_>,
+    levels: u32,
+) -> Result<ArgumentLists, Halt>
+    ensures each { Satisfies result (λ out. Each (Alone levels)
+        (meaning_of definitions.now) hidden.now arguments out) }
+    ensures least { IfOk result (λ outs. AreShort levels definitions.now arguments outs) }
+{
+    let (mut tokens, parts) = arguments.into_parts();
+    if are_plain(&tokens, definitions, hidden) {
+        return Ok(ArgumentLists::new(tokens, parts));
+    }
+    expand_parts(alloc, &mut tokens, &parts, definitions, hidden, levels)
+}
+
+// The parts of the tokens, each expanded alone, or the first fault. The tokens are moved out.
+#[cycle(answers)]
+fn expand_parts(
+    alloc: Global,
+    tokens: &mut [Read],
+    parts: &[Part],
+    definitions: &Definitions,
+    hidden: &OpenAround<'_>,
+    levels: u32,
+) -> Result<ArgumentLists, Halt>
+    requires holds { AllReadOrdinary tokens.old }
+    requires order { AreInOrder 0 parts.now (length tokens.old) }
+    ensures each { Satisfies result (λ out. Each (Alone levels) (meaning_of definitions.now)
+        hidden.now (lists_of tokens.old parts.now) out) }
+    ensures least { IfOk result (λ outs. AreShort levels definitions.now
+        (lists_of tokens.old parts.now) outs) }
+{
+    let mut items = Vec::with_capacity(alloc, tokens.len())?;
+    let mut expanded = Vec::with_capacity(alloc, parts.len())?;
+    for part in parts {
+        let start = items.len();
+        let argument = &mut tokens[part.start..part.end];
+        expand_argument(alloc, argument, &mut items, definitions, hidden, levels)?;
+        expanded.push(Part {
+            start,
+            end: items.len(),
+        })?;
+    }
+    Ok(ArgumentLists::new(items, expanded))
+}
+
+// Whether the token gives itself, with its paint: it isn't `__LINE__`, and it is painted, or is not
+// a name that is defined or open around.
+fn is_plain(read: &Read, definitions: &Definitions, hidden: &OpenAround<'_>) -> bool
+    ensures { result ≡ is_plain definitions.now hidden.now read.now }
+{
+    let value = &read.token.value;
+    match value {
+        TokenValue::Ident(name) => {
+            !is_line_name(value)
+                && (read.painted
+                    || (definitions.find(name.as_str()).is_none()
+                        && !hidden.is_open(name.as_str())))
+        }
+        _ => true,
+    }
+}
+
+// Whether each token gives itself.
+fn are_plain(tokens: &[Read], definitions: &Definitions, hidden: &OpenAround<'_>) -> bool
+    ensures { result ≡ list_all (is_plain definitions.now hidden.now) tokens.now }
+{
+    tokens
+        .iter()
+        .all(|read| is_plain(read, definitions, hidden))
+}
+
+// Moves the tokens to the end of the items.
+fn append(tokens: &mut [Read], items: &mut Vec<Read>) -> Result<(), AllocError>
+    ensures { OnOk result (items.new.items ≡ items.old.items ++ tokens.old) }
+{
+    for at in 0..tokens.len() {
+        items.push(take_out(&mut tokens[at]))?;
+    }
+    Ok(())
+}
+
+// Expands a list of tokens alone, and appends the result to the items. The tokens are moved out.
+#[cycle(answers)]
+fn expand_argument(
+    alloc: Global,
+    tokens: &mut [Read],
+    items: &mut Vec<Read>,
+    definitions: &Definitions,
+    hidden: &OpenAround<'_>,
+    levels: u32,
+) -> Result<(), Halt>
+    requires ordinary { AllReadOrdinary tokens.old }
+    requires before { AllReadOrdinary items.old.items }
+    ensures keeps { OnOk result (items.new.items
+        ≡ items.old.items ++ added items.old.items items.new.items) }
+    ensures alone { Satisfies result (λ end. Alone levels tokens.old (meaning_of definitions.now)
+        hidden.now (read_to_end (added items.old.items items.new.items) end)) }
+    ensures least { OnOk result (IsShort levels definitions.now (length tokens.old)
+        (added items.old.items items.new.items)) }
+    ensures holds { OnOk result (AllReadOrdinary items.new.items) }
+{
+    if are_plain(&*tokens, definitions, hidden) {
+        append(tokens, items)?;
+        return Ok(());
+    }
+    expand_tokens(alloc, tokens, items, definitions, hidden, levels)
+}
+
+// Expands a list with a token that doesn't give itself, step by step.
+#[cycle(answers)]
+fn expand_tokens(
+    alloc: Global,
+    tokens: &mut [Read],
+    items: &mut Vec<Read>,
+    definitions: &Definitions,
+    hidden: &OpenAround<'_>,
+    levels: u32,
+) -> Result<(), Halt>
+    requires ordinary { AllReadOrdinary tokens.old }
+    requires before { AllReadOrdinary items.old.items }
+    ensures keeps { OnOk result (items.new.items
+        ≡ items.old.items ++ added items.old.items items.new.items) }
+    ensures alone { Satisfies result (λ end. Alone levels tokens.old (meaning_of definitions.now)
+        hidden.now (read_to_end (added items.old.items items.new.items) end)) }
+    ensures least { OnOk result (IsShort levels definitions.now (length tokens.old)
+        (added items.old.items items.new.items)) }
+    ensures holds { OnOk result (AllReadOrdinary items.new.items) }
+{
+    let mut lexer = ListLexer::argument(tokens, definitions, &*hidden);
+    let mut caller = Caller::new(alloc);
+    let ended = expand_list(
+        alloc,
+        &mut caller,
+        &mut lexer,
+        items,
+        definitions,
+        hidden,
+        levels,
+    );
+    drop(caller);
+    drop(lexer);
+    ended
+}
+
+// Expands the tokens of a list to its end, and appends the result to the items.
+#[cycle(answers)]
+fn expand_list(
+    alloc: Global,
+    caller: &mut Caller,
+    lexer: &mut ListLexer<'_>,
+    items: &mut Vec<Read>,
+    definitions: &Definitions,
+    hidden: &OpenAround<'_>,
+    levels: u32,
+) -> Result<(), Halt>
+    requires start { IsAtStart definitions.now hidden.now caller.old lexer.old }
+    requires before { AllReadOrdinary items.old.items }
+    ensures keeps { OnOk result (items.new.items
+        ≡ items.old.items ++ added items.old.items items.new.items) }
+    ensures alone { Satisfies result (λ end. Alone levels lexer.old.tokens
+        (meaning_of definitions.now) hidden.now
+        (read_to_end (added items.old.items items.new.items) end)) }
+    ensures least { OnOk result (IsShort levels definitions.now (length lexer.old.tokens)
+        (added items.old.items items.new.items)) }
+    ensures holds { OnOk result (AllReadOrdinary items.new.items) }
+{
+    'items: loop {
+        caller.give_frames(&*lexer, items)?;
+        match step_list(&mut *caller, &mut *lexer) {
+            Ok(Taken::Token(read)) => items.push(read)?,
+            Ok(Taken::Call(call)) => {
+                finish_call(alloc, &mut *caller, call, definitions, hidden, levels)?
+            }
+            Err(StepExit::Continue) => {}
+            Err(StepExit::Finished) => return Ok(()),
+            Err(StepExit::Error(fault)) => return Err(halt_of(fault)),
+        }
+    }
+}

@@ -1,0 +1,682 @@
+//! Calls of function-like macros: taking, and the search for their arguments.
+
+ghost use Rattle.std.specs.Prelude.{◌≡◌, ◌⊎◌, ◌∷◌, ◌++◌, [], OnOk, true, false, IfOk, IfSome, Ok, Err, Some, None, IsSome, is_some, option_map};
+ghost use Rattle.pp_lexer.specs.PreprocessorError.{out_of_memory};
+ghost use Rattle.pp_model.specs.Calls.{is_left_paren, is_right_paren, nesting};
+ghost use Rattle.pp_model.specs.Painting.{unpainted, painted_among};
+ghost use Rattle.pp_macros.specs.inner.CallNesting.{nesting_named};
+ghost use Rattle.pp_macros.specs.inner.Seeking.{FindsBy, Enters, FollowsToken};
+ghost use Rattle.pp_macros.specs.inner.Frames.{layer, names_of, outermost_frame_line};
+ghost use Rattle.pp_macros.specs.Held.{HoldsOrdinary};
+ghost use Rattle.pp_macros.specs.inner.Reading.{AllReadOrdinary};
+ghost use Rattle.pp_macros.specs.inner.Giving.{GivesEach, GivesNext, PausesEach, is_at_pause};
+ghost use Rattle.pp_macros.specs.inner.Idle.{is_idle};
+ghost use Rattle.pp_macros.specs.inner.CallTurns.{TurnsOrRefuses, is_refusal, paren_of, TakenHoldsOrdinary};
+ghost use Rattle.pp_macros.specs.inner.Machine.{StepsFetching, StepsTaking, TakesNext, GathersNext, Satisfies, gathered_to, taken_as, is_pause};
+ghost use Rattle.pp_macros.specs.inner.Reader.{of_list};
+ghost use Rattle.pp_macros.specs.inner.Turns.{opens, masks};
+ghost use Rattle.pp_lexer.specs.declared.token.TokenValue.TheVariants as value;
+ghost use Rattle.pp_macros.specs.declared.step.StepExit.TheVariants.{Error, Continue};
+
+use crate::argument_lists::ArgumentLists;
+use crate::define::Define;
+use crate::expander::{MacroProcessor, gives_line_name, is_line_name};
+use crate::frames::Ahead;
+use crate::halt::{Halt, halt_of};
+use crate::list_lexer::ListLexer;
+use crate::open_around::OpenAround;
+use crate::reader::MeLexer;
+use crate::step::{Step, StepExit, is_out_of_memory};
+use pp_lexer::token::{Location, PreprocessorError, Punct, Text, Token, TokenValue, out_of_memory};
+use pp_model::read::Read;
+use std::alloc::{AllocError, Global};
+use std::marker::Model;
+use std::mem;
+use std::rc::Rc;
+
+/// A call whose `)` has been taken.
+#[derive(Drop)]
+pub struct Call {
+    name: Text,
+    define: Rc<Define>,
+    paren: Location,
+    closing: Location,
+    tokens: Vec<Read>,
+}
+
+impl Model for Call {
+    ghost use Rattle.pp_macros.specs.inner.Calling.{PendingCall};
+    ghost use Rattle.pp_macros.specs.inner.Reading.{AllReadOrdinary};
+
+    ghost Value = { PendingCall };
+
+    ghost view = { λ c. record { name = c.name; definition = c.define.value; paren = c.paren; closing = c.closing; tokens = c.tokens.items } };
+
+    ghost invariant = { λ c. AllReadOrdinary c.tokens.items };
+}
+
+impl Call {
+    /// Moves out the tokens between its parentheses.
+    pub fn take_tokens(&mut self, alloc: Global) -> Vec<Read>
+        ensures taken { result.items ≡ self.old.tokens }
+        ensures holds { AllReadOrdinary result.items }
+        ensures left { self.new ≡ record self.old { tokens = [] } }
+    {
+        mem::replace(&mut self.tokens, Vec::new(alloc))
+    }
+
+    /// The definition of its macro.
+    pub fn define(&self) -> &Define
+        ensures { result.now ≡ self.now.definition }
+    {
+        &self.define
+    }
+
+    /// The place of its `(`.
+    pub fn paren(&self) -> Location
+        ensures { result ≡ self.now.paren }
+    {
+        self.paren
+    }
+}
+
+/// What a step gives: a token, or a call whose arguments are not expanded yet.
+#[derive(Drop)]
+pub enum Taken {
+    /// A token.
+    Token(Read),
+    /// A call.
+    Call(Call),
+}
+
+/// An expander: open macros, and a step that was taken too early and is held.
+#[derive(Drop)]
+pub struct Caller {
+    alloc: Global,
+    processor: MacroProcessor,
+    held: Option<Step<Read>>,
+}
+
+impl Model for Caller {
+    ghost use Rattle.std.specs.Prelude.{IfSome, IfOk};
+    ghost use Rattle.pp_macros.specs.Held.{HoldsOrdinary};
+    ghost use Rattle.pp_macros.specs.inner.Machine.{Machine};
+
+    ghost Value = { Machine };
+
+    ghost view = { λ c. record { held = c.held; frames = c.processor } };
+
+    ghost invariant = { λ c. IfSome c.held (λ step. IfOk step (λ read. HoldsOrdinary read.token.value)) };
+}
+
+/// The position of a token among the parentheses of a call.
+#[derive(Clone, Copy)]
+pub enum Nesting {
+    /// It closes the call.
+    Closes,
+    /// This many inner parentheses are open after it.
+    Within(u32),
+    /// It opens one too many.
+    TooMany,
+}
+
+/// The tokens between the parentheses of a call, and the place of the closing one.
+#[derive(Drop)]
+pub struct Gathered {
+    tokens: Vec<Read>,
+    closing: Location,
+}
+
+impl Model for Gathered {
+    ghost use Rattle.pp_model.specs.Calls as spec;
+    ghost use Rattle.pp_macros.specs.inner.Reading.{AllReadOrdinary};
+
+    ghost Value = { spec.Gathered };
+
+    ghost view = { λ g. record { tokens = g.tokens.items; closing = g.closing } };
+
+    ghost invariant = { λ g. AllReadOrdinary g.tokens.items };
+}
+
+/// Whether it is a `(`.
+pub fn is_left_paren(value: &TokenValue) -> bool
+    ensures { result ≡ is_left_paren value.now }
+{
+    matches!(value, TokenValue::Punct(Punct::LeftParen))
+}
+
+/// Whether it is a `)`.
+pub fn is_right_paren(value: &TokenValue) -> bool
+    ensures { result ≡ is_right_paren value.now }
+{
+    matches!(value, TokenValue::Punct(Punct::RightParen))
+}
+
+// The position of a token among the parentheses of a call.
+fn nesting_of(depth: u32, value: &TokenValue) -> Nesting
+    ensures { nesting depth value.now ≡ nesting_named result }
+{
+    if is_left_paren(value) {
+        if depth < u32::MAX {
+            Nesting::Within(depth + 1)
+        } else {
+            Nesting::TooMany
+        }
+    } else if is_right_paren(value) {
+        if depth == 0 {
+            Nesting::Closes
+        } else {
+            Nesting::Within(depth - 1)
+        }
+    } else {
+        Nesting::Within(depth)
+    }
+}
+
+/// What follows the name of a function-like macro.
+#[derive(Drop)]
+pub enum Found {
+    /// No call.
+    NoCall,
+    /// A call, with the place of its `(`.
+    Whole(Location, Gathered),
+}
+
+// Whether an allocation failed.
+fn is_refusal(step: &Step<Read>) -> bool
+    ensures { result ≡ is_refusal step.now }
+{
+    match step {
+        Err(StepExit::Error(fault)) => is_out_of_memory(&fault.0),
+        Err(StepExit::Continue) => false,
+        Err(StepExit::Finished) => false,
+        Ok(_) => false,
+    }
+}
+
+// The place of the `(`, if the step is one.
+fn paren_of(step: &Step<Read>) -> Option<Location>
+    ensures { result ≡ paren_of step.now }
+{
+    match step {
+        Ok(read) => {
+            if is_left_paren(&read.token.value) {
+                Some(read.token.location)
+            } else {
+                None
+            }
+        }
+        Err(_) => None,
+    }
+}
+
+// Whether the step is a pause.
+fn is_pause(step: &Step<Read>) -> bool
+    ensures { result ≡ is_pause step.now }
+{
+    match step {
+        Err(StepExit::Continue) => true,
+        Err(StepExit::Error(_)) => false,
+        Err(StepExit::Finished) => false,
+        Ok(_) => false,
+    }
+}
+
+// The step `OutOfMemory`. It is a function of its own, so that a token is moved without it.
+#[inline(never)]
+fn refused() -> Step<Taken>
+    ensures { result ≡ Err (Error out_of_memory) }
+{
+    Err(StepExit::Error(out_of_memory()))
+}
+
+// Whether a token that a frame gives opens a macro when it is taken, painted or not.
+fn opens_macro(list: &ListLexer<'_>, ahead: &Ahead<'_>, painted: bool) -> bool
+    ensures { result ≡ is_some (opens (of_list list.now) (record {
+      token = ahead.now.token;
+      painted = painted;
+    })) }
+{
+    if painted {
+        return false;
+    }
+    match ahead.value() {
+        TokenValue::Ident(name) => list.get_define(name.as_str()).is_some(),
+        _ => false,
+    }
+}
+
+impl Caller {
+    /// An expander in which nothing is open or held.
+    pub fn new(alloc: Global) -> Caller
+        ensures { result ≡ record { held = None; frames = [] } }
+    {
+        Caller {
+            alloc,
+            processor: MacroProcessor::new(alloc),
+            held: None,
+        }
+    }
+
+    /// Whether nothing is open or held. The next token then comes from the reader.
+    #[inline(always)]
+    pub fn is_idle(&self) -> bool
+        ensures { result ≡ is_idle self.now }
+    {
+        self.held.is_none() && self.processor.is_idle()
+    }
+
+    /// The line of the outermost macro that is open: the line of its name, or of the `)` of its call.
+    pub fn outermost_line(&self) -> Option<u32>
+        ensures { result ≡ outermost_frame_line self.now.frames }
+    {
+        self.processor.outermost_line()
+    }
+
+    /// Holds a token that was taken. It is the next step.
+    pub fn hold(&mut self, token: Token)
+        requires { HoldsOrdinary token.value }
+        ensures { self.new ≡ record self.old { held = Some (Ok (unpainted token)) } }
+    {
+        self.put_back(Ok(Read::unpainted(token)));
+    }
+
+    // Holds a step.
+    #[inline(always)]
+    fn put_back(&mut self, step: Step<Read>)
+        requires { IfOk step (λ read. HoldsOrdinary read.token.value) }
+        ensures { self.new ≡ record self.old { held = Some step } }
+    {
+        drop(self.held.replace(step));
+    }
+
+    // One step of taking. An identifier is painted if its name is open, here or around.
+    fn take(&mut self, lexer: &mut dyn MeLexer) -> Step<Read>
+        ensures steps { StepsTaking self.old (reader lexer.old) result self.new (reader lexer.new) }
+        ensures holds { IfOk result (λ read. HoldsOrdinary read.token.value) }
+    {
+        let mut step = self.fetch(lexer);
+        if let Ok(read) = &mut step {
+            self.processor.paint(&*lexer, read);
+        }
+        step
+    }
+
+    // The step that is held, or else the next one of the frames or the reader.
+    fn fetch(&mut self, lexer: &mut dyn MeLexer) -> Step<Read>
+        ensures steps { StepsFetching self.old (reader lexer.old) result self.new
+            (reader lexer.new) }
+        ensures holds { IfOk result (λ read. HoldsOrdinary read.token.value) }
+    {
+        if self.held.is_some() {
+            return self.take_held();
+        }
+        let step = self.processor.advance(lexer);
+        if gives_line_name(&step) {
+            return self.show_line(&*lexer, step);
+        }
+        step
+    }
+
+    // Takes the step that is held. It is a function of its own, like `show_line`, so that other tokens are moved less.
+    #[inline(never)]
+    fn take_held(&mut self) -> Step<Read>
+        requires { IsSome self.old.held }
+        ensures held { self.old.held ≡ Some result }
+        ensures left { self.new ≡ record self.old { held = None } }
+        ensures holds { IfOk result (λ read. HoldsOrdinary read.token.value) }
+    {
+        match self.held.take() {
+            Some(step) => step,
+            None => unreachable!(),
+        }
+    }
+
+    // Turns a `__LINE__` that was read into a number.
+    #[inline(never)]
+    fn show_line(&self, lexer: &dyn MeLexer, step: Step<Read>) -> Step<Read>
+        requires { IfOk step (λ read. HoldsOrdinary read.token.value) }
+        ensures shows { result ≡ taken_as step self.now.frames (reader lexer.now) }
+        ensures holds { IfOk result (λ read. HoldsOrdinary read.token.value) }
+    {
+        match step {
+            Ok(read) => self.processor.take_in(lexer, read),
+            Err(exit) => Err(exit),
+        }
+    }
+
+    /// Takes the next step that isn't a pause.
+    pub fn take_next(&mut self, lexer: &mut dyn MeLexer) -> Step<Read>
+        ensures takes { TakesNext self.old (reader lexer.old) result self.new (reader lexer.new) }
+        ensures holds { IfOk result (λ read. HoldsOrdinary read.token.value) }
+    {
+        loop {
+            let step = self.take(lexer);
+            if !is_pause(&step) {
+                return step;
+            }
+            drop(step);
+        }
+    }
+
+    // The tokens up to the `)` of a call whose `(` is at `paren`, or the first fault before it.
+    fn gather(&mut self, lexer: &mut dyn MeLexer, paren: Location) -> Result<Gathered, Halt>
+        ensures gathers { Satisfies result
+            (λ g. GathersNext 0 paren self.old (reader lexer.old) g self.new (reader lexer.new)) }
+    {
+        let mut tokens = Vec::with_capacity(self.alloc, 16)?;
+        let closing = self.gather_tokens(lexer, paren, &mut tokens)?;
+        Ok(Gathered { tokens, closing })
+    }
+
+    // Gathers the tokens of a call, and returns the place of its `)`.
+    fn gather_tokens(
+        &mut self,
+        lexer: &mut dyn MeLexer,
+        paren: Location,
+        tokens: &mut Vec<Read>,
+    ) -> Result<Location, Halt>
+        requires { tokens.old.items ≡ [] }
+        ensures gathers { Satisfies result (λ end. GathersNext 0 paren self.old (reader lexer.old)
+            (gathered_to tokens.new.items end) self.new (reader lexer.new)) }
+        ensures holds { OnOk result (AllReadOrdinary tokens.new.items) }
+    {
+        let mut last = paren;
+        let mut depth: u32 = 0;
+        'tokens: loop {
+            let read = match self.take_next(lexer) {
+                Ok(read) => read,
+                Err(StepExit::Error(fault)) => return Err(halt_of(fault)),
+                Err(StepExit::Finished) => {
+                    return Err(Halt::Fault((PreprocessorError::UnexpectedEndOfInput, last)));
+                }
+                Err(StepExit::Continue) => {
+                    return Err(Halt::Fault((PreprocessorError::UnexpectedEndOfInput, last)));
+                }
+            };
+            last = read.token.location;
+            match nesting_of(depth, &read.token.value) {
+                Nesting::Closes => {
+                    drop(read);
+                    return Ok(last);
+                }
+                Nesting::TooMany => {
+                    drop(read);
+                    return Err(Halt::Fault((PreprocessorError::IntegerOverflow, last)));
+                }
+                Nesting::Within(deeper) => depth = deeper,
+            }
+            tokens.push(read)?;
+        }
+    }
+
+    // Looks for a call after the name of a function-like macro. Anything else is held.
+    fn seek(&mut self, lexer: &mut dyn MeLexer) -> Result<Found, Halt>
+        ensures finds { FindsBy self.old (reader lexer.old) result self.new (reader lexer.new) }
+    {
+        let next = self.take_next(lexer);
+        if is_refusal(&next) {
+            drop(next);
+            return Err(Halt::OutOfMemory);
+        }
+        match paren_of(&next) {
+            None => {
+                self.put_back(next);
+                Ok(Found::NoCall)
+            }
+            Some(paren) => {
+                drop(next);
+                let gathered = self.gather(lexer, paren)?;
+                Ok(Found::Whole(paren, gathered))
+            }
+        }
+    }
+
+    // Opens the frame of an object-like macro.
+    fn open_plain(&mut self, name: Text, line: u32, define: Rc<Define>) -> Step<Taken>
+        ensures opens { ((result ≡ Err Continue) × (self.new
+            ≡ record self.old { frames = layer name line define.value [] ∷ self.old.frames }))
+            ⊎ (result ≡ Err (Error out_of_memory)) }
+        ensures holds { IfOk result TakenHoldsOrdinary }
+    {
+        let arguments = ArgumentLists::nothing(self.alloc);
+        match self.processor.open(name, line, define, arguments) {
+            Ok(()) => Err(StepExit::Continue),
+            Err(_) => Err(StepExit::Error(out_of_memory())),
+        }
+    }
+
+    // Looks for the call of a function-like macro after its name.
+    fn enter_call(
+        &mut self,
+        lexer: &mut dyn MeLexer,
+        name: Text,
+        location: Location,
+        define: Rc<Define>,
+    ) -> Step<Taken>
+        requires function { define.value.function_like ≡ true }
+        ensures enters { Enters (unpainted (record {
+          value = value.Ident name;
+          location = location;
+        })) name define.value self.old (reader lexer.old) result self.new
+            (reader lexer.new) ⊎ (result ≡ Err (Error out_of_memory)) }
+        ensures holds { IfOk result TakenHoldsOrdinary }
+    {
+        match self.seek(lexer)? {
+            Found::NoCall => Ok(Taken::Token(Read::unpainted(Token {
+                value: TokenValue::Ident(name),
+                location,
+            }))),
+            Found::Whole(paren, gathered) => {
+                let Gathered { tokens, closing } = gathered;
+                Ok(Taken::Call(Call {
+                    name,
+                    define,
+                    paren,
+                    closing,
+                    tokens,
+                }))
+            }
+        }
+    }
+
+    // The macro that a taken token names, unless the token is painted.
+    fn find_macro(&self, lexer: &dyn MeLexer, read: &Read) -> Result<Option<Rc<Define>>, AllocError>
+        ensures { IfOk result (λ found. option_map (λ define. define.value) found
+            ≡ option_map (λ opening. opening.1) (opens (reader lexer.now) read.now)) }
+    {
+        if read.painted {
+            return Ok(None);
+        }
+        match &read.token.value {
+            TokenValue::Ident(name) => self.processor.find_macro(lexer, name),
+            _ => Ok(None),
+        }
+    }
+
+    // Opens the macro of a name that is taken, or begins its call.
+    #[inline(never)]
+    fn enter(&mut self, lexer: &mut dyn MeLexer, read: Read, define: Rc<Define>) -> Step<Taken>
+        requires opens { option_map (λ opening. opening.1) (opens (reader lexer.old) read)
+            ≡ Some define.value }
+        requires holds { HoldsOrdinary read.token.value }
+        ensures follows { FollowsToken (opens (reader lexer.old) read) read
+            self.old (reader lexer.old) result self.new (reader lexer.new)
+            ⊎ (result ≡ Err (Error out_of_memory)) }
+        ensures holds { IfOk result TakenHoldsOrdinary }
+    {
+        let Token { value, location } = read.token;
+        match value {
+            TokenValue::Ident(name) => {
+                if define.is_function_like() {
+                    self.enter_call(lexer, name, location, define)
+                } else {
+                    self.open_plain(name, location.line, define)
+                }
+            }
+            value => Ok(Taken::Token(Read::unpainted(Token { value, location }))),
+        }
+    }
+
+    // Follows a token that is taken: it opens its macro, begins its call, or is given.
+    #[inline(always)]
+    fn follow(&mut self, lexer: &mut dyn MeLexer, read: Read) -> Step<Taken>
+        requires { HoldsOrdinary read.token.value }
+        ensures follows { FollowsToken (opens (reader lexer.old) read) read
+            self.old (reader lexer.old) result self.new (reader lexer.new)
+            ⊎ (result ≡ Err (Error out_of_memory)) }
+        ensures holds { IfOk result TakenHoldsOrdinary }
+    {
+        match self.find_macro(&*lexer, &read) {
+            Ok(None) => Ok(Taken::Token(read)),
+            Ok(Some(define)) => self.enter(lexer, read, define),
+            Err(_) => refused(),
+        }
+    }
+
+    // One step, from what is held, a frame or the reader.
+    fn step_any(&mut self, lexer: &mut dyn MeLexer) -> Step<Taken>
+        ensures turns { TurnsOrRefuses self.old (reader lexer.old) result self.new
+            (reader lexer.new) }
+        ensures holds { IfOk result TakenHoldsOrdinary }
+    {
+        match self.take(lexer) {
+            Ok(read) => self.follow(lexer, read),
+            Err(exit) => Err(exit),
+        }
+    }
+
+    // One step of the innermost frame, while nothing is held. Its token is copied once.
+    #[inline(never)]
+    fn step_frame(&mut self, lexer: &mut dyn MeLexer) -> Step<Taken>
+        requires free { self.old.held ≡ None }
+        requires open { is_some (outermost_frame_line self.old.frames) ≡ true }
+        ensures turns { TurnsOrRefuses self.old (reader lexer.old) result self.new
+            (reader lexer.new) }
+        ensures holds { IfOk result TakenHoldsOrdinary }
+    {
+        let Some(ahead) = self.processor.token() else {
+            self.processor.pass();
+            return Err(StepExit::Continue);
+        };
+        if is_line_name(ahead.value()) {
+            return self.step_any(lexer);
+        }
+        let Ok(mut read) = ahead.copied(self.alloc) else {
+            return refused();
+        };
+        self.processor.pass();
+        self.processor.paint(&*lexer, &mut read);
+        self.follow(lexer, read)
+    }
+
+    // Whether a macro is open and the next step of the innermost frame is a pause, while nothing is held.
+    #[inline(always)]
+    fn is_at_pause(&self) -> bool
+        ensures { result ≡ is_at_pause self.now }
+    {
+        self.held.is_none() && !self.processor.is_idle() && self.processor.token().is_none()
+    }
+
+    /// Passes the pauses of the open macros: parameters, and ends of arguments and of bodies.
+    pub fn pass_pauses(&mut self)
+        ensures { PausesEach self.old self.new }
+    {
+        'pauses: while self.is_at_pause() {
+            self.processor.pass();
+        }
+    }
+
+    // Whether a token that a frame gives is painted when it is taken.
+    fn paints(&self, list: &ListLexer<'_>, ahead: &Ahead<'_>) -> bool
+        ensures { result ≡ (painted_among (masks self.now.frames (of_list list.now)) ahead.now).painted }
+    {
+        match ahead.value() {
+            TokenValue::Ident(name) => {
+                ahead.is_painted()
+                    || self.processor.is_open(name.as_str())
+                    || list.is_hidden(name.as_str())
+            }
+            _ => ahead.is_painted(),
+        }
+    }
+
+    // Makes one step of the innermost frame, if that is a pause or its token is given. Returns whether it made the
+    // step.
+    #[inline(always)]
+    fn give_next(&mut self, list: &ListLexer<'_>, items: &mut Vec<Read>) -> Result<bool, AllocError>
+        requires { AllReadOrdinary items.old.items }
+        ensures gives { IfOk result (λ made. GivesNext (of_list list.now) self.old items.old.items
+            made self.new items.new.items) }
+        ensures holds { IfOk result (λ made. AllReadOrdinary items.new.items) }
+    {
+        if self.held.is_some() || self.processor.is_idle() {
+            return Ok(false);
+        }
+        let Some(ahead) = self.processor.token() else {
+            self.processor.pass();
+            return Ok(true);
+        };
+        let painted = self.paints(list, &ahead);
+        if is_line_name(ahead.value()) || opens_macro(list, &ahead, painted) {
+            return Ok(false);
+        }
+        items.push(ahead.copied_as(self.alloc, painted)?)?;
+        self.processor.pass();
+        Ok(true)
+    }
+
+    /// Appends to the items what the open macros give, over a list: up to `__LINE__`, to a name that opens a macro, or
+    /// to the end of all open macros.
+    pub fn give_frames(
+        &mut self,
+        list: &ListLexer<'_>,
+        items: &mut Vec<Read>,
+    ) -> Result<(), AllocError>
+        requires { AllReadOrdinary items.old.items }
+        ensures gives { OnOk result (GivesEach (of_list list.now) self.old items.old.items self.new
+            items.new.items) }
+        ensures holds { OnOk result (AllReadOrdinary items.new.items) }
+    {
+        'steps: while self.give_next(list, items)? {}
+        Ok(())
+    }
+
+    /// One step: takes a token, which is given, opens its macro, or begins a call that is gathered.
+    #[inline(always)]
+    pub fn step(&mut self, lexer: &mut dyn MeLexer) -> Step<Taken>
+        ensures turns { TurnsOrRefuses self.old (reader lexer.old) result self.new
+            (reader lexer.new) }
+        ensures holds { IfOk result TakenHoldsOrdinary }
+    {
+        if self.held.is_none() && !self.processor.is_idle() {
+            return self.step_frame(lexer);
+        }
+        self.step_any(lexer)
+    }
+
+    /// The macros that are open here or around.
+    pub fn around<'a>(&'a self, hidden: &OpenAround<'a>) -> Result<OpenAround<'a>, AllocError>
+        ensures { IfOk result (λ names. names ≡ names_of self.now.frames ++ hidden.now) }
+    {
+        OpenAround::within(self.alloc, &self.processor, hidden)
+    }
+
+    /// Opens the frame of a call.
+    pub fn open_call(&mut self, call: Call, arguments: ArgumentLists) -> Result<(), AllocError>
+        ensures { OnOk result (self.new
+            ≡ record self.old {
+              frames = layer call.name call.closing.line call.definition arguments
+                  ∷ self.old.frames;
+            }) }
+    {
+        let Call {
+            name,
+            define,
+            paren: _,
+            closing,
+            tokens: _,
+        } = call;
+        self.processor.open(name, closing.line, define, arguments)
+    }
+}

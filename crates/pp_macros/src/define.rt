@@ -1,0 +1,146 @@
+//! Macros.
+
+ghost use Rattle.std.specs.Prelude.{◌≡◌, ◌↔◌, true, IsTrue, All, IfOk, map, slice_get};
+ghost use Rattle.pp_lexer.specs.TokenValue.{is_ordinary};
+ghost use Rattle.pp_lexer.specs.Spelling.{values_of};
+ghost use Rattle.pp_model.specs.Definitions.{IsSameDefinition, object_like};
+ghost use Rattle.pp_model.specs.SpliceList.{parameter_of};
+ghost use Rattle.pp_macros.specs.inner.ParameterPositions.{parameter_at};
+
+use crate::parameter_names::ParameterNames;
+use pp_lexer::token::{Text, Token};
+use std::alloc::{AllocError, Global};
+use std::marker::Model;
+
+/// The definition of a macro. Each token of its body that is a parameter has that parameter's position beside it.
+#[derive(Drop)]
+pub struct Define {
+    function_like: bool,
+    parameters: Vec<Text>,
+    body: Vec<Token>,
+    // for each token of the body the position of its parameter, if it is one; empty for a macro without parentheses
+    positions: Vec<Option<usize>>,
+}
+
+impl Model for Define {
+    ghost use Rattle.std.specs.Prelude.{All, IsTrue};
+    ghost use Rattle.pp_lexer.specs.TokenValue.{is_ordinary};
+    ghost use Rattle.pp_model.specs.Definitions.{Definition};
+    ghost use Rattle.pp_macros.specs.inner.ParameterPositions.{PlacesEach};
+
+    ghost Value = { Definition };
+
+    ghost view = { λ d. record { function_like = d.function_like; parameters = d.parameters.items; body = d.body.items } };
+
+    ghost invariant = { λ d. All (λ token. IsTrue (is_ordinary token.value)) d.body.items
+        × PlacesEach d.parameters.items d.body.items d.positions.items };
+}
+
+// Whether both lists have equal values, places aside.
+fn have_same_values(old: &[Token], new: &[Token]) -> bool
+    ensures { IsTrue result ↔ (values_of old.now ≡ values_of new.now) }
+{
+    old.len() == new.len() && old.iter().zip(new).all(|(a, b)| a.value == b.value)
+}
+
+// Whether the names are the same, in the same order.
+#[tactic(auto, using(crate::proofs::defined_names::DefineLemmas::names_decide))]
+fn are_same_names(old: &[Text], new: &[Text]) -> bool
+    ensures { IsTrue result ↔ (old.now ≡ new.now) }
+{
+    old == new
+}
+
+// For each token of a body the position of its parameter, if it is one.
+fn positions_in(
+    alloc: Global,
+    parameters: &ParameterNames,
+    body: &[Token],
+) -> Result<Vec<Option<usize>>, AllocError>
+    ensures { IfOk result (λ positions. positions.items
+        ≡ map (λ token. parameter_of parameters.now token.value) body.now) }
+{
+    let mut positions = Vec::with_capacity(alloc, body.len())?;
+    for token in body {
+        positions.push(parameters.position_of(&token.value))?;
+    }
+    Ok(positions)
+}
+
+impl Define {
+    /// A macro without parameters.
+    pub fn object_like(alloc: Global, body: Vec<Token>) -> Define
+        requires { All (λ token. IsTrue (is_ordinary token.value)) body.items }
+        ensures { result ≡ object_like body.items }
+    {
+        Define {
+            function_like: false,
+            parameters: Vec::new(alloc),
+            body,
+            positions: Vec::new(alloc),
+        }
+    }
+
+    /// A macro with these parameters.
+    pub fn function_like(
+        alloc: Global,
+        parameters: ParameterNames,
+        body: Vec<Token>,
+    ) -> Result<Define, AllocError>
+        requires { All (λ token. IsTrue (is_ordinary token.value)) body.items }
+        ensures { IfOk result (λ define. define ≡ record {
+          function_like = true;
+          parameters = parameters;
+          body = body.items;
+        }) }
+    {
+        let positions = positions_in(alloc, &parameters, &body)?;
+        Ok(Define {
+            function_like: true,
+            parameters: parameters.into_names(),
+            body,
+            positions,
+        })
+    }
+
+    /// Whether the macro has parameters in parentheses.
+    pub fn is_function_like(&self) -> bool
+        ensures { result ≡ self.now.function_like }
+    {
+        self.function_like
+    }
+
+    /// The names of the parameters.
+    pub fn parameters(&self) -> &[Text]
+        ensures { result.now ≡ self.now.parameters }
+    {
+        &self.parameters
+    }
+
+    /// The tokens that replace the macro.
+    pub fn body(&self) -> &[Token]
+        ensures is { result.now ≡ self.now.body }
+        ensures ordinary { All (λ token. IsTrue (is_ordinary token.value)) result.now }
+    {
+        &self.body
+    }
+
+    /// The position of the parameter that the body's token at this position names, if it names one.
+    pub fn parameter_at(&self, position: usize) -> Option<usize>
+        ensures { result ≡ parameter_at self.now.parameters (slice_get self.now.body position) }
+    {
+        match self.positions.get(position) {
+            Some(parameter) => *parameter,
+            None => None,
+        }
+    }
+
+    /// Whether a redefinition is allowed: kind, parameters and the values of the body are equal.
+    pub fn is_same(&self, other: &Define) -> bool
+        ensures { IsTrue result ↔ IsSameDefinition self.now other.now }
+    {
+        self.function_like == other.function_like
+            && are_same_names(&self.parameters, &other.parameters)
+            && have_same_values(&self.body, &other.body)
+    }
+}

@@ -1,0 +1,243 @@
+//! Frames: macros that are open, each with the positions up to which its body and its arguments
+//! were read.
+
+ghost use Rattle.std.specs.Prelude.{◌≡◌, ◌⊎◌, ◌<◌, ◌^◌, IfOk, IfSome, Some, None, Ok, Err, option_map, slice_get, is_none};
+ghost use Rattle.pp_lexer.specs.PreprocessorError.{out_of_memory};
+ghost use Rattle.pp_macros.specs.inner.Frames.{layer, argument_at, advance};
+ghost use Rattle.pp_macros.specs.Held.{HoldsOrdinary, AllHoldOrdinary};
+ghost use Rattle.pp_macros.specs.inner.Ahead.{given_by, frame_after};
+ghost use Rattle.pp_macros.specs.declared.step.StepExit.TheVariants.{Error};
+
+use crate::argument_lists::ArgumentLists;
+use crate::define::Define;
+use crate::step::{Step, StepExit};
+use pp_lexer::token::{Text, Token, TokenValue, out_of_memory};
+use pp_model::read::Read;
+use std::alloc::{AllocError, Global};
+use std::marker::Model;
+use std::rc::Rc;
+
+/// A token that a frame gives, in its list, and whether it is painted.
+#[derive(Drop)]
+pub struct Ahead<'a> {
+    token: &'a Token,
+    painted: bool,
+}
+
+impl<'a> Model for Ahead<'a> {
+    ghost use Rattle.pp_model.specs.declared.read.Read.{Read};
+
+    ghost Value = { Read };
+
+    ghost view = { λ a. record { token = a.token.now; painted = a.painted } };
+}
+
+impl<'a> Ahead<'a> {
+    /// Its value.
+    pub fn value(&self) -> &'a TokenValue
+        ensures { result.now ≡ self.now.token.value }
+    {
+        &self.token.value
+    }
+
+    /// Whether it is painted.
+    pub fn is_painted(&self) -> bool
+        ensures { result ≡ self.now.painted }
+    {
+        self.painted
+    }
+
+    /// A copy of the token, painted or not.
+    pub fn copied_as(&self, alloc: Global, painted: bool) -> Result<Read, AllocError>
+        ensures { IfOk result (λ copy. copy ≡ record { token = self.now.token; painted = painted }) }
+    {
+        Ok(Read {
+            token: copy_of(alloc, self.token)?,
+            painted,
+        })
+    }
+
+    /// A copy of the token, with its paint.
+    pub fn copied(&self, alloc: Global) -> Result<Read, AllocError>
+        ensures { IfOk result (λ copy. copy ≡ self.now) }
+    {
+        self.copied_as(alloc, self.painted)
+    }
+}
+
+/// A macro that is open.
+#[derive(Drop)]
+pub struct Frame {
+    name: Text,
+    line: u32,
+    define: Rc<Define>,
+    position: usize,
+    arguments: ArgumentLists,
+    expanding: Option<usize>,
+    argument_position: usize,
+}
+
+impl Model for Frame {
+    ghost use Rattle.std.specs.Prelude.{drop, option_map};
+    ghost use Rattle.pp_macros.specs.inner.Frames.{Layer, argument_at};
+
+    ghost Value = { Layer };
+
+    ghost view = { λ f. record {
+      name = f.name;
+      line = f.line;
+      parameters = f.define.value.parameters;
+      body = drop f.position f.define.value.body;
+      arguments = f.arguments;
+      reading = option_map (λ k. drop f.argument_position
+          (argument_at f.arguments k)) f.expanding;
+    } };
+}
+
+/// The token at the position.
+pub fn token_at(tokens: &[Token], position: usize) -> Option<&Token>
+    requires { AllHoldOrdinary tokens.now }
+    ensures token { option_map (λ token. token.now) result ≡ slice_get tokens.now position }
+    ensures small { IfSome result (λ _. position < 2 ^ 63) }
+    ensures holds { IfSome result (λ token. HoldsOrdinary token.now.value) }
+{
+    tokens.get(position)
+}
+
+// The token of the argument with this index at the position.
+fn argument_token(arguments: &ArgumentLists, index: usize, position: usize) -> Option<Ahead<'_>>
+    ensures token { result ≡ slice_get (argument_at arguments.now index) position }
+    ensures small { IfSome result (λ _. position < 2 ^ 63) }
+    ensures holds { IfSome result (λ ahead. HoldsOrdinary ahead.token.value) }
+{
+    let read = arguments.token_at(index, position)?;
+    Some(Ahead {
+        token: &read.token,
+        painted: read.painted,
+    })
+}
+
+// A copy of a token.
+fn copy_of(alloc: Global, token: &Token) -> Result<Token, AllocError>
+    ensures { IfOk result (λ copy. copy ≡ token.now) }
+{
+    Ok(Token {
+        value: copy_of_value(alloc, &token.value)?,
+        location: token.location,
+    })
+}
+
+// A copy of a value. A punctuator and an integer are copied without an allocation.
+fn copy_of_value(alloc: Global, value: &TokenValue) -> Result<TokenValue, AllocError>
+    ensures { IfOk result (λ copy. copy ≡ value.now) }
+{
+    match value {
+        TokenValue::Punct(punct) => Ok(TokenValue::Punct(*punct)),
+        TokenValue::Integer(integer) => Ok(TokenValue::Integer(*integer)),
+        TokenValue::Ident(name) => Ok(TokenValue::Ident(name.try_clone(alloc)?)),
+        other => other.clone(alloc).map_err(|_| AllocError),
+    }
+}
+
+/// The step that gives a copy of a token.
+pub fn give(alloc: Global, ahead: Ahead<'_>) -> Step<Read>
+    ensures { (result ≡ Err (Error out_of_memory)) ⊎ (result ≡ Ok ahead.entry) }
+{
+    match ahead.copied(alloc) {
+        Ok(read) => Ok(read),
+        Err(_) => refused_token(),
+    }
+}
+
+// The step `OutOfMemory`. It is a function of its own, so that a token is moved without it.
+#[inline(never)]
+fn refused_token() -> Step<Read>
+    ensures { result ≡ Err (Error out_of_memory) }
+{
+    Err(StepExit::Error(out_of_memory()))
+}
+
+impl Frame {
+    /// The frame of a macro that opens.
+    pub fn new(name: Text, line: u32, define: Rc<Define>, arguments: ArgumentLists) -> Frame
+        ensures { result ≡ layer name line define.value arguments }
+    {
+        Frame {
+            name,
+            line,
+            define,
+            position: 0,
+            arguments,
+            expanding: None,
+            argument_position: 0,
+        }
+    }
+
+    /// The macro's name.
+    pub fn name(&self) -> &Text
+        ensures { result.now ≡ self.now.name }
+    {
+        &self.name
+    }
+
+    /// The line that `__LINE__` shows in it.
+    pub fn line(&self) -> u32
+        ensures { result ≡ self.now.line }
+    {
+        self.line
+    }
+
+    /// Whether its body has ended and no argument is read.
+    pub fn is_spent(&self) -> bool
+        ensures { result ≡ is_none (advance self.now) }
+    {
+        match self.expanding {
+            Some(_) => false,
+            None => self.define.body().len() <= self.position,
+        }
+    }
+
+    /// The token that its next step gives. The step is a pause at a parameter, at the end of an
+    /// argument and at the end of the body.
+    pub fn token(&self) -> Option<Ahead<'_>>
+        ensures token { result ≡ given_by (advance self.now) }
+        ensures holds { IfSome result (λ ahead. HoldsOrdinary ahead.token.value) }
+    {
+        if let Some(index) = self.expanding {
+            return argument_token(&self.arguments, index, self.argument_position);
+        }
+        let Some(token) = token_at(self.define.body(), self.position) else {
+            return None;
+        };
+        match self.define.parameter_at(self.position) {
+            Some(_) => None,
+            None => Some(Ahead {
+                token,
+                painted: false,
+            }),
+        }
+    }
+
+    /// Advances by one step. A frame at its end stays as it is.
+    pub fn pass(&mut self)
+        ensures step { self.new ≡ frame_after self.old (advance self.old) }
+        ensures name { self.new.name ≡ self.old.name }
+    {
+        if let Some(index) = self.expanding {
+            match argument_token(&self.arguments, index, self.argument_position) {
+                Some(_) => self.argument_position += 1,
+                None => self.expanding = None,
+            }
+            return;
+        }
+        let Some(_) = token_at(self.define.body(), self.position) else {
+            return;
+        };
+        let parameter = self.define.parameter_at(self.position);
+        self.position += 1;
+        if let Some(index) = parameter {
+            self.expanding = Some(index);
+            self.argument_position = 0;
+        }
+    }
+}

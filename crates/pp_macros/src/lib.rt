@@ -1,0 +1,20 @@
+//! Macros: definitions, the expander over a reader of tokens, calls and their arguments. Also the blocks that are open.
+#![tactic(auto)]
+
+pub mod argument_lists;
+pub mod arguments;
+pub mod blocks;
+pub mod calls;
+pub mod define;
+pub mod definitions;
+pub mod expander;
+pub mod frames;
+pub mod halt;
+pub mod list_lexer;
+pub mod list_step;
+pub mod names;
+pub mod open_around;
+pub mod open_names;
+pub mod parameter_names;
+pub mod reader;
+pub mod step;

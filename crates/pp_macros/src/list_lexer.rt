@@ -1,0 +1,153 @@
+//! A list of tokens as a reader: an argument of a call, or the line of a directive.
+
+ghost use Rattle.std.specs.Prelude.{◌≡◌, ◌&&◌, false, true, map, IfOk};
+ghost use Rattle.std.specs.Str.{chars};
+ghost use Rattle.pp_model.specs.Names.{is_same_name, defined_name};
+ghost use Rattle.pp_model.specs.Painting.{unpainted};
+ghost use Rattle.pp_macros.specs.inner.Reading.{AllReadOrdinary};
+ghost use Rattle.pp_macros.specs.inner.Reader.{of_list};
+
+use crate::define::Define;
+use crate::definitions::Definitions;
+use crate::open_around::OpenAround;
+use crate::reader::MeLexer;
+use crate::step::{Step, StepExit};
+use pp_lexer::token::{Location, NOWHERE, Punct, Token, TokenValue};
+use pp_model::read::Read;
+use std::alloc::{AllocError, Global};
+use std::marker::Model;
+use std::mem;
+use std::rc::Rc;
+
+// Whether the name is the operator `defined` of a directive's line.
+fn is_reserved(is_line: bool, name: &str) -> bool
+    ensures { result ≡ (is_line && is_same_name (chars name.now) defined_name) }
+{
+    is_line && name == "defined"
+}
+
+/// The tokens, unpainted.
+pub fn unpainted(alloc: Global, tokens: Vec<Token>) -> Result<Vec<Read>, AllocError>
+    ensures { IfOk result (λ reads. reads.items ≡ map unpainted tokens.items) }
+{
+    let mut reads = Vec::with_capacity(alloc, tokens.len())?;
+    for token in tokens {
+        reads.push(Read::unpainted(token))?;
+    }
+    Ok(reads)
+}
+
+/// Moves a token out of its list. A comma with the place `NOWHERE` replaces it.
+pub fn take_out(place: &mut Read) -> Read
+    ensures { result ≡ place.old }
+{
+    let nothing = Token {
+        value: TokenValue::Punct(Punct::Comma),
+        location: NOWHERE,
+    };
+    mem::replace(place, Read::unpainted(nothing))
+}
+
+/// A list of tokens, with the definitions there and the names that are open around. Tokens that it
+/// has read are moved out of the list.
+#[derive(Drop)]
+pub struct ListLexer<'a> {
+    tokens: &'a mut [Read],
+    position: usize,
+    definitions: &'a Definitions,
+    hidden: &'a OpenAround<'a>,
+    is_line: bool,
+}
+
+impl<'a> Model for ListLexer<'a> {
+    ghost use Rattle.std.specs.Prelude.{drop};
+    ghost use Rattle.pp_macros.specs.inner.Reading.{AllReadOrdinary};
+    ghost use Rattle.pp_macros.specs.inner.Reader.{Listing};
+
+    ghost Value = { Listing };
+
+    ghost view = { λ l. record {
+      tokens = drop l.position l.tokens.now;
+      definitions = l.definitions.now;
+      hidden = l.hidden.now;
+      is_line = l.is_line;
+    } };
+
+    ghost invariant = { λ l. AllReadOrdinary (drop l.position l.tokens.now) };
+}
+
+impl<'a> ListLexer<'a> {
+    /// An argument of a call.
+    pub fn argument(
+        tokens: &'a mut [Read],
+        definitions: &'a Definitions,
+        hidden: &'a OpenAround<'a>,
+    ) -> Self
+        requires { AllReadOrdinary tokens.old }
+        ensures { result ≡ record {
+          tokens = tokens.old;
+          definitions = definitions.now;
+          hidden = hidden.now;
+          is_line = false;
+        } }
+    {
+        ListLexer {
+            tokens,
+            position: 0,
+            definitions,
+            hidden,
+            is_line: false,
+        }
+    }
+
+    /// The line of an `#if`, `#elif` or `#line`, in which `defined` is reserved.
+    pub fn line(
+        tokens: &'a mut [Read],
+        definitions: &'a Definitions,
+        hidden: &'a OpenAround<'a>,
+    ) -> Self
+        requires { AllReadOrdinary tokens.old }
+        ensures { result ≡ record {
+          tokens = tokens.old;
+          definitions = definitions.now;
+          hidden = hidden.now;
+          is_line = true;
+        } }
+    {
+        ListLexer {
+            tokens,
+            position: 0,
+            definitions,
+            hidden,
+            is_line: true,
+        }
+    }
+}
+
+impl<'a> MeLexer for ListLexer<'a> {
+    ghost reader = { λ list. of_list list };
+
+    fn step(&mut self) -> Step<Read> {
+        if self.tokens.len() <= self.position {
+            return Err(StepExit::Finished);
+        }
+        let read = take_out(&mut self.tokens[self.position]);
+        self.position += 1;
+        Ok(read)
+    }
+
+    fn get_define(&self, name: &str) -> Option<&Rc<Define>> {
+        if is_reserved(self.is_line, name) {
+            return None;
+        }
+        self.definitions.find(name)
+    }
+
+    fn is_hidden(&self, name: &str) -> bool {
+        self.hidden.is_open(name)
+    }
+
+    fn apply_line_offset(&self, line: u32, _location: Location) -> Step<u32> {
+        Ok(line)
+    }
+}

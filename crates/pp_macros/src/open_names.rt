@@ -1,0 +1,83 @@
+//! Names that are open, in the order in which they opened.
+
+ghost use Rattle.std.specs.Prelude.{◌≡◌, [], OnOk, OnErr};
+ghost use Rattle.std.specs.Str.{chars};
+ghost use Rattle.pp_macros.specs.inner.OpenNames.{is_open, opened, closed};
+
+use crate::names::Names;
+use pp_lexer::token::Text;
+use std::alloc::{AllocError, Global};
+use std::marker::Model;
+
+/// Names that are open, each with the position of the outermost frame that has it. The outermost of
+/// all frames has the position 0.
+///
+/// The frame that opened last closes first, and so does its name. The names are a list that grows
+/// and shrinks at its end. Contracts see the name that opened last first.
+#[derive(Drop)]
+pub struct OpenNames {
+    alloc: Global,
+    names: Names,
+    positions: Vec<usize>,
+}
+
+impl Model for OpenNames {
+    ghost use Rattle.std.specs.Prelude.{◌≡◌, List, length};
+    ghost use Rattle.pp_macros.specs.inner.OpenNames.{Position, last_first};
+
+    ghost Value = { List Position };
+
+    ghost view = { λ o. last_first o.names o.positions.items };
+
+    ghost invariant = { λ o. length o.positions.items ≡ length o.names };
+}
+
+impl OpenNames {
+    /// No name is open. It allocates nothing.
+    pub fn new(alloc: Global) -> Self
+        ensures { result ≡ [] }
+    {
+        OpenNames {
+            alloc,
+            names: Names::new(alloc),
+            positions: Vec::new(alloc),
+        }
+    }
+
+    /// Whether the name is open.
+    #[inline(always)]
+    pub fn is_open(&self, name: &str) -> bool
+        ensures { result ≡ is_open self.now (chars name.now) }
+    {
+        !self.positions.is_empty() && self.names.find(name).is_some()
+    }
+
+    /// Adds the name of a frame that opens at the position. If an allocation fails, nothing
+    /// changes.
+    pub fn open(&mut self, name: &str, position: usize) -> Result<(), AllocError>
+        ensures ok { OnOk result (self.new ≡ opened (chars name.now) position self.old) }
+        ensures err { OnErr result (self.new ≡ self.old) }
+    {
+        if self.is_open(name) {
+            return Ok(());
+        }
+        self.positions.reserve(1)?;
+        let text = Text::from(String::from_str(self.alloc, name)?);
+        self.names.push(text)?;
+        self.positions.push_reserved(position);
+        Ok(())
+    }
+
+    /// Removes the name of the innermost frame, at this position, when it closes.
+    pub fn close(&mut self, position: usize)
+        ensures { self.new ≡ closed position self.old }
+    {
+        let Some(last) = self.positions.last() else {
+            return;
+        };
+        if *last == position {
+            self.positions.pop();
+            self.names.pop();
+        }
+    }
+}

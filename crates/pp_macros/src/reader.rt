@@ -1,0 +1,39 @@
+//! The reader of tokens that comes after the frames.
+
+ghost use Rattle.std.specs.Prelude.{◌≡◌, IfOk, option_map, ok_or};
+ghost use Rattle.std.specs.Str.{chars};
+ghost use Rattle.pp_lexer.specs.declared.token.PreprocessorError.TheVariants.{LineOverflow};
+ghost use Rattle.pp_model.specs.Names.{is_in};
+ghost use Rattle.pp_macros.specs.Held.{HoldsOrdinary};
+ghost use Rattle.pp_macros.specs.Item.{as_step};
+ghost use Rattle.pp_macros.specs.inner.Reader.{Reader, Reads, visible, hidden_of, shown_line};
+
+use crate::define::Define;
+use crate::step::Step;
+use pp_lexer::token::Location;
+use pp_model::read::Read;
+use std::rc::Rc;
+
+/// A reader of tokens, with the definitions that hold at its position.
+pub trait MeLexer {
+    ghost reader: { Self → Reader };
+
+    /// Reads one token or line.
+    fn step(&mut self) -> Step<Read>
+        ensures reads { Reads (reader self.old) result (reader self.new) }
+        ensures holds { IfOk result (λ read. HoldsOrdinary read.token.value) };
+
+    /// The definition of the name there.
+    fn get_define(&self, name: &str) -> Option<&Rc<Define>>
+        ensures { option_map (λ define. define.now.value) result
+            ≡ visible (reader self.now) (chars name.now) };
+
+    /// Whether a macro of this name is open around it.
+    fn is_hidden(&self, name: &str) -> bool
+        ensures { result ≡ is_in (chars name.now) (hidden_of (reader self.now)) };
+
+    /// The number that `__LINE__` shows for a line, or `LineOverflow` at the place.
+    fn apply_line_offset(&self, line: u32, location: Location) -> Step<u32>
+        ensures { result ≡ as_step (ok_or (shown_line (reader self.now) line)
+            (LineOverflow, location)) };
+}

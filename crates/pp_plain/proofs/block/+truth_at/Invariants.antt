@@ -1,5 +1,0 @@
-use Rattle.std.proofs.Common.{length}
-use Rattle.pp_plain.proofs.block.+truth_at.Given as goal
-
-abbrev pub decreases-truth_at : goal.decreases-truth_at
-decreases-truth_at l = length l.truths.now

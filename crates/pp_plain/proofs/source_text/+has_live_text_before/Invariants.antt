@@ -1,4 +1,0 @@
-use Rattle.pp_plain.proofs.source_text.+has_live_text_before.Given as goal
-
-abbrev pub decreases-has_live_text_before : goal.decreases-has_live_text_before
-decreases-has_live_text_before l = l.position

@@ -1,0 +1,66 @@
+-- What the plain program gives of a step: what the definitions say, or nothing.
+use Rattle.std.specs.Prelude.{◌≡◌, ◌⊎◌, ◌+◌, ◌≤◌, length, ℕ, Bool, List, Option, Some, None, Result, Ok, Err, ⊤}
+use Rattle.pp_lexer.specs.declared.token.Location.{Location}
+use Rattle.pp_lexer.specs.declared.token.PreprocessorError.TheVariants.{DefineRedefined}
+use Rattle.pp_lexer.specs.declared.token.Token.{Token}
+use Rattle.pp_model.specs.Definitions.{Definition, IsSameDefinition}
+use Rattle.pp_model.specs.Calls.{Fault, Answers}
+use Rattle.pp_model.specs.LineValues.{IsCondition, IsLineNumber}
+use Rattle.pp_model.specs.SourceReader.{SourceReader}
+use Rattle.pp_reference.specs.inner.ReaderState.{ReaderState}
+use Rattle.pp_model.specs.Acts.{Acted, failed, decided}
+use Rattle.pp_model.specs.inner.Reads.{defining, renumbered}
+use Rattle.pp_model.specs.declared.definition.Named.{Named}
+use Rattle.pp_model.specs.declared.outcome.Outcome.{Outcome}
+use Rattle.pp_model.specs.declared.outcome.Outcome.TheVariants as outcome
+use Rattle.pp_model.specs.declared.step.Step.{Step}
+use Rattle.pp_model.specs.declared.step.Step.TheVariants as step
+use Rattle.pp_reference.specs.declared.stop.Halt.{Halt}
+use Rattle.pp_reference.specs.declared.stop.Halt.TheVariants as halt
+
+-- a step and the reader after it are those wanted, or the fault is, which leaves the reader where it is
+abbrev pub ActsAs : Result Step Halt → Acted → SourceReader → Type 0
+ActsAs (Ok step) wanted after = wanted ≡ record { step = step; after = after }
+ActsAs (Err (halt.Fault fault)) wanted after = wanted ≡ failed fault after
+ActsAs (Err (halt.Stop stop)) wanted after = ⊤
+
+-- a line whose value is wanted stands at the position: its number sign and its word
+abbrev pub HasLine : Step → ReaderState → Type 0
+HasLine (step.Condition word tokens) state = state.position + 2 ≤ length state.items
+HasLine (step.LineNumber word tokens) state = state.position + 2 ≤ length state.items
+HasLine _ state = ⊤
+
+abbrev pub HasLineIfOk : Result Step Halt → ReaderState → Type 0
+HasLineIfOk (Ok step) state = HasLine step state
+HasLineIfOk (Err h) state = ⊤
+
+-- what a `#define` of a name comes to after its line, where the name stood for this
+abbrev pub Defining : Named → Option Definition → SourceReader → Option Outcome → SourceReader → Type 0
+Defining named None r o t = (o ≡ None) × (t ≡ defining named r)
+Defining named (Some old) r o t =
+    (IsSameDefinition old named.definition × (o ≡ None) × (t ≡ r)) ⊎
+    ((IsSameDefinition old named.definition → ⊥)
+    × (o ≡ Some (outcome.Fault (DefineRedefined, named.location)))
+    × (t ≡ r))
+
+abbrev pub DecidesBy : Result Bool Fault → SourceReader → Option Outcome → SourceReader → Type 0
+DecidesBy (Ok holds) r o t = (o ≡ None) × (t ≡ decided r holds)
+DecidesBy (Err fault) r o t = (o ≡ Some (outcome.Fault fault)) × (t ≡ r)
+
+-- what the line of a condition comes to
+pub record Deciding (A : Answers) (word : Location) (tokens : List Token) (r : SourceReader) (o : Option Outcome)
+    (t : SourceReader) : Type 0 where
+  pub result : Result Bool Fault
+  pub is : IsCondition A word tokens r.definitions result
+  pub comes : DecidesBy result r o t
+
+abbrev pub RenumbersBy : Location → Result ℕ Fault → SourceReader → Option Outcome → SourceReader → Type 0
+RenumbersBy word (Ok n) r o t = (o ≡ None) × (t ≡ renumbered r word n)
+RenumbersBy word (Err fault) r o t = (o ≡ Some (outcome.Fault fault)) × (t ≡ r)
+
+-- what a `#line` comes to
+pub record Renumbering (A : Answers) (word : Location) (tokens : List Token) (r : SourceReader) (o : Option Outcome)
+    (t : SourceReader) : Type 0 where
+  pub result : Result ℕ Fault
+  pub is : IsLineNumber A word tokens r.definitions result
+  pub comes : RenumbersBy word result r o t

@@ -1,0 +1,26 @@
+-- What the plain program's reader of a source keeps, and the reader of the definitions that it stands for.
+use Rattle.std.specs.Prelude.{ℕ, ℤ, List}
+use Rattle.pp_lexer.specs.Lexed.{Seen}
+use Rattle.pp_reference.specs.inner.Changes.{meaning_of}
+use Rattle.pp_model.specs.Blocks.{Truths}
+use Rattle.pp_model.specs.SourceReader.{SourceReader}
+use Rattle.pp_reference.specs.declared.definitions.Change.{Change}
+
+-- the same with the changes of the definitions in place of the map that they come to
+pub record ReaderState : Type 0 where
+  pub items : List Seen
+  pub position : ℕ
+  pub changes : List Change
+  pub line_offset : ℤ
+  pub truths : Truths
+  pub unfinished : ℕ
+
+abbrev pub reader_of : ReaderState → SourceReader
+reader_of state = record {
+  items = state.items;
+  position = state.position;
+  definitions = meaning_of state.changes;
+  line_offset = state.line_offset;
+  truths = state.truths;
+  unfinished = state.unfinished;
+}

@@ -1,0 +1,88 @@
+-- What the plain program's expanders stand for, and what one turn of an expander comes to.
+use Rattle.std.specs.Prelude.{◌≡◌, true, false, [], List, Option, Some, None, Result, Ok, Err}
+use Rattle.pp_lexer.specs.declared.token.Location.{Location}
+use Rattle.pp_model.specs.Reading.{Reading, Expander, Opening, opening}
+use Rattle.pp_model.specs.Taking.{Takes}
+use Rattle.pp_model.specs.Calls.{Fault, Gathered, Gathers, arguments_of, paren_at}
+use Rattle.pp_model.specs.Emitting.{opened}
+use Rattle.pp_model.specs.inner.Emitting.{holding}
+use Rattle.pp_reference.specs.declared.expander.Call.{Call}
+use Rattle.pp_reference.specs.declared.expander.Site.{Site}
+use Rattle.pp_reference.specs.declared.expander.Expander as declared
+use Rattle.pp_reference.specs.declared.expander.Found.{Found}
+use Rattle.pp_reference.specs.declared.expander.Found.TheVariants.{NoCall, Broken, Whole}
+use Rattle.pp_reference.specs.declared.expander.Turn.{Turn}
+use Rattle.pp_reference.specs.declared.expander.Turn.TheVariants.{Item, Replaced, Called}
+use Rattle.pp_model.specs.declared.read.Read.{Read}
+use Rattle.pp_model.specs.declared.read.Taken.{Taken}
+use Rattle.pp_model.specs.declared.read.Taken.TheVariants as taken
+
+-- the expander, where this is what its reader stands for
+abbrev pub seen : {R S : Type 0} → (R → S) → declared.Expander R → Expander S
+seen state e = record { held = e.held; list = e.list.items; reader = state e.reader; hidden = e.hidden.items }
+
+-- a `(` is taken, or what stands in its place is held
+pub data TakesParen {S : Type 0} (I : Reading S) : Expander S → Option Location → Expander S → Type 0 where
+  none : (o : Taken) (p : Option Location) (e f g : Expander S)
+      → Takes I e o f → paren_at o ≡ None
+      → p ≡ None
+      → g ≡ holding o f
+      → TakesParen I e p g
+  some : (o : Taken) (paren : Location) (p : Option Location) (e f : Expander S)
+      → Takes I e o f → paren_at o ≡ Some paren
+      → p ≡ Some paren
+      → TakesParen I e p f
+
+-- what stands after the name of a macro with parameters, before its arguments are expanded
+pub data Finds {S : Type 0} (I : Reading S) : Expander S → Found → Expander S → Type 0 where
+  nothing : (c : Found) (e f : Expander S) → TakesParen I e None f → c ≡ NoCall → Finds I e c f
+  broken : (paren : Location) (fault : Fault) (c : Found) (e f g : Expander S)
+      → TakesParen I e (Some paren) f
+      → Gathers I 0 paren f (Err fault) g
+      → c ≡ Broken fault
+      → Finds I e c g
+  whole : (gathered : Gathered) (site : Site) (c : Found) (e f g : Expander S)
+      → TakesParen I e (Some site.paren) f
+      → Gathers I 0 site.paren f (Ok gathered) g
+      → site.line ≡ gathered.closing.line
+      → site.arguments ≡ arguments_of gathered.tokens
+      → c ≡ Whole site
+      → Finds I e c g
+
+-- the turn at the name of a macro with parameters, where this stands after it
+abbrev pub turned : Taken → Opening → Found → Turn
+turned given m NoCall = Item given
+turned given m (Broken fault) = Item (taken.Fault fault)
+turned given m (Whole site) = Called (record { opening = m; site = site })
+
+-- the turn at a token that opens a macro
+pub data TurnsAt {S : Type 0} (I : Reading S) (given : Taken) (m : Opening)
+    : Expander S → Turn → Expander S → Type 0 where
+  object : (t : Turn) (e f : Expander S)
+      → m.definition.function_like ≡ false
+      → t ≡ Replaced
+      → f ≡ opened m m.token.location.line [] e
+      → TurnsAt I given m e t f
+  function : (c : Found) (t : Turn) (e f : Expander S)
+      → m.definition.function_like ≡ true
+      → Finds I e c f
+      → t ≡ turned given m c
+      → TurnsAt I given m e t f
+
+-- One turn: an item, a macro without parameters that was replaced, or a call that was
+-- gathered and is yet to be replaced.
+pub data Turns {S : Type 0} (I : Reading S) : Expander S → Turn → Expander S → Type 0 where
+  itself : (o : Taken) (t : Turn) (e f : Expander S)
+      → Takes I e o f → opening I f o ≡ None
+      → t ≡ Item o
+      → Turns I e t f
+  opens : (x : Taken) (m : Opening) (t : Turn) (e f g : Expander S)
+      → Takes I e x f → opening I f x ≡ Some m
+      → TurnsAt I x m f t g
+      → Turns I e t g
+
+-- a call is replaced by its answer, or the answer's fault is given
+abbrev pub Resolves : {S : Type 0} → Call → Result (List (List Read)) Fault → Expander S → Option Fault → Expander S
+    → Type 0
+Resolves call (Ok arguments) e fault f = (fault ≡ None) × (f ≡ opened call.opening call.site.line arguments e)
+Resolves call (Err found) e fault f = (fault ≡ Some found) × (f ≡ e)

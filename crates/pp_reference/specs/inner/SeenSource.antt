@@ -1,0 +1,52 @@
+-- What the plain program's reader of a source stands for, and what one call of it comes to.
+use Rattle.std.specs.Prelude.{◌≡◌, ℕ, Bool, true, false, List, Ok, Err}
+use Rattle.std.specs.Str.{chars}
+use Rattle.pp_lexer.specs.Items.{Lexeme}
+use Rattle.pp_lexer.specs.declared.token.PreprocessorError.{PreprocessorError}
+use Rattle.pp_lexer.specs.declared.token.PreprocessorError.TheVariants.{OutOfMemory}
+use Rattle.pp_lexer.specs.declared.token.Token.{Token}
+use Rattle.pp_model.specs.Reading.{Expander}
+use Rattle.pp_model.specs.Calls.{Fault, Answers}
+use Rattle.pp_model.specs.SourceReader.{SourceReader}
+use Rattle.pp_reference.specs.inner.ReaderState.{reader_of}
+use Rattle.pp_model.specs.Run.{by_rules, Call, add_define, next, items_of, content_tokens, with_added}
+use Rattle.pp_model.specs.declared.call.Reply.{Reply}
+use Rattle.pp_model.specs.declared.call.Reply.TheVariants as reply
+use Rattle.pp_model.specs.declared.outcome.Outcome.{Outcome}
+use Rattle.pp_reference.specs.declared.source.Source.{Source}
+use Rattle.pp_reference.specs.declared.stop.Halt.{Halt}
+use Rattle.pp_reference.specs.declared.stop.Halt.TheVariants as halt
+
+abbrev pub source_state : Source → SourceReader
+source_state source = reader_of source.reader
+
+-- memory for an item was refused
+abbrev pub is_out_of_memory : PreprocessorError → Bool
+is_out_of_memory OutOfMemory = true
+is_out_of_memory _ = false
+
+abbrev pub is_refused : Lexeme → Bool
+is_refused (Ok token) = false
+is_refused (Err fault) = is_out_of_memory fault.0
+
+-- what one call answers, and the state after it
+pub data Replying (A : Answers) : Expander SourceReader → Call → Reply → Expander SourceReader → Type 0 where
+  added : (name content : List ℕ) (tokens : List Token) (e f : Expander SourceReader) (r : Reply)
+      → content_tokens (items_of content) ≡ Ok tokens
+      → r ≡ reply.Added
+      → f ≡ with_added (chars name) tokens e
+      → Replying A e (add_define name content) r f
+  refused : (name content : List ℕ) (fault : Fault) (e f : Expander SourceReader) (r : Reply)
+      → content_tokens (items_of content) ≡ Err fault
+      → r ≡ reply.Refused fault
+      → f ≡ e
+      → Replying A e (add_define name content) r f
+  given : (o : Outcome) (e f : Expander SourceReader) (r : Reply)
+      → by_rules A e o f
+      → r ≡ reply.Given o
+      → Replying A e next r f
+
+-- what is refused of a content, or nothing is said
+abbrev pub RefusedBy : Halt → Reply → Type 0
+RefusedBy (halt.Fault fault) r = r ≡ reply.Refused fault
+RefusedBy (halt.Stop stop) r = ⊥

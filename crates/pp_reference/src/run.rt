@@ -1,0 +1,291 @@
+//! Runs of a source, by the definitions.
+
+ghost use Rattle.std.specs.Prelude.{◌≡◌, ◌<◌, ◌^◌, ◌-◌, [], ◌∷◌, ◌++◌, false, length, map, All, IfOk, OnOk, IfSome};
+ghost use Rattle.pp_model.specs.Emitting.{answers_at, expansion_limit};
+ghost use Rattle.pp_reference.specs.inner.Halting.{Meets};
+ghost use Rattle.pp_model.specs.Run as spec;
+ghost use Rattle.pp_model.specs.Run.{call_of, ends_run, HasRoom};
+ghost use Rattle.pp_reference.specs.inner.Seen.{seen};
+ghost use Rattle.pp_reference.specs.inner.SeenSource.{source_state, RefusedBy, Replying, is_refused};
+ghost use Rattle.std.specs.Str.{chars};
+
+use crate::block::blocks_at;
+use crate::conversion::{conversion, is_newline};
+use crate::definitions::Definitions;
+use crate::expand::{emit, expansion_limit};
+use crate::expander::Expander;
+use crate::item::SourceItem;
+use crate::line::with_first;
+use crate::source::Source;
+use crate::source_reader::SourceReader;
+use crate::stop::{Budget, Halt, Stop, stays_short};
+use pp_lexer::lexer::{Lexer, LexerItem};
+use pp_lexer::token::{PreprocessorError, Text};
+use pp_model::call::{Call, Reply};
+use pp_model::copies::copy_fault;
+use pp_model::definition::TokenList;
+use pp_model::outcome::Outcome;
+use std::alloc::{AllocError, Global};
+
+// Whether the item is the error `OutOfMemory`.
+fn is_refused(item: &LexerItem) -> bool
+    ensures { result ≡ is_refused item.now }
+{
+    matches!(item, Err((PreprocessorError::OutOfMemory, _)))
+}
+
+// Appends the rest of a text's items to a list.
+fn read_items(lexer: &mut Lexer<'_>, items: &mut Vec<SourceItem>) -> Result<(), Stop>
+    requires { lexer.old.spent ≡ false }
+    ensures { OnOk result (items.new.items ≡ items.old.items ++ lexer.old.rest) }
+{
+    'items: loop {
+        let Some(item) = lexer.next() else {
+            return stays_short(items.len());
+        };
+        if is_refused(&item) {
+            drop(item);
+            return Err(Stop::OutOfMemory);
+        }
+        let had_comments = lexer.had_comments();
+        items.push(SourceItem { item, had_comments })?;
+    }
+}
+
+/// The items of a text, each with whether the lexer had passed a comment.
+pub fn items_of(alloc: Global, text: &str) -> Result<Vec<SourceItem>, Stop>
+    requires { length text.now < 2 ^ 32 - 1 }
+    ensures { IfOk result (λ items. items.items ≡ spec.items_of text.now) }
+{
+    let mut lexer = Lexer::new(alloc, text);
+    let mut items = Vec::new(alloc);
+    match read_items(&mut lexer, &mut items) {
+        Ok(()) => Ok(items),
+        Err(stop) => {
+            drop(items);
+            Err(stop)
+        }
+    }
+}
+
+// The tokens of an added content, or the first error or number sign in it.
+fn content_tokens(alloc: Global, items: &[SourceItem]) -> Result<TokenList, Halt>
+    ensures { Meets result (spec.content_tokens items.now) }
+{
+    let Some((first, rest)) = items.split_first() else {
+        return Ok(TokenList {
+            items: Vec::new(alloc),
+        });
+    };
+    match &first.item {
+        Err(fault) => Err(Halt::Fault(copy_fault(alloc, fault)?)),
+        Ok(token) if is_newline(&token.value) => content_tokens(alloc, rest),
+        Ok(token) => {
+            let first = conversion(alloc, token)?;
+            match content_tokens(alloc, rest) {
+                Ok(tokens) => Ok(with_first(first, tokens)?),
+                Err(halt) => {
+                    drop(first);
+                    Err(halt)
+                }
+            }
+        }
+    }
+}
+
+// An expander at the start of a source.
+fn start(alloc: Global, items: &[SourceItem]) -> Result<Expander<Source<'_>>, Stop>
+    ensures { IfOk result (λ expander. seen source_state expander ≡ spec.start items.now) }
+{
+    let unfinished = blocks_at(alloc, items, items.len())?.len();
+    let reader = SourceReader {
+        items,
+        position: 0,
+        definitions: Definitions::new(alloc),
+        line_offset: 0,
+        truths: Vec::new(alloc),
+        unfinished,
+    };
+    let source = Source { alloc, reader };
+    Ok(Expander::new(alloc, source, Vec::new(alloc)))
+}
+
+// The tokens of an added content.
+fn added_body(alloc: Global, content: &str) -> Result<TokenList, Halt>
+    requires { length content.now < 2 ^ 32 - 1 }
+    ensures { Meets result (spec.content_tokens (spec.items_of content.now)) }
+{
+    let items = items_of(alloc, content)?;
+    content_tokens(alloc, &items)
+}
+
+// The reply to a content with a fault.
+fn refusal(halt: Halt) -> Result<Reply, Stop>
+    ensures { IfOk result (RefusedBy halt) }
+{
+    match halt {
+        Halt::Fault(fault) => Ok(Reply::Refused(fault)),
+        Halt::Stop(stop) => Err(stop),
+    }
+}
+
+// The text of a name.
+fn text_of(alloc: Global, name: &str) -> Result<Text, AllocError>
+    ensures { IfOk result (λ text. text ≡ chars name.now) }
+{
+    Ok(Text::from(String::from_str(alloc, name)?))
+}
+
+// The reply to an `add_define`.
+fn add_define(
+    alloc: Global,
+    expander: &mut Expander<Source<'_>>,
+    name: &str,
+    content: &str,
+) -> Result<Reply, Stop>
+    requires { length content.now < 2 ^ 32 - 1 }
+    ensures { IfOk result (λ reply. Replying (answers_at expansion_limit)
+        (seen source_state expander.old) (spec.add_define name.now content.now) reply
+        (seen source_state expander.new)) }
+{
+    match added_body(alloc, content) {
+        Ok(body) => {
+            let name = text_of(alloc, name)?;
+            expander.reader.reader.add(alloc, name, body)?;
+            Ok(Reply::Added)
+        }
+        Err(halt) => refusal(halt),
+    }
+}
+
+// The reply to a call.
+fn reply_to(
+    alloc: Global,
+    expander: &mut Expander<Source<'_>>,
+    call: &Call<'_>,
+    budget: &mut Budget,
+) -> Result<Reply, Stop>
+    requires { HasRoom call.now }
+    ensures { IfOk result (λ reply. Replying (answers_at expansion_limit)
+        (seen source_state expander.old) (call_of call.now) reply
+        (seen source_state expander.new)) }
+{
+    match call {
+        Call::AddDefine(name, content) => add_define(alloc, expander, name, content),
+        Call::Next => {
+            let taken = emit(expander, expansion_limit(), budget)?;
+            Ok(Reply::Given(taken.into_item()))
+        }
+    }
+}
+
+// Whether the reply is an error item.
+fn ends_run(reply: &Reply) -> bool
+    ensures { result ≡ ends_run reply.now }
+{
+    matches!(reply, Reply::Given(Outcome::Fault(_)))
+}
+
+// A list of one reply.
+fn only(alloc: Global, reply: Reply) -> Result<Vec<Reply>, Stop>
+    ensures { IfOk result (λ replies. replies.items ≡ reply ∷ []) }
+{
+    let mut replies = Vec::new(alloc);
+    replies.push(reply)?;
+    Ok(replies)
+}
+
+// These replies with one before them.
+fn with_reply(reply: Reply, others: Vec<Reply>) -> Result<Vec<Reply>, Stop>
+    ensures { IfOk result (λ replies. replies.items ≡ reply ∷ others.items) }
+{
+    let mut replies = others;
+    replies.insert(0, reply)?;
+    Ok(replies)
+}
+
+// The replies to the calls, up to and with the first error item.
+#[tactic(auto, using(crate::proofs::RunProgramLemmas::all_after))]
+fn replies(
+    alloc: Global,
+    expander: &mut Expander<Source<'_>>,
+    calls: &[Call<'_>],
+    budget: &mut Budget,
+) -> Result<Vec<Reply>, Stop>
+    requires { All HasRoom calls.now }
+    ensures { IfOk result (λ replies. spec.Runs (spec.by_rules (answers_at expansion_limit))
+        (seen source_state expander.old) (map call_of calls.now) replies.items) }
+{
+    let Some((call, others)) = calls.split_first() else {
+        return Ok(Vec::new(alloc));
+    };
+    let reply = reply_to(alloc, expander, call, budget)?;
+    if ends_run(&reply) {
+        return only(alloc, reply);
+    }
+    match replies(alloc, expander, others, budget) {
+        Ok(rest) => with_reply(reply, rest),
+        Err(stop) => {
+            drop(reply);
+            Err(stop)
+        }
+    }
+}
+
+// The replies over the items of a source.
+fn replies_over(
+    alloc: Global,
+    items: &[SourceItem],
+    calls: &[Call<'_>],
+    budget: &mut Budget,
+) -> Result<Vec<Reply>, Stop>
+    requires { All HasRoom calls.now }
+    ensures { IfOk result (λ replies. spec.Runs (spec.by_rules (answers_at expansion_limit))
+        (spec.start items.now) (map call_of calls.now) replies.items) }
+{
+    let mut expander = start(alloc, items)?;
+    let replies = replies(alloc, &mut expander, calls, budget);
+    drop(expander);
+    replies
+}
+
+// The replies over a source, within a budget.
+fn run_within(
+    alloc: Global,
+    source: &str,
+    calls: &[Call<'_>],
+    budget: &mut Budget,
+) -> Result<Vec<Reply>, Stop>
+    requires size { length source.now < 2 ^ 32 - 1 }
+    requires contents { All HasRoom calls.now }
+    ensures { IfOk result (λ replies. spec.IsRun source.now (map call_of calls.now) replies.items) }
+{
+    stays_short(calls.len())?;
+    let items = items_of(alloc, source)?;
+    replies_over(alloc, &items, calls, budget)
+}
+
+/// Returns the replies of a source to the calls, up to and with the first error item. Returns
+/// `None` if that takes more than this many steps, if the source or a content has more than 3,000
+/// items or a condition more than 3,000 words, or if there are more than 3,000 calls.
+///
+/// The source and each added content must have fewer than 2^32 - 1 bytes. The only error is that an
+/// allocation failed.
+pub fn run(
+    alloc: Global,
+    source: &str,
+    calls: &[Call<'_>],
+    steps: u64,
+) -> Result<Option<Vec<Reply>>, AllocError>
+    requires size { length source.now < 2 ^ 32 - 1 }
+    requires contents { All HasRoom calls.now }
+    ensures { IfOk result (λ answer. IfSome answer
+        (λ replies. spec.IsRun source.now (map call_of calls.now) replies.items)) }
+{
+    let mut budget = Budget { steps };
+    match run_within(alloc, source, calls, &mut budget) {
+        Ok(replies) => Ok(Some(replies)),
+        Err(Stop::OutOfBudget) => Ok(None),
+        Err(Stop::OutOfMemory) => Err(AllocError),
+    }
+}

@@ -1,0 +1,537 @@
+//! A reader of a source: what each token or line does.
+
+ghost use Rattle.std.specs.Prelude.{◌≡◌, ◌≤◌, ◌+◌, Some, None, length, IfOk, OnOk};
+ghost use Rattle.std.specs.Option.{option_copied};
+ghost use Rattle.pp_reference.specs.inner.Acting.{ActsAs, HasLine, HasLineIfOk};
+ghost use Rattle.pp_model.specs.Acts as spec;
+ghost use Rattle.pp_model.specs.inner.Acts as parts;
+ghost use Rattle.pp_model.specs.Blocks.{are_surroundings_live};
+ghost use Rattle.pp_reference.specs.inner.ReaderState.{reader_of};
+ghost use Rattle.pp_model.specs.Reads.{shown_line};
+ghost use Rattle.pp_model.specs.inner.Reads.{renumbered};
+ghost use Rattle.pp_model.specs.inner.Run.{adding};
+ghost use Rattle.pp_model.specs.Sights.{least_items};
+ghost use Rattle.pp_reference.specs.declared.stop.Halt.TheVariants as halt;
+
+use crate::block::{Block, blocks_at, has_else, has_taken_branch, is_live};
+use crate::define_line::defined_on;
+use crate::definitions::Definitions;
+use crate::item::SourceItem;
+use crate::line::{
+    comments_before_end, ended_line, line_fault, line_length, line_tokens, only_name,
+};
+use crate::sight::sight_of;
+use crate::source_text::{has_live_text_before, is_first_directive};
+use crate::stop::{Halt, Stop};
+use pp_lexer::token::{
+    Extension, Location, Pragma, PreprocessorError, Text, Token, TokenValue, Tokens, Version,
+};
+use pp_model::definition::{Definition, TokenList};
+use pp_model::directive::Directive;
+use pp_model::outcome::Outcome;
+use pp_model::sight::Sight;
+use pp_model::step::Step;
+use pp_model::truth::Truth;
+use std::alloc::Global;
+use std::marker::Model;
+
+/// A reader of a source.
+#[derive(Drop)]
+pub struct SourceReader<'a> {
+    /// The items of the source.
+    pub items: &'a [SourceItem],
+    /// The position of the item that comes next.
+    pub position: usize,
+    /// The definitions that hold now.
+    pub definitions: Definitions,
+    /// The number that is added to a line for `__LINE__`.
+    pub line_offset: i64,
+    /// The conditions that were read, the latest first.
+    pub truths: Vec<Truth>,
+    /// How many blocks that stay open at the end are not reported yet.
+    pub unfinished: usize,
+}
+
+impl<'a> Model for SourceReader<'a> {
+    ghost use Rattle.std.specs.Prelude.{◌≤◌, length};
+    ghost use Rattle.pp_reference.specs.inner.ReaderState as spec;
+
+    ghost Value = { spec.ReaderState };
+
+    ghost view = { λ r. record { items = r.items.now; position = r.position; changes = r.definitions; line_offset = r.line_offset; truths = r.truths.items; unfinished = r.unfinished } };
+
+    ghost invariant = { λ r. r.position ≤ length r.items.now };
+}
+
+fn refuse(error: PreprocessorError, location: Location) -> Halt
+    ensures { result ≡ halt.Fault (error, location) }
+{
+    Halt::Fault((error, location))
+}
+
+impl<'a> SourceReader<'a> {
+    // The items after the directive's word.
+    fn after_word(&self) -> &'a [SourceItem]
+        requires { self.now.position + 2 ≤ length self.now.items }
+        ensures { result.now ≡ spec.after_word (reader_of self.now) }
+    {
+        &self.items[self.position + 2..]
+    }
+
+    // Moves past the directive's line.
+    fn pass_line(&mut self)
+        requires { self.old.position + 2 ≤ length self.old.items }
+        ensures { (reader_of self.new) ≡ spec.after_line (reader_of self.old) }
+    {
+        let length = line_length(self.after_word());
+        self.position += 2 + length;
+    }
+
+    // Skips the directive's line. An error of the lexer on it is returned.
+    fn skip_line(&mut self, alloc: Global) -> Result<Step, Halt>
+        requires { self.old.position + 2 ≤ length self.old.items }
+        ensures acts { ActsAs result (spec.skipped (reader_of self.old)) (reader_of self.new) }
+        ensures line { HasLineIfOk result self.new }
+    {
+        match line_fault(alloc, self.after_word())? {
+            Some(fault) => Err(Halt::Fault(fault)),
+            None => {
+                self.pass_line();
+                Ok(Step::Passed)
+            }
+        }
+    }
+
+    /// Notes whether the condition of a line holds, and moves past the line.
+    pub fn decide(&mut self, holds: bool) -> Result<(), Stop>
+        requires { self.old.position + 2 ≤ length self.old.items }
+        ensures { OnOk result ((reader_of self.new) ≡ spec.decided (reader_of self.old) holds) }
+    {
+        let position = self.position;
+        self.truths.insert(0, Truth { position, holds })?;
+        self.pass_line();
+        Ok(())
+    }
+
+    /// Acts on a `#line` of this number with this place of its word, and moves past the line.
+    pub fn renumber(&mut self, word: Location, number: u32)
+        requires { self.old.position + 2 ≤ length self.old.items }
+        ensures { reader_of self.new ≡ renumbered (reader_of self.old) word number }
+    {
+        self.line_offset = i64::from(number) - i64::from(word.line);
+        self.pass_line();
+    }
+
+    /// The number that `__LINE__` shows for a line.
+    pub fn shown_line(&self, line: u32) -> Option<u32>
+        ensures { result ≡ shown_line (reader_of self.now) line }
+    {
+        u32::try_from(i128::from(line) + i128::from(self.line_offset)).ok()
+    }
+
+    /// Defines the name as these tokens, replacing any definition of it.
+    pub fn add(&mut self, alloc: Global, name: Text, body: TokenList) -> Result<(), Stop>
+        ensures { OnOk result (reader_of self.new ≡ adding name body (reader_of self.old)) }
+    {
+        let definition = Definition {
+            function_like: false,
+            parameters: Vec::new(alloc),
+            body: body.items,
+        };
+        self.definitions.change(name, Some(definition))?;
+        Ok(())
+    }
+
+    // Gathers the line of a condition.
+    fn condition(&mut self, alloc: Global, word: Location) -> Result<Step, Halt>
+        requires { self.old.position + 2 ≤ length self.old.items }
+        ensures acts { ActsAs result (spec.condition word (reader_of self.old))
+            (reader_of self.new) }
+        ensures line { HasLineIfOk result self.new }
+    {
+        let tokens = line_tokens(alloc, self.after_word())?;
+        Ok(Step::Condition(word, tokens))
+    }
+
+    // Gathers a `#line`.
+    fn line_number(&mut self, alloc: Global, word: Location) -> Result<Step, Halt>
+        requires { self.old.position + 2 ≤ length self.old.items }
+        ensures acts { ActsAs result (parts.line_number word (reader_of self.old))
+            (reader_of self.new) }
+        ensures line { HasLineIfOk result self.new }
+    {
+        let tokens = line_tokens(alloc, self.after_word())?;
+        Ok(Step::LineNumber(word, tokens))
+    }
+
+    // Reads a `#define`.
+    fn define(&mut self, alloc: Global, word: Location) -> Result<Step, Halt>
+        requires { self.old.position + 2 ≤ length self.old.items }
+        ensures acts { ActsAs result (parts.define word (reader_of self.old)) (reader_of self.new) }
+        ensures line { HasLineIfOk result self.new }
+    {
+        let named = defined_on(alloc, word, self.after_word())?;
+        self.pass_line();
+        Ok(Step::Defines(named))
+    }
+
+    // Acts on an `#undef`.
+    fn undef(&mut self, alloc: Global, word: Location) -> Result<Step, Halt>
+        requires { self.old.position + 2 ≤ length self.old.items }
+        ensures acts { ActsAs result (parts.undef word (reader_of self.old)) (reader_of self.new) }
+        ensures line { HasLineIfOk result self.new }
+    {
+        let name = only_name(alloc, word, self.after_word())?;
+        self.definitions.change(name, None)?;
+        self.pass_line();
+        Ok(Step::Passed)
+    }
+
+    // Acts on an `#ifdef`, or an `#ifndef`, whose block is live if the name is not defined.
+    fn ifdef(&mut self, alloc: Global, word: Location) -> Result<Step, Halt>
+        requires { self.old.position + 2 ≤ length self.old.items }
+        ensures acts { ActsAs result (parts.ifdef word (reader_of self.old)) (reader_of self.new) }
+        ensures line { HasLineIfOk result self.new }
+    {
+        let name = only_name(alloc, word, self.after_word())?;
+        let holds = self.definitions.find(&name).is_some();
+        self.decide(holds)?;
+        Ok(Step::Passed)
+    }
+
+    fn ifndef(&mut self, alloc: Global, word: Location) -> Result<Step, Halt>
+        requires { self.old.position + 2 ≤ length self.old.items }
+        ensures acts { ActsAs result (parts.ifndef word (reader_of self.old)) (reader_of self.new) }
+        ensures line { HasLineIfOk result self.new }
+    {
+        let name = only_name(alloc, word, self.after_word())?;
+        let holds = self.definitions.find(&name).is_none();
+        self.decide(holds)?;
+        Ok(Step::Passed)
+    }
+
+    // Whether the line on which the block begins is live.
+    fn are_surroundings_live(&self, alloc: Global, block: &Block) -> Result<bool, Stop>
+        ensures { IfOk result (λ live. live
+            ≡ are_surroundings_live self.now.items self.now.truths block.now) }
+    {
+        is_live(alloc, self.items, &self.truths, block.first.position)
+    }
+
+    // Reads an `#elif` of this block.
+    fn elif_in(
+        &mut self,
+        alloc: Global,
+        block: Option<&Block>,
+        word: Location,
+    ) -> Result<Step, Halt>
+        requires { self.old.position + 2 ≤ length self.old.items }
+        ensures acts { ActsAs result (spec.elif_in (option_copied block.entry) word
+            (reader_of self.old)) (reader_of self.new) }
+        ensures line { HasLineIfOk result self.new }
+    {
+        let Some(block) = block else {
+            return Err(refuse(PreprocessorError::ElifOutsideOfBlock, word));
+        };
+        if has_else(block) {
+            return Err(refuse(PreprocessorError::ElifAfterElse, word));
+        }
+        if !self.are_surroundings_live(alloc, block)? || has_taken_branch(&self.truths, block) {
+            return self.skip_line(alloc);
+        }
+        self.condition(alloc, word)
+    }
+
+    // Reads an `#else` of this block.
+    fn else_in(
+        &mut self,
+        alloc: Global,
+        block: Option<&Block>,
+        word: Location,
+    ) -> Result<Step, Halt>
+        requires { self.old.position + 2 ≤ length self.old.items }
+        ensures acts { ActsAs result (spec.only_word word (reader_of self.old)
+            (spec.else_in (option_copied block.entry) word
+            (reader_of self.old))) (reader_of self.new) }
+        ensures line { HasLineIfOk result self.new }
+    {
+        ended_line(alloc, word, self.after_word())?;
+        let Some(block) = block else {
+            return Err(refuse(PreprocessorError::ElseOutsideOfBlock, word));
+        };
+        if has_else(block) {
+            return Err(refuse(PreprocessorError::MoreThanOneElse, word));
+        }
+        self.pass_line();
+        Ok(Step::Passed)
+    }
+
+    // Reads the `#endif` of this block.
+    fn endif_in(
+        &mut self,
+        alloc: Global,
+        block: Option<&Block>,
+        word: Location,
+    ) -> Result<Step, Halt>
+        requires { self.old.position + 2 ≤ length self.old.items }
+        ensures acts { ActsAs result (spec.endif_in (option_copied block.entry) word
+            (reader_of self.old)) (reader_of self.new) }
+        ensures line { HasLineIfOk result self.new }
+    {
+        let Some(block) = block else {
+            return Err(refuse(PreprocessorError::EndifOutsideOfBlock, word));
+        };
+        if !self.are_surroundings_live(alloc, block)? {
+            return self.skip_line(alloc);
+        }
+        ended_line(alloc, word, self.after_word())?;
+        self.pass_line();
+        Ok(Step::Passed)
+    }
+
+    // Reads a line that parts or closes the innermost block.
+    fn elif_line(&mut self, alloc: Global, word: Location) -> Result<Step, Halt>
+        requires { self.old.position + 2 ≤ length self.old.items }
+        ensures acts { ActsAs result (parts.elif_line word (reader_of self.old))
+            (reader_of self.new) }
+        ensures line { HasLineIfOk result self.new }
+    {
+        let blocks = blocks_at(alloc, self.items, self.position)?;
+        self.elif_in(alloc, blocks.last(), word)
+    }
+
+    fn else_line(&mut self, alloc: Global, word: Location) -> Result<Step, Halt>
+        requires { self.old.position + 2 ≤ length self.old.items }
+        ensures acts { ActsAs result (parts.else_line word (reader_of self.old))
+            (reader_of self.new) }
+        ensures line { HasLineIfOk result self.new }
+    {
+        let blocks = blocks_at(alloc, self.items, self.position)?;
+        self.else_in(alloc, blocks.last(), word)
+    }
+
+    fn endif_line(&mut self, alloc: Global, word: Location) -> Result<Step, Halt>
+        requires { self.old.position + 2 ≤ length self.old.items }
+        ensures acts { ActsAs result (parts.endif_line word (reader_of self.old))
+            (reader_of self.new) }
+        ensures line { HasLineIfOk result self.new }
+    {
+        let blocks = blocks_at(alloc, self.items, self.position)?;
+        self.endif_in(alloc, blocks.last(), word)
+    }
+
+    // Gives the item of a `#version`.
+    fn version(&mut self, alloc: Global, word: Location) -> Result<Step, Halt>
+        requires { self.old.position + 2 ≤ length self.old.items }
+        ensures acts { ActsAs result (spec.version word (reader_of self.old)) (reader_of self.new) }
+        ensures line { HasLineIfOk result self.new }
+    {
+        let tokens = line_tokens(alloc, self.after_word())?;
+        let first = is_first_directive(alloc, self.items, &self.truths, self.position)?;
+        let value = TokenValue::Version(Version {
+            tokens: Tokens::from(tokens.items),
+            is_first_directive: first,
+            has_comments_before: comments_before_end(self.after_word()),
+        });
+        Ok(self.give_line(value, word))
+    }
+
+    // Gives the item of an `#extension`.
+    fn extension(&mut self, alloc: Global, word: Location) -> Result<Step, Halt>
+        requires { self.old.position + 2 ≤ length self.old.items }
+        ensures acts { ActsAs result (spec.extension word (reader_of self.old))
+            (reader_of self.new) }
+        ensures line { HasLineIfOk result self.new }
+    {
+        let tokens = line_tokens(alloc, self.after_word())?;
+        let before = has_live_text_before(alloc, self.items, &self.truths, self.position)?;
+        let value = TokenValue::Extension(Extension {
+            tokens: Tokens::from(tokens.items),
+            has_non_directive_before: before,
+        });
+        Ok(self.give_line(value, word))
+    }
+
+    // Gives the item of a `#pragma`.
+    fn pragma(&mut self, alloc: Global, word: Location) -> Result<Step, Halt>
+        requires { self.old.position + 2 ≤ length self.old.items }
+        ensures acts { ActsAs result (parts.pragma word (reader_of self.old)) (reader_of self.new) }
+        ensures line { HasLineIfOk result self.new }
+    {
+        let tokens = line_tokens(alloc, self.after_word())?;
+        let value = TokenValue::Pragma(Pragma {
+            tokens: Tokens::from(tokens.items),
+        });
+        Ok(self.give_line(value, word))
+    }
+
+    // Gives a line's item, and moves past the line.
+    fn give_line(&mut self, value: TokenValue, word: Location) -> Step
+        requires { self.old.position + 2 ≤ length self.old.items }
+        ensures { spec.given (record { value = value; location = word }) (spec.after_line
+            (reader_of self.old)) ≡ record { step = result; after = (reader_of self.new) } }
+    {
+        self.pass_line();
+        Step::Given(Outcome::Token(Token {
+            value,
+            location: word,
+        }))
+    }
+
+    // Acts on a directive in live text.
+    fn act_live_directive(
+        &mut self,
+        alloc: Global,
+        directive: Directive,
+        word: Location,
+    ) -> Result<Step, Halt>
+        requires { self.old.position + 2 ≤ length self.old.items }
+        ensures acts { ActsAs result (spec.live_directive directive word (reader_of self.old))
+            (reader_of self.new) }
+        ensures line { HasLineIfOk result self.new }
+    {
+        match directive {
+            Directive::Define => self.define(alloc, word),
+            Directive::Undef => self.undef(alloc, word),
+            Directive::If => self.condition(alloc, word),
+            Directive::Ifdef => self.ifdef(alloc, word),
+            Directive::Ifndef => self.ifndef(alloc, word),
+            Directive::Elif => self.elif_line(alloc, word),
+            Directive::Else => self.else_line(alloc, word),
+            Directive::Endif => self.endif_line(alloc, word),
+            Directive::Error => Err(refuse(PreprocessorError::ErrorDirective, word)),
+            Directive::Line => self.line_number(alloc, word),
+            Directive::Version => self.version(alloc, word),
+            Directive::Extension => self.extension(alloc, word),
+            Directive::Pragma => self.pragma(alloc, word),
+            Directive::Unknown => Err(refuse(PreprocessorError::UnknownDirective, word)),
+        }
+    }
+
+    // Acts on a directive in dead text. Only those of blocks do anything.
+    fn act_dead_directive(
+        &mut self,
+        alloc: Global,
+        directive: Directive,
+        word: Location,
+    ) -> Result<Step, Halt>
+        requires { self.old.position + 2 ≤ length self.old.items }
+        ensures acts { ActsAs result (spec.dead_directive directive word (reader_of self.old))
+            (reader_of self.new) }
+        ensures line { HasLineIfOk result self.new }
+    {
+        match directive {
+            Directive::Elif => self.elif_line(alloc, word),
+            Directive::Else => self.else_line(alloc, word),
+            Directive::Endif => self.endif_line(alloc, word),
+            Directive::Unknown => {
+                self.position += 2;
+                Ok(Step::Passed)
+            }
+            Directive::Define
+            | Directive::Undef
+            | Directive::If
+            | Directive::Ifdef
+            | Directive::Ifndef
+            | Directive::Line
+            | Directive::Error
+            | Directive::Version
+            | Directive::Extension
+            | Directive::Pragma => self.skip_line(alloc),
+        }
+    }
+
+    // Reports the next of the blocks that stay open at the end, or the end.
+    fn tell_end(&mut self, alloc: Global) -> Result<Step, Halt>
+        ensures acts { ActsAs result (spec.ended (reader_of self.old)) (reader_of self.new) }
+        ensures line { HasLineIfOk result self.new }
+    {
+        let mut blocks = blocks_at(alloc, self.items, self.items.len())?;
+        blocks.truncate(self.unfinished);
+        let Some(block) = blocks.last() else {
+            return Ok(Step::Given(Outcome::End));
+        };
+        let word = block.first.word;
+        self.unfinished = self.unfinished.saturating_sub(1);
+        Ok(Step::Given(Outcome::Fault((PreprocessorError::UnfinishedBlock, word))))
+    }
+
+    // Moves on by `count` items, which give nothing.
+    fn pass(&mut self, count: usize) -> Step
+        requires { self.old.position + count ≤ length self.old.items }
+        ensures acts { spec.passed (spec.moved count (reader_of self.old)) ≡ record {
+          step = result;
+          after = reader_of self.new;
+        } }
+        ensures line { HasLine result self.new }
+    {
+        self.position += count;
+        Step::Passed
+    }
+
+    // Acts on a sight at the position, in live text.
+    fn act_live(&mut self, alloc: Global, sight: Sight) -> Result<Step, Halt>
+        requires { self.old.position + least_items sight ≤ length self.old.items }
+        ensures acts { ActsAs result (spec.live_act sight (reader_of self.old))
+            (reader_of self.new) }
+        ensures line { HasLineIfOk result self.new }
+    {
+        match sight {
+            Sight::End => self.tell_end(alloc),
+            Sight::NewLine => Ok(self.pass(1)),
+            Sight::Lone => Ok(self.pass(2)),
+            Sight::Fault(fault) | Sight::NoWord(fault) => Err(Halt::Fault(fault)),
+            Sight::Token(token) => {
+                self.position += 1;
+                Ok(Step::Given(Outcome::Token(token)))
+            }
+            Sight::Hash(location) => Err(refuse(PreprocessorError::UnexpectedHash, location)),
+            Sight::Directive(directive, word) => self.act_live_directive(alloc, directive, word),
+        }
+    }
+
+    // Acts on a sight at the position, in dead text.
+    fn act_dead(&mut self, alloc: Global, sight: Sight) -> Result<Step, Halt>
+        requires { self.old.position + least_items sight ≤ length self.old.items }
+        ensures acts { ActsAs result (spec.dead_act sight (reader_of self.old))
+            (reader_of self.new) }
+        ensures line { HasLineIfOk result self.new }
+    {
+        match sight {
+            Sight::End => self.tell_end(alloc),
+            Sight::Fault(fault) => Err(Halt::Fault(fault)),
+            Sight::NewLine | Sight::Token(_) | Sight::Hash(_) => Ok(self.pass(1)),
+            Sight::Lone | Sight::NoWord(_) => Ok(self.pass(2)),
+            Sight::Directive(directive, word) => self.act_dead_directive(alloc, directive, word),
+        }
+    }
+
+    // Acts on the sight at the position.
+    fn act_here(&mut self, alloc: Global) -> Result<Step, Halt>
+        ensures acts { ActsAs result (spec.act (reader_of self.old)) (reader_of self.new) }
+        ensures line { HasLineIfOk result self.new }
+    {
+        let live = is_live(alloc, self.items, &self.truths, self.position)?;
+        let sight = sight_of(alloc, &self.items[self.position..])?;
+        if live {
+            self.act_live(alloc, sight)
+        } else {
+            self.act_dead(alloc, sight)
+        }
+    }
+
+    /// Acts on the sight at the position, and returns its step. After a fault the reader stays where it is.
+    pub fn act(&mut self, alloc: Global) -> Result<Step, Stop>
+        ensures acts { IfOk result (λ step. spec.act (reader_of self.old) ≡ record {
+          step = step;
+          after = reader_of self.new;
+        }) }
+        ensures line { IfOk result (λ step. HasLine step self.new) }
+    {
+        match self.act_here(alloc) {
+            Ok(step) => Ok(step),
+            Err(Halt::Fault(fault)) => Ok(Step::Given(Outcome::Fault(fault))),
+            Err(Halt::Stop(stop)) => Err(stop),
+        }
+    }
+}

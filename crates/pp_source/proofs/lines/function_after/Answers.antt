@@ -1,9 +1,0 @@
-use Rattle.std.proofs.Common.{◌∙◌, sym}
-use Rattle.pp_expansion.proofs.work.ParameterLemmas.{parameters_on_line}
-use Rattle.pp_source.proofs.lines.function_after.Goals as goal
-
-pub returns-clause-takes : goal.returns-clause-takes
-returns-clause-takes c =
-    let p = parameters_on_line c.args.word c.args.lexer.now.rest _ c.in_ok-names.ensures.is in
-    let t = c.in_ok-body.ensures.takes in
-    record { rest = t.rest ∙ sym p.place; spent = t.spent }

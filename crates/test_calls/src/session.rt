@@ -1,0 +1,221 @@
+//! A preprocessor of a source, and what was done with it.
+
+ghost use Rattle.std.specs.Prelude.{IsTrue, All};
+ghost use Rattle.pp_model.specs.Run.{HasRoom};
+
+use crate::shown::{
+    copy_error, copy_token, print_error, print_item, print_reply, refused, replies,
+};
+use pp_reference::run::run;
+use pp_rs::pp::{
+    self, Call, Preprocessor, PreprocessorItem, Reply, append_all, are_read_afresh, drain,
+    preprocess_all, spell_tokens,
+};
+use pp_rs::token::{Location, PreprocessorError, Token};
+use std::alloc::Global;
+use std::io;
+
+/// A source or content has fewer bytes.
+pub(crate) const BYTES: usize = 4_294_967_295;
+
+// The steps that the plain program may take.
+const STEPS: u64 = 200_000;
+
+fn has_room(call: &Call<'_>) -> bool
+    ensures { IsTrue result → HasRoom call.now }
+{
+    match call {
+        Call::AddDefine(_, content) => content.len() < BYTES,
+        Call::Next => true,
+    }
+}
+
+// Whether each content is short enough.
+fn have_room(calls: &[Call<'_>]) -> bool
+    ensures { IsTrue result → All HasRoom calls.now }
+{
+    calls.iter().all(|call| has_room(call))
+}
+
+fn reply_to_definition(answer: Result<(), (PreprocessorError, Location)>) -> Reply {
+    match answer {
+        Ok(()) => Reply::Added,
+        Err(fault) => Reply::Refused(fault),
+    }
+}
+
+/// A preprocessor of a source, the calls that were made, and what they gave.
+#[derive(Drop)]
+pub(crate) struct Session<'a> {
+    alloc: Global,
+    source: &'a str,
+    pp: Preprocessor<'a>,
+    calls: Vec<Call<'a>>,
+    tokens: Vec<Token>,
+    errors: Vec<PreprocessorError>,
+}
+
+impl<'a> Session<'a> {
+    /// Nothing was done yet. Of a source that is too long it has none.
+    pub(crate) fn new(alloc: Global, source: &'a str) -> Session<'a> {
+        let source = if source.len() < BYTES { source } else { "" };
+        Session {
+            alloc,
+            source,
+            pp: Preprocessor::new(alloc, source),
+            calls: Vec::new(alloc),
+            tokens: Vec::new(alloc),
+            errors: Vec::new(alloc),
+        }
+    }
+
+    /// Lets a name stand for a content.
+    pub(crate) fn add(
+        &mut self,
+        rt: &impl Print,
+        name: &'a str,
+        content: &'a str,
+    ) -> io::Result<()> {
+        if content.len() >= BYTES {
+            return Ok(());
+        }
+        self.calls.push(Call::AddDefine(name, content))?;
+        let answer = reply_to_definition(self.pp.add_define(name, content));
+        let shown = print_reply(rt, self.alloc, &answer);
+        drop(answer);
+        shown
+    }
+
+    // Shows an item, and keeps it.
+    fn keep(&mut self, rt: &impl Print, given: PreprocessorItem) -> io::Result<()> {
+        print_item(rt, self.alloc, &given)?;
+        match given {
+            Ok(token) => self.tokens.push(token)?,
+            Err((error, _)) => self.errors.push(error)?,
+        }
+        Ok(())
+    }
+
+    /// Asks for one item. Answers whether there was one.
+    pub(crate) fn next(&mut self, rt: &impl Print) -> io::Result<bool> {
+        self.calls.push(Call::Next)?;
+        match self.pp.next() {
+            Some(given) => {
+                self.keep(rt, given)?;
+                Ok(true)
+            }
+            None => {
+                println!(rt; "None")?;
+                Ok(false)
+            }
+        }
+    }
+
+    /// Asks for all items that are left, and then twice more.
+    pub(crate) fn rest(&mut self, rt: &impl Print) -> io::Result<()> {
+        for _ in 0..u64::MAX {
+            if !self.next(rt)? {
+                break;
+            }
+        }
+        self.next(rt)?;
+        self.next(rt)?;
+        Ok(())
+    }
+
+    /// Gathers all items that are left.
+    pub(crate) fn all(&mut self, rt: &impl Print) -> io::Result<()> {
+        match preprocess_all(self.alloc, &mut self.pp) {
+            Ok(items) => {
+                for given in items {
+                    self.keep(rt, given)?;
+                }
+                Ok(())
+            }
+            Err(fault) => refused(rt, self.alloc, fault),
+        }
+    }
+
+    /// Puts all items that are left at the end of a list: those that came before a refusal are shown too.
+    pub(crate) fn append(&mut self, rt: &impl Print) -> io::Result<()> {
+        let mut items = Vec::new(self.alloc);
+        let ended = append_all(&mut self.pp, &mut items);
+        for given in items {
+            self.keep(rt, given)?;
+        }
+        match ended {
+            Ok(()) => Ok(()),
+            Err(fault) => refused(rt, self.alloc, fault),
+        }
+    }
+
+    /// Drops all items that are left.
+    pub(crate) fn drain(&mut self) {
+        drain(&mut self.pp);
+    }
+
+    /// Asks for all items that are left, and shows each error with the place where it stands in the source.
+    pub(crate) fn errors(&mut self, rt: &impl Print) -> io::Result<()> {
+        for _ in 0..u64::MAX {
+            let Some(given) = self.pp.next() else {
+                break;
+            };
+            print_error(rt, self.alloc, given, self.pp.place())?;
+        }
+        Ok(())
+    }
+
+    /// Spells the tokens that were given, where all of them are ordinary.
+    pub(crate) fn spell(&self, rt: &impl Print) -> io::Result<()> {
+        if !self.tokens.iter().all(|token| token.is_ordinary()) {
+            return println!(rt; "not all are ordinary");
+        }
+        match spell_tokens(self.alloc, &self.tokens) {
+            Ok(text) => println!(rt; "spelled {}", text.as_str()),
+            Err(fault) => refused(rt, self.alloc, fault),
+        }
+    }
+
+    /// Says whether the text of the tokens that were given gives them again, where all of them are ordinary.
+    pub(crate) fn afresh(&self, rt: &impl Print) -> io::Result<()> {
+        if !self.tokens.iter().all(|token| token.is_ordinary()) {
+            return println!(rt; "not all are ordinary");
+        }
+        match are_read_afresh(self.alloc, &self.tokens) {
+            Ok(answer) => println!(rt; "afresh={answer}"),
+            Err(fault) => refused(rt, self.alloc, fault),
+        }
+    }
+
+    /// Copies what was given.
+    pub(crate) fn copy(&self, rt: &impl Print) -> io::Result<()> {
+        for token in &self.tokens {
+            copy_token(rt, self.alloc, token)?;
+        }
+        for error in &self.errors {
+            copy_error(rt, self.alloc, error)?;
+        }
+        Ok(())
+    }
+
+    /// Makes the same calls once more, by `replies`.
+    pub(crate) fn replies(&self, rt: &impl Print) -> io::Result<()> {
+        if self.source.len() < BYTES && have_room(&self.calls) {
+            let given = match pp::replies(self.alloc, self.source, &self.calls) {
+                Ok(replies) => Ok(Some(replies)),
+                Err(error) => Err(error),
+            };
+            return replies(rt, self.alloc, "replies", given);
+        }
+        Ok(())
+    }
+
+    /// Makes the same calls once more, by the plain program.
+    pub(crate) fn plain(&self, rt: &impl Print) -> io::Result<()> {
+        if self.source.len() < BYTES && have_room(&self.calls) {
+            let given = run(self.alloc, self.source, &self.calls, STEPS);
+            return replies(rt, self.alloc, "plain", given);
+        }
+        Ok(())
+    }
+}

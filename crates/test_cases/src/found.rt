@@ -1,0 +1,244 @@
+//! What a case comes to: by the plain program, by the preprocessor's list of replies, and by its items one by one.
+
+ghost use Rattle.std.specs.Prelude.{◌-◌, ◌^◌, ◌<◌, length, IsTrue, All};
+ghost use Rattle.pp_model.specs.Run.{HasRoom};
+
+use crate::case::{Act, Case};
+use pp_reference::run::run;
+use pp_rs::pp::{self, Call, Outcome, Preprocessor, PreprocessorItem, Reply, preprocess_all};
+use pp_rs::token::{Location, PreprocessorError};
+use std::alloc::{AllocError, Global};
+use test_shown::{item, joined, reply};
+
+// More steps than any source here wants.
+const STEPS: u64 = 1_000_000;
+
+// More bytes than any source or content here has.
+const BYTES: usize = 100_000;
+
+// More items than any source here comes to up to its first error.
+const ITEMS: u32 = 100;
+
+fn has_room(call: &Call<'_>) -> bool
+    ensures { IsTrue result → HasRoom call.now }
+{
+    match call {
+        Call::AddDefine(_, content) => content.len() < BYTES,
+        Call::Next => true,
+    }
+}
+
+// Whether each content is short, as all are here.
+fn have_room(calls: &[Call<'_>]) -> bool
+    ensures { IsTrue result → All HasRoom calls.now }
+{
+    calls.iter().all(|call| has_room(call))
+}
+
+fn call_of<'a>(act: &'a Act) -> Call<'a> {
+    match act {
+        Act::Add { name, content } => Call::AddDefine(name.as_str(), content.as_str()),
+        Act::Next => Call::Next,
+    }
+}
+
+/// The calls of a case: what it does, and then one for each item that is left.
+pub(crate) fn calls_of<'a>(alloc: Global, case: &'a Case) -> Result<Vec<Call<'a>>, AllocError> {
+    let mut calls = Vec::new(alloc);
+    for act in &case.acts {
+        calls.push(call_of(act))?;
+    }
+    for _ in 0..ITEMS {
+        calls.push(Call::Next)?;
+    }
+    Ok(calls)
+}
+
+// The replies as text, up to the end.
+fn shown(alloc: Global, replies: &[Reply]) -> Result<String, AllocError> {
+    let mut parts = Vec::new(alloc);
+    for given in replies {
+        parts.push(reply(alloc, given)?)?;
+        if matches!(given, Reply::Given(Outcome::End)) {
+            break;
+        }
+    }
+    joined(alloc, &parts)
+}
+
+/// What the calls answer by the plain program, up to the end or the first error.
+pub(crate) fn by_the_plain_program(
+    alloc: Global,
+    source: &str,
+    calls: &[Call<'_>],
+) -> Result<String, AllocError> {
+    if source.len() < BYTES && have_room(calls) {
+        if let Some(replies) = run(alloc, source, calls, STEPS)? {
+            let text = shown(alloc, &replies);
+            drop(replies);
+            return text;
+        }
+    }
+    String::from_str(alloc, "no answer")
+}
+
+/// The same by the preprocessor.
+pub(crate) fn by_replies(
+    alloc: Global,
+    source: &str,
+    calls: &[Call<'_>],
+) -> Result<String, AllocError> {
+    if source.len() < BYTES && have_room(calls) {
+        let replies = pp::replies(alloc, source, calls)?;
+        let text = shown(alloc, &replies);
+        drop(replies);
+        return text;
+    }
+    String::from_str(alloc, "no answer")
+}
+
+/// Items as text.
+#[derive(Drop)]
+pub(crate) struct Items {
+    /// Those up to the end or the first error.
+    pub(crate) first: Vec<String>,
+    /// Those after the first error, up to the end.
+    pub(crate) after: Vec<String>,
+    failed: bool,
+}
+
+impl Items {
+    // One more.
+    fn push(&mut self, shown: String, fails: bool) -> Result<(), AllocError> {
+        if self.failed {
+            self.after.push(shown)?;
+        } else {
+            self.first.push(shown)?;
+        }
+        self.failed = self.failed || fails;
+        Ok(())
+    }
+}
+
+fn put_text(alloc: Global, text: &str, items: &mut Items) -> Result<(), AllocError> {
+    items.push(String::from_str(alloc, text)?, false)
+}
+
+fn put_item(alloc: Global, given: &PreprocessorItem, items: &mut Items) -> Result<(), AllocError> {
+    items.push(item(alloc, given)?, given.is_err())
+}
+
+// What an added definition answers.
+fn put_addition(
+    alloc: Global,
+    answer: Result<(), (PreprocessorError, Location)>,
+    items: &mut Items,
+) -> Result<(), AllocError> {
+    let answer = match answer {
+        Ok(()) => Reply::Added,
+        Err(fault) => Reply::Refused(fault),
+    };
+    let text = reply(alloc, &answer);
+    drop(answer);
+    items.push(text?, false)
+}
+
+// What an act answers.
+fn act_on(
+    alloc: Global,
+    pp: &mut Preprocessor<'_>,
+    act: &Act,
+    items: &mut Items,
+) -> Result<(), AllocError> {
+    match act {
+        Act::Add { name, content } if content.len() < BYTES => {
+            put_addition(alloc, pp.add_define(name.as_str(), content.as_str()), items)
+        }
+        Act::Add { .. } => put_text(alloc, "no answer", items),
+        Act::Next => match pp.next() {
+            Some(given) => {
+                let put = put_item(alloc, &given, items);
+                drop(given);
+                put
+            }
+            None => put_text(alloc, "None", items),
+        },
+    }
+}
+
+// All of these items.
+fn put_each(
+    alloc: Global,
+    given: &[PreprocessorItem],
+    items: &mut Items,
+) -> Result<(), AllocError> {
+    for one in given {
+        put_item(alloc, one, items)?;
+    }
+    Ok(())
+}
+
+fn put_left(alloc: Global, pp: &mut Preprocessor<'_>, items: &mut Items) -> Result<(), AllocError> {
+    match preprocess_all(alloc, pp) {
+        Ok(left) => {
+            let put = put_each(alloc, &left, items);
+            drop(left);
+            put
+        }
+        Err(_) => Err(AllocError),
+    }
+}
+
+// The items that are left, and the end twice.
+fn items_left(
+    alloc: Global,
+    pp: &mut Preprocessor<'_>,
+    items: &mut Items,
+) -> Result<(), AllocError> {
+    put_left(alloc, pp, items)?;
+    if pp.next().is_some() || pp.next().is_some() {
+        return put_text(alloc, "an item after the end", items);
+    }
+    put_text(alloc, "None", items)
+}
+
+// The items of a source in which these acts are done.
+fn put_items(alloc: Global, source: &str, acts: &[Act], items: &mut Items) -> Result<(), AllocError>
+    requires { length source.now < 2 ^ 32 - 1 }
+{
+    let mut pp = Preprocessor::new(alloc, source);
+    let done = act_in_order(alloc, &mut pp, acts, items);
+    drop(pp);
+    done
+}
+
+// What its acts give, and then the items that are left.
+fn act_in_order(
+    alloc: Global,
+    pp: &mut Preprocessor<'_>,
+    acts: &[Act],
+    items: &mut Items,
+) -> Result<(), AllocError> {
+    for act in acts {
+        act_on(alloc, pp, act, items)?;
+    }
+    items_left(alloc, pp, items)
+}
+
+/// What a case comes to by the preprocessor, item by item, past errors too.
+pub(crate) fn by_items(alloc: Global, case: &Case) -> Result<Items, AllocError> {
+    let mut items = Items {
+        first: Vec::new(alloc),
+        after: Vec::new(alloc),
+        failed: false,
+    };
+    if case.source.len() < BYTES {
+        put_items(
+            alloc,
+            case.source.as_str(),
+            case.acts.as_slice(),
+            &mut items,
+        )?;
+    }
+    Ok(items)
+}

@@ -1,0 +1,182 @@
+//! Items, replies and tokens as text, as the worked cases and the tables of tests show them.
+#![tactic(auto)]
+
+use pp_lexer::lexer::{self, LexerItem};
+use pp_lexer::token::{
+    Float, Integer, Location, PreprocessorError, Punct, Token, TokenValue, Tokens,
+};
+use pp_model::call::Reply;
+use pp_model::outcome::{Fault, Outcome};
+use std::alloc::{AllocError, Global};
+
+/// The parts with a comma and a space between each two.
+pub fn joined(alloc: Global, parts: &[String]) -> Result<String, AllocError> {
+    let mut text = String::new(alloc);
+    for (index, part) in parts.iter().enumerate() {
+        if index > 0 {
+            text.push_str(", ")?;
+        }
+        text.push_str(part.as_str())?;
+    }
+    Ok(text)
+}
+
+/// An item of the lexer, with its place, and of a token its flags: of an identifier the text, of an
+/// integer its digits, of a float `Float` and its text, else the name of the variant.
+pub fn lexer_item(alloc: Global, item: &LexerItem) -> Result<String, AllocError> {
+    let mut text = String::new(alloc);
+    match item {
+        Ok(token) => push_lexer_token(&mut text, token)?,
+        Err(fault) => push_fault(&mut text, "Error ", fault)?,
+    }
+    Ok(text)
+}
+
+/// An item of the preprocessor, with its place.
+pub fn item(alloc: Global, item: &Result<Token, Fault>) -> Result<String, AllocError> {
+    let mut text = String::new(alloc);
+    match item {
+        Ok(token) => push_token(&mut text, token)?,
+        Err(fault) => push_fault(&mut text, "Error ", fault)?,
+    }
+    Ok(text)
+}
+
+/// What a call answered, with its place.
+pub fn reply(alloc: Global, reply: &Reply) -> Result<String, AllocError> {
+    let mut text = String::new(alloc);
+    push_reply(&mut text, reply)?;
+    Ok(text)
+}
+
+// A place, as ` 3..4 L1`.
+fn push_at(text: &mut String, location: Location) -> Result<(), AllocError> {
+    let Location { start, end, line } = location;
+    write!(text, " {start}..{end} L{line}")?;
+    Ok(())
+}
+
+fn push_integer(text: &mut String, integer: Integer) -> Result<(), AllocError> {
+    write!(text, "{}", integer.value)?;
+    if !integer.signed {
+        text.push('u')?;
+    }
+    Ok(())
+}
+
+fn push_float(text: &mut String, float: &Float) -> Result<(), AllocError> {
+    text.push_str("Float ")?;
+    text.push_str(float.text.as_str())
+}
+
+fn push_punct(text: &mut String, punct: Punct) -> Result<(), AllocError> {
+    write!(text, "{punct:?}")?;
+    Ok(())
+}
+
+fn push_lexer_value(text: &mut String, value: &lexer::TokenValue) -> Result<(), AllocError> {
+    match value {
+        lexer::TokenValue::Hash => text.push_str("Hash"),
+        lexer::TokenValue::NewLine => text.push_str("NL"),
+        lexer::TokenValue::Ident(name) => text.push_str(name.as_str()),
+        lexer::TokenValue::Integer(integer) => push_integer(text, *integer),
+        lexer::TokenValue::Float(float) => push_float(text, float),
+        lexer::TokenValue::Punct(punct) => push_punct(text, *punct),
+    }
+}
+
+// A token of the lexer with its place and flags.
+fn push_lexer_token(text: &mut String, token: &lexer::Token) -> Result<(), AllocError> {
+    push_lexer_value(text, &token.value)?;
+    push_at(text, token.location)?;
+    let leading = token.leading_whitespace;
+    let start = token.start_of_line;
+    write!(text, " leading={leading} start={start}")?;
+    Ok(())
+}
+
+// A value of a preprocessed token, of which a directive item shows its name alone.
+fn push_value(text: &mut String, value: &TokenValue) -> Result<(), AllocError> {
+    match value {
+        TokenValue::Ident(name) => text.push_str(name.as_str()),
+        TokenValue::Integer(integer) => push_integer(text, *integer),
+        TokenValue::Float(float) => push_float(text, float),
+        TokenValue::Punct(punct) => push_punct(text, *punct),
+        TokenValue::Version(_) => text.push_str("Version"),
+        TokenValue::Extension(_) => text.push_str("Extension"),
+        TokenValue::Pragma(_) => text.push_str("Pragma"),
+    }
+}
+
+// An error: its name, with the value of an unexpected token.
+fn push_error(text: &mut String, error: &PreprocessorError) -> Result<(), AllocError> {
+    text.push_str(error.name())?;
+    match error {
+        PreprocessorError::UnexpectedToken(value) => push_in_parentheses(text, value),
+        _ => Ok(()),
+    }
+}
+
+fn push_in_parentheses(text: &mut String, value: &TokenValue) -> Result<(), AllocError> {
+    text.push('(')?;
+    push_value(text, value)?;
+    text.push(')')
+}
+
+// The tokens that a directive item holds, with their places.
+fn push_held(text: &mut String, tokens: &Tokens) -> Result<(), AllocError> {
+    text.push_str(" [")?;
+    for (index, token) in tokens.as_slice().iter().enumerate() {
+        if index > 0 {
+            text.push_str(", ")?;
+        }
+        push_value(text, &token.value)?;
+        push_at(text, token.location)?;
+    }
+    text.push(']')
+}
+
+// A value, of which a directive item shows all its fields.
+fn push_item_value(text: &mut String, value: &TokenValue) -> Result<(), AllocError> {
+    match value {
+        TokenValue::Version(version) => {
+            let first = version.is_first_directive;
+            let comments = version.has_comments_before;
+            write!(text, "Version first={first} comments={comments}")?;
+            push_held(text, &version.tokens)
+        }
+        TokenValue::Extension(extension) => {
+            let before = extension.has_non_directive_before;
+            write!(text, "Extension before={before}")?;
+            push_held(text, &extension.tokens)
+        }
+        TokenValue::Pragma(pragma) => {
+            text.push_str("Pragma")?;
+            push_held(text, &pragma.tokens)
+        }
+        _ => push_value(text, value),
+    }
+}
+
+// A preprocessed token with its place.
+fn push_token(text: &mut String, token: &Token) -> Result<(), AllocError> {
+    push_item_value(text, &token.value)?;
+    push_at(text, token.location)
+}
+
+// An error with its place, after a word.
+fn push_fault(text: &mut String, word: &str, fault: &Fault) -> Result<(), AllocError> {
+    text.push_str(word)?;
+    push_error(text, &fault.0)?;
+    push_at(text, fault.1)
+}
+
+fn push_reply(text: &mut String, reply: &Reply) -> Result<(), AllocError> {
+    match reply {
+        Reply::Added => text.push_str("Added"),
+        Reply::Refused(fault) => push_fault(text, "Refused ", fault),
+        Reply::Given(Outcome::Token(token)) => push_token(text, token),
+        Reply::Given(Outcome::Fault(fault)) => push_fault(text, "Error ", fault),
+        Reply::Given(Outcome::End) => text.push_str("None"),
+    }
+}
