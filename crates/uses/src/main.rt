@@ -1,17 +1,26 @@
-//! Five uses of `pp_rs`, as a user writes them, each in a module of its own and without a proof
-//! file. The program runs them over the source on its standard input.
+//! Uses of `pp_rs`, as a user writes them, each in a module of its own. Five have no proof file, and the program runs
+//! them over the source on its standard input. Three have contracts that say what they give (`code_text`,
+//! `defined_first`, `one_token`), and run over examples.
 #![tactic(auto)]
 
+mod code_text;
+mod defined_first;
 mod errors;
 mod highlighter;
 mod minifier;
+mod one_token;
 mod variants;
 mod version;
 
 use anyhow::Result;
+use code_text::code_text;
+use defined_first::first_item_with;
 use errors::print_errors;
 use highlighter::highlight;
 use minifier::minify;
+use one_token::replies_to_a;
+use pp_rs::pp::{Outcome, PreprocessorItem, Reply};
+use pp_rs::token::{Location, PreprocessorError};
 use std::alloc::Global;
 use std::io;
 use variants::build_variants;
@@ -19,6 +28,12 @@ use version::check_version;
 
 // A source with errors, of which each is told.
 const FAULTY: &str = "int a = 0x;\n#define F(x) x\n  F(1, 2) #\n#if )\n#endif\n";
+
+// The third example of the C standard, section 6.10.3.5. It says that its line is
+// `f(2 * (y+1)) + f(2 * (f(2 * (z[0])))) % f(2 * (0)) + t(1);`.
+const REDEFINED: &str =
+    "#define x 3\n#define f(a) f(x * (a))\n#undef x\n#define x 2\n#define g f\n#define z z[0]\n\
+#define t(a) a\nf(y+1) + f(f(z)) % t(t(g)(0) + t)(1);\n";
 
 fn main(rt: HostRuntime) -> Result<()> {
     let text = io::read_to_string(rt.alloc(), rt.stdin())?;
@@ -37,7 +52,52 @@ fn show_uses(rt: &impl Print, alloc: Global, source: &str) -> Result<()> {
         println!(rt; "no variant: {refusal:#}")?;
     }
     print_errors(rt, alloc, "faulty", FAULTY)?;
+    show_proved(rt, alloc)
+}
+
+// Shows what the callers give whose results are proved.
+fn show_proved(rt: &impl Print, alloc: Global) -> Result<()> {
+    'replies: for reply in replies_to_a(alloc)? {
+        show_reply(rt, &reply)?;
+    }
+    show_code(rt, code_text(alloc, REDEFINED))?;
+    show_code(rt, code_text(alloc, "#version 300 es\na b\n  #error c\n"))?;
+    show_first(rt, first_item_with(alloc, "STEPS + 1", "STEPS", "0x10"))?;
+    show_first(rt, first_item_with(alloc, "STEPS + 1", "STEPS", "4 #"))?;
     Ok(())
+}
+
+fn show_reply(rt: &impl Print, reply: &Reply) -> io::Result<()> {
+    match reply {
+        Reply::Given(Outcome::Token(token)) => println!(rt;
+            "a: {token}, line {}",
+            token.location.line
+        ),
+        Reply::Given(Outcome::End) => println!(rt; "a: the end"),
+        _ => println!(rt; "a: another reply"),
+    }
+}
+
+fn show_code(
+    rt: &impl Print,
+    code: Result<String, (PreprocessorError, Location)>,
+) -> io::Result<()> {
+    match code {
+        Ok(text) => println!(rt; "code: {text}"),
+        Err((error, place)) => println!(rt; "no code: {error}, line {}", place.line),
+    }
+}
+
+fn show_first(
+    rt: &impl Print,
+    item: Result<Option<PreprocessorItem>, (PreprocessorError, Location)>,
+) -> io::Result<()> {
+    match item {
+        Ok(Some(Ok(token))) => println!(rt; "first: {token}"),
+        Ok(Some(Err((error, _)))) => println!(rt; "first: {error}"),
+        Ok(None) => println!(rt; "first: the end"),
+        Err((error, place)) => println!(rt; "not defined: {error}, line {}", place.line),
+    }
 }
 
 fn show(rt: &impl Print, title: &str, text: String) -> io::Result<()> {

@@ -1,0 +1,4 @@
+pub mod OneToken
+pub mod AItems
+pub mod CodeText
+pub mod DefinedFirst

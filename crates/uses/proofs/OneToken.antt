@@ -1,0 +1,87 @@
+-- The run of a source that is one identifier, step by step.
+use Rattle.std.proofs.Common.{◌≡◌, ◌∙◌, ℕ, Bool, false, if◌then◌else◌, List, [], ◌∷◌, map, refl, ap, sym, subst, Option, None, Some}
+use Rattle.std.specs.Prelude.{Ok, pos, unwrap_or}
+use Rattle.pp_lexer.specs.Lexed.{Seen}
+use Rattle.pp_lexer.specs.declared.lexer.item.Token.{Token as LexerToken}
+use Rattle.pp_lexer.specs.declared.lexer.item.TokenValue.TheVariants.{Ident as LexerIdent, NewLine}
+use Rattle.pp_lexer.specs.declared.token.Location.{Location}
+use Rattle.pp_lexer.specs.declared.token.Token.{Token}
+use Rattle.pp_lexer.specs.declared.token.TokenValue.TheVariants.{Ident}
+use Rattle.pp_model.specs.Calls.{Answers}
+use Rattle.pp_model.specs.Emitting.{Emits, itself}
+use Rattle.pp_model.specs.Names.{Name, is_same_name, line_name}
+use Rattle.pp_model.specs.Painting.{unpainted}
+use Rattle.pp_model.specs.Reading.{Expander}
+use Rattle.pp_model.specs.Reads.{Steps, passes, gives, Reads, here, later, source_reading, shown_line}
+use Rattle.pp_model.specs.Run.{by_rules, start, next, Runs, done, given}
+use Rattle.pp_model.specs.SourceReader.{SourceReader, start_of}
+use Rattle.pp_model.specs.Taking.{Takes, read, line_number, shown_token}
+use Rattle.pp_model.specs.declared.call.Reply.{Reply}
+use Rattle.pp_model.specs.declared.call.Reply.TheVariants.{Given}
+use Rattle.pp_model.specs.declared.outcome.Outcome.TheVariants as outcome
+use Rattle.pp_model.specs.declared.read.Taken.{Taken}
+use Rattle.pp_model.specs.declared.read.Taken.TheVariants as taken
+
+-- an identifier, and the newline after it
+abbrev word_of : Name → Location → Bool → Bool → Seen → Seen
+word_of name place blank first s = record s { item = Ok (record { value = LexerIdent name; location = place; leading_whitespace = blank; start_of_line = first }) }
+
+abbrev newline_of : Location → Bool → Bool → Seen → Seen
+newline_of place blank first s = record s { item = Ok (record { value = NewLine; location = place; leading_whitespace = blank; start_of_line = first }) }
+
+abbrev token_of : Name → Location → Token
+token_of name place = record { value = Ident name; location = place }
+
+abbrev pub replies_of : Name → Location → List Reply
+replies_of name place = Given (outcome.Token (token_of name place)) ∷ Given outcome.End ∷ []
+
+module _ (A : Answers) (name : Name) (place after : Location) (b f c g : Bool) (s n : Seen) (other : is_same_name name line_name ≡ false) where
+  abbrev items : List Seen
+  items = word_of name place b f s ∷ newline_of after c g n ∷ []
+
+  abbrev reader_at : ℕ → SourceReader
+  reader_at position = record (start_of items) { position = position }
+
+  abbrev state_at : ℕ → Expander SourceReader
+  state_at position = record (start items) { reader = reader_at position }
+
+  abbrev first : Taken
+  first = taken.Token (unpainted (token_of name place))
+
+  -- it isn't `__LINE__`, and so it is shown as it is
+  shown : first ≡ shown_token (shown_line (reader_at 1)) [] (unpainted (token_of name place))
+  shown = ap (λ is_line. if is_line then line_number place (shown_line (reader_at 1) (unwrap_or None place.line)) else first) (sym other)
+
+  word_comes : Emits (source_reading A) A (state_at 0) first (state_at 1)
+  word_comes =
+      let step : Steps A (reader_at 0) (Some (outcome.Token (token_of name place))) (reader_at 1) = gives (outcome.Token (token_of name place)) _ _ _ refl refl refl in
+      itself first _ _ (record { first = first; fetches = read first first (reader_at 1) _ _ refl refl (here _ first _ _ step refl) shown refl; paints = refl }) refl
+
+  end_comes : Emits (source_reading A) A (state_at 1) taken.End (state_at 2)
+  end_comes =
+      let newline : Steps A (reader_at 1) None (reader_at 2) = passes _ _ _ refl refl refl in
+      let end : Steps A (reader_at 2) (Some outcome.End) (reader_at 2) = gives outcome.End _ _ _ refl refl refl in
+      let reads : Reads A (reader_at 1) taken.End (reader_at 2) = later taken.End _ (reader_at 2) _ newline (here _ taken.End _ _ end refl) in
+      itself taken.End _ _ (record { first = taken.End; fetches = read taken.End taken.End (reader_at 2) _ _ refl refl reads refl refl; paints = refl }) refl
+
+  runs : Runs (by_rules A) (start items) (next ∷ next ∷ []) (replies_of name place)
+  runs = given (outcome.Token (token_of name place)) _ (state_at 1) _ _ _ (record { taken = first; emits = word_comes; is = refl }) refl
+      (given outcome.End _ (state_at 2) _ _ _ (record { taken = taken.End; emits = end_comes; is = refl }) refl (done _ [] refl) refl) refl
+
+-- the same of items that are these
+pub identifier_runs : (A : Answers) (items : List Seen) (word newline : LexerToken) (name : Name) → map (λ (s : Seen). s.item) items ≡ Ok word ∷ Ok newline ∷ []
+    → word.value ≡ LexerIdent name → newline.value ≡ NewLine → is_same_name name line_name ≡ false
+    → Runs (by_rules A) (start items) (next ∷ next ∷ []) (replies_of name word.location)
+identifier_runs A [] word newline name e w n other = cc
+identifier_runs A (s ∷ []) word newline name e w n other = cc
+identifier_runs A (s ∷ t ∷ u ∷ rest) word newline name e w n other = cc
+identifier_runs A (s ∷ t ∷ []) word newline name e w n other =
+    let this : s.item ≡ Ok word = cc in
+    let that : t.item ≡ Ok newline = cc in
+    let first : s ≡ word_of name word.location word.leading_whitespace word.start_of_line s =
+    ap (λ i. record s { item = i }) this ∙ ap (λ v. record s { item = Ok (record word { value = v }) }) w in
+    let second : t ≡ newline_of newline.location newline.leading_whitespace newline.start_of_line t =
+    ap (λ i. record t { item = i }) that ∙ ap (λ v. record t { item = Ok (record newline { value = v }) }) n in
+    let run = runs A name word.location newline.location word.leading_whitespace word.start_of_line newline.leading_whitespace newline.start_of_line s t other in
+    let half = subst (λ x. Runs (by_rules A) (start (x ∷ newline_of newline.location newline.leading_whitespace newline.start_of_line t ∷ [])) (next ∷ next ∷ []) (replies_of name word.location)) (sym first) run in
+    subst (λ y. Runs (by_rules A) (start (s ∷ y ∷ [])) (next ∷ next ∷ []) (replies_of name word.location)) (sym second) half
