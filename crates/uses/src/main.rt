@@ -1,6 +1,7 @@
-//! Uses of `pp_rs`, as a user writes them, each in a module of its own. Five have no proof file, and the program runs
+//! Uses of `pp_rs`, as a user writes them, each in a module of its own. Six have no proof file, and the program runs
 //! them over the source on its standard input. Three have contracts that say what they give (`code_text`,
-//! `defined_first`, `one_token`), and run over examples.
+//! `defined_first`, `one_token`), and run over examples. With the argument `requirements` it does that one alone, and
+//! ends with 1 if the source has an error.
 #![tactic(auto)]
 
 mod code_text;
@@ -9,6 +10,7 @@ mod errors;
 mod highlighter;
 mod minifier;
 mod one_token;
+mod requirements;
 mod variants;
 mod version;
 
@@ -21,8 +23,9 @@ use minifier::minify;
 use one_token::replies_to_a;
 use pp_rs::pp::{Outcome, PreprocessorItem, Reply};
 use pp_rs::token::{Location, PreprocessorError};
+use requirements::show_requirements;
 use std::alloc::Global;
-use std::io;
+use std::{env, io};
 use variants::build_variants;
 use version::check_version;
 
@@ -37,13 +40,31 @@ const REDEFINED: &str =
 
 fn main(rt: HostRuntime) -> Result<()> {
     let text = io::read_to_string(rt.alloc(), rt.stdin())?;
-    let shown = show_uses(&rt, rt.alloc(), text.as_str());
+    let shown = if is_asked_for_requirements(&rt) {
+        show_requirements(&rt, rt.alloc(), text.as_str())
+    } else {
+        show_uses(&rt, rt.alloc(), text.as_str())
+    };
     drop(text);
     shown
 }
 
+// Whether the first argument is `requirements`.
+fn is_asked_for_requirements(rt: &HostRuntime) -> bool {
+    let Ok(mut arguments) = env::args(rt) else {
+        return false;
+    };
+    // The first is the program's name.
+    match arguments.nth(1) {
+        Some(argument) => argument.as_str() == "requirements",
+        None => false,
+    }
+}
+
 fn show_uses(rt: &impl Print, alloc: Global, source: &str) -> Result<()> {
     show(rt, "highlighted", highlight(alloc, source)?)?;
+    println!(rt; "requirements:")?;
+    show_requirements(rt, alloc, source)?;
     let verdict = check_version(alloc, source)?;
     println!(rt; "version: {verdict}")?;
     show(rt, "variants", build_variants(alloc, source, &["0", "1"])?)?;
