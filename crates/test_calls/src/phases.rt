@@ -1,6 +1,6 @@
 //! The characters that the three readers give.
 
-use crate::session::BYTES;
+use pp_rs::SOURCE_LIMIT;
 use pp_rs::lexer::{CharsAndLine, ReplaceComments, SkipBackslashNewline};
 use std::io;
 
@@ -49,7 +49,7 @@ fn uncommented_left(rt: &impl Print, mut reader: ReplaceComments<'_>) -> io::Res
 
 /// Those of `CharsAndLine`.
 pub(crate) fn lines(rt: &impl Print, source: &str) -> io::Result<()> {
-    if source.len() < BYTES {
+    if source.len() < SOURCE_LIMIT {
         lines_left(rt, CharsAndLine::new(source))?;
     }
     Ok(())
@@ -57,7 +57,7 @@ pub(crate) fn lines(rt: &impl Print, source: &str) -> io::Result<()> {
 
 /// Those of `SkipBackslashNewline`.
 pub(crate) fn joined(rt: &impl Print, source: &str) -> io::Result<()> {
-    if source.len() < BYTES {
+    if source.len() < SOURCE_LIMIT {
         joined_left(rt, SkipBackslashNewline::new(source))?;
     }
     Ok(())
@@ -65,7 +65,7 @@ pub(crate) fn joined(rt: &impl Print, source: &str) -> io::Result<()> {
 
 /// Those of `ReplaceComments`.
 pub(crate) fn uncommented(rt: &impl Print, source: &str) -> io::Result<()> {
-    if source.len() < BYTES {
+    if source.len() < SOURCE_LIMIT {
         uncommented_left(rt, ReplaceComments::new(source))?;
     }
     Ok(())
@@ -73,7 +73,7 @@ pub(crate) fn uncommented(rt: &impl Print, source: &str) -> io::Result<()> {
 
 /// Those of a copy of each reader, which is made after the first character, and then those of the reader itself.
 pub(crate) fn copies(rt: &impl Print, source: &str) -> io::Result<()> {
-    if source.len() >= BYTES {
+    if source.len() >= SOURCE_LIMIT {
         return Ok(());
     }
     let mut lines = CharsAndLine::new(source);

@@ -1,12 +1,10 @@
 //! A preprocessor of a source, and what was done with it.
 
-ghost use Rattle.std.specs.Prelude.{IsTrue, All};
-ghost use Rattle.pp_model.specs.Run.{HasRoom};
-
 use crate::shown::{
     copy_error, copy_token, print_error, print_item, print_reply, refused, replies,
 };
 use pp_reference::run::run;
+use pp_rs::SOURCE_LIMIT;
 use pp_rs::pp::{
     self, Call, Preprocessor, PreprocessorItem, Reply, append_all, are_read_afresh, drain,
     preprocess_all, spell_tokens,
@@ -14,28 +12,10 @@ use pp_rs::pp::{
 use pp_rs::token::{Location, PreprocessorError, Token};
 use std::alloc::Global;
 use std::io;
-
-/// A source or content has fewer bytes.
-pub(crate) const BYTES: usize = 4_294_967_295;
+use test_shown::have_room;
 
 // The steps that the plain program may take.
 const STEPS: u64 = 200_000;
-
-fn has_room(call: &Call<'_>) -> bool
-    ensures { IsTrue result → HasRoom call.now }
-{
-    match call {
-        Call::AddDefine(_, content) => content.len() < BYTES,
-        Call::Next => true,
-    }
-}
-
-// Whether each content is short enough.
-fn have_room(calls: &[Call<'_>]) -> bool
-    ensures { IsTrue result → All HasRoom calls.now }
-{
-    calls.iter().all(|call| has_room(call))
-}
 
 fn reply_to_definition(answer: Result<(), (PreprocessorError, Location)>) -> Reply {
     match answer {
@@ -58,7 +38,11 @@ pub(crate) struct Session<'a> {
 impl<'a> Session<'a> {
     /// Nothing was done yet. Of a source that is too long it has none.
     pub(crate) fn new(alloc: Global, source: &'a str) -> Session<'a> {
-        let source = if source.len() < BYTES { source } else { "" };
+        let source = if source.len() < SOURCE_LIMIT {
+            source
+        } else {
+            ""
+        };
         Session {
             alloc,
             source,
@@ -76,7 +60,7 @@ impl<'a> Session<'a> {
         name: &'a str,
         content: &'a str,
     ) -> io::Result<()> {
-        if content.len() >= BYTES {
+        if content.len() >= SOURCE_LIMIT {
             return Ok(());
         }
         self.calls.push(Call::AddDefine(name, content))?;
@@ -200,7 +184,7 @@ impl<'a> Session<'a> {
 
     /// Makes the same calls once more, by `replies`.
     pub(crate) fn replies(&self, rt: &impl Print) -> io::Result<()> {
-        if self.source.len() < BYTES && have_room(&self.calls) {
+        if self.source.len() < SOURCE_LIMIT && have_room(&self.calls) {
             let given = match pp::replies(self.alloc, self.source, &self.calls) {
                 Ok(replies) => Ok(Some(replies)),
                 Err(error) => Err(error),
@@ -212,7 +196,7 @@ impl<'a> Session<'a> {
 
     /// Makes the same calls once more, by the plain program.
     pub(crate) fn plain(&self, rt: &impl Print) -> io::Result<()> {
-        if self.source.len() < BYTES && have_room(&self.calls) {
+        if self.source.len() < SOURCE_LIMIT && have_room(&self.calls) {
             let given = run(self.alloc, self.source, &self.calls, STEPS);
             return replies(rt, self.alloc, "plain", given);
         }

@@ -3,7 +3,7 @@
 ghost use Rattle.std.specs.Prelude.{◌≢◌};
 ghost use Rattle.pp_lexer.specs.declared.lexer.item.TokenValue.TheVariants.{NewLine};
 
-use crate::session::BYTES;
+use pp_rs::SOURCE_LIMIT;
 use pp_rs::lexer::{self, Lexer, LexerItem};
 use pp_rs::pp::{
     PreprocessorItem, Reply, Step, StepExit, convert_lexer_token, convert_lexer_token_to_step,
@@ -50,7 +50,7 @@ fn lexer_items(rt: &impl Print, alloc: Global, items: &mut Lexer<'_>) -> io::Res
 
 /// The items of a `Lexer`, each with whether a comment was passed and where it stands.
 pub(crate) fn lexer(rt: &impl Print, alloc: Global, source: &str) -> io::Result<()> {
-    if source.len() < BYTES {
+    if source.len() < SOURCE_LIMIT {
         let mut items = Lexer::new(alloc, source);
         let shown = lexer_items(rt, alloc, &mut items);
         drop(items);
@@ -187,7 +187,7 @@ fn convert_items(rt: &impl Print, alloc: Global, items: &mut Lexer<'_>) -> io::R
 
 /// Copies and converts the tokens of a `Lexer`.
 pub(crate) fn convert(rt: &impl Print, alloc: Global, source: &str) -> io::Result<()> {
-    if source.len() < BYTES {
+    if source.len() < SOURCE_LIMIT {
         let mut items = Lexer::new(alloc, source);
         let shown = convert_items(rt, alloc, &mut items);
         drop(items);

@@ -1,39 +1,20 @@
 //! What a case comes to: by the plain program, by the preprocessor's list of replies, and by its items one by one.
 
-ghost use Rattle.std.specs.Prelude.{◌-◌, ◌^◌, ◌<◌, length, IsTrue, All};
-ghost use Rattle.pp_model.specs.Run.{HasRoom};
+ghost use Rattle.std.specs.Prelude.{◌-◌, ◌^◌, ◌<◌, length};
 
 use crate::case::{Act, Case};
 use pp_reference::run::run;
+use pp_rs::SOURCE_LIMIT;
 use pp_rs::pp::{self, Call, Outcome, Preprocessor, PreprocessorItem, Reply, preprocess_all};
 use pp_rs::token::{Location, PreprocessorError};
 use std::alloc::{AllocError, Global};
-use test_shown::{item, joined, reply};
+use test_shown::{have_room, item, joined, reply};
 
 // More steps than any source here wants.
 const STEPS: u64 = 1_000_000;
 
-// More bytes than any source or content here has.
-const BYTES: usize = 100_000;
-
 // More items than any source here comes to up to its first error.
 const ITEMS: u32 = 100;
-
-fn has_room(call: &Call<'_>) -> bool
-    ensures { IsTrue result → HasRoom call.now }
-{
-    match call {
-        Call::AddDefine(_, content) => content.len() < BYTES,
-        Call::Next => true,
-    }
-}
-
-// Whether each content is short, as all are here.
-fn have_room(calls: &[Call<'_>]) -> bool
-    ensures { IsTrue result → All HasRoom calls.now }
-{
-    calls.iter().all(|call| has_room(call))
-}
 
 fn call_of<'a>(act: &'a Act) -> Call<'a> {
     match act {
@@ -72,7 +53,7 @@ pub(crate) fn by_the_plain_program(
     source: &str,
     calls: &[Call<'_>],
 ) -> Result<String, AllocError> {
-    if source.len() < BYTES && have_room(calls) {
+    if source.len() < SOURCE_LIMIT && have_room(calls) {
         if let Some(replies) = run(alloc, source, calls, STEPS)? {
             let text = shown(alloc, &replies);
             drop(replies);
@@ -88,7 +69,7 @@ pub(crate) fn by_replies(
     source: &str,
     calls: &[Call<'_>],
 ) -> Result<String, AllocError> {
-    if source.len() < BYTES && have_room(calls) {
+    if source.len() < SOURCE_LIMIT && have_room(calls) {
         let replies = pp::replies(alloc, source, calls)?;
         let text = shown(alloc, &replies);
         drop(replies);
@@ -151,7 +132,7 @@ fn act_on(
     items: &mut Items,
 ) -> Result<(), AllocError> {
     match act {
-        Act::Add { name, content } if content.len() < BYTES => {
+        Act::Add { name, content } if content.len() < SOURCE_LIMIT => {
             put_addition(alloc, pp.add_define(name.as_str(), content.as_str()), items)
         }
         Act::Add { .. } => put_text(alloc, "no answer", items),
@@ -232,7 +213,7 @@ pub(crate) fn by_items(alloc: Global, case: &Case) -> Result<Items, AllocError> 
         after: Vec::new(alloc),
         failed: false,
     };
-    if case.source.len() < BYTES {
+    if case.source.len() < SOURCE_LIMIT {
         put_items(
             alloc,
             case.source.as_str(),

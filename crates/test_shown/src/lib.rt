@@ -1,13 +1,33 @@
 //! Items, replies and tokens as text, as the worked cases and the tables of tests show them.
 #![tactic(auto)]
 
-use pp_lexer::lexer::{self, LexerItem};
+ghost use Rattle.std.specs.Prelude.{IsTrue, All};
+ghost use Rattle.pp_model.specs.Run.{HasRoom};
+
+use pp_lexer::lexer::{self, LexerItem, SOURCE_LIMIT};
 use pp_lexer::token::{
     Float, Integer, Location, PreprocessorError, Punct, Token, TokenValue, Tokens,
 };
-use pp_model::call::Reply;
+use pp_model::call::{Call, Reply};
 use pp_model::outcome::{Fault, Outcome};
 use std::alloc::{AllocError, Global};
+
+/// Whether each content that the calls add is short enough for `add_define`.
+pub fn have_room(calls: &[Call<'_>]) -> bool
+    ensures { IsTrue result → All HasRoom calls.now }
+{
+    calls.iter().all(|call| has_room(call))
+}
+
+// Whether the content that a call adds is short enough.
+fn has_room(call: &Call<'_>) -> bool
+    ensures { IsTrue result → HasRoom call.now }
+{
+    match call {
+        Call::AddDefine(_, content) => content.len() < SOURCE_LIMIT,
+        Call::Next => true,
+    }
+}
 
 /// The parts with a comma and a space between each two.
 pub fn joined(alloc: Global, parts: &[String]) -> Result<String, AllocError> {
