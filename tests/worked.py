@@ -25,8 +25,8 @@ ERRORS = variants("PreprocessorError")
 
 
 class Case:
-    """A source, the words of the calls over it, and what these and the items that are left are answered, up to the first
-    error and after it. Of a case of the sheet `places` says where each error stands, and `lexed` what the lexer gives."""
+    """A source, the words of the calls over it, and the replies to these and the items that are left, up to the first error
+    and after it. In a case of the sheet `places` has the place of each error, and `lexed` what the lexer gives."""
 
     def __init__(self, name):
         self.name, self.lines, self.calls, self.replies = name, [], [], []
