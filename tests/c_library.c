@@ -90,7 +90,7 @@ static bool is_kept(size_t items_room, size_t texts_room) {
     return true;
 }
 
-/* Each room that is too small: the answer, the sizes, and that nothing is written beyond it. */
+/* Each room that is too small: the result, the sizes, and that nothing is written beyond it. */
 static void check_rooms(void) {
     define_all();
     check("there is room", call(MOST, 4 * MOST) == PP_DONE);

@@ -1,11 +1,11 @@
-"""Names that a table of names can mistake for one another, so that it has to compare each with many: a table that looks
-names up by a hash finds all of them in one place, unless it has another way out."""
+"""Names that a table can't tell apart quickly, so that it has to compare each with many: a table that looks names up by a
+hash finds all of them in one place, unless it has another way."""
 
 # The 32-bit FNV-1a hash.
 OFFSET, PRIME = 2166136261, 16777619
 
-# Sixteen texts of six letters in each row. Whichever texts of the rows before it a name has, it has the same hash after any
-# of these. They were searched for from both ends: three letters on from the hash before, and three back from one chosen.
+# Sixteen texts of six letters in each row. After any texts of the rows before, a name has the same hash after each of
+# these. They were searched for from both ends: three letters on from the hash before, and three back from one chosen.
 WIDTH = 6
 ROWS = [
     "40Jgy597Iq41EoiKGjK7VrvCLlqWYlN7VTKERNd2rkU4dc0gX6NLEHb1quWOcbk73GeHBpDfhWj_1riRP47Om9e2cUpNUQSj",
@@ -25,14 +25,14 @@ def hash_of(text):
 
 
 def of_one_hash(count):
-    """So many names of 31 letters, no two alike and all of one hash: at most 16 to the power of the rows."""
+    """Makes `count` names of 31 letters, all different and all of one hash: at most 16 to the power of the rows."""
     texts = [[row[at : at + WIDTH] for at in range(0, len(row), WIDTH)] for row in ROWS]
     return ["n" + "".join(row[number >> 4 * place & 15] for place, row in enumerate(texts)) for number in range(count)]
 
 
 def alike_at_the_ends(count):
-    """So many names, at most a million, that differ in the middle alone: of one length, with the same eight letters at each
-    end, and the same one right in the middle."""
+    """Makes `count` names, at most a million, that differ in the middle alone: of one length, with the same eight letters at
+    each end, and the same one right in the middle."""
     return [f"shadows_{number // 1000:03}x{number % 1000:03}_colours" for number in range(count)]
 
 

@@ -1,4 +1,4 @@
-"""The programs of this repository, built where they aren't, and cases that are run and counted."""
+"""The programs of this repository, built if they aren't, and cases that are run and counted."""
 
 import concurrent.futures
 import os
@@ -23,7 +23,7 @@ def folder_of(crate):
 
 
 def with_dependencies(crate):
-    """The crate and those of the repository that it stands on."""
+    """The crate and those of the repository that it needs."""
     lists = {}
     with open(os.path.join(TOP, "crates.txt"), encoding="utf-8") as file:
         for line in file:
@@ -43,7 +43,7 @@ def with_dependencies(crate):
 
 
 def newest_source(crate):
-    """When a source of the crate, or of one that it stands on, was changed last."""
+    """When a source of the crate, or of one that it needs, was changed last."""
     newest = os.path.getmtime(os.path.join(TOP, "crates.txt"))
     for name in with_dependencies(crate):
         for folder, inner, files in os.walk(folder_of(name)):
@@ -66,7 +66,7 @@ def build(crate, path, how="run"):
 
 
 def program(crate):
-    """The path of the crate's program, which is proved and built first where it isn't, or its sources are newer."""
+    """The path of the crate's program, which is proved and built first if it isn't, or if its sources are newer."""
     if INSTEAD:
         return os.path.join(INSTEAD, crate)
     path = os.path.join(folder_of(crate), "out", crate)
@@ -76,7 +76,7 @@ def program(crate):
 
 
 def library(crate):
-    """The path of the crate's static library, which is proved and built first where it isn't, or its sources are newer."""
+    """The path of the crate's static library, which is proved and built first if it isn't, or if its sources are newer."""
     path = os.path.join(folder_of(crate), "out", f"lib{crate}.a")
     if not os.path.exists(path) or os.path.getmtime(path) < newest_source(crate):
         build(crate, path, "lib")
@@ -92,14 +92,14 @@ def linked(path, to):
 
 
 def copy_folder(name, crate, top, copy=shutil.copy2):
-    """Copies a folder of a crate, where there is one."""
+    """Copies a folder of a crate, if there is one."""
     path = os.path.join(folder_of(crate), name)
     if os.path.isdir(path):
         shutil.copytree(path, os.path.join(top, "crates", crate, name), copy_function=copy)
 
 
 def copy_sources(crate, top):
-    """Copies the sources of a crate, and of those that it stands on, to another top, so that a check there edits no file
+    """Copies the sources of a crate, and of those that it needs, to another top, so that a check there edits no file
     of the repository."""
     names = with_dependencies(crate)
     for name in names:
@@ -125,7 +125,7 @@ def end_on_signals():
 
 
 class Ended:
-    """How a run ended: what it printed, as lines, and its status, which is None where it took too long."""
+    """How a run ended: what it printed, as lines, and its status, which is None if it took too long."""
 
     def __init__(self, status, printed, said):
         self.status, self.printed, self.said = status, printed, said
@@ -174,7 +174,7 @@ class Count:
         self.passed = self.failed = 0
 
     def add(self, name, fault):
-        """Counts a case, which failed where there is a fault."""
+        """Counts a case, which failed if there is a fault."""
         if fault:
             self.failed += 1
             print(f"FAILED: {name}: {fault}", flush=True)
@@ -182,12 +182,12 @@ class Count:
             self.passed += 1
 
     def end(self):
-        """Prints the last line, and ends with status 0 where none failed."""
+        """Prints the last line, and ends with status 0 if none failed."""
         print(f"{self.passed} passed, {self.failed} failed")
         sys.exit(1 if self.failed or not self.passed else 0)
 
 
 def side_by_side(job, cases):
-    """What the job answers for each case, in their order, a processor each."""
+    """What the job returns for each case, in their order, a processor each."""
     with concurrent.futures.ThreadPoolExecutor(os.cpu_count() or 1) as pool:
         yield from pool.map(job, cases)

@@ -4,10 +4,10 @@
        memory fails N          the Nth request for memory is refused
        read HOW N              the Nth read of standard input fails, is interrupted, or gives one byte at most: HOW is
                                fails, stops or short
-       write HOW N             the Nth write of standard output does so; where HOW is none, it takes nothing
+       write HOW N             the Nth write of standard output does so; if HOW is none, it takes nothing
 
-   N counts from 1, and 0 means each. The first time it says "refused" on standard error. Where the variable STEP is set,
-   each read of standard input and each write of standard output moves so many bytes at most. It needs glibc on x86-64. */
+   N counts from 1, and 0 means each. The first time it says "refused" on standard error. If the variable STEP is set,
+   each read of standard input and each write of standard output moves STEP bytes at most. It needs glibc on x86-64. */
 
 typedef unsigned long size;
 

@@ -1,4 +1,4 @@
-"""Sources at random, by style, and lists of calls over them. Equal seeds and numbers give equal cases."""
+"""Random sources, by style, and lists of calls over them. Equal seeds and numbers give equal cases."""
 
 import random
 
@@ -38,7 +38,7 @@ def token(r):
 
 
 def call(r, depth=0):
-    """A call, which may lack a parenthesis or have another number of arguments than is wanted."""
+    """A call, which may lack a parenthesis or have a wrong number of arguments."""
     arguments = []
     for _ in range(r.choice([0, 1, 1, 1, 2, 2, 3])):
         parts = some(r, 2, lambda: token(r))

@@ -25,8 +25,8 @@ ERRORS = variants("PreprocessorError")
 
 
 class Case:
-    """A source, the words of the calls over it, and what these and the items that are left are answered, up to the first
-    error and after it. Of a case of the sheet `places` says where each error stands, and `lexed` what the lexer gives."""
+    """A source, the words of the calls over it, and the replies to these and the items that are left, up to the first error
+    and after it. In a case of the sheet `places` has the place of each error, and `lexed` what the lexer gives."""
 
     def __init__(self, name):
         self.name, self.lines, self.calls, self.replies = name, [], [], []
@@ -94,8 +94,8 @@ OTHERS = ("all", "drain")
 
 
 def calls_of(case, answers):
-    """Takes what a binding can be asked for: the calls of `add_define` and `next` up to `rest`, or where the errors stand;
-    and what the lexer gives."""
+    """Takes the calls that a binding can make: of `add_define` and `next` up to `rest`, or for the places of errors; and what
+    the lexer gives."""
     is_open = True
     for word, lines in answers:
         if word == "lexer":
@@ -166,7 +166,7 @@ def part_of(printed):
 
 
 def items_of(printed):
-    """The items of the lines that show printed, in the words of the book, and of each error where it stands."""
+    """The items of the lines that show printed, in the words of the book, and the place of each error."""
     found = []
     for line in printed:
         if line.startswith("  "):
@@ -177,7 +177,7 @@ def items_of(printed):
 
 
 def item_of(lines):
-    """An item with those that it holds, in the words of the book, and of an error where it stands."""
+    """An item with those that it holds, in the words of the book, and the place of an error."""
     if lines == ["added"]:
         return "Added", None
     (words, place, flags), *held = map(part_of, lines)

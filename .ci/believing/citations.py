@@ -56,7 +56,7 @@ class Docs:
         self.wrong.append(f'{where} cites {what}, which is not there')
 
     def quotes(self, text):
-        """A block of code right after a line that names its file stands in that file so."""
+        """A block of code right after a line that names its file is in that file word for word."""
         for cited, code in QUOTED.findall(text):
             file = self.root / cited
             if file.exists() and code not in file.read_text():

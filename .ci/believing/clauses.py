@@ -96,7 +96,7 @@ def is_file(key):
 
 
 def differences(old, new):
-    """What is said otherwise in two such files, in words."""
+    """How two such files differ, in words."""
     old, new = stanzas(old), stanzas(new)
     keys = sorted({*old, *new}, key=lambda key: (is_file(key), key))
     found = [line for key in keys for line in difference(key, old.get(key), new.get(key))]

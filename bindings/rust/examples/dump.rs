@@ -1,4 +1,4 @@
-//! Prints what each call answers over the source on standard input, a line each, and then all items that are left:
+//! Prints what each call over the source on standard input returns, a line each, and then all items that are left:
 //!
 //!     dump [NAME=CONTENT | next]... < shader.frag
 use pp_rs::pp::Preprocessor;

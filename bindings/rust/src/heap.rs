@@ -1,4 +1,4 @@
-//! The heap that libpp_c.a asks for, over the C library's, so that no C compiler is needed.
+//! The heap that libpp_c.a needs, over the C library's, so that no C compiler is needed.
 use std::ffi::c_void;
 
 #[repr(C)]
@@ -13,7 +13,7 @@ extern "C" {
     fn free(block: *mut c_void);
 }
 
-// What is no block isn't null either. An alignment is at most 16.
+// A pointer to no block isn't null either. An alignment is at most 16.
 fn answer(block: *mut c_void) -> Tried {
     if block.is_null() {
         Tried {

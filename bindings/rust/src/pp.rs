@@ -36,7 +36,7 @@ pub struct Preprocessor<'a> {
     words: String,
     definitions: Vec<raw::Definition>,
     items: Option<Items>,
-    // How often an item was asked for, also at the end, and the number of the next in the list.
+    // How often `next` was called, also at the end, and the number of the next item in the list.
     asked: u64,
     at: usize,
 }
@@ -53,7 +53,7 @@ impl<'a> Preprocessor<'a> {
         }
     }
 
-    /// Lets a name stand for a content from now on, whatever it stood for. After an error nothing is changed.
+    /// Defines a name as an object-like macro, replacing any definition of it. After an error nothing is changed.
     pub fn add_define(
         &mut self,
         name: &str,
@@ -93,7 +93,7 @@ impl<'a> Iterator for Preprocessor<'a> {
     }
 }
 
-// Whether a definition is added: what it is answered before an empty source.
+// Whether a definition is added: the reply to it before an empty source.
 fn check(
     words: &str,
     definition: &mut raw::Definition,
@@ -113,8 +113,8 @@ fn check(
     }
 }
 
-// All items of a source, with the definitions added at their numbers. The first room is a guess: what isn't used of it takes
-// no memory.
+// All items of a source, with the definitions added at their numbers. The first room is a guess: the part that isn't used
+// takes no memory.
 fn all_items(source: &str, words: &str, definitions: &mut [raw::Definition]) -> Items {
     let mut items = Vec::with_capacity(source.len() + 16);
     let mut texts = Vec::with_capacity(2 * source.len() + 64);
@@ -125,7 +125,7 @@ fn all_items(source: &str, words: &str, definitions: &mut [raw::Definition]) -> 
     Items::new(items, texts)
 }
 
-// Calls the library, and answers how much room it wants, if there is too little: that which the lists have reserved.
+// Calls the library with the room that the lists have reserved, and returns how much room it needs, if that is too little.
 fn call(
     source: &str,
     words: &str,
@@ -134,8 +134,8 @@ fn call(
     texts: &mut Vec<u8>,
 ) -> Option<raw::Sizes> {
     let mut sizes = raw::Sizes::default();
-    // SAFETY: each pointer leads to as many elements as the length after it says, and no two overlap. Of items and texts
-    // nothing is read, and with DONE as many were written as the sizes say, which have room.
+    // SAFETY: each pointer leads to as many elements as the length after it says, and no two overlap. Nothing is read from
+    // items and texts, and with DONE as many were written as the sizes say, which have room.
     unsafe {
         let status = raw::pp_preprocess(
             source.as_ptr(),

@@ -1,6 +1,6 @@
 //! Tokens with their places, and errors.
 
-/// Where a token stands in its source.
+/// The place of a token in its source.
 #[derive(Clone, Copy, PartialEq, Debug)]
 pub struct Location {
     /// The byte offset at which it begins.
@@ -99,7 +99,7 @@ pub struct Pragma {
     pub tokens: Vec<Token>,
 }
 
-/// What a token is: an ordinary one, or a directive that is handed on.
+/// The value of a token: an ordinary one, or a directive that is handed on.
 #[derive(Clone, PartialEq, Debug)]
 pub enum TokenValue {
     Ident(String),
