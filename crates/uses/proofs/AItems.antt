@@ -1,8 +1,7 @@
 -- The items of the text `a`, as the definitions give them.
-use Rattle.std.proofs.Common.{◌≡◌, ◌∙◌, ℕ, Bool, true, false, ◌&&◌, ◌||◌, ◌==◌, if◌then◌else◌, List, [], ◌∷◌, ◌++◌, reverse, map, take, drop, codes, refl, ap, arith, rules}
+use Rattle.std.proofs.Common.{◌≡◌, ◌∙◌, true, false, ◌&&◌, ◌||◌, ◌==◌, if◌then◌else◌, [], ◌∷◌, ◌++◌, reverse, map, take, drop, codes, refl, ap, arith, rules}
 use Rattle.std.specs.Prelude.{Ok}
 use Rattle.std.specs.List.{flat_map}
-use Rattle.std.specs.Str.{chars}
 use Rattle.std.proofs.lemmas.Str.{chars-IsAscii}
 use Rattle.unicode_ident.proofs.IdentLemmas.{is_xid_start-ascii}
 use Rattle.pp_lexer.specs.Comments.{replaced}
@@ -19,7 +18,7 @@ use Rattle.pp_lexer.specs.Numbers.{is_number}
 use Rattle.pp_lexer.specs.Outcome.{Outcome}
 use Rattle.pp_lexer.specs.Punctuators.{is_punctuation, punctuation_value, punctuation_outcome}
 use Rattle.pp_lexer.specs.Reading.{spots}
-use Rattle.pp_lexer.specs.Segments.{Segment, Kind, item, segments, last_of}
+use Rattle.pp_lexer.specs.Segments.{item, segments, last_of}
 use Rattle.pp_lexer.specs.Surroundings.{surrounded}
 use Rattle.pp_lexer.specs.Words.{is_newline_word, is_word, word_at, word_outcome}
 use Rattle.pp_lexer.specs.declared.lexer.char_iterator.Spot.{Spot}

@@ -1,12 +1,12 @@
 -- The ordinary tokens among items that are read one after another.
-use Rattle.std.proofs.Common.{◌≡◌, ◌∙◌, ◌<◌, ◌+◌, ℕ, zero, suc, Bool, true, false, cond, List, [], ◌∷◌, ◌++◌, All, IsTrue, length, take, get_or, refl, ap, sym, subst, Option, None, Some, arith}
+use Rattle.std.proofs.Common.{◌≡◌, ◌∙◌, ◌<◌, ◌+◌, ℕ, zero, suc, false, List, [], ◌∷◌, ◌++◌, All, IsTrue, length, take, get_or, refl, ap, sym, subst, Option, None, Some, arith}
 use Rattle.std.specs.Prelude.{Ok, Err}
 use Rattle.std.specs.List.{filter}
 use Rattle.std.proofs.lemmas.List.{take_more}
 use Rattle.std.proofs.lemmas.List.Elements.{filter-append, filter_passes}
 use Rattle.pp_lexer.specs.TokenValue.{is_ordinary}
 use Rattle.pp_lexer.specs.declared.token.Token.{Token}
-use Rattle.pp_macros.specs.Item.{Fault, Item}
+use Rattle.uses.proofs.Item.{Fault, Item}
 use Rattle.pp_rs.specs.Collecting.{tokens_before_error, first_error, error_or_end, AreItemsFrom, AreItemsOf}
 use Rattle.pp_rs.specs.Comes.{State, IsRunFrom}
 use Rattle.pp_rs.specs.Kept.{Preprocessing, Stands, is_spent}

@@ -6,7 +6,7 @@ use Rattle.pp_model.specs.Run as run
 use Rattle.pp_model.specs.Run.{IsRun, Runs, add_define, next, items_of, start}
 use Rattle.pp_model.specs.declared.call.Reply.TheVariants.{Added, Refused, Given}
 use Rattle.pp_model.specs.declared.outcome.Outcome.TheVariants as outcome
-use Rattle.pp_macros.specs.Item.{Fault, Item}
+use Rattle.uses.proofs.Item.{Fault, Item}
 use Rattle.pp_rs.specs.Adding.{IsAdded, refused, faulty, added}
 use Rattle.pp_rs.specs.Comes.{State, Comes}
 use Rattle.pp_rs.specs.Kept.{Preprocessing, Stands, is_spent}

@@ -1,3 +1,4 @@
+pub mod Item
 pub mod OneToken
 pub mod AItems
 pub mod CodeText

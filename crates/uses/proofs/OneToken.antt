@@ -1,6 +1,6 @@
 -- The run of a source that is one identifier, step by step.
-use Rattle.std.proofs.Common.{◌≡◌, ◌∙◌, ℕ, Bool, false, if◌then◌else◌, List, [], ◌∷◌, map, refl, ap, sym, subst, Option, None, Some}
-use Rattle.std.specs.Prelude.{Ok, pos, unwrap_or}
+use Rattle.std.proofs.Common.{◌≡◌, ◌∙◌, ℕ, Bool, false, if◌then◌else◌, List, [], ◌∷◌, map, refl, ap, sym, subst, None, Some}
+use Rattle.std.specs.Prelude.{Ok, unwrap_or}
 use Rattle.pp_lexer.specs.Lexed.{Seen}
 use Rattle.pp_lexer.specs.declared.lexer.item.Token.{Token as LexerToken}
 use Rattle.pp_lexer.specs.declared.lexer.item.TokenValue.TheVariants.{Ident as LexerIdent, NewLine}
@@ -15,7 +15,7 @@ use Rattle.pp_model.specs.Reading.{Expander}
 use Rattle.pp_model.specs.Reads.{Steps, passes, gives, Reads, here, later, source_reading, shown_line}
 use Rattle.pp_model.specs.Run.{by_rules, start, next, Runs, done, given}
 use Rattle.pp_model.specs.SourceReader.{SourceReader, start_of}
-use Rattle.pp_model.specs.Taking.{Takes, read, line_number, shown_token}
+use Rattle.pp_model.specs.Taking.{read, line_number, shown_token}
 use Rattle.pp_model.specs.declared.call.Reply.{Reply}
 use Rattle.pp_model.specs.declared.call.Reply.TheVariants.{Given}
 use Rattle.pp_model.specs.declared.outcome.Outcome.TheVariants as outcome

@@ -4,7 +4,7 @@ use Rattle.std.proofs.lemmas.Iterator.Adapters.{YieldsList-from_vec}
 use Rattle.std.proofs.lemmas.Iterator.Consumers.{YieldsList-turn}
 use Rattle.std.proofs.lemmas.List.{length_push}
 use Rattle.std.proofs.lemmas.Result.{err_from_is_err_and}
-use Rattle.pp_macros.specs.Item.{Item}
+use Rattle.uses.proofs.Item.{Item}
 use Rattle.uses.proofs.CodeText.{kept_more, kept_ordinary, error_there}
 use Rattle.uses.proofs.code_text.ordinary_tokens.Goals as goal
 
