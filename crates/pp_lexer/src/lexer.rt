@@ -472,10 +472,10 @@ impl<'a> Lexer<'a> {
         self.place
     }
 
-    /// The next item without its memory, if it is a word of plain text: an identifier, a decimal number or a
-    /// punctuator of ASCII characters that no line continuation cuts. Else it returns `None` and takes no item: at a
-    /// newline, a `#`, an error and the end, and after an `OutOfMemory`. `next` returns these. Comments before the
-    /// next item may have been passed then, which [`Lexer::had_comments`] says.
+    /// The next item without its memory, if it is a word of plain text: an identifier, a decimal or hexadecimal
+    /// number or a punctuator of ASCII characters that no line continuation cuts. Else it returns `None` and takes no
+    /// item: at a newline, a `#`, an error and the end, and after an `OutOfMemory`. `next` returns these. Comments
+    /// before the next item may have been passed then, which [`Lexer::had_comments`] says.
     #[inline(always)]
     pub fn next_plain(&mut self) -> Option<PlainItem<'a>>
         ensures { IsNextPlain self.old result self.new }
