@@ -1,5 +1,5 @@
 use Rattle.std.proofs.lemmas.Str.{IsUtf8-string_bytes, chars-IsAscii}
-use Rattle.pp_rs.proofs.runs.SpellingLemmas.{chars-punctuator, chars-pushed}
+use Rattle.pp_rs.proofs.runs.SpellingLemmas.{chars-pushed}
 use Rattle.pp_rs.proofs.pp.spelling.push_word.Goals as goal
 
 pub returns-in-Identifier : goal.returns-in-Identifier
@@ -17,8 +17,3 @@ returns-in-SuffixedFloat c =
     let h = chars-pushed c.push_str-in-SuffixedFloat.result _ _ _ (IsUtf8-string_bytes c.args.text.now) c.push_str-in-SuffixedFloat.ensures.bytes in
     let e = c.without_suffix.ensures in
     rw (c.in-SuffixedFloat.is, ← e.value, ← chars-IsAscii c.without_suffix.result.now e.ascii) h
-
-pub returns-in-Punct : goal.returns-in-Punct
-returns-in-Punct c =
-    let h = chars-pushed c.push_str-in-Punct.result _ _ _ (IsUtf8-string_bytes c.args.text.now) c.push_str-in-Punct.ensures.bytes in
-    rw (c.in-Punct.is, ← chars-punctuator c.in-Punct.punct, ← c.spelling.ensures) h
