@@ -1,1 +1,2 @@
+pub mod WordTokens
 pub mod inner

@@ -12,7 +12,7 @@ ghost use Rattle.pp_macros.specs.inner.Defined.{meaning_of};
 ghost use Rattle.pp_macros.specs.inner.DirectiveItems.{is_item};
 ghost use Rattle.pp_macros.specs.Held.{HoldsOrdinary};
 ghost use Rattle.pp_macros.specs.Item.{as_step};
-ghost use Rattle.pp_directives.specs.inner.PlainText.{StepsPlain};
+ghost use Rattle.pp_directives.specs.inner.PlainText.{StepsPlain, GivesWord, PausesAtNewline};
 ghost use Rattle.pp_directives.specs.inner.ReadNames.{named};
 ghost use Rattle.pp_macros.specs.inner.OpenBlocks.{last_block, is_live_among, block_skipped};
 ghost use Rattle.pp_directives.specs.inner.SettingContent.{SetsContent};
@@ -29,8 +29,9 @@ use crate::lines::{
     DefineLine, define_line, ended_line, endif_end, first_name, first_token, line_tokens,
     only_name, refused_token, rest_of_line, skip_line,
 };
+use crate::live_names::LiveNames;
 use crate::source_lexer::SourceLexer;
-use pp_lexer::lexer;
+use pp_lexer::lexer::{self, PlainItem};
 use pp_lexer::token::{
     Extension, Location, Pragma, PreprocessorError, Text, Token, TokenValue, Version, out_of_memory,
 };
@@ -593,6 +594,32 @@ impl<'a> DirectiveProcessor<'a> {
             Some(block) => StepExit::Error((PreprocessorError::UnfinishedBlock, block.word)),
             None => StepExit::Finished,
         }
+    }
+
+    /// The next word of plain text before memory is taken for it, if it is in live text and neither defined nor
+    /// `__LINE__`. Else nothing is taken.
+    #[inline(always)]
+    pub fn next_word(&mut self) -> Option<PlainItem<'a>>
+        ensures { GivesWord self.old result self.new }
+    {
+        let is_live = self.is_live();
+        if !is_live {
+            return None;
+        }
+        let names = LiveNames {
+            definitions: &self.definitions,
+        };
+        let item = self.lexer.next_unknown(&names)?;
+        self.has_text = true;
+        Some(item)
+    }
+
+    /// Passes a newline of plain text, if one comes first, and returns whether it did. Else all is as it was.
+    #[inline(always)]
+    pub fn pass_newline(&mut self) -> bool
+        ensures { PausesAtNewline self.old result self.new }
+    {
+        self.lexer.pass_newline()
     }
 
     // A step at a word of plain text, if one comes first: a token in live text, and a pause without memory in dead

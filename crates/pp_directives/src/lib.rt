@@ -8,6 +8,7 @@ pub mod if_parser;
 pub mod limit;
 pub mod line_value;
 pub mod lines;
+mod live_names;
 pub mod parameters;
 pub mod source_lexer;
 pub mod source_reader;

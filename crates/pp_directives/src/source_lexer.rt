@@ -3,12 +3,12 @@
 ghost use Rattle.std.specs.Prelude.{◌≡◌, ◌-◌, ◌^◌, ◌<◌, length, false, true, None, Ok, IfOk};
 ghost use Rattle.pp_lexer.specs.Lexed.{start_of, comments_before};
 ghost use Rattle.pp_lexer.specs.Spots.{spots_of};
-ghost use Rattle.pp_directives.specs.inner.PlainText.{GivesPlain, PassesNewline};
+ghost use Rattle.pp_directives.specs.inner.PlainText.{GivesPlain, GivesUnknown, PassesNewline};
 ghost use Rattle.pp_macros.specs.inner.LineReading as spec;
 ghost use Rattle.pp_macros.specs.inner.SourceLexed.{beginning, unreported_at, EndStays};
 ghost use Rattle.pp_macros.specs.inner.Unreported.{Reports};
 
-use pp_lexer::lexer::{self, Lexer, PlainItem};
+use pp_lexer::lexer::{self, KnownNames, Lexer, PlainItem};
 use pp_lexer::token::Location;
 use pp_macros::halt::Halt;
 use pp_macros::step::is_out_of_memory;
@@ -85,6 +85,17 @@ impl<'a> SourceLexer<'a> {
             return None;
         }
         self.lexer.next_plain()
+    }
+
+    /// Does the same as `next_plain`, but gives nothing at an identifier that is known, too.
+    #[inline(always)]
+    pub fn next_unknown<N: KnownNames>(&mut self, names: &N) -> Option<PlainItem<'a>>
+        ensures { GivesUnknown (N.knows names.now) self.old result self.new }
+    {
+        if self.spent {
+            return None;
+        }
+        self.lexer.next_unknown(names)
     }
 
     /// Passes the next token if it is a newline of plain text, and returns whether it did. Else it changes nothing.

@@ -4,5 +4,6 @@ pub mod ScanLemmas
 pub mod ValueLemmas
 pub mod FloatLemmas
 pub mod PlainNumbersLemmas
+pub mod PlainHexLemmas
 pub mod NumberSetsLemmas
 pub mod DecimalLemmas

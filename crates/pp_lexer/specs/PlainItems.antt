@@ -1,5 +1,5 @@
 -- A word of plain text that a lexer gives before memory is taken for it (docs/RULES.md, Tokens).
-use Rattle.std.specs.Prelude.{◌≡◌, ◌≢◌, ℕ, ◌-◌, Bool, true, false, List, [], ◌∷◌, length, take, Option, Some, Ok, Err, MatchBool, MatchOption, pos}
+use Rattle.std.specs.Prelude.{◌≡◌, ◌≢◌, ℕ, ◌-◌, Bool, true, false, List, [], ◌∷◌, length, take, Option, Some, Ok, Err, MatchBool, MatchOption, pos, ⊤}
 use Rattle.std.specs.Str.{IsAscii}
 use Rattle.pp_lexer.specs.declared.lexer.item.Token.{Token}
 use Rattle.pp_lexer.specs.declared.lexer.item.TokenValue.{TokenValue}
@@ -49,6 +49,22 @@ PassesBlanks old new = new ≡ record old { had_comments = new.had_comments }
 -- one call of `next_plain`: a word, or no item was taken
 abbrev pub IsNextPlain : Lexed → Option PlainItem → Lexed → Type 0
 IsNextPlain old answer new = MatchOption answer (PassesBlanks old new) (λ item. IsPlainGiven old item new)
+
+-- the word is no `#`, and no identifier that is known
+abbrev pub IsUnknown : (List ℕ → Bool) → Form → List ℕ → Type 0
+IsUnknown knows Identifier w = knows w ≡ false
+IsUnknown knows HashForm w = ⊥
+IsUnknown knows _ w = ⊤
+
+-- the first item to come is this word, which was taken
+pub record IsUnknownGiven (knows : List ℕ → Bool) (old : Lexed) (item : PlainItem) (new : Lexed) : Type 0 where
+  pub given : IsPlainGiven old item new
+  pub unknown : IsUnknown knows item.form item.spelling.now
+
+-- one call of `next_unknown`: a word, or no item was taken
+abbrev pub IsNextUnknown : (List ℕ → Bool) → Lexed → Option PlainItem → Lexed → Type 0
+IsNextUnknown knows old answer new =
+    MatchOption answer (PassesBlanks old new) (λ item. IsUnknownGiven knows old item new)
 
 -- the item is a newline
 abbrev pub is_newline_lexeme : Lexeme → Bool

@@ -3,7 +3,7 @@
 //! [`CharsAndLine`], [`SkipBackslashNewline`] and [`ReplaceComments`] give the characters after phases 4 and 5, 6
 //! and 7, each with its line. [`Lexer`] gives the tokens. The rules are those of docs/RULES.md, Characters and Tokens.
 
-ghost use Rattle.std.specs.Prelude.{◌≡◌, ◌-◌, ◌^◌, ◌<◌, ◌+◌, ◌↔◌, length, take, Ok, Some, true, false, if◌then◌else◌, ⊤, OnOk, IfOk, IsSome, IfSome, MatchOption};
+ghost use Rattle.std.specs.Prelude.{◌≡◌, ◌-◌, ◌^◌, ◌<◌, ◌+◌, ◌↔◌, length, take, Ok, Some, true, false, if◌then◌else◌, ⊤, OnOk, IfOk, IsTrue, IsSome, IfSome, MatchOption};
 ghost use Rattle.std.specs.Iterator.{at_most};
 ghost use Rattle.pp_lexer.specs.Reading.{first_char};
 ghost use Rattle.pp_lexer.specs.Spots.{spots_of};
@@ -12,7 +12,7 @@ ghost use Rattle.pp_lexer.specs.Lexed.{start_of, first_item, after_first_item, f
 ghost use Rattle.pp_lexer.specs.inner.Passing.{is_newline_result, seen_of, newline_seen, lexeme_seen, comments_at_end, newline_places, places_left, IsPlaced, IsLexed};
 ghost use Rattle.pp_lexer.specs.inner.Fronts.{IsLeft};
 ghost use Rattle.pp_lexer.specs.inner.PlainWords.{IsFirstWord, IsPlainLexed, IsNewlineLexed};
-ghost use Rattle.pp_lexer.specs.PlainItems.{token_of, is_newline_lexeme, IsNextPlain, PassesNewline};
+ghost use Rattle.pp_lexer.specs.PlainItems.{token_of, is_newline_lexeme, IsUnknown, IsNextPlain, IsNextUnknown, PassesNewline};
 
 use crate::token::{Location, NOWHERE, PreprocessorError, out_of_memory};
 use std::alloc::{AllocError, Global};
@@ -23,6 +23,7 @@ mod chars_and_line;
 mod comments;
 mod identifier;
 mod item;
+mod known_names;
 pub mod laws;
 mod look_ahead;
 mod number;
@@ -40,9 +41,10 @@ pub use chars_and_line::CharsAndLine;
 use chars_and_line::Left;
 pub use comments::Comments;
 pub use item::{LexerItem, Token, TokenValue};
+pub use known_names::KnownNames;
 pub use plain::Form;
 use plain::{Word, begins_comment, newline_length, plain_word, spaces_length};
-pub use plain_item::{PlainItem, plain_value};
+pub use plain_item::{PlainItem, plain_value, without_suffix};
 pub use position::line_column;
 pub use replace_comments::{COMMENT_SENTINEL_VALUE, ReplaceComments};
 pub use skip_backslash_newline::SkipBackslashNewline;
@@ -175,6 +177,19 @@ fn take_word<'a>(
     };
     inner.go(rest, last);
     item
+}
+
+// Whether the word at the front of the text is no `#`, and no name that is known.
+#[inline(always)]
+fn is_unknown<N: KnownNames>(names: &N, text: &str, word: Word) -> bool
+    requires { IsFirstWord text.now word }
+    ensures { IsTrue result → IsUnknown (N.knows names.now) word.form (take word.taken text.now) }
+{
+    match word.form {
+        Form::Hash => false,
+        Form::Identifier => !names.is_known(&text[..word.taken]),
+        _ => true,
+    }
 }
 
 // The next item if it is a word of ASCII text, else `None`.
@@ -457,10 +472,10 @@ impl<'a> Lexer<'a> {
         self.place
     }
 
-    /// The next item without its memory, if it is a word of plain text: an identifier, a decimal number or a
-    /// punctuator of ASCII characters that no line continuation cuts. Else it returns `None` and takes no item: at a
-    /// newline, a `#`, an error and the end, and after an `OutOfMemory`. `next` returns these. Comments before the
-    /// next item may have been passed then, which [`Lexer::had_comments`] says.
+    /// The next item without its memory, if it is a word of plain text: an identifier, a decimal or hexadecimal
+    /// number or a punctuator of ASCII characters that no line continuation cuts. Else it returns `None` and takes no
+    /// item: at a newline, a `#`, an error and the end, and after an `OutOfMemory`. `next` returns these. Comments
+    /// before the next item may have been passed then, which [`Lexer::had_comments`] says.
     #[inline(always)]
     pub fn next_plain(&mut self) -> Option<PlainItem<'a>>
         ensures { IsNextPlain self.old result self.new }
@@ -474,6 +489,31 @@ impl<'a> Lexer<'a> {
             return None;
         };
         if matches!(word.form, Form::Hash) {
+            return None;
+        }
+        Some(take_word(
+            &mut self.inner,
+            &mut self.flags,
+            &mut self.place,
+            left,
+            word,
+        ))
+    }
+
+    /// Does the same as `next_plain`, but returns `None` at an identifier that is known, too, and takes no item then.
+    #[inline(always)]
+    pub fn next_unknown<N: KnownNames>(&mut self, names: &N) -> Option<PlainItem<'a>>
+        ensures { IsNextUnknown (N.knows names.now) self.old result self.new }
+    {
+        if self.spent {
+            return None;
+        }
+        skip_spaces_and_comments(&mut self.inner, &mut self.flags);
+        let left = self.inner.left();
+        let Some(word) = plain_word(left.text) else {
+            return None;
+        };
+        if !is_unknown(names, left.text, word) {
             return None;
         }
         Some(take_word(

@@ -3,28 +3,19 @@ use Rattle.std.proofs.Common.{◌≡◌, ℕ, List, [], ◌∷◌, ◌++◌, Opt
 use Rattle.std.specs.Io.KnownBytes.{Appends}
 use Rattle.std.proofs.lemmas.Grind.{flat_map-append}
 use Rattle.pp_model.specs.declared.outcome.Outcome.TheVariants as outcome
-use Rattle.pp_rs.specs.Comes.{State, Comes, Gives}
+use Rattle.pp_rs.specs.Comes.{State, Comes}
 use Rattle.pp_rs.specs.Kept.{Preprocessing, Stands}
 use Rattle.pp_rs.specs.declared.token.Token.{Token}
 use Rattle.pp_rs.proofs.runs.ComesLemmas.{gives_nothing, gives_more}
 use Rattle.pp_rs.specs.Output.{output_lines, written_lines, output}
 use Rattle.pp_rs.specs.inner.OutputLines.{begun_line, line_after, ended_lines, lines_from}
 use Rattle.pp_print.specs.Runs.{IsPrinted, IsBegun}
+use Rattle.pp_print.specs.inner.Printing.{IsPrinting}
+use Rattle.pp_rs.specs.NextWord.{StandsBetween, IsPassed}
 use Rattle.pp_print.specs.SourceRuns.{last_outcome, AreFirstFrom, EndsFrom}
 use Rattle.pp_print.specs.declared.ends.RunEnd.{RunEnd}
 use Rattle.pp_rs.proofs.OutputLemmas.{output_lines-from}
 use Rattle.pp_print.proofs.WriteLemmas.{appends_nothing, appends_more}
-
--- Some tokens came first and are printed, but for the line that has been begun. The items to come are those of the state after
--- them.
-pub record IsPrinting (start : State) (items : Preprocessing) (line : Option (List ℕ)) (old new : Option (List ℕ)) : Type 0 where
-  pub tokens : List Token
-  pub state : State
-  pub given : Gives start tokens state
-  pub stands : Stands items state
-  pub done : List (List ℕ)
-  pub lines : (more : List Token) → output_lines (tokens ++ more) ≡ done ++ lines_from line more
-  pub written : Appends old new (written_lines done)
 
 -- lines that are written after others
 appends_lines : (a b c : Option (List ℕ)) (first second : List (List ℕ)) → Appends a b (written_lines first) → Appends b c (written_lines second)
@@ -38,7 +29,7 @@ printing_starts start items known stands = record {
   tokens = [];
   state = start;
   given = gives_nothing start;
-  stands = stands;
+  now = record { between = start; stands = stands; comes = λ o f c. c };
   done = [];
   lines = output_lines-from;
   written = appends_nothing known;
@@ -53,12 +44,26 @@ module _ (start : State) (items : Preprocessing) (line old mid new : Option (Lis
     tokens = p.tokens ++ (t ∷ []);
     state = after;
     given = gives_more p.tokens t start p.state after p.given comes;
-    stands = stands;
+    now = record { between = after; stands = stands; comes = λ o f c. c };
     done = p.done ++ ended_lines line t.value;
     lines = λ more. ap output_lines (append_assoc p.tokens (t ∷ []) more) ∙ p.lines (t ∷ more)
         ∙ sym (append_assoc p.done (ended_lines line t.value) (lines_from (line_after line t.value) more));
     written = appends_lines old mid new p.done (ended_lines line t.value) p.written w;
   })
+
+  -- pauses are passed
+  pub printing_passes : (left : Preprocessing) → IsPassed items left → IsPrinting start left line old mid
+  printing_passes left passed =
+      let then : StandsBetween left p.now.between = passed.item p.now.between p.now.stands in
+      record {
+        tokens = p.tokens;
+        state = p.state;
+        given = p.given;
+        now = record { between = then.between; stands = then.stands; comes = λ o f c. p.now.comes o f (then.comes o f c) };
+        done = p.done;
+        lines = p.lines;
+        written = p.written;
+      }
 
   -- the lines that are done and the one that has been begun are the whole output
   whole_output : Appends mid new (written_lines (begun_line line)) → Appends old new (output p.tokens)

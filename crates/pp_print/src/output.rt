@@ -1,20 +1,23 @@
 //! Printing items as lines.
 
-ghost use Rattle.std.specs.Prelude.{◌≡◌, true, false, IsTrue, OnOk, IfOk, IfErr, IsErrOf, string_bytes};
+ghost use Rattle.std.specs.Prelude.{◌≡◌, ◌≤◌, true, false, IsTrue, OnOk, IfOk, IfErr, IsErrOf, string_bytes};
 ghost use Rattle.std.specs.Option.{option_map};
 ghost use Rattle.std.specs.Io.KnownBytes.{Appends};
 ghost use Rattle.pp_rs.specs.TokenValue.{is_ordinary};
-ghost use Rattle.pp_rs.specs.Kept.{is_spent};
+ghost use Rattle.pp_rs.specs.Kept.{is_spent, most_items};
 ghost use Rattle.pp_print.specs.inner.Input.{IsDeviceFault};
 ghost use Rattle.pp_rs.specs.Output.{written_lines};
 ghost use Rattle.pp_rs.specs.inner.OutputLines.{begun_line, line_after, ended_lines};
-ghost use Rattle.pp_print.specs.inner.Printing.{ArePrinted, AreBegun};
+ghost use Rattle.pp_rs.specs.NextWord.{IsPlain};
+ghost use Rattle.pp_rs.specs.WordTokens.{word_token};
+ghost use Rattle.pp_print.specs.inner.Printing.{ArePrinted, AreBegun, KeepsPrinting};
 ghost use Rattle.pp_print.specs.Runs.{IsStoppedBySource};
 ghost use Rattle.pp_print.specs.declared.ends.RunEnd.TheVariants.{Stopped};
 
 use super::devices::Sink;
 use super::ends::{RunEnd, RunFault};
-use pp_rs::pp::{Preprocessor, push_value};
+use pp_rs::lexer::PlainItem;
+use pp_rs::pp::{Preprocessor, push_value, push_word};
 use pp_rs::token::{Location, PreprocessorError, Token, TokenValue};
 use std::alloc::{AllocError, Global};
 
@@ -60,14 +63,35 @@ fn print_rest<W: Sink>(
 {
     // A run of tokens that may continue. It is kept as text, which is smaller than its tokens.
     let mut line = None;
+    push_words(alloc, items, &mut line)?;
     'items: while let Some(item) = items.next() {
         match item {
             Ok(token) => print_token(alloc, token, &mut line, writer)?,
             Err(refusal) => return print_stop(alloc, refusal, line, writer),
         }
+        push_words(alloc, items, &mut line)?;
     }
     print_line(alloc, line, writer)?;
     Ok(RunEnd::Done)
+}
+
+// Takes the words of plain text that come next into the line, as they stand in the source.
+#[inline(never)]
+fn push_words(
+    alloc: Global,
+    items: &mut Preprocessor<'_>,
+    line: &mut Option<String>,
+) -> Result<(), AllocError>
+    requires unspent { is_spent items.old ≡ false }
+    ensures spent { OnOk result (is_spent items.new ≡ false) }
+    ensures left { OnOk result (most_items items.new ≤ most_items items.old) }
+    ensures printing { OnOk result (KeepsPrinting items.old (option_map string_bytes line.old)
+        items.new (option_map string_bytes line.new)) }
+{
+    'words: while let Some(word) = items.next_word() {
+        push_plain(alloc, line, &word)?;
+    }
+    Ok(())
 }
 
 // Prints the line that was begun before an error item. For an `OutOfMemory` it prints nothing: the line's run of tokens
@@ -123,7 +147,7 @@ fn print_token<W: Sink>(
         (W.failed writer.new)) }
 {
     if token.is_ordinary() {
-        match push_word(alloc, line, &token.value) {
+        match push_token(alloc, line, &token.value) {
             Ok(()) => Ok(()),
             Err(_) => Err(RunFault::OutOfMemory),
         }
@@ -172,7 +196,11 @@ fn print_line<W: Sink>(alloc: Global, line: Option<String>, writer: &mut W) -> R
 }
 
 // Appends an ordinary token to the line: as its first word, or after a space.
-fn push_word(alloc: Global, line: &mut Option<String>, value: &TokenValue) -> Result<(), AllocError>
+fn push_token(
+    alloc: Global,
+    line: &mut Option<String>,
+    value: &TokenValue,
+) -> Result<(), AllocError>
     requires { IsTrue (is_ordinary value.now) }
     ensures { OnOk result (option_map string_bytes line.new
         ≡ line_after (option_map string_bytes line.old) value.now) }
@@ -186,6 +214,31 @@ fn push_word(alloc: Global, line: &mut Option<String>, value: &TokenValue) -> Re
             let mut words = String::new(alloc);
             push_value(&mut words, value)?;
             *line = Some(words);
+            Ok(())
+        }
+    }
+}
+
+// Appends a word of plain text to the line: as its first word, or after a space.
+#[inline(always)]
+fn push_plain(
+    alloc: Global,
+    line: &mut Option<String>,
+    word: &PlainItem<'_>,
+) -> Result<(), AllocError>
+    requires { IsPlain word.now }
+    ensures { OnOk result (option_map string_bytes line.new
+        ≡ line_after (option_map string_bytes line.old) (word_token word.now).value) }
+{
+    match line {
+        Some(text) => {
+            text.push(' ')?;
+            push_word(text, word)
+        }
+        None => {
+            let mut text = String::new(alloc);
+            push_word(&mut text, word)?;
+            *line = Some(text);
             Ok(())
         }
     }

@@ -16,3 +16,4 @@ pub mod SourceLeadsLemmas
 pub mod ReadyLemmas
 pub mod SourceTurnLemmas
 pub mod IdleLemmas
+pub mod PassedLemmas

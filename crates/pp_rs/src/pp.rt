@@ -20,5 +20,5 @@ pub use pp_macros::step::{Step, StepExit};
 pub use pp_model::call::{Call, Reply};
 pub use pp_model::outcome::Outcome;
 pub use preprocessor::{Preprocessor, PreprocessorItem};
-pub use spelling::{push_value, spell_tokens};
+pub use spelling::{push_value, push_word, spell_tokens};
 pub use trying::AddError;

@@ -1,11 +1,16 @@
 -- A word of plain text, before memory is taken for it.
-use Rattle.std.specs.Prelude.{◌≡◌, ◌≢◌, Bool, true, false, Option, Some, Ok, MatchBool, MatchOption}
+use Rattle.std.specs.Prelude.{◌≡◌, ◌≢◌, ℕ, Bool, true, false, ◌||◌, is_some, List, Option, Some, Ok, Err, MatchBool, MatchOption}
 use Rattle.std.specs.Str.{IsAscii}
-use Rattle.pp_lexer.specs.PlainItems.{token_of, begins_newline}
+use Rattle.pp_lexer.specs.PlainItems.{token_of, begins_newline, IsUnknown}
 use Rattle.pp_lexer.specs.declared.lexer.plain.Form.TheVariants.{Hash}
 use Rattle.pp_lexer.specs.declared.lexer.plain_item.PlainItem.{PlainItem}
 use Rattle.pp_macros.specs.inner.LineReading.{HasTaken, next_token}
 use Rattle.pp_macros.specs.inner.SourceLexed.{SourceLexed, unreported_at}
+use Rattle.pp_directives.specs.WordTokens.{word_value, word_token}
+use Rattle.pp_model.specs.Names.{is_same_name, line_name}
+use Rattle.pp_macros.specs.inner.Defined.{Defined, meaning_of}
+use Rattle.pp_macros.specs.inner.Idle.{gives_itself}
+use Rattle.pp_macros.specs.declared.step.StepExit.TheVariants.{Continue}
 use Rattle.pp_macros.specs.inner.Source.{Source, StepsSource, unreported_of}
 use Rattle.pp_macros.specs.inner.Unreported.{StepReports}
 use Rattle.pp_macros.specs.Held.{HoldsOrdinary}
@@ -26,6 +31,17 @@ abbrev pub GivesPlain : SourceLexed → Option PlainItem → SourceLexed → Typ
 GivesPlain old answer new =
     MatchOption answer (new ≡ record old { had_comments = new.had_comments }) (λ item. TakesPlain old item new)
 
+-- such a word, which is no identifier that is known
+pub record TakesUnknown (knows : List ℕ → Bool) (old : SourceLexed) (item : PlainItem) (new : SourceLexed)
+    : Type 0 where
+  pub takes : TakesPlain old item new
+  pub unknown : IsUnknown knows item.form item.spelling.now
+
+abbrev pub GivesUnknown : (List ℕ → Bool) → SourceLexed → Option PlainItem → SourceLexed → Type 0
+GivesUnknown knows old answer new =
+    MatchOption answer (new ≡ record old { had_comments = new.had_comments })
+    (λ item. TakesUnknown knows old item new)
+
 -- a newline comes first, and it was taken
 pub record TakesNewline (old new : SourceLexed) : Type 0 where
   pub unspent : old.spent ≡ false
@@ -45,3 +61,23 @@ pub record IsStep (old : Source) (step : Step Token) (new : Source) : Type 0 whe
 -- a step at a word of plain text, or all is as it was
 abbrev pub StepsPlain : Source → Option (Step Token) → Source → Type 0
 StepsPlain old answer new = MatchOption answer (new ≡ old) (λ step. IsStep old step new)
+
+-- a name that is `__LINE__`, or is defined
+abbrev pub opens : List Defined → List ℕ → Bool
+opens definitions name = is_same_name name line_name || is_some (meaning_of definitions name)
+
+-- A step at a word of plain text before memory is taken for it. Where no macro is open it is given as it stands there.
+pub record TakesWord (old : Source) (item : PlainItem) (new : Source) : Type 0 where
+  pub no_hash : item.form ≢ Hash
+  pub ascii : IsAscii item.spelling.now
+  pub itself : gives_itself new (word_value item.form item.spelling.now) ≡ true
+  pub holds : HoldsOrdinary (word_value item.form item.spelling.now)
+  pub step : IsStep old (Ok (word_token item)) new
+
+-- such a word, or all is as it was
+abbrev pub GivesWord : Source → Option PlainItem → Source → Type 0
+GivesWord old answer new = MatchOption answer (new ≡ old) (λ item. TakesWord old item new)
+
+-- a newline is a pause, or all is as it was
+abbrev pub PausesAtNewline : Source → Bool → Source → Type 0
+PausesAtNewline old answer new = MatchBool answer (IsStep old (Err Continue) new) (new ≡ old)

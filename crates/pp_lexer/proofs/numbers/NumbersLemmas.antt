@@ -37,7 +37,7 @@ e_apart = either_apart 101 69 10 refl refl
 pub point_apart : (c : ℕ) → is_decimal c ≡ true → is_point c ≡ false
 point_apart = one_apart 46 10 refl
 
-hex_point_apart : (c : ℕ) → is_hex c ≡ true → is_point c ≡ false
+pub hex_point_apart : (c : ℕ) → is_hex c ≡ true → is_point c ≡ false
 hex_point_apart = one_apart 46 16 refl
 
 zero_digit : (c : ℕ) → is_decimal c ≡ false → is_zero c ≡ false

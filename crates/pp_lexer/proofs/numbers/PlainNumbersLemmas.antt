@@ -33,7 +33,7 @@ use Rattle.pp_lexer.proofs.words.WordAtLemmas.{number_first}
 
 -- what the character after a number is not
 
-ends_class : (p : ℕ → Bool) → ((c : ℕ) → continues_number c ≡ false → p c ≡ false) → (cs : List ℕ) → begins_with continues_number cs ≡ false
+pub ends_class : (p : ℕ → Bool) → ((c : ℕ) → continues_number c ≡ false → p c ≡ false) → (cs : List ℕ) → begins_with continues_number cs ≡ false
     → begins_with p cs ≡ false
 ends_class p f [] h = refl
 ends_class p f (c ∷ cs) h = f c h
@@ -41,7 +41,7 @@ ends_class p f (c ∷ cs) h = f c h
 no_decimal : (c : ℕ) → continues_number c ≡ false → is_decimal c ≡ false
 no_decimal c h = grind (arith, nat_tests)
 
-no_point : (c : ℕ) → continues_number c ≡ false → is_point c ≡ false
+pub no_point : (c : ℕ) → continues_number c ≡ false → is_point c ≡ false
 no_point c h = grind (arith, nat_tests)
 
 no_e : (c : ℕ) → continues_number c ≡ false → is_e c ≡ false
@@ -56,18 +56,18 @@ no_l c h = grind (arith, nat_tests)
 no_h : (c : ℕ) → continues_number c ≡ false → is_h c ≡ false
 no_h c h = grind (arith, nat_tests)
 
-no_s : (c : ℕ) → continues_number c ≡ false → is_s c ≡ false
+pub no_s : (c : ℕ) → continues_number c ≡ false → is_s c ≡ false
 no_s c h = grind (arith, nat_tests)
 
 no_f : (c : ℕ) → continues_number c ≡ false → is_f c ≡ false
 no_f c h = grind (arith, nat_tests)
 
-no_u : (c : ℕ) → continues_number c ≡ false → is_u c ≡ false
+pub no_u : (c : ℕ) → continues_number c ≡ false → is_u c ≡ false
 no_u c h = grind (arith, nat_tests)
 
 -- how long a number is, by its digits
 
-drop_front : (n : ℕ) (w cs : List ℕ) → n ≡ length w → drop n (w ++ cs) ≡ cs
+pub drop_front : (n : ℕ) (w cs : List ℕ) → n ≡ length w → drop n (w ++ cs) ≡ cs
 drop_front n w cs e = drop_at w cs n (sym e)
 
 module _ (cs : List ℕ) (h : begins_with is_decimal cs ≡ false) where
@@ -104,7 +104,7 @@ module _ (cs : List ℕ) (h : begins_with is_decimal cs ≡ false) where
       by false z = digit_number_len ((c ∷ w) ++ cs) begins (point_apart c d) z ∙ digits_len (c ∷ w) (both (is_decimal c) (list_all is_decimal w) d all)
 
 -- a number of that many characters
-number_of : (w cs : List ℕ) → begins_number (w ++ cs) ≡ true → longest is_number (w ++ cs) ≡ length w → word_at (w ++ cs) ≡ number_outcome w cs
+pub number_of : (w cs : List ℕ) → begins_number (w ++ cs) ≡ true → longest is_number (w ++ cs) ≡ length w → word_at (w ++ cs) ≡ number_outcome w cs
 unfolding number_at
 number_of w cs b n =
     number_first (w ++ cs) b ∙ ap (λ k. number_outcome (take k (w ++ cs)) (drop k (w ++ cs))) n
@@ -129,7 +129,7 @@ digits_word cs (c ∷ w) e l d =
 
 -- a suffix letter, each also as a capital
 
-either_letter : (P : ℕ → Type 0) (c a b : ℕ) → ((c == a) || (c == b)) ≡ true → P a → P b → P c
+pub either_letter : (P : ℕ → Type 0) (c a b : ℕ) → ((c == a) || (c == b)) ≡ true → P a → P b → P c
 either_letter P c a b h x y =
     elim (or_cases (c == a) (c == b) h) [
       | inl e ↦ subst P (sym (eqb-true c a e)) x
@@ -158,7 +158,7 @@ module _ (cs : List ℕ) (h : begins_with continues_number cs ≡ false) where
     mark = ends_class is_e no_e cs h;
   }
 
-  no_refusal : (is_short : ℕ → Bool) → ((c : ℕ) → continues_number c ≡ false → is_short c ≡ false) → width_refusal is_short cs ≡ None
+  pub no_refusal : (is_short : ℕ → Bool) → ((c : ℕ) → continues_number c ≡ false → is_short c ≡ false) → width_refusal is_short cs ≡ None
   no_refusal is_short f = rw (ends_class is_l no_l cs h, ends_class is_short f cs h) refl
 
   integer_at : (n : ℕ) (w : List ℕ) → IsDecimalText n w → word_at (w ++ cs) ≡ record {
@@ -192,7 +192,7 @@ digit_is c h =
     let d : digit_value c + 48 ≡ c = digit_value_digit c r in
     (omega arith, omega arith)
 
-all_at : (p : ℕ → Bool) (n : ℕ) (xs : List ℕ) → n < length xs → list_all p xs ≡ true → p (get_or xs n 0) ≡ true
+pub all_at : (p : ℕ → Bool) (n : ℕ) (xs : List ℕ) → n < length xs → list_all p xs ≡ true → p (get_or xs n 0) ≡ true
 all_at p n [] l h = absurd (omega arith)
 all_at p zero (x ∷ xs) l h = (and_parts (p x) (list_all p xs) h).0
 all_at p (suc n) (x ∷ xs) l h = all_at p n xs (omega arith) (and_parts (p x) (list_all p xs) h).1
@@ -243,7 +243,7 @@ plain_integer text n value u some le digits octal small e stops =
     ∙ ap (λ k. record { value = Ok (Integer (record { value = value; signed = true; width = pos 32 })); taken = k }) size)
 
 -- a front with the character after it
-take_more : (n : ℕ) (text : List ℕ) → n < length text → take (n + 1) text ≡ take n text ++ get_or text n 0 ∷ []
+pub take_more : (n : ℕ) (text : List ℕ) → n < length text → take (n + 1) text ≡ take n text ++ get_or text n 0 ∷ []
 take_more n text l = ap (λ k. take k text) (add-one n) ∙ by n text l
   where
     by : (n : ℕ) (text : List ℕ) → n < length text → take (suc n) text ≡ take n text ++ get_or text n 0 ∷ []
@@ -252,7 +252,7 @@ take_more n text l = ap (λ k. take k text) (add-one n) ∙ by n text l
     by zero (c ∷ d ∷ text) l = refl
     by (suc n) (c ∷ text) l = ap (λ t. c ∷ t) (by n text (omega arith))
 
-plain_more : (c : ℕ) (w : List ℕ) → list_all is_plain w ≡ true → is_plain c ≡ true → list_all is_plain (w ++ c ∷ []) ≡ true
+pub plain_more : (c : ℕ) (w : List ℕ) → list_all is_plain w ≡ true → is_plain c ≡ true → list_all is_plain (w ++ c ∷ []) ≡ true
 plain_more c [] h p = ap (λ t. t && true) p
 plain_more c (d ∷ w) h p =
     let b = and_parts (is_plain d) (list_all is_plain w) h in

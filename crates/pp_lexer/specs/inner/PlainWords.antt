@@ -94,6 +94,12 @@ pub record IsSuffixed (small capital : ℕ) (text : List ℕ) (at : ℕ) : Type 
   pub letter : ((slice_index text at == small) || (slice_index text at == capital)) ≡ true
   pub stops : Stops continues_number text (at + 1)
 
+-- the text begins with `0x`, and goes on
+pub record BeginsHex (text : List ℕ) : Type 0 where
+  pub more : 2 < length text
+  pub zero : slice_index text 0 ≡ 48
+  pub letter : ((slice_index text 1 == 120) || (slice_index text 1 == 88)) ≡ true
+
 -- so many bytes at the front are characters of one line, wherever the text stands in a source
 abbrev pub IsFront : List ℕ → ℕ → Type 0
 IsFront text n =

@@ -25,9 +25,9 @@ pub struct PlainItem<'a> {
     pub start_of_line: bool,
 }
 
-// The spelling without its last byte.
+/// The spelling without its last byte.
 #[inline(always)]
-fn without_suffix(spelling: &str) -> &str
+pub fn without_suffix(spelling: &str) -> &str
     requires { IsAscii spelling.now }
     ensures value { result.now ≡ without_suffix spelling.now }
     ensures ascii { IsAscii result.now }

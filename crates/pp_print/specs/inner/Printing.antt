@@ -1,7 +1,12 @@
 -- How far printing has come. No contract of a public call cites this.
-use Rattle.std.specs.Prelude.{ℕ, List, Option}
-use Rattle.pp_rs.specs.Comes.{State}
+use Rattle.std.specs.Prelude.{◌≡◌, ℕ, List, ◌++◌, Option}
+use Rattle.std.specs.Io.KnownBytes.{Appends}
+use Rattle.pp_rs.specs.Comes.{State, Gives}
 use Rattle.pp_rs.specs.Kept.{Preprocessing, Stands}
+use Rattle.pp_rs.specs.NextWord.{StandsBetween}
+use Rattle.pp_rs.specs.Output.{output_lines, written_lines}
+use Rattle.pp_rs.specs.declared.token.Token.{Token}
+use Rattle.pp_rs.specs.inner.OutputLines.{lines_from}
 use Rattle.pp_print.specs.Runs.{IsPrinted, IsBegun}
 use Rattle.pp_print.specs.SourceRuns.{AreFirstFrom, EndsFrom}
 use Rattle.pp_print.specs.declared.ends.RunEnd.{RunEnd}
@@ -12,3 +17,21 @@ ArePrinted items end old new = (state : State) → Stands items state → IsPrin
 
 abbrev pub AreBegun : Preprocessing → Option (List ℕ) → Option (List ℕ) → Type 0
 AreBegun items old new = (state : State) → Stands items state → IsBegun (AreFirstFrom state) old new
+
+-- Some tokens came first and are printed, but for the line that was begun. What comes next of the items comes next in
+-- the state after them.
+pub record IsPrinting (start : State) (items : Preprocessing) (line old new : Option (List ℕ)) : Type 0 where
+  pub tokens : List Token
+  pub state : State
+  pub given : Gives start tokens state
+  pub now : StandsBetween items state
+  pub done : List (List ℕ)
+  pub lines : (more : List Token) → output_lines (tokens ++ more) ≡ done ++ lines_from line more
+  pub written : Appends old new (written_lines done)
+
+-- tokens were taken into the line that was begun
+abbrev pub KeepsPrinting : Preprocessing → Option (List ℕ) → Preprocessing → Option (List ℕ) → Type 0
+KeepsPrinting items line left longer =
+    (start : State) (old new : Option (List ℕ))
+    → IsPrinting start items line old new
+    → IsPrinting start left longer old new

@@ -1,5 +1,5 @@
 -- A text that grows token by token.
-use Rattle.std.proofs.Common.{◌≡◌, ℕ, ◌^◌, ◌<◌, true, false, if◌then◌else◌, List, [], ◌∷◌, ◌++◌, Result, Ok, Err, OnOk, refl, sym, ◌∙◌, ap, append_assoc, length, drop, get_or, ◌+◌, ◌≤◌, arith, suc, subst, All}
+use Rattle.std.proofs.Common.{◌≡◌, ℕ, ◌^◌, ◌<◌, true, false, if◌then◌else◌, List, [], ◌∷◌, ◌++◌, Result, Ok, Err, OnOk, refl, sym, ◌∙◌, ap, append_assoc, length, drop, get_or, ◌+◌, ◌≤◌, arith, suc, subst, All, IsTrue}
 use Rattle.std.specs.Prelude.{is_ok}
 use Rattle.std.specs.Fmt.{decimal}
 use Rattle.std.specs.Str.{chars, IsUtf8}
@@ -11,6 +11,11 @@ use Rattle.pp_lexer.specs.Spelling.{integer_literal, spelling, spelled_text, val
 use Rattle.pp_lexer.specs.declared.token.Integer.{Integer}
 use Rattle.pp_lexer.specs.declared.token.Punct.{Punct}
 use Rattle.pp_lexer.specs.declared.token.Punct.TheVariants.{AddAssign}
+use Rattle.pp_lexer.specs.TokenValue.{is_ordinary}
+use Rattle.pp_lexer.specs.declared.lexer.plain.Form.{Form}
+use Rattle.pp_lexer.specs.declared.lexer.plain.Form.TheVariants.{Identifier, Integer as IntegerForm, Unsigned as UnsignedForm, Float as FloatForm, SuffixedFloat as SuffixedForm, Punct as PunctForm, Hash as HashForm}
+use Rattle.pp_lexer.specs.declared.lexer.plain_item.PlainItem.{PlainItem}
+use Rattle.pp_directives.specs.WordTokens.{word_value, word_token}
 use Rattle.pp_lexer.specs.declared.token.Token.{Token}
 use Rattle.pp_lexer.specs.declared.token.TokenValue.{TokenValue}
 
@@ -84,3 +89,16 @@ pub all_after_first : (P : Token → Type 0) (ts others : List Token) (t x : Tok
 all_after_first P ts others t x i all e low is =
     let n : length ts ≡ suc (length others) = ap length e in
     subst P (ap (λ l. get_or l (suc i) x) e ∙ sym is) (all (suc i) x (omega arith))
+
+-- a word of plain text is an ordinary token
+word_ordinary_at : (form : Form) (w : List ℕ) → IsTrue (is_ordinary (word_value form w))
+word_ordinary_at Identifier w = refl
+word_ordinary_at (IntegerForm n) w = refl
+word_ordinary_at (UnsignedForm n) w = refl
+word_ordinary_at FloatForm w = refl
+word_ordinary_at SuffixedForm w = refl
+word_ordinary_at (PunctForm p) w = refl
+word_ordinary_at HashForm w = refl
+
+pub word_ordinary : (word : PlainItem) → IsTrue (is_ordinary (word_token word).value)
+word_ordinary word = word_ordinary_at word.form word.spelling.now

@@ -10,8 +10,10 @@ ghost use Rattle.pp_rs.specs.CallLine.{IsCallLine};
 ghost use Rattle.pp_macros.specs.Item.{is_out_of_memory};
 ghost use Rattle.pp_rs.specs.Kept.{Stands, is_spent, most_items, errors_left, error_place};
 ghost use Rattle.pp_macros.specs.LexerErrors.{lexer_errors};
+ghost use Rattle.pp_rs.specs.NextWord.{IsNextWord};
 ghost use Rattle.pp_rs.specs.Preprocessing.{IsNextItem};
 
+use crate::lexer::PlainItem;
 use crate::pp::source_turn::turn_source;
 use crate::token::{Location, NOWHERE, PreprocessorError, Token, out_of_memory};
 use pp_directives::directives::DirectiveProcessor;
@@ -76,6 +78,27 @@ impl<'a> Preprocessor<'a> {
             source: DirectiveProcessor::new(alloc, input),
             spent: false,
             place: NOWHERE,
+        }
+    }
+
+    /// Returns the next token before memory is taken for it, if it is a word of plain text that is given as it stands
+    /// in the source. Else it returns `None`, and `next` returns what comes.
+    ///
+    /// It is private to the repository. It passes newlines before the token, also if it returns `None`.
+    #[inline(always)]
+    pub fn next_word(&mut self) -> Option<PlainItem<'a>>
+        ensures { IsNextWord self.old result self.new }
+    {
+        if self.spent || !self.caller.is_idle() {
+            return None;
+        }
+        'words: loop {
+            if let Some(word) = self.source.next_word() {
+                return Some(word);
+            }
+            if !self.source.pass_newline() {
+                return None;
+            }
         }
     }
 

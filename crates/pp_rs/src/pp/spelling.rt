@@ -2,11 +2,15 @@
 
 ghost use Rattle.std.specs.Prelude.{◌≡◌, ◌++◌, IsTrue, All, OnOk, IfOk, MatchResult, string_bytes};
 ghost use Rattle.std.specs.Str.{chars};
+ghost use Rattle.pp_directives.specs.WordTokens.{word_token};
+ghost use Rattle.pp_rs.specs.NextWord.{IsPlain};
 ghost use Rattle.pp_lexer.specs.TokenValue.{is_ordinary};
 ghost use Rattle.pp_lexer.specs.PreprocessorError.{out_of_memory};
+ghost use Rattle.pp_lexer.specs.Punctuators.{punctuator};
 ghost use Rattle.pp_lexer.specs.Spelling.{integer_literal, spelling, spelled_text, values_of};
 
-use crate::token::{Integer, Location, PreprocessorError, Token, TokenValue, out_of_memory};
+use crate::lexer::{Form, PlainItem, without_suffix};
+use crate::token::{Integer, Location, PreprocessorError, Punct, Token, TokenValue, out_of_memory};
 use std::alloc::{AllocError, Global};
 
 /// Returns the text of ordinary tokens, with one space between each two and none at the ends.
@@ -62,6 +66,54 @@ pub fn push_value(text: &mut String, value: &TokenValue) -> Result<(), AllocErro
         TokenValue::Version(_) | TokenValue::Extension(_) | TokenValue::Pragma(_) => {
             unreachable!()
         }
+    }
+}
+
+// Appends a punctuator. Most have one character, for which no text is copied.
+#[inline(always)]
+fn push_punct(text: &mut String, punct: Punct) -> Result<(), AllocError>
+    ensures { OnOk result (chars (string_bytes text.new)
+        ≡ chars (string_bytes text.old) ++ punctuator punct) }
+{
+    let spelling = punct.spelling();
+    let bytes = spelling.as_bytes();
+    if bytes.len() == 1 {
+        return text.push(bytes[0] as char);
+    }
+    text.push_str(spelling)
+}
+
+/// Appends the text of a word of plain text, as `spell_tokens` spells its token. It is private to the repository.
+///
+/// Fails only if an allocation fails. A part of the text may have been appended then.
+#[inline(always)]
+pub fn push_word(text: &mut String, word: &PlainItem<'_>) -> Result<(), AllocError>
+    requires { IsPlain word.now }
+    ensures { OnOk result (chars (string_bytes text.new)
+        ≡ chars (string_bytes text.old) ++ spelling (word_token word.now).value) }
+{
+    match word.form {
+        Form::Identifier => text.push_str(word.spelling),
+        Form::Float => text.push_str(word.spelling),
+        Form::SuffixedFloat => text.push_str(without_suffix(word.spelling)),
+        Form::Punct(punct) => push_punct(text, punct),
+        Form::Integer(value) => push_integer(
+            text,
+            Integer {
+                value,
+                signed: true,
+                width: 32,
+            },
+        ),
+        Form::Unsigned(value) => push_integer(
+            text,
+            Integer {
+                value,
+                signed: false,
+                width: 32,
+            },
+        ),
+        Form::Hash => unreachable!(),
     }
 }
 

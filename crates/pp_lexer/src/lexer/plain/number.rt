@@ -1,11 +1,11 @@
-//! Decimal integers and floats of ASCII text.
+//! Decimal and hexadecimal integers, and floats, of ASCII text.
 
 ghost use Rattle.std.specs.Prelude.{⊤, ◌≡◌, ◌<◌, ◌≤◌, true, false, length, take, IsTrue, IfSome, MatchOption};
 ghost use Rattle.std.specs.List.{list_all};
 ghost use Rattle.std.specs.Str.{IsUtf8};
 ghost use Rattle.std.specs.Str.Parse.{digits_value};
-ghost use Rattle.pp_lexer.specs.Numbers.{is_decimal};
-ghost use Rattle.pp_lexer.specs.inner.PlainWords.{continues_number, Stops, IsSuffixed, IsFirstWord};
+ghost use Rattle.pp_lexer.specs.Numbers.{is_decimal, is_hex};
+ghost use Rattle.pp_lexer.specs.inner.PlainWords.{continues_number, Stops, IsSuffixed, BeginsHex, IsFirstWord};
 
 use crate::lexer::plain::{Form, Word, continues};
 
@@ -99,12 +99,88 @@ fn plain_integer(bytes: &[u8], digits: usize) -> Option<Word>
     None
 }
 
-/// The decimal integer or float at the front, if the bytes after it show that it ends there.
+// Whether the byte is a hexadecimal digit.
+#[inline(always)]
+fn is_hex_digit(byte: u8) -> bool
+    ensures { result ≡ is_hex byte }
+{
+    (byte as char).is_digit(16)
+}
+
+// How many hexadecimal digits there are at the front.
+#[inline(always)]
+fn hex_length(bytes: &[u8]) -> usize
+    ensures within { result ≤ length bytes.now }
+    ensures passes { list_all is_hex (take result bytes.now) ≡ true }
+{
+    for (i, byte) in bytes.iter().enumerate() {
+        if !is_hex_digit(*byte) {
+            return i;
+        }
+    }
+    bytes.len()
+}
+
+// The value of hexadecimal digits, unless it is too large.
+#[inline(always)]
+fn hex_value(digits: &[u8]) -> Option<u64>
+    ensures { IfSome result (λ value. value ≡ digits_value 16 digits.now) }
+{
+    let mut value: u64 = 0;
+    for byte in digits {
+        let digit = (*byte as char).to_digit(16)?;
+        let shifted = value.checked_mul(16)?;
+        value = shifted.checked_add(digit as u64)?;
+    }
+    Some(value)
+}
+
+// Whether the text begins as a hexadecimal integer.
+#[inline(always)]
+fn begins_hex(bytes: &[u8]) -> bool
+    ensures { IsTrue result → BeginsHex bytes.now }
+{
+    bytes.len() > 2 && bytes[0] == 48 && (bytes[1] == b'x' || bytes[1] == b'X')
+}
+
+// The hexadecimal integer at the front, with a `u` after it, if the bytes after it show that it ends there.
+#[inline(never)]
+fn plain_hex(bytes: &[u8]) -> Option<Word>
+    requires utf8 { IsUtf8 bytes.now }
+    requires begins { BeginsHex bytes.now }
+    ensures { MatchOption result ⊤ (IsFirstWord bytes.now) }
+{
+    let digits = hex_length(&bytes[2..]);
+    if digits == 0 {
+        return None;
+    }
+    let spelled = digits + 2;
+    let value = hex_value(&bytes[2..spelled])?;
+    if ends_number(bytes, spelled) {
+        return Some(Word {
+            form: Form::Integer(value),
+            taken: spelled,
+        });
+    }
+    if ends_in_suffix(bytes, spelled, b'u', b'U') {
+        return Some(Word {
+            form: Form::Unsigned(value),
+            taken: spelled + 1,
+        });
+    }
+    None
+}
+
+/// The integer or float at the front, if the bytes after it show that it ends there, and it is neither octal nor has an
+/// exponent.
 #[inline(always)]
 pub fn plain_number(bytes: &[u8]) -> Option<Word>
     requires { IsUtf8 bytes.now }
     ensures { MatchOption result ⊤ (IsFirstWord bytes.now) }
 {
+    if begins_hex(bytes) {
+        return plain_hex(bytes);
+    }
     let whole = digits_length(bytes);
     if whole >= bytes.len() || bytes[whole] != 46 {
         return plain_integer(bytes, whole);

@@ -2,7 +2,7 @@ use Rattle.std.proofs.Common.{◌≡◌, false, string_bytes}
 use Rattle.std.specs.Option.{option_map}
 use Rattle.pp_rs.specs.Comes.{State}
 use Rattle.pp_rs.specs.Kept.{Stands, is_spent}
-use Rattle.pp_print.proofs.RunLemmas.{IsPrinting}
+use Rattle.pp_print.specs.inner.Printing.{IsPrinting}
 use Rattle.pp_print.proofs.output.print_rest.Given as goal
 
 abbrev pub invariant-items : goal.invariant-items

@@ -2,7 +2,7 @@ use Rattle.std.proofs.Common.{◌++◌, ap, ◌∙◌, arith, string_bytes}
 use Rattle.std.specs.Option.{option_map}
 use Rattle.std.proofs.lemmas.Str.{IsUtf8-string_bytes}
 use Rattle.pp_print.proofs.TextLemmas.{first_word, further_word}
-use Rattle.pp_print.proofs.output.push_word.Goals as goal
+use Rattle.pp_print.proofs.output.push_token.Goals as goal
 
 pub returns-in_ok-push-in-Some : goal.returns-in_ok-push-in-Some
 returns-in_ok-push-in-Some c =

@@ -1,0 +1,7 @@
+use Rattle.std.proofs.Common.{◌≡◌, true, take}
+use Rattle.std.specs.List.{list_all}
+use Rattle.pp_lexer.specs.Numbers.{is_hex}
+use Rattle.pp_lexer.proofs.lexer.plain.number.hex_length.Given as goal
+
+abbrev pub invariant-loop-i : goal.invariant-loop-i
+invariant-loop-i l = list_all is_hex (take l.i l.bytes) ≡ true

@@ -1,0 +1,19 @@
+use Rattle.std.proofs.Common.{◌≡◌, true, false}
+use Rattle.pp_model.specs.Emitting.{expansion_limit}
+use Rattle.pp_macros.specs.inner.Idle.{is_idle}
+use Rattle.pp_macros.specs.inner.Left.{work_of}
+use Rattle.pp_macros.specs.inner.Reader.{of_source}
+use Rattle.pp_rs.proofs.runs.NextLemmas.{Reached}
+use Rattle.pp_rs.proofs.pp.preprocessor.Preprocessor.next_word.Given as goal
+
+-- a newline keeps what comes next, and lowers what is left to do
+abbrev pub invariant-words : goal.invariant-words
+invariant-words l = record {
+  unspent : l.self-inside.spent ≡ false;
+  placed : l.self-inside.place ≡ l.fn.self.place;
+  idle : is_idle l.self-inside.caller ≡ true;
+  reached : Reached l.fn.self.machine l.fn.self.source l.self-inside.caller l.self-inside.source;
+}
+
+abbrev pub decreases-words : goal.decreases-words
+decreases-words l = work_of expansion_limit l.self-inside.caller (of_source l.self-inside.source)

@@ -1,0 +1,38 @@
+-- The next token as a word of plain text, before memory is taken for it.
+use Rattle.std.specs.Prelude.{◌≡◌, ◌≢◌, ◌≤◌, Option, Some, Ok, MatchOption}
+use Rattle.std.specs.Str.{IsAscii}
+use Rattle.pp_lexer.specs.declared.lexer.plain.Form.TheVariants.{Hash}
+use Rattle.pp_lexer.specs.declared.lexer.plain_item.PlainItem.{PlainItem}
+use Rattle.pp_model.specs.declared.outcome.Outcome.{Outcome}
+use Rattle.pp_directives.specs.WordTokens.{word_token}
+use Rattle.pp_rs.specs.Comes.{State, Comes}
+use Rattle.pp_rs.specs.Kept.{Preprocessing, Stands, is_spent, most_items, errors_left, error_place}
+use Rattle.pp_rs.specs.Preprocessing.{IsNextItem}
+
+-- this state stands, and what comes next of it comes next of the other
+pub record StandsBetween (new : Preprocessing) (state : State) : Type 0 where
+  pub between : State
+  pub stands : Stands new between
+  pub comes : (outcome : Outcome) (after : State) → Comes between outcome after → Comes state outcome after
+
+-- nothing was given, and all that was to come comes still
+pub record IsPassed (old new : Preprocessing) : Type 0 where
+  pub item : (state : State) → Stands old state → StandsBetween new state
+  pub spent : is_spent new ≡ is_spent old
+  pub errors : errors_left new ≡ errors_left old
+  pub place : error_place new ≡ error_place old
+  pub no_more_left : most_items new ≤ most_items old
+
+-- the word is no `#`, and is spelled in ASCII
+pub record IsPlain (word : PlainItem) : Type 0 where
+  pub no_hash : word.form ≢ Hash
+  pub ascii : IsAscii word.spelling.now
+
+-- the next token is this word
+pub record IsWord (old : Preprocessing) (word : PlainItem) (new : Preprocessing) : Type 0 where
+  pub next : IsNextItem old (Some (Ok (word_token word))) new
+  pub plain : IsPlain word
+
+-- one call of `next_word`
+abbrev pub IsNextWord : Preprocessing → Option PlainItem → Preprocessing → Type 0
+IsNextWord old answer new = MatchOption answer (IsPassed old new) (λ word. IsWord old word new)
