@@ -6,7 +6,6 @@ pub mod LineReadingLemmas
 pub mod ContentLemmas
 pub mod CommentsAfterLemmas
 pub mod SourceActsLemmas
-pub mod UnnotedLemmas
 pub mod NotedLemmas
 pub mod SourceStepLemmas
 pub mod ConditionActsLemmas

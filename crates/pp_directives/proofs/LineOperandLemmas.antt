@@ -7,15 +7,15 @@ use Rattle.pp_model.specs.Names.{Name}
 use Rattle.pp_model.specs.Reading.{Expander, Listed, line_reading}
 use Rattle.pp_model.specs.Calls.{Fault}
 use Rattle.pp_model.specs.Emitting.{Emits, answers_at}
-use Rattle.pp_model.specs.LineWords.{Operand, is_defined, name_in, unwanted, unwanted_word}
+use Rattle.pp_model.specs.LineWords.{InParentheses, Operand, is_defined, name_in, unwanted, unwanted_word}
 use Rattle.pp_model.specs.inner.LineWords.{is_open_paren, is_close_paren}
 use Rattle.pp_model.specs.LineWords as line
-use Rattle.pp_model.specs.inner.WordsRead.{Closes, Parenthesized, unclosed, closed, no_name, named}
+use Rattle.pp_model.specs.inner.WordsRead.{Closes}
 use Rattle.pp_model.specs.declared.read.Taken.TheVariants as given
 use Rattle.pp_model.specs.declared.word.LineKind.{LineKind}
-use Rattle.pp_model.proofs.WordLemmas.{operand_parenthesized}
+use Rattle.pp_model.proofs.WordLemmas.{closes, does_not_close, closes_named}
 use Rattle.pp_macros.specs.inner.Defined.{Defined, meaning_of}
-use Rattle.pp_directives.specs.inner.LineItems.{ReadsOn, ReadsItem, ReadsTaken, ReadsClosed, ReadsParenthesized, ReadsOperand, expander_of, outcome_of, outcome_of_item}
+use Rattle.pp_directives.specs.inner.LineItems.{ReadsOn, ReadsItem, ReadsTaken, ReadsClosed, ReadsInParentheses, ReadsOperand, expander_of, outcome_of, outcome_of_item}
 use Rattle.pp_macros.specs.inner.Machine.{Machine}
 use Rattle.pp_macros.specs.inner.Reader.{Listing}
 use Rattle.pp_macros.specs.declared.halt.Halt.{Halt}
@@ -24,10 +24,11 @@ use Rattle.pp_directives.proofs.LineReadLemmas.{reads_broken, reads_then}
 
 -- a name is defined there where it is defined
 defined_there : (levels : ℕ) (definitions : List Defined) (m n : Machine) (l k : Listing) (name : Name) (b : Bool)
-    → ReadsOn levels definitions m l n k → b ≡ is_some (meaning_of definitions name)
-    → ◌≡◌ {A = Result Bool Fault} (Ok b) (Ok (is_defined (expander_of n k) name))
-defined_there levels definitions m n l k name b after is = ap (λ (x : Bool). let r : Result Bool Fault = Ok x in r) (is
-    ∙ ap (λ (ds : List Defined). is_some (meaning_of ds name)) (sym after.stands.defined))
+    → ReadsOn levels definitions m l n k → b ≡ is_some (meaning_of definitions name) → b ≡ is_defined (expander_of n k) name
+defined_there levels definitions m n l k name b after is = is ∙ ap (λ (ds : List Defined). is_some (meaning_of ds name)) (sym after.stands.defined)
+
+answered_there : {b there : Bool} → b ≡ there → ◌≡◌ {A = Result Bool Fault} (Ok b) (Ok there)
+answered_there is = ap (λ (x : Bool). let r : Result Bool Fault = Ok x in r) is
 
 reported_fault : (fault wanted : Fault) → fault ≡ wanted → ◌≡◌ {A = Result Bool Fault} (Err fault) (Err wanted)
 reported_fault fault wanted is = ap (λ (f : Fault). let r : Result Bool Fault = Err f in r) is
@@ -40,13 +41,14 @@ module _ (kind : LineKind) (directive : Location) (levels : ℕ) (definitions : 
       reads_broken levels definitions m l (λ (item : Result (Option Read) Fault) (f : Expander Listed). Emits line_reading (answers_at levels)
       (expander_of m l) (outcome_of_item item) f)
       (λ (answer : Result Bool Fault) (f : Expander Listed). Closes kind directive (answers_at levels) name
-      (expander_of m l) answer f) h n n k k r is (λ fault f emits. unclosed (given.Fault fault) (expander_of m l) f (Err fault) emits refl refl) reads
+      (expander_of m l) answer f) h n n k k r is (λ fault f emits. does_not_close kind directive (answers_at levels) name (given.Fault fault)
+      (expander_of m l) f emits fault refl refl) reads
 
   module _ (found : Option Read) (item : ReadsItem levels definitions m l (Ok found) n k) where
     pub closed_answer : (name : Name) (b : Bool) → is_close_paren (outcome_of found) ≡ true → b ≡ is_some (meaning_of definitions name)
         → ReadsClosed kind directive levels definitions name m l (Ok b) n k
     closed_answer name b close is = (
-      closed (outcome_of found) (expander_of m l) (expander_of n k) (Ok b) item.0 close
+      closes kind directive (answers_at levels) name (outcome_of found) (expander_of m l) (expander_of n k) item.0 b close
           (defined_there levels definitions m n l k name b item.1 is),
       item.1,
     )
@@ -55,43 +57,42 @@ module _ (kind : LineKind) (directive : Location) (levels : ℕ) (definitions : 
         → fault ≡ unwanted_word kind directive (outcome_of found) → ReadsClosed kind directive levels definitions name m l (Err (halt.Fault fault)) n k
     closed_fault name fault still is = (
       expander_of n k,
-      unclosed (outcome_of found) (expander_of m l) (expander_of n k) (Err fault) item.0 still
-          (reported_fault fault (unwanted_word kind directive (outcome_of found)) is),
+      does_not_close kind directive (answers_at levels) name (outcome_of found) (expander_of m l) (expander_of n k) item.0 fault still is,
     )
 
   module _ (found : Option Read) (taken : ReadsTaken levels definitions m l (Ok found) n k) where
     -- after the `(`
     pub parenthesized_name : (name : Name) (r : Result Bool Halt) (p : Machine) (q : Listing) → name_in (outcome_of found) ≡ Some name
-        → ReadsClosed kind directive levels definitions name n k r p q → ReadsParenthesized kind directive levels definitions m l r p q
+        → ReadsClosed kind directive levels definitions name n k r p q → ReadsInParentheses kind directive levels definitions m l r p q
     parenthesized_name name r p q is reads =
         reads_then levels definitions m l (λ (answer : Result Bool Fault) (f : Expander Listed). Closes kind directive (answers_at levels) name
         (expander_of n k) answer f)
-        (λ (answer : Result Bool Fault) (f : Expander Listed). Parenthesized kind directive (answers_at levels) (expander_of m l) answer f) n p k q r taken.1
-        (λ answer f closes. named (outcome_of found) name (expander_of m l) (expander_of n k) f answer taken.0 is closes) reads
+        (λ (answer : Result Bool Fault) (f : Expander Listed). InParentheses kind directive (answers_at levels) (expander_of m l) answer f) n p k q r taken.1
+        (λ answer f closed. closes_named kind directive (answers_at levels) name (outcome_of found) (expander_of m l)
+        (expander_of n k) f answer taken.0 is closed) reads
 
     pub parenthesized_fault : (fault : Fault) → (name_in (outcome_of found) ≡ None) × (fault ≡ unwanted directive (outcome_of found))
-        → ReadsParenthesized kind directive levels definitions m l (Err (halt.Fault fault)) n k
+        → ReadsInParentheses kind directive levels definitions m l (Err (halt.Fault fault)) n k
     parenthesized_fault fault is = (
       expander_of n k,
-      no_name (outcome_of found) (expander_of m l) (expander_of n k) (Err fault) taken.0 is.0
+      line.no_name (outcome_of found) (expander_of m l) (expander_of n k) (Err fault) taken.0 is.0
           (reported_fault fault (unwanted directive (outcome_of found)) is.1),
     )
 
     -- the whole operand
     pub operand_opened : (r : Result Bool Halt) (p : Machine) (q : Listing) → is_open_paren (outcome_of found) ≡ true
-        → ReadsParenthesized kind directive levels definitions n k r p q → ReadsOperand kind directive levels definitions m l r p q
+        → ReadsInParentheses kind directive levels definitions n k r p q → ReadsOperand kind directive levels definitions m l r p q
     operand_opened r p q open_paren reads =
-        reads_then levels definitions m l (λ (answer : Result Bool Fault) (f : Expander Listed). Parenthesized kind directive (answers_at levels)
+        reads_then levels definitions m l (λ (answer : Result Bool Fault) (f : Expander Listed). InParentheses kind directive (answers_at levels)
         (expander_of n k) answer f)
         (λ (answer : Result Bool Fault) (f : Expander Listed). Operand kind directive (answers_at levels) (expander_of m l) answer f) n p k q r taken.1
-        (λ answer f within. operand_parenthesized kind directive (answers_at levels) (outcome_of found) (expander_of m l)
-        (expander_of n k) f answer taken.0 open_paren within) reads
+        (λ answer f within. line.in_parentheses (outcome_of found) (expander_of m l) (expander_of n k) f answer taken.0 open_paren within) reads
 
     pub operand_name : (name : Name) (b : Bool) → name_in (outcome_of found) ≡ Some name → b ≡ is_some (meaning_of definitions name)
         → ReadsOperand kind directive levels definitions m l (Ok b) n k
     operand_name name b is answer = (
       line.name (outcome_of found) name (expander_of m l) (expander_of n k) (Ok b) taken.0 is
-          (defined_there levels definitions m n l k name b taken.1 answer),
+          (answered_there (defined_there levels definitions m n l k name b taken.1 answer)),
       taken.1,
     )
 

@@ -1,19 +1,20 @@
 -- After the word of a directive it is remembered that a directive was read.
-use Rattle.std.proofs.Common.{◌≡◌, ℕ, ◌+◌, Bool, true, List, Option, Some, None, inl, inr, refl, drop, subst}
+use Rattle.std.proofs.Common.{◌≡◌, ℕ, ◌+◌, Bool, true, List, Option, Some, None, inl, inr, refl, drop}
 use Rattle.std.specs.Prelude.{ℤ, pos, ◌-ℤ◌}
 use Rattle.pp_lexer.specs.declared.token.Location.{Location}
 use Rattle.pp_lexer.specs.declared.token.Token.{Token}
 use Rattle.pp_model.specs.Definitions.{Definition}
 use Rattle.pp_model.specs.declared.definition.Named.{Named}
-use Rattle.pp_model.specs.declared.directive.Directive.{Directive}
 use Rattle.pp_macros.specs.inner.Defined.{Defined, meaning_of}
+use Rattle.pp_macros.specs.inner.OpenBlocks.{last_block}
 use Rattle.pp_macros.specs.declared.blocks.OpenBlock.{OpenBlock}
 use Rattle.pp_macros.specs.inner.Source.{Source, IsAfter, DefinesOver, HasEffect, Makes, Decides, holds, faulty, Renumbers, numbers, unnumbered}
 use Rattle.pp_macros.specs.inner.SourceLexed.{SourceLexed}
-use Rattle.pp_macros.specs.inner.SourceMoves.{Effect, gives, gives_item, fails, ends, passes, defines, undefines, opens_where, opens_if, opens_unread, parts, parts_if, closes, unfinished, renumbers, Note, unnoted, directive_line, directive_move, taking_more}
+use Rattle.pp_model.specs.Moves.{Effect, gives, gives_item, fails, ends, passes, defines, undefines, opens_where, opens_if, opens_unread, parts, skips_branch, parts_if, closes, renumbers, Move}
+use Rattle.pp_model.specs.inner.Moves.{taking_more}
+use Rattle.pp_macros.specs.inner.SourceMoves.{unnoted, directive_line}
 use Rattle.pp_macros.specs.inner.Turns.{as_pause}
-use Rattle.pp_directives.proofs.SourceActsLemmas.{source_of, pause_no_fault, pause_no_end, effect_after}
-use Rattle.pp_directives.proofs.UnnotedLemmas.{directive_unnoted}
+use Rattle.pp_directives.proofs.SourceActsLemmas.{source_of, pause_no_fault, pause_not_ends, effect_after}
 
 abbrev pub remembering : Source → Source
 remembering source = record source { has_directive = true }
@@ -61,29 +62,25 @@ module _ (taken : ℕ) (old after : Source) (given : Option Token) where
   effect_noted (gives token) h = (h.0, after_noted _ h.1, h.2)
   effect_noted (gives_item item word) h = (h.0, after_noted _ h.1, h.2)
   effect_noted (fails fault) h = absurd (pause_no_fault given fault h.0)
-  effect_noted ends h = absurd (pause_no_end given h.0)
+  effect_noted ends h = absurd (pause_not_ends (last_block old.blocks) given old after h)
   effect_noted passes h = (h.0, after_noted _ h.1, h.2)
   effect_noted (defines named) h = defines_noted named (meaning_of old.definitions named.name) h
   effect_noted (undefines name) h = (h.0, after_noted _ h.1, h.2)
   effect_noted (opens_where wanted word name) h = (h.0, after_noted _ h.1, h.2)
   effect_noted (opens_if word tokens) h = decides_noted word tokens _ h
   effect_noted (opens_unread word) h = (h.0, after_noted _ h.1, h.2)
-  effect_noted (parts block) h = (h.0, after_noted _ h.1, h.2)
-  effect_noted (parts_if block word tokens) h = decides_noted word tokens _ h
+  effect_noted parts h = (h.0, after_noted _ h.1, h.2)
+  effect_noted skips_branch h = (h.0, after_noted _ h.1, h.2)
+  effect_noted (parts_if word tokens) h = decides_noted word tokens _ h
   effect_noted closes h = (h.0, after_noted _ h.1, h.2)
-  effect_noted (unfinished word) h = absurd (pause_no_fault given _ h.0)
   effect_noted (renumbers word tokens) h = renumbers_noted word tokens h
 
 -- what a directive does after its number sign, where the word was read
 pub word_read : (definitions : List Defined) (blocks : List OpenBlock) (line_offset : ℤ) (has_text has_directive dead : Bool) (old mid : SourceLexed)
-    → mid.rest ≡ drop 1 old.rest → (live : Bool) (block : Option OpenBlock) (directive : Directive) (word : Location)
-    (given : Option Token) (after : Source) → Makes (directive_move live block directive word mid.rest)
-    (source_of mid definitions blocks line_offset has_text has_directive dead) (as_pause given) after
-    → Makes (taking_more 1 (directive_move live block directive word mid.rest)) (source_of old definitions blocks line_offset has_text has_directive dead)
+    → mid.rest ≡ drop 1 old.rest → (move : Move) (given : Option Token) (after : Source)
+    → Makes unnoted move (source_of mid definitions blocks line_offset has_text has_directive dead) (as_pause given) after
+    → Makes directive_line (taking_more 1 move) (source_of old definitions blocks line_offset has_text has_directive dead)
     (as_pause given) (remembering after)
-word_read definitions blocks line_offset has_text has_directive dead old mid taken live block directive word given after h =
-    let move = directive_move live block directive word mid.rest in
-    let plain = subst (λ (note : Note). HasEffect move.effect move.taken note (source_of mid definitions blocks line_offset has_text has_directive dead)
-    (as_pause given) after) (directive_unnoted word mid.rest block live directive) h in
+word_read definitions blocks line_offset has_text has_directive dead old mid taken move given after h =
     effect_noted (1 + move.taken) (source_of old definitions blocks line_offset has_text has_directive dead) after given move.effect
-    (effect_after definitions blocks line_offset has_text has_directive dead old mid 1 move.taken (1 + move.taken) refl taken unnoted given after move.effect plain)
+    (effect_after definitions blocks line_offset has_text has_directive dead old mid 1 move.taken (1 + move.taken) refl taken unnoted given after move.effect h)

@@ -2,6 +2,7 @@
 pub mod Lined
 pub mod PlainText
 pub mod ReadNames
+pub mod LineEntries
 pub mod SourceActs
 pub mod SettingContent
 pub mod LineItems

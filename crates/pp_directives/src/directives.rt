@@ -4,23 +4,23 @@ ghost use Rattle.std.specs.Prelude.{◌≡◌, ◌≢◌, ◌||◌, ◌-◌, ◌
 ghost use Rattle.std.specs.Str.{chars};
 ghost use Rattle.pp_lexer.specs.declared.lexer.item.TokenValue.TheVariants.{NewLine};
 ghost use Rattle.pp_model.specs.Conversions.{conversion};
-ghost use Rattle.pp_model.specs.Lines.{only_name, line_tokens, line_length, first_token};
+ghost use Rattle.pp_model.specs.Lines.{only_name, line_tokens, comments_before_end, first_token};
 ghost use Rattle.pp_model.specs.LineValues.{as_line_number};
 ghost use Rattle.pp_model.specs.Run.{items_of, content_tokens};
 ghost use Rattle.pp_model.specs.declared.directive.Directive.TheVariants as d;
 ghost use Rattle.pp_macros.specs.inner.Defined.{meaning_of};
-ghost use Rattle.pp_macros.specs.inner.DirectiveItems.{is_item};
 ghost use Rattle.pp_macros.specs.Held.{HoldsOrdinary};
 ghost use Rattle.pp_macros.specs.Item.{as_step};
 ghost use Rattle.pp_directives.specs.inner.PlainText.{StepsPlain, GivesWord, PausesAtNewline};
 ghost use Rattle.pp_directives.specs.inner.ReadNames.{named};
-ghost use Rattle.pp_macros.specs.inner.OpenBlocks.{last_block, is_live_among, block_skipped};
+ghost use Rattle.pp_macros.specs.inner.OpenBlocks.{last_block, facts_among, is_live_among};
 ghost use Rattle.pp_directives.specs.inner.SettingContent.{SetsContent};
 ghost use Rattle.pp_macros.specs.inner.Source.{StepsSource, unreported_of};
-ghost use Rattle.pp_directives.specs.inner.SourceActs.{Acts, ActsAs, Gives, live_word_move, dead_word_move, word_move, defining};
+ghost use Rattle.pp_directives.specs.inner.LineEntries.{entries_move};
+ghost use Rattle.pp_directives.specs.inner.SourceActs.{Acts, ActsAsItem, ActsNoted, Gives, GivesNoted, is_as, without_item, word_move, word_note, defining};
 ghost use Rattle.pp_directives.specs.inner.Starting.{source_start};
-ghost use Rattle.pp_macros.specs.inner.SourceMoves as moves;
-ghost use Rattle.pp_macros.specs.inner.Unreported.{Reports, ExitReports, StepReports};
+ghost use Rattle.pp_model.specs.Moves as moves;
+ghost use Rattle.pp_macros.specs.inner.Unreported.{Unreported, Reports, ExitReports, StepReports};
 
 use crate::content::content_tokens;
 use crate::convert::{convert_lexer_token_to_step, word_token};
@@ -68,13 +68,22 @@ impl<'a> Model for DirectiveProcessor<'a> {
 }
 
 // Whether the directive is an item in live text.
-fn is_item(directive: Directive) -> bool
-    ensures { result ≡ is_item directive }
-{
+fn is_item(directive: Directive) -> bool {
     matches!(
         directive,
         Directive::Version | Directive::Extension | Directive::Pragma
     )
+}
+
+// What a directive that gives nothing comes to, as one that may give an item.
+fn without_item(acted: Result<(), Halt>) -> Result<Option<Token>, Halt>
+    ensures is { result ≡ without_item acted }
+    ensures holds { IfOk result (λ given. IfSome given (λ token. HoldsOrdinary token.value)) }
+    ensures errors { (before after : Unreported) → Reports acted before after
+        → Reports result before after }
+{
+    acted?;
+    Ok(None)
 }
 
 impl<'a> DirectiveProcessor<'a> {
@@ -173,7 +182,7 @@ impl<'a> DirectiveProcessor<'a> {
     fn define(&mut self, word: Location) -> Result<(), Halt>
         requires { self.old.spent ≡ false }
         ensures acts { Acts (moves.directive_move true
-            (last_block self.old.blocks) d.Define word self.old.rest) self.old result self.new }
+            (facts_among self.old.blocks) d.Define word self.old.rest) self.old result self.new }
         ensures errors { Reports result (unreported_of self.old) (unreported_of self.new) }
     {
         let line = define_line(self.alloc, word, &mut self.lexer)?;
@@ -184,7 +193,7 @@ impl<'a> DirectiveProcessor<'a> {
     fn undef(&mut self, word: Location) -> Result<(), Halt>
         requires { self.old.spent ≡ false }
         ensures acts { Acts (moves.line_move (only_name word self.old.rest) moves.undefines
-            (line_length self.old.rest)) self.old result self.new }
+            self.old.rest) self.old result self.new }
         ensures errors { Reports result (unreported_of self.old) (unreported_of self.new) }
     {
         let first = first_name(word, &mut self.lexer)?;
@@ -197,7 +206,7 @@ impl<'a> DirectiveProcessor<'a> {
     fn open_where(&mut self, wanted: bool, word: Location) -> Result<(), Halt>
         requires { self.old.spent ≡ false }
         ensures acts { Acts (moves.line_move (only_name word self.old.rest)
-            (moves.opens_where wanted word) (line_length self.old.rest)) self.old result self.new }
+            (moves.opens_where (is_as wanted) word) self.old.rest) self.old result self.new }
         ensures errors { Reports result (unreported_of self.old) (unreported_of self.new) }
     {
         let name = only_name(word, &mut self.lexer)?;
@@ -212,7 +221,7 @@ impl<'a> DirectiveProcessor<'a> {
     fn open_if(&mut self, word: Location) -> Result<(), Halt>
         requires { self.old.spent ≡ false }
         ensures acts { Acts (moves.line_move (line_tokens self.old.rest) (moves.opens_if word)
-            (line_length self.old.rest)) self.old result self.new }
+            self.old.rest) self.old result self.new }
         ensures errors { Reports result (unreported_of self.old) (unreported_of self.new) }
     {
         let tokens = rest_of_line(self.alloc, &mut self.lexer)?;
@@ -237,8 +246,7 @@ impl<'a> DirectiveProcessor<'a> {
         requires unspent { self.old.spent ≡ false }
         requires innermost { last_block self.old.blocks ≡ Some block }
         ensures acts { Acts
-            (moves.skip_move (moves.parts (block_skipped block)) self.old.rest)
-            self.old result self.new }
+            (moves.skip_move moves.skips_branch self.old.rest) self.old result self.new }
         ensures errors { Reports result (unreported_of self.old) (unreported_of self.new) }
     {
         self.blocks.replace_last(block.skipped());
@@ -249,8 +257,8 @@ impl<'a> DirectiveProcessor<'a> {
     fn part_if(&mut self, block: OpenBlock, word: Location) -> Result<(), Halt>
         requires unspent { self.old.spent ≡ false }
         requires innermost { last_block self.old.blocks ≡ Some block }
-        ensures acts { Acts (moves.line_move (line_tokens self.old.rest)
-            (moves.parts_if block word) (line_length self.old.rest)) self.old result self.new }
+        ensures acts { Acts (moves.line_move (line_tokens self.old.rest) (moves.parts_if word)
+            self.old.rest) self.old result self.new }
         ensures errors { Reports result (unreported_of self.old) (unreported_of self.new) }
     {
         self.blocks.replace_last(block.skipped());
@@ -264,7 +272,7 @@ impl<'a> DirectiveProcessor<'a> {
     fn elif_line(&mut self, word: Location) -> Result<(), Halt>
         requires { self.old.spent ≡ false }
         ensures acts { Acts
-            (moves.elif_move (last_block self.old.blocks) word self.old.rest)
+            (moves.elif_move (facts_among self.old.blocks) word self.old.rest)
             self.old result self.new }
         ensures errors { Reports result (unreported_of self.old) (unreported_of self.new) }
     {
@@ -286,7 +294,7 @@ impl<'a> DirectiveProcessor<'a> {
     fn else_line(&mut self, word: Location) -> Result<(), Halt>
         requires { self.old.spent ≡ false }
         ensures acts { Acts
-            (moves.else_move (last_block self.old.blocks) word self.old.rest)
+            (moves.else_move (facts_among self.old.blocks) word self.old.rest)
             self.old result self.new }
         ensures errors { Reports result (unreported_of self.old) (unreported_of self.new) }
     {
@@ -305,7 +313,7 @@ impl<'a> DirectiveProcessor<'a> {
     fn endif_line(&mut self, word: Location) -> Result<(), Halt>
         requires { self.old.spent ≡ false }
         ensures acts { Acts
-            (moves.endif_move (last_block self.old.blocks) word self.old.rest)
+            (moves.endif_move (facts_among self.old.blocks) word self.old.rest)
             self.old result self.new }
         ensures errors { Reports result (unreported_of self.old) (unreported_of self.new) }
     {
@@ -327,7 +335,7 @@ impl<'a> DirectiveProcessor<'a> {
     fn number_lines(&mut self, word: Location) -> Result<(), Halt>
         requires { self.old.spent ≡ false }
         ensures acts { Acts (moves.line_move (line_tokens self.old.rest) (moves.renumbers word)
-            (line_length self.old.rest)) self.old result self.new }
+            self.old.rest) self.old result self.new }
         ensures errors { Reports result (unreported_of self.old) (unreported_of self.new) }
     {
         let tokens = rest_of_line(self.alloc, &mut self.lexer)?;
@@ -359,8 +367,8 @@ impl<'a> DirectiveProcessor<'a> {
     fn version(&mut self, word: Location) -> Result<Token, Halt>
         requires unspent { self.old.spent ≡ false }
         requires left { self.old.rest ≢ [] }
-        ensures acts { ActsAs (λ token. Ok token)
-            (moves.live_move (last_block self.old.blocks) d.Version word self.old.rest)
+        ensures acts { ActsAsItem
+            (entries_move (moves.version_item (comments_before_end self.old.rest)) word self.old.rest)
             self.old result self.new }
         ensures holds { IfOk result (λ token. HoldsOrdinary token.value) }
         ensures errors { Reports result (unreported_of self.old) (unreported_of self.new) }
@@ -381,9 +389,8 @@ impl<'a> DirectiveProcessor<'a> {
     fn extension(&mut self, word: Location) -> Result<Token, Halt>
         requires unspent { self.old.spent ≡ false }
         requires left { self.old.rest ≢ [] }
-        ensures acts { ActsAs (λ token. Ok token)
-            (moves.live_move (last_block self.old.blocks) d.Extension word self.old.rest)
-            self.old result self.new }
+        ensures acts { ActsAsItem
+            (entries_move moves.extension_item word self.old.rest) self.old result self.new }
         ensures holds { IfOk result (λ token. HoldsOrdinary token.value) }
         ensures errors { Reports result (unreported_of self.old) (unreported_of self.new) }
     {
@@ -402,9 +409,8 @@ impl<'a> DirectiveProcessor<'a> {
     fn pragma(&mut self, word: Location) -> Result<Token, Halt>
         requires unspent { self.old.spent ≡ false }
         requires left { self.old.rest ≢ [] }
-        ensures acts { ActsAs (λ token. Ok token)
-            (moves.live_move (last_block self.old.blocks) d.Pragma word self.old.rest)
-            self.old result self.new }
+        ensures acts { ActsAsItem
+            (entries_move moves.pragma_item word self.old.rest) self.old result self.new }
         ensures holds { IfOk result (λ token. HoldsOrdinary token.value) }
         ensures errors { Reports result (unreported_of self.old) (unreported_of self.new) }
     {
@@ -415,57 +421,30 @@ impl<'a> DirectiveProcessor<'a> {
         })
     }
 
-    // Acts in live text on a directive that is no item, after its word.
-    fn act_live(&mut self, directive: Directive, word: Location) -> Result<(), Halt>
-        requires unspent { self.old.spent ≡ false }
-        requires silent { is_item directive ≡ false }
-        ensures acts { Acts (moves.directive_move true
-            (last_block self.old.blocks) directive word self.old.rest) self.old result self.new }
-        ensures errors { Reports result (unreported_of self.old) (unreported_of self.new) }
-    {
-        match directive {
-            Directive::Define => self.define(word),
-            Directive::Undef => self.undef(word),
-            Directive::If => self.open_if(word),
-            Directive::Ifdef => self.open_where(true, word),
-            Directive::Ifndef => self.open_where(false, word),
-            Directive::Elif => self.elif_line(word),
-            Directive::Else => self.else_line(word),
-            Directive::Endif => self.endif_line(word),
-            Directive::Line => self.number_lines(word),
-            Directive::Error => Err(Halt::Fault((PreprocessorError::ErrorDirective, word))),
-            Directive::Unknown => Err(Halt::Fault((PreprocessorError::UnknownDirective, word))),
-            Directive::Version | Directive::Extension | Directive::Pragma => unreachable!(),
-        }
-    }
-
-    // The item that a directive gives in live text, if it gives one, after its word.
-    fn give_live(&mut self, directive: Directive, word: Location) -> Result<Option<Token>, Halt>
+    // Acts on a directive in live text, after its word, and gives its item, if it is one.
+    fn act_live(&mut self, directive: Directive, word: Location) -> Result<Option<Token>, Halt>
         requires unspent { self.old.spent ≡ false }
         requires left { self.old.rest ≢ [] }
         ensures gives { Gives (moves.directive_move true
-            (last_block self.old.blocks) directive word self.old.rest) self.old result self.new }
+            (facts_among self.old.blocks) directive word self.old.rest) self.old result self.new }
         ensures holds { IfOk result (λ given. IfSome given (λ token. HoldsOrdinary token.value)) }
         ensures errors { Reports result (unreported_of self.old) (unreported_of self.new) }
     {
         match directive {
+            Directive::Define => without_item(self.define(word)),
+            Directive::Undef => without_item(self.undef(word)),
+            Directive::If => without_item(self.open_if(word)),
+            Directive::Ifdef => without_item(self.open_where(true, word)),
+            Directive::Ifndef => without_item(self.open_where(false, word)),
+            Directive::Elif => without_item(self.elif_line(word)),
+            Directive::Else => without_item(self.else_line(word)),
+            Directive::Endif => without_item(self.endif_line(word)),
+            Directive::Line => without_item(self.number_lines(word)),
+            Directive::Error => Err(Halt::Fault((PreprocessorError::ErrorDirective, word))),
             Directive::Version => Ok(Some(self.version(word)?)),
             Directive::Extension => Ok(Some(self.extension(word)?)),
             Directive::Pragma => Ok(Some(self.pragma(word)?)),
-            Directive::Define
-            | Directive::Undef
-            | Directive::If
-            | Directive::Ifdef
-            | Directive::Ifndef
-            | Directive::Elif
-            | Directive::Else
-            | Directive::Endif
-            | Directive::Line
-            | Directive::Error
-            | Directive::Unknown => {
-                self.act_live(directive, word)?;
-                Ok(None)
-            }
+            Directive::Unknown => Err(Halt::Fault((PreprocessorError::UnknownDirective, word))),
         }
     }
 
@@ -473,7 +452,7 @@ impl<'a> DirectiveProcessor<'a> {
     fn act_dead(&mut self, directive: Directive, word: Location) -> Result<(), Halt>
         requires { self.old.spent ≡ false }
         ensures acts { Acts (moves.directive_move false
-            (last_block self.old.blocks) directive word self.old.rest) self.old result self.new }
+            (facts_among self.old.blocks) directive word self.old.rest) self.old result self.new }
         ensures errors { Reports result (unreported_of self.old) (unreported_of self.new) }
     {
         match directive {
@@ -496,8 +475,9 @@ impl<'a> DirectiveProcessor<'a> {
     // line gives nothing. A line that would be an item counts as a directive even if it has a fault.
     fn read_live(&mut self, hash: Location) -> Result<Option<Token>, Halt>
         requires { self.old.spent ≡ false }
-        ensures gives { Gives (live_word_move (last_block self.old.blocks)
-            (first_token hash self.old.rest) (drop 1 self.old.rest)) self.old result self.new }
+        ensures gives { GivesNoted (word_note true (first_token hash self.old.rest))
+            (word_move true (facts_among self.old.blocks) (first_token hash self.old.rest)
+            (drop 1 self.old.rest)) self.old result self.new }
         ensures holds { IfOk result (λ given. IfSome given (λ token. HoldsOrdinary token.value)) }
         ensures errors { Reports result (unreported_of self.old) (unreported_of self.new) }
     {
@@ -507,7 +487,7 @@ impl<'a> DirectiveProcessor<'a> {
             lexer::TokenValue::Ident(name) => {
                 let directive = directive_of(&name);
                 drop(name);
-                match self.give_live(directive, word) {
+                match self.act_live(directive, word) {
                     Ok(given) => {
                         self.has_directive = true;
                         Ok(given)
@@ -529,8 +509,9 @@ impl<'a> DirectiveProcessor<'a> {
     // Acts on a directive in dead text, after its number sign. Without a word after the number sign it does nothing.
     fn read_dead(&mut self, hash: Location) -> Result<(), Halt>
         requires { self.old.spent ≡ false }
-        ensures acts { Acts (dead_word_move (last_block self.old.blocks)
-            (first_token hash self.old.rest) (drop 1 self.old.rest)) self.old result self.new }
+        ensures acts { ActsNoted (word_note false (first_token hash self.old.rest))
+            (word_move false (facts_among self.old.blocks) (first_token hash self.old.rest)
+            (drop 1 self.old.rest)) self.old result self.new }
         ensures errors { Reports result (unreported_of self.old) (unreported_of self.new) }
     {
         let token = first_token(hash, &mut self.lexer)?;
@@ -554,9 +535,12 @@ impl<'a> DirectiveProcessor<'a> {
     // The item that a directive gives, if it gives one, after its number sign.
     fn read_directive(&mut self, hash: Location) -> Result<Option<Token>, Halt>
         requires { self.old.spent ≡ false }
-        ensures gives { Gives (word_move
-            (is_live_among self.old.dead_for_good self.old.blocks)
-            (last_block self.old.blocks) hash self.old.rest) self.old result self.new }
+        ensures gives { GivesNoted
+            (word_note (is_live_among self.old.dead_for_good self.old.blocks)
+            (first_token hash self.old.rest))
+            (word_move (is_live_among self.old.dead_for_good self.old.blocks)
+            (facts_among self.old.blocks) (first_token hash self.old.rest)
+            (drop 1 self.old.rest)) self.old result self.new }
         ensures holds { IfOk result (λ given. IfSome given (λ token. HoldsOrdinary token.value)) }
         ensures errors { Reports result (unreported_of self.old) (unreported_of self.new) }
     {

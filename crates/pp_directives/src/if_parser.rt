@@ -5,7 +5,7 @@ ghost use Rattle.pp_model.specs.LineWords.{unwanted_word};
 ghost use Rattle.pp_model.specs.inner.LineWords.{is_open_paren, is_close_paren};
 ghost use Rattle.pp_macros.specs.inner.Defined.{meaning_of};
 ghost use Rattle.pp_macros.specs.Held.{AllHoldOrdinary};
-ghost use Rattle.pp_directives.specs.inner.IfParsing.{Stands, GivesItem, TakesOff, GivesTaken, IsNameOrFault, GivesOperand, GivesParenthesized, GivesClosed, AreWordsOf, AreWordsOfLine};
+ghost use Rattle.pp_directives.specs.inner.IfParsing.{Stands, GivesItem, TakesOff, GivesTaken, IsNameOrFault, GivesOperand, GivesInParentheses, GivesClosed, AreWordsOf, AreWordsOfLine};
 ghost use Rattle.pp_directives.specs.inner.LineItems.{outcome_of};
 
 use pp_lexer::token::{Location, PreprocessorError, Text, Token, TokenValue};
@@ -163,7 +163,7 @@ impl<'a> IfParser<'a> {
     // The value of a `defined` after its `(`.
     fn operand_in_parentheses(&self, line: &mut LineExpander<'_>) -> Result<bool, Halt>
         requires { Stands self.now line.old }
-        ensures { GivesParenthesized self.now line.old result line.new }
+        ensures { GivesInParentheses self.now line.old result line.new }
     {
         let found = self.take(line)?;
         match self.name_or_fault(found) {

@@ -6,7 +6,7 @@ ghost use Rattle.pp_lexer.specs.TokenValue.{is_ordinary};
 ghost use Rattle.pp_model.specs.Conversions as conversions;
 ghost use Rattle.pp_model.specs.DefineLines.{is_attached_paren, definition_at, defined_on};
 ghost use Rattle.pp_model.specs.Lines.{first_token, first_name, ended_line, only_name, line_tokens, line_length, comments_before_end};
-ghost use Rattle.pp_macros.specs.inner.DirectiveItems.{line_entries};
+ghost use Rattle.pp_directives.specs.inner.LineEntries.{line_entries};
 ghost use Rattle.pp_macros.specs.Held.{is_ordinary_leaf};
 ghost use Rattle.pp_macros.specs.inner.LineReading as spec;
 ghost use Rattle.pp_directives.specs.inner.ReadNames.{named, placed};

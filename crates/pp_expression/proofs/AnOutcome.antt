@@ -168,7 +168,7 @@ evaluated : (line : Line) (out : Outcome) → Sees 0 line out → Ends (length l
 evaluated line (Ok x) sees ends = (Ok (record { value = x.0; left = length x.1.symbols }), is_value line x.1 x.0 (length x.1.symbols) refl sees)
 evaluated line (Err h) sees ends =
     let found : Found = record { kind = h.kind; left = h.left } in
-    (Err found, is_first 0 line found (omega arith) (record { order = h.order; possible = fault_seen 0 line h ends sees }))
+    (Err found, is_first 0 line found (omega arith) (record { order = h.order; met = fault_seen 0 line h ends sees }))
 
 -- A line has a value, or a first fault.
 pub an_outcome : (line : Line) → (result : Result Value Found) × Evaluates line result

@@ -8,11 +8,11 @@ use Rattle.pp_expression.specs.declared.operator.Binary.{Binary}
 use Rattle.pp_expression.specs.declared.symbol.ExpressionFault.{ExpressionFault}
 use Rattle.pp_expression.specs.Operators.{level_of, unary_punct, binary_punct}
 use Rattle.pp_expression.specs.Arithmetic.{binary_value}
-use Rattle.pp_expression.specs.Trees.{Tree, Number, Group, Prefix, Infix, spelling, Fits, value, HasValue}
+use Rattle.pp_expression.specs.Trees.{Tree, Number, Group, Prefix, Infix, spelling, Fits, value}
 use Rattle.pp_expression.specs.Answers.{◌>>=◌}
 use Rattle.pp_expression.specs.Lines.{Line, next}
-use Rattle.pp_expression.specs.FirstFault.{sign_of, unread_at, Front, Here, InGroup, InPrefix, InInfix, front_spelling, FitsFront, wanted, Fails, unread, wrong, unread_after, unclosed, signed, operated, Possible}
-use Rattle.pp_expression.specs.inner.Parsing.{sign_at}
+use Rattle.pp_expression.specs.FirstFault.{sign_of, unread_at, Front, Here, InGroup, InPrefix, InInfix, front_spelling, FitsFront, wanted, Fails, unread, wrong, unread_after, unclosed, signed, operated}
+use Rattle.pp_expression.specs.inner.Parsing.{sign_at, HaveValues, IsAfterValue, IsMet}
 use Rattle.pp_expression.proofs.Levels.{operator_at}
 use Rattle.pp_expression.proofs.Trees.{operand_stops}
 use Rattle.pp_expression.proofs.Run.{Halt, Outcome, Operand, Level, Loop, Settles, level_goes, level_operand, loop_unread, loop_goes, loop_overflows, loop_right, operand_unread, operand_overflows, operand_in_sign, operand_wrong, operand_unclosed, operand_in_group}
@@ -98,58 +98,58 @@ unreads (Infix o l r) = unread_infix o l r (unreads r)
 pub sign_none : (line : Line) (x : Option Symbol) → next line ≡ Ok x → sign_of x ≡ None → sign_at line ≡ Ok None
 sign_none line x h s = rw (h, s) refl
 
-pub fails_settles : (level : ℕ) (line : Line) (left order : ℕ) (e : ExpressionFault) → level ≤ 10 → Fails HasValue level line left order e
-    → Settles (Level level) line (found left order e)
-fails_settles level line left order e h (unread is a b) =
-    let s : sign_at line ≡ Err e = rw is refl in
-    rw (a, b) (up level line (spot (length line.symbols) 1 e) h (operand_unread line e s))
-fails_settles level line left order e h (wrong x is s out a b) =
-    rw (a, b) (up level line (spot (length line.symbols) 4 e) h (operand_wrong line x e (sign_none line x is s) is out))
-fails_settles level line left order e h (unread_after t rest low spelled ending fits ok is a b) =
-    rw (a, b, line_is line rest (spelling t) spelled ending) (unreads t level rest e low fits ok is)
-fails_settles level line left order e h (unclosed t rest x spelled ending fits ok is over out a b) =
+pub fails_settles : (level : ℕ) (line : Line) (left order : ℕ) (e : ExpressionFault) → level ≤ 10 → (fails : Fails level line left order e)
+    → IsAfterValue fails → Settles (Level level) line (found left order e)
+fails_settles level line left order e h (unread kind is) ok =
+    let s : sign_at line ≡ Err kind = rw is refl in
+    up level line (spot (length line.symbols) 1 kind) h (operand_unread line kind s)
+fails_settles level line left order e h (wrong x kind is s out) ok =
+    up level line (spot (length line.symbols) 4 kind) h (operand_wrong line x kind (sign_none line x is s) is out)
+fails_settles level line left order e h (unread_after t rest kind low begins fits is) ok =
+    rw (line_is line rest (spelling t) begins) (unreads t level rest kind low fits ok is)
+fails_settles level line left order e h (unclosed t rest x kind begins fits is over out) ok =
     let v = ok_value (value t) ok in
     let opening = onto (symbol.Punct mark.LeftParen ∷ spelling t) rest in
-    rw (a, b, line_is line rest (symbol.Punct mark.LeftParen ∷ spelling t) spelled ending)
-    (up level opening (spot (length rest.symbols) 4 e) h
-    (operand_unclosed opening rest v.0 x e refl refl
+    rw (line_is line rest (symbol.Punct mark.LeftParen ∷ spelling t) begins)
+    (up level opening (spot (length rest.symbols) 4 kind) h
+    (operand_unclosed opening rest v.0 x kind refl refl
     ((is_read t).whole 0 rest v.0 (omega arith) fits v.1 (record { known = λ z. rw is refl; over = over })) is out))
-fails_settles level line left order e h (signed o t rest x spelled ending fits is out a b) =
-    rw (a, b, line_is line rest (spelling (Prefix o t)) spelled ending)
-    (up level (onto (spelling (Prefix o t)) rest) (spot (length rest.symbols + 1) 2 e) h
-    (operand_overflows o (onto (spelling (Prefix o t)) rest) rest x e (sign_front o (spelling t) rest) ((is_read t).atom rest x fits is) out))
-fails_settles level line left order e h (operated o l r rest x y spelled ending fits lv rv out s a b) =
+fails_settles level line left order e h (signed o t rest x kind begins fits is out) ok =
+    rw (line_is line rest (spelling (Prefix o t)) begins)
+    (up level (onto (spelling (Prefix o t)) rest) (spot (length rest.symbols + 1) 2 kind) h
+    (operand_overflows o (onto (spelling (Prefix o t)) rest) rest x kind (sign_front o (spelling t) rest) ((is_read t).atom rest x fits is) out))
+fails_settles level line left order e h (operated o l r rest x y kind begins fits lv rv out s) ok =
     let own = level_of o in
     let low = low_operator o in
-    let here = spot (unread_at o rest) 2 e in
+    let here = spot (unread_at o rest) 2 kind in
     let after = onto (symbol.Punct (binary_punct o) ∷ spelling r) rest in
-    rw (a, b, line_is line rest (spelling (Infix o l r)) spelled ending)
+    rw (line_is line rest (spelling (Infix o l r)) begins)
     (descend_fault (own - level) level own (onto (spelling (Infix o l r)) rest) here (omega (arith, fits.0)) (omega arith)
     (left_goes o l (spelling r) level rest x (Err here) fits.0 fits.1 lv
-    (loop_overflows own o x y after rest e (operator_front own o (spelling r) rest refl)
+    (loop_overflows own o x y after rest kind (operator_front own o (spelling r) rest refl)
     ((is_read r).whole (own + 1) rest y (omega arith) fits.2 rv s) out)))
 
 -- ---- and seen from the front of the line
 
-front_settles : (c : Front) (level : ℕ) (here : Line) (e : Halt) → level ≤ 10 → FitsFront HasValue level c
+front_settles : (c : Front) (level : ℕ) (here : Line) (e : Halt) → level ≤ 10 → FitsFront level c → HaveValues c
     → Settles (Level (wanted level c)) here (Err e) → Settles (Level level) (onto (front_spelling c) here) (Err e)
-front_settles Here level here e h is a = a
-front_settles (InGroup c) level here e h is a =
+front_settles Here level here e h is ok a = a
+front_settles (InGroup c) level here e h is ok a =
     let inner = onto (front_spelling c) here in
     up level (onto (symbol.Punct mark.LeftParen ∷ front_spelling c) here) e h
-    (operand_in_group (onto (symbol.Punct mark.LeftParen ∷ front_spelling c) here) e refl refl (front_settles c 0 here e (omega arith) is a))
-front_settles (InPrefix o c) level here e h is a =
+    (operand_in_group (onto (symbol.Punct mark.LeftParen ∷ front_spelling c) here) e refl refl (front_settles c 0 here e (omega arith) is ok a))
+front_settles (InPrefix o c) level here e h is ok a =
     up level (onto (symbol.Punct (unary_punct o) ∷ front_spelling c) here) e h
     (operand_in_sign o (onto (symbol.Punct (unary_punct o) ∷ front_spelling c) here) e (sign_front o (front_spelling c) here)
-    (down (onto (front_spelling c) here) (Err e) (front_settles c 10 here e (omega arith) is a)))
-front_settles (InInfix o l c) level here e h is a =
+    (down (onto (front_spelling c) here) (Err e) (front_settles c 10 here e (omega arith) is ok a)))
+front_settles (InInfix o l c) level here e h is ok a =
     let own = level_of o in
     let low = low_operator o in
-    let x = ok_value (value l) is.2 in
+    let x = ok_value (value l) ok.0 in
     descend_fault (own - level) level own (onto (spelling l ++ (symbol.Punct (binary_punct o) ∷ front_spelling c)) here) e (omega (arith, is.0)) (omega arith)
     (left_goes o l (front_spelling c) level here x.0 (Err e) is.0 is.1 x.1
     (loop_right own o x.0 (onto (symbol.Punct (binary_punct o) ∷ front_spelling c) here) e (operator_front own o (front_spelling c) here refl)
-    (front_settles c (own + 1) here e (omega arith) is.3 a)))
+    (front_settles c (own + 1) here e (omega arith) is.2 ok.1 a)))
 
 pub wanted_low : (c : Front) (level : ℕ) → level ≤ 10 → wanted level c ≤ 10
 wanted_low Here level h = h
@@ -157,9 +157,10 @@ wanted_low (InGroup c) level h = wanted_low c 0 (omega arith)
 wanted_low (InPrefix o c) level h = wanted_low c 10 (omega arith)
 wanted_low (InInfix o l c) level h = let low = low_operator o in wanted_low c (level_of o + 1) (omega arith)
 
-pub fault_settles : (level : ℕ) (line : Line) (left order : ℕ) (e : ExpressionFault) → level ≤ 10 → Possible HasValue level line left order e
+pub fault_settles : (level : ℕ) (line : Line) (left order : ℕ) (e : ExpressionFault) → level ≤ 10 → IsMet level line left order e
     → Settles (Level level) line (found left order e)
 fault_settles level line left order e low h =
-    rw (line_is line h.here (front_spelling h.front) h.spelled h.ending)
-    (front_settles h.front level h.here (spot left order e) low h.stands
-    (fails_settles (wanted level h.front) h.here left order e (wanted_low h.front level low) h.fails))
+    let possible = h.possible in
+    rw (line_is line possible.here (front_spelling possible.front) possible.begins)
+    (front_settles possible.front level possible.here (spot left order e) low possible.stands h.front
+    (fails_settles (wanted level possible.front) possible.here left order e (wanted_low possible.front level low) possible.fails h.operand))

@@ -9,8 +9,8 @@ use Rattle.pp_expression.specs.FirstFault.{Before, IsFirst, IsValue, Evaluates}
 use Rattle.pp_expression.proofs.Run.{Halt, Outcome, Level, Settles, settles_once}
 use Rattle.pp_expression.proofs.Unique.{reads_settles}
 use Rattle.pp_expression.proofs.First.{spot, found}
-use Rattle.pp_expression.proofs.PossibleFaults.{Sooner, earlier, lower, exact, possible_by, is_possible, no_fault}
-use Rattle.pp_expression.proofs.Sound.{found_possible}
+use Rattle.pp_expression.proofs.PossibleFaults.{Sooner, earlier, lower, exact, possible_by, no_fault}
+use Rattle.pp_expression.proofs.Sound.{found_met}
 
 -- An expression at the front of a line has one value, and one end.
 pub one_value : (level : ℕ) (line rest other_rest : Line) (number other : ℤ) → level ≤ 10 → Reads level level line rest number
@@ -35,7 +35,7 @@ first_settles : (level : ℕ) (line : Line) (fault : Found) → level ≤ 10 →
     → Settles (Level level) line (found fault.left first.order fault.kind)
 first_settles level line fault low first =
     let by = possible_by level line fault.left first.order fault.kind low first.possible in
-    let possible = is_possible level line by.halt.left by.halt.order by.halt.kind (found_possible level line by.halt low by.ordered by.settles) in
+    let possible = (found_met level line by.halt low by.ordered by.settles).possible in
     let same = not_sooner by.halt (spot fault.left first.order fault.kind) (first.first by.halt.left by.halt.order by.halt.kind possible) by.sooner in
     rw same at by.settles
 
@@ -80,6 +80,6 @@ one_outcome line (Err a) (Ok b) x y = absurd (not_both 0 line y.rest b.value a (
 pub rest_is : (line : Line) (found : Value) → (is : IsValue line found) → is.rest.symbols ≡ drop (length line.symbols - found.left) line.symbols
 rest_is line found is =
     let words = spelling is.reads.tree in
-    let all : length line.symbols ≡ length words + length is.rest.symbols = ap length is.reads.spelled ∙ length-append words is.rest.symbols in
+    let all : length line.symbols ≡ length words + length is.rest.symbols = ap length is.reads.begins.symbols ∙ length-append words is.rest.symbols in
     let taken : length words ≡ length line.symbols - found.left = omega (arith, all, is.after) in
-    rw (← taken, is.reads.spelled) (sym (drop-append_seam words is.rest.symbols))
+    rw (← taken, is.reads.begins.symbols) (sym (drop-append_seam words is.rest.symbols))

@@ -36,11 +36,10 @@ pub reads_stopped : (level stop other : ℕ) (old new : Line) (v : ℤ) → Stop
     → Reads level other old new v
 reads_stopped level stop other old new v stops r = record {
   tree = r.tree;
-  spelled = r.spelled;
+  begins = r.begins;
   fits = r.fits;
   valued = r.valued;
   stops = stops;
-  ending = r.ending;
 }
 
 fault_looser_by : (d level top : ℕ) (old : Line) (found : Found) → top ≡ level + d → IsFault top old found → IsFault level old found

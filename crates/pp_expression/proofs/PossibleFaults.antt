@@ -11,11 +11,11 @@ use Rattle.pp_expression.specs.declared.symbol.ExpressionFault.{ExpressionFault}
 use Rattle.pp_expression.specs.declared.symbol.Found.{Found}
 use Rattle.pp_expression.specs.Operators.{level_of, unary_punct, binary_punct}
 use Rattle.pp_expression.specs.Arithmetic.{unary_value, binary_value}
-use Rattle.pp_expression.specs.Trees.{Tree, Number, Group, Prefix, Infix, spelling, Fits, value, HasValue}
+use Rattle.pp_expression.specs.Trees.{Tree, Number, Group, Prefix, Infix, spelling, Fits, value}
 use Rattle.pp_expression.specs.Answers.{◌>>=◌}
 use Rattle.pp_expression.specs.Lines.{Line, next, Stops, Reads}
-use Rattle.pp_expression.specs.FirstFault.{unread_at, Front, Here, InGroup, InPrefix, InInfix, front_spelling, FitsFront, wanted, Possible, Any, Before, IsFirst, IsValue, Fails, unread, wrong, unread_after, unclosed, signed, operated}
-use Rattle.pp_expression.specs.inner.Parsing.{after_next, IsFault}
+use Rattle.pp_expression.specs.FirstFault.{unread_at, Front, Here, InGroup, InPrefix, InInfix, front_spelling, FitsFront, wanted, Possible, Before, IsFirst, IsValue, Fails, unread, wrong, unread_after, unclosed, signed, operated}
+use Rattle.pp_expression.specs.inner.Parsing.{after_next, IsAfterValue, IsFault}
 use Rattle.pp_expression.proofs.Levels.{operator_at}
 use Rattle.pp_expression.proofs.Trees.{operand_stops}
 use Rattle.pp_expression.proofs.Run.{Halt, Outcome, Mode, Operand, Level, Loop, Settles, settles_once, loop_overflows, loop_right, operand_overflows, operand_in_sign, operand_in_group}
@@ -255,54 +255,57 @@ fails_soon (Infix o l r) = record {
 unread_most : (o : Binary) (rest : Line) → unread_at o rest ≤ length rest.symbols + 1
 unread_most o rest = grind (arith, common_steps)
 
-within : (level : ℕ) (line : Line) (left order : ℕ) (e : ExpressionFault) → Fails Any level line left order e → left ≤ length line.symbols
-within level line left order e (unread is a b) = omega arith
-within level line left order e (wrong x is s out a b) = omega arith
-within level line left order e (unread_after t rest low spelled ending fits ok is a b) =
-    omega (arith, ap length spelled, length-append (spelling t) rest.symbols)
-within level line left order e (unclosed t rest x spelled ending fits ok is over out a b) =
-    omega (arith, ap length spelled, length-append (spelling t) rest.symbols)
-within level line left order e (signed o t rest x spelled ending fits is out a b) = omega (arith, ap length spelled, length-append (spelling t) rest.symbols)
-within level line left order e (operated o l r rest x y spelled ending fits lv rv out s a b) =
+within : (level : ℕ) (line : Line) (left order : ℕ) (e : ExpressionFault) → Fails level line left order e → left ≤ length line.symbols
+within level line left order e (unread kind is) = omega arith
+within level line left order e (wrong x kind is s out) = omega arith
+within level line left order e (unread_after t rest kind low begins fits is) =
+    omega (arith, ap length begins.symbols, length-append (spelling t) rest.symbols)
+within level line left order e (unclosed t rest x kind begins fits is over out) =
+    omega (arith, ap length begins.symbols, length-append (spelling t) rest.symbols)
+within level line left order e (signed o t rest x kind begins fits is out) =
+    omega (arith, ap length begins.symbols, length-append (spelling t) rest.symbols)
+within level line left order e (operated o l r rest x y kind begins fits lv rv out s) =
     omega (
       arith,
-      ap length spelled,
+      ap length begins.symbols,
       length-append (spelling l ++ (symbol.Punct (binary_punct o) ∷ spelling r)) rest.symbols,
       length-append (spelling l) (symbol.Punct (binary_punct o) ∷ spelling r),
       unread_most o rest,
     )
 
-possible_here : (level : ℕ) (line : Line) (left order : ℕ) (e : ExpressionFault) → level ≤ 10 → Fails Any level line left order e
+-- a fault that is met where the line begins is the one that is found
+met_here : (level : ℕ) (line : Line) (left order : ℕ) (e : ExpressionFault) → level ≤ 10 → 1 ≤ order → (fails : Fails level line left order e)
+    → IsAfterValue fails → FailsBy (Level level) line (spot left order e)
+met_here level line left order e h ordered fails ok = exactly (Level level) line (spot left order e) ordered
+    (fails_settles level line left order e h fails ok)
+
+possible_here : (level : ℕ) (line : Line) (left order : ℕ) (e : ExpressionFault) → level ≤ 10 → Fails level line left order e
     → FailsBy (Level level) line (spot left order e)
-possible_here level line left order e h (unread is a b) = exactly (Level level) line (spot left order e)
-    (omega (arith, b)) (fails_settles level line left order e h (unread is a b))
-possible_here level line left order e h (wrong x is s out a b) =
-    exactly (Level level) line (spot left order e) (omega (arith, b)) (fails_settles level line left order e h (wrong x is s out a b))
-possible_here level line left order e h (signed o t rest x spelled ending fits is out a b) =
-    exactly (Level level) line (spot left order e) (omega (arith, b)) (fails_settles level line left order e h
-    (signed o t rest x spelled ending fits is out a b))
-possible_here level line left order e h (operated o l r rest x y spelled ending fits lv rv out s a b) =
-    exactly (Level level) line (spot left order e) (omega (arith, b)) (fails_settles level line left order e h
-    (operated o l r rest x y spelled ending fits lv rv out s a b))
-possible_here level line left order e h (unread_after t rest low spelled ending fits any is a b) =
-    rw (a, b, line_is line rest (spelling t) spelled ending)
+possible_here level line left order e h (unread kind is) = met_here level line (length line.symbols) 1 kind h (omega arith) (unread kind is) tt
+possible_here level line left order e h (wrong x kind is s out) =
+    met_here level line (length line.symbols) 4 kind h (omega arith) (wrong x kind is s out) tt
+possible_here level line left order e h (signed o t rest x kind begins fits is out) =
+    met_here level line (length rest.symbols + 1) 2 kind h (omega arith) (signed o t rest x kind begins fits is out) tt
+possible_here level line left order e h (operated o l r rest x y kind begins fits lv rv out s) =
+    met_here level line (unread_at o rest) 2 kind h (omega arith) (operated o l r rest x y kind begins fits lv rv out s) tt
+possible_here level line left order e h (unread_after t rest kind low begins fits is) =
+    rw (line_is line rest (spelling t) begins)
     (split (value t)
-    (λ v some. exactly (Level level) (onto (spelling t) rest) (spot (length rest.symbols) 1 e) (omega arith)
-    (unreads t level rest e low fits (rw some refl) is))
-    (λ d none. (fails_soon t).unread_tree level rest d e low fits none is))
-possible_here level line left order e h (unclosed t rest x spelled ending fits any is over out a b) =
+    (λ v some. exactly (Level level) (onto (spelling t) rest) (spot (length rest.symbols) 1 kind) (omega arith)
+    (unreads t level rest kind low fits (rw some refl) is))
+    (λ d none. (fails_soon t).unread_tree level rest d kind low fits none is))
+possible_here level line left order e h (unclosed t rest x kind begins fits is over out) =
     let opening = onto (symbol.Punct mark.LeftParen ∷ spelling t) rest in
-    let bound = spot (length rest.symbols) 4 e in
+    let bound = spot (length rest.symbols) 4 kind in
     split (value t)
-    (λ v some. exactly (Level level) line (spot left order e)
-    (omega (arith, b)) (fails_settles level line left order e h (unclosed t rest x spelled ending fits (rw some refl) is over out a b)))
-    (λ d none. rw (a, b, line_is line rest (symbol.Punct mark.LeftParen ∷ spelling t) spelled ending)
+    (λ v some. met_here level line (length rest.symbols) 4 kind h (omega arith) (unclosed t rest x kind begins fits is over out) (rw some refl))
+    (λ d none. rw (line_is line rest (symbol.Punct mark.LeftParen ∷ spelling t) begins)
     (to_level level opening bound h
     (by_step (Level 0) (onto (spelling t) rest) Operand opening bound (λ f s. operand_in_group opening f refl refl s)
     (by_lower (Level 0) (onto (spelling t) rest) (spot (length rest.symbols) 2 d) bound refl (omega arith)
     ((fails_soon t).tree 0 rest d (omega arith) fits none (record { known = λ z. rw is refl; over = over_more 0 rest.symbols over }))))))
 
-possible_front : (c : Front) (level : ℕ) (here : Line) (bound : Halt) → level ≤ 10 → FitsFront Any level c → bound.left ≤ length here.symbols
+possible_front : (c : Front) (level : ℕ) (here : Line) (bound : Halt) → level ≤ 10 → FitsFront level c → bound.left ≤ length here.symbols
     → FailsBy (Level (wanted level c)) here bound → FailsBy (Level level) (onto (front_spelling c) here) bound
 possible_front Here level here bound h is within a = a
 possible_front (InGroup c) level here bound h is within a =
@@ -322,43 +325,17 @@ possible_front (InInfix o l c) level here bound h is within a =
     descend_by level k (onto (spelling l ++ (symbol.Punct (binary_punct o) ∷ front_spelling c)) here) bound is.0 (omega arith)
     (split (value l)
     (λ x some. left_by o l (front_spelling c) here x bound is.1 some
-    (right_by o x (front_spelling c) here bound (possible_front c (k + 1) here bound (omega arith) is.3 within a)))
+    (right_by o x (front_spelling c) here bound (possible_front c (k + 1) here bound (omega arith) is.2 within a)))
     (λ e none. left_fails o l (front_spelling c) here e bound (fails_soon l).tree is.1 none (omega (arith, length-append (front_spelling c) here.symbols))))
 
-pub possible_by : (level : ℕ) (line : Line) (left order : ℕ) (e : ExpressionFault) → level ≤ 10 → Possible Any level line left order e
+pub possible_by : (level : ℕ) (line : Line) (left order : ℕ) (e : ExpressionFault) → level ≤ 10 → Possible level line left order e
     → FailsBy (Level level) line (spot left order e)
 possible_by level line left order e h q =
-    rw (line_is line q.here (front_spelling q.front) q.spelled q.ending)
+    rw (line_is line q.here (front_spelling q.front) q.begins)
     (possible_front q.front level q.here (spot left order e) h q.stands (within (wanted level q.front) q.here left order e q.fails)
     (possible_here (wanted level q.front) q.here left order e (wanted_low q.front level h) q.fails))
 
 -- ---- the first fault
-
-front_any : (level : ℕ) (c : Front) → FitsFront HasValue level c → FitsFront Any level c
-front_any level Here h = tt
-front_any level (InGroup c) h = front_any 0 c h
-front_any level (InPrefix o c) h = front_any 10 c h
-front_any level (InInfix o l c) h = (h.0, h.1, tt, front_any (level_of o + 1) c h.3)
-
-fails_any : (level : ℕ) (line : Line) (left order : ℕ) (e : ExpressionFault) → Fails HasValue level line left order e → Fails Any level line left order e
-fails_any level line left order e (unread h a b) = unread h a b
-fails_any level line left order e (wrong x h s out a b) = wrong x h s out a b
-fails_any level line left order e (unread_after t rest low spelled ending fits ok h a b) = unread_after t rest low spelled ending fits tt h a b
-fails_any level line left order e (unclosed t rest x spelled ending fits ok h over out a b) = unclosed t rest x spelled ending fits tt h over out a b
-fails_any level line left order e (signed o t rest x spelled ending fits ok h a b) = signed o t rest x spelled ending fits ok h a b
-fails_any level line left order e (operated o l r rest x y spelled ending fits lv rv h stops a b) =
-    operated o l r rest x y spelled ending fits lv rv h stops a b
-
-pub is_possible : (level : ℕ) (line : Line) (left order : ℕ) (e : ExpressionFault) → Possible HasValue level line left order e
-    → Possible Any level line left order e
-is_possible level line left order e h = record {
-  front = h.front;
-  here = h.here;
-  spelled = h.spelled;
-  ending = h.ending;
-  stands = front_any level h.front h.stands;
-  fails = fails_any (wanted level h.front) h.here left order e h.fails;
-}
 
 before_of : (halt bound : Halt) → Sooner halt bound → Before halt.left halt.order bound.left bound.order
 before_of halt bound (earlier a) = inl a
@@ -375,12 +352,12 @@ before_same a b left order same h = let e : a ≡ b = cc in rw (← e) h
 pub is_first : (level : ℕ) (line : Line) (found : Found) → level ≤ 10 → IsFault level line found → IsFirst level line found
 is_first level line found low h = record {
   order = h.order;
-  possible = is_possible level line found.left h.order found.kind h.possible;
+  possible = h.met.possible;
   first = λ left other kind q.
       let by = possible_by level line left other kind low q in
       before_same by.halt (spot found.left h.order found.kind) left other
       (settles_once (Level level) line (broken by.halt) (broken (spot found.left h.order found.kind)) by.settles
-      (fault_settles level line found.left h.order found.kind low h.possible))
+      (fault_settles level line found.left h.order found.kind low h.met))
       (before_of by.halt (spot left other kind) by.sooner);
 }
 
@@ -392,7 +369,7 @@ apart x e h = cc
 
 -- A line with a value has no fault.
 pub no_fault : (level : ℕ) (old new : Line) (v : ℤ) (left order : ℕ) (e : ExpressionFault) → level ≤ 10 → Reads level level old new v
-    → Possible Any level old left order e → ⊥
+    → Possible level old left order e → ⊥
 no_fault level old new v left order e low r q =
     let by = possible_by level old left order e low q in
     apart (v, new) by.halt (settles_once (Level level) old (given (v, new)) (broken by.halt) (reads_settles level old new v low r) by.settles)

@@ -1,4 +1,4 @@
--- What the run gives is a tree's value, or a fault that the line may have.
+-- What the run gives is a tree's value, or a fault that is met on the line.
 use Rattle.std.proofs.Common.{◌≡◌, ℕ, zero, suc, ◌+◌, ◌≤◌, false, List, [], ◌∷◌, length, Option, Some, None, Result, Ok, Err, IsOk, ℤ, refl, ap, ◌∙◌, arith, ◌⊎◌, inl, inr}
 use Rattle.std.specs.Prelude.{MatchResult}
 use Rattle.std.proofs.Math.Decide.{dec_lt}
@@ -11,12 +11,11 @@ use Rattle.pp_expression.specs.declared.operator.Binary.{Binary}
 use Rattle.pp_expression.specs.declared.symbol.ExpressionFault.{ExpressionFault}
 use Rattle.pp_expression.specs.Operators.{binary_of}
 use Rattle.pp_expression.specs.Arithmetic.{unary_value, binary_value}
-use Rattle.pp_expression.specs.Trees.{HasValue}
 use Rattle.pp_expression.specs.Answers.{◌>>=◌}
 use Rattle.pp_expression.specs.Lines.{Line, next, next_of, goes_on, Reads}
 use Rattle.pp_expression.specs.inner.Lines.{binds_from}
-use Rattle.pp_expression.specs.FirstFault.{atom_of, closing, unread_at, Possible, unread}
-use Rattle.pp_expression.specs.inner.Parsing.{after_next, sign_at}
+use Rattle.pp_expression.specs.FirstFault.{atom_of, closing, unread_at, unread}
+use Rattle.pp_expression.specs.inner.Parsing.{after_next, sign_at, IsMet}
 use Rattle.pp_expression.proofs.Levels.{of_level, operator_of, operator_at}
 use Rattle.pp_expression.proofs.Trees.{read_number, read_group, read_signed, read_looser, read_operation}
 use Rattle.pp_expression.proofs.Faults.{here, at_group, at_number, at_close, sign_unread, not_begun, in_group, not_closed, in_sign, sign_fails, looser, not_read_after, in_right, operation_fails}
@@ -25,7 +24,7 @@ use Rattle.pp_expression.proofs.Run.{Halt, Outcome, Turn, Operand, Level, Loop, 
 
 -- a tree of the level with its value, a fault of the line, or too few turns
 abbrev pub Sees : ℕ → Line → Outcome → Type 0
-Sees level line out = MatchResult out (λ x. Reads level level line x.1 x.0) (λ h. (h.order ≡ 0) ⊎ Possible HasValue level line h.left h.order h.kind)
+Sees level line out = MatchResult out (λ x. Reads level level line x.1 x.0) (λ h. (h.order ≡ 0) ⊎ IsMet level line h.left h.order h.kind)
 
 record IsSound (turn : Turn) : Type 0 where
   operand : (line : Line) → Sees 10 line (turn Operand line)
@@ -75,7 +74,7 @@ atom_kind turn sound line y (Err e) out none is = inr (not_begun line y e is non
 atom_read : (turn : Turn) → IsSound turn → (line : Line) (r : Result (Option Symbol) ExpressionFault) → next line ≡ r → sign_at line ≡ Ok None
     → Sees 10 line (at (length line.symbols) 1 r >>= λ y. at (length line.symbols) 4 (atom_of y) >>= atom_by turn line)
 atom_read turn sound line (Ok y) is none = atom_kind turn sound line y (atom_of y) refl none is
-atom_read turn sound line (Err e) is none = inr (here 10 line (length line.symbols) 1 e (unread is refl refl))
+atom_read turn sound line (Err e) is none = inr (here 10 line (length line.symbols) 1 e (unread e is) tt)
 
 operand_read : (turn : Turn) → IsSound turn → (line : Line) (r : Result (Option Unary) ExpressionFault) → sign_at line ≡ r
     → Sees 10 line (at (length line.symbols) 1 r >>= operand_by turn line)
@@ -107,11 +106,10 @@ known_here level [] (Some e) none = cc
 finished : (level : ℕ) (start line : Line) (x : ℤ) → Reads level (level + 1) start line x → operator_at level line ≡ Ok None → Reads level level start line x
 finished level start line x reads none = record {
   tree = reads.tree;
-  spelled = reads.spelled;
+  begins = reads.begins;
   fits = reads.fits;
   valued = reads.valued;
   stops = record { known = λ h. known_here level line.symbols line.ending none; over = over_here level line.symbols line.ending reads.stops.over none };
-  ending = reads.ending;
 }
 
 loop_value : (turn : Turn) → IsSound turn → (level : ℕ) (o : Binary) (x : ℤ) (start line : Line) (y : ℤ × Line) (r : Result ℤ ExpressionFault)
@@ -159,15 +157,15 @@ sound (suc n) = record {
 pub seen : (n : ℕ) (line : Line) → Sees 0 line (read n (Level 0) line)
 seen n line = (sound n).level 0 line (omega arith)
 
--- A fault that was found before the turns ran out is one that the line may have.
-pub fault_seen : (level : ℕ) (line : Line) (h : Halt) → 1 ≤ h.order → (h.order ≡ 0) ⊎ Possible HasValue level line h.left h.order h.kind
-    → Possible HasValue level line h.left h.order h.kind
+-- A fault that was found before the turns ran out is one that is met.
+pub fault_seen : (level : ℕ) (line : Line) (h : Halt) → 1 ≤ h.order → (h.order ≡ 0) ⊎ IsMet level line h.left h.order h.kind
+    → IsMet level line h.left h.order h.kind
 fault_seen level line h ordered (inl none) = absurd (omega (arith, none))
-fault_seen level line h ordered (inr possible) = possible
+fault_seen level line h ordered (inr met) = met
 
--- The fault that the run finds is one that the line may have.
-pub found_possible : (level : ℕ) (line : Line) (h : Halt) → level ≤ 10 → 1 ≤ h.order → Settles (Level level) line (Err h)
-    → Possible HasValue level line h.left h.order h.kind
-found_possible level line h bound ordered a =
+-- The fault that the run finds is one that is met.
+pub found_met : (level : ℕ) (line : Line) (h : Halt) → level ≤ 10 → 1 ≤ h.order → Settles (Level level) line (Err h)
+    → IsMet level line h.left h.order h.kind
+found_met level line h bound ordered a =
     let sees = rw (a.settled a.enough (omega arith)) at ((sound a.enough).level level line bound) in
     fault_seen level line h ordered sees

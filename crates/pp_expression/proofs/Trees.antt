@@ -14,7 +14,7 @@ use Rattle.pp_expression.specs.Operators.{unary_of, binary_of, level_of, unary_p
 use Rattle.pp_expression.specs.Arithmetic.{unary_value, binary_value, literal}
 use Rattle.pp_expression.specs.Trees.{Tree, Number, Group, Prefix, Infix, spelling, Fits, value}
 use Rattle.pp_expression.specs.Answers.{◌>>=◌}
-use Rattle.pp_expression.specs.Lines.{Line, next, next_of, goes_on, Stops, Reads}
+use Rattle.pp_expression.specs.Lines.{Line, Begins, next, next_of, goes_on, Stops, Reads}
 use Rattle.pp_expression.specs.inner.Lines.{binds_from}
 use Rattle.pp_expression.specs.FirstFault.{sign_of}
 use Rattle.pp_expression.specs.inner.Parsing.{after_next, sign_at}
@@ -57,16 +57,16 @@ binary_inverse mark.LogicalOr o e = same_binary binary.LogicalOr o e
 binary_inverse _ o e = cc
 
 -- the symbols after their first, x
-abbrev pub Begins : List Symbol → Symbol → Type 0
-Begins symbols x = symbols ≡ x ∷ drop 1 symbols
+abbrev pub IsFirstOf : List Symbol → Symbol → Type 0
+IsFirstOf symbols x = symbols ≡ x ∷ drop 1 symbols
 
-pub next_is : (symbols : List Symbol) (ending : Option ExpressionFault) (x : Symbol) → next_of symbols ending ≡ Ok (Some x) → Begins symbols x
+pub next_is : (symbols : List Symbol) (ending : Option ExpressionFault) (x : Symbol) → next_of symbols ending ≡ Ok (Some x) → IsFirstOf symbols x
 next_is (y ∷ ys) ending x e = let h : y ≡ x = cc in ap (λ (z : Symbol). z ∷ ys) h
 next_is [] None x e = cc
 next_is [] (Some d) x e = cc
 
 sign_at_front : (symbols : List Symbol) (ending : Option ExpressionFault) (o : Unary)
-    → (next_of symbols ending >>= (λ x. Ok (sign_of x))) ≡ Ok (Some o) → Begins symbols (symbol.Punct (unary_punct o))
+    → (next_of symbols ending >>= (λ x. Ok (sign_of x))) ≡ Ok (Some o) → IsFirstOf symbols (symbol.Punct (unary_punct o))
 sign_at_front (symbol.Punct q ∷ ys) ending o e =
     let some : unary_of q ≡ Some o = cc in
     let same : q ≡ unary_punct o = unary_inverse q o some in
@@ -77,7 +77,7 @@ sign_at_front (symbol.Other ∷ ys) ending o e = cc
 sign_at_front [] None o e = cc
 sign_at_front [] (Some d) o e = cc
 
-pub sign_is : (line : Line) (o : Unary) → sign_at line ≡ Ok (Some o) → Begins line.symbols (symbol.Punct (unary_punct o))
+pub sign_is : (line : Line) (o : Unary) → sign_at line ≡ Ok (Some o) → IsFirstOf line.symbols (symbol.Punct (unary_punct o))
 sign_is line o e = sign_at_front line.symbols line.ending o e
 
 of_level_is : (level : ℕ) (m : Option Binary) (o : Binary) → of_level level m ≡ Some o → (m ≡ Some o) × (level_of o ≡ level)
@@ -85,7 +85,7 @@ of_level_is level (Some a) o e = grind (arith, common_steps)
 of_level_is level None o e = cc
 
 operator_at_front : (level : ℕ) (symbols : List Symbol) (ending : Option ExpressionFault) (o : Binary)
-    → (next_of symbols ending >>= (λ x. Ok (operator_of level x))) ≡ Ok (Some o) → Begins symbols (symbol.Punct (binary_punct o)) × (level_of o ≡ level)
+    → (next_of symbols ending >>= (λ x. Ok (operator_of level x))) ≡ Ok (Some o) → IsFirstOf symbols (symbol.Punct (binary_punct o)) × (level_of o ≡ level)
 operator_at_front level (symbol.Punct q ∷ ys) ending o e =
     let some : of_level level (binary_of q) ≡ Some o = cc in
     let is = of_level_is level (binary_of q) o some in
@@ -97,7 +97,7 @@ operator_at_front level (symbol.Other ∷ ys) ending o e = cc
 operator_at_front level [] None o e = cc
 operator_at_front level [] (Some d) o e = cc
 
-pub operator_is : (level : ℕ) (line : Line) (o : Binary) → operator_at level line ≡ Ok (Some o) → Begins line.symbols (symbol.Punct (binary_punct o))
+pub operator_is : (level : ℕ) (line : Line) (o : Binary) → operator_at level line ≡ Ok (Some o) → IsFirstOf line.symbols (symbol.Punct (binary_punct o))
     × (level_of o ≡ level)
 operator_is level line o e = operator_at_front level line.symbols line.ending o e
 
@@ -127,30 +127,39 @@ fits_looser level (Group t) h = h
 fits_looser level (Prefix o t) h = h
 fits_looser level (Infix o l r) h = (omega (arith, h.0), h.1, h.2)
 
+-- one more symbol in front
+pub begins_next : (x : Symbol) (xs : List Symbol) (old new : Line) → IsFirstOf old.symbols x → Begins (after_next old) xs new → Begins old (x ∷ xs) new
+begins_next x xs old new first b = record { symbols = first ∙ ap (λ (ys : List Symbol). x ∷ ys) b.symbols; ending = b.ending }
+
+-- what comes first, and then the rest
+pub begins_then : (xs ys : List Symbol) (old mid new : Line) → Begins old xs mid → Begins mid ys new → Begins old (xs ++ ys) new
+begins_then xs ys old mid new a b = record {
+  symbols = a.symbols ∙ ap (λ (zs : List Symbol). xs ++ zs) b.symbols ∙ sym (append_assoc xs ys new.symbols);
+  ending = b.ending ∙ a.ending;
+}
+
 pub read_number : (old : Line) (n : ℕ) → next old ≡ Ok (Some (symbol.Number n)) → Reads 10 10 old (after_next old) (literal n)
 read_number old n e = record {
   tree = Number n;
-  spelled = next_is old.symbols old.ending (symbol.Number n) e;
+  begins = record { symbols = next_is old.symbols old.ending (symbol.Number n) e; ending = refl };
   fits = tt;
   valued = refl;
   stops = operand_stops (after_next old);
-  ending = refl;
 }
 
 pub read_group : (old mid : Line) (v : ℤ) → next old ≡ Ok (Some (symbol.Punct mark.LeftParen)) → Reads 0 0 (after_next old) mid v
     → next mid ≡ Ok (Some (symbol.Punct mark.RightParen)) → Reads 10 10 old (after_next mid) v
 read_group old mid v opens r close =
     let first = next_is old.symbols old.ending (symbol.Punct mark.LeftParen) opens in
-    let last = next_is mid.symbols mid.ending (symbol.Punct mark.RightParen) close in
+    let last : Begins mid (symbol.Punct mark.RightParen ∷ []) (after_next mid) =
+    record { symbols = next_is mid.symbols mid.ending (symbol.Punct mark.RightParen) close; ending = refl } in
     record {
       tree = Group r.tree;
-      spelled = first ∙ ap (λ (xs : List Symbol). symbol.Punct mark.LeftParen ∷ xs)
-          (r.spelled ∙ ap (λ (xs : List Symbol). spelling r.tree ++ xs) last
-          ∙ sym (append_assoc (spelling r.tree) (symbol.Punct mark.RightParen ∷ []) (drop 1 mid.symbols)));
+      begins = begins_next (symbol.Punct mark.LeftParen) (spelling r.tree ++ (symbol.Punct mark.RightParen ∷ [])) old (after_next mid) first
+          (begins_then (spelling r.tree) (symbol.Punct mark.RightParen ∷ []) (after_next old) mid (after_next mid) r.begins last);
       fits = r.fits;
       valued = r.valued;
       stops = operand_stops (after_next mid);
-      ending = r.ending;
     }
 
 pub read_signed : (o : Unary) (old new : Line) (x v : ℤ) → sign_at old ≡ Ok (Some o) → Reads 10 10 (after_next old) new x → unary_value o x ≡ Ok v
@@ -158,35 +167,28 @@ pub read_signed : (o : Unary) (old new : Line) (x v : ℤ) → sign_at old ≡ O
 read_signed o old new x v sign r e =
     record {
       tree = Prefix o r.tree;
-      spelled = sign_is old o sign ∙ ap (λ (xs : List Symbol). symbol.Punct (unary_punct o) ∷ xs) r.spelled;
+      begins = begins_next (symbol.Punct (unary_punct o)) (spelling r.tree) old new (sign_is old o sign) r.begins;
       fits = r.fits;
       valued = rw (r.valued) e;
       stops = r.stops;
-      ending = r.ending;
     }
 
 pub read_looser : (level stop : ℕ) (old new : Line) (v : ℤ) → Reads (level + 1) stop old new v → Reads level stop old new v
 read_looser level stop old new v r = record {
   tree = r.tree;
-  spelled = r.spelled;
+  begins = r.begins;
   fits = fits_looser level r.tree r.fits;
   valued = r.valued;
   stops = r.stops;
-  ending = r.ending;
 }
 
 -- the symbols of an operation, from those of its operands
-joined : (o : Binary) (l r : Tree) (old mid new : List Symbol) → old ≡ spelling l ++ mid → Begins mid (symbol.Punct (binary_punct o))
-    → drop 1 mid ≡ spelling r ++ new → old ≡ spelling (Infix o l r) ++ new
-joined o l r old mid new left first right =
-    left ∙ ap (λ (xs : List Symbol). spelling l ++ xs) (first ∙ ap (λ (xs : List Symbol). symbol.Punct (binary_punct o) ∷ xs) right)
-    ∙ sym (append_assoc (spelling l) (symbol.Punct (binary_punct o) ∷ spelling r) new)
-
-pub operation_spelled : (level : ℕ) (o : Binary) (old mid new : Line) (x y : ℤ) → (left : Reads level (level + 1) old mid x)
+pub operation_begins : (level : ℕ) (o : Binary) (old mid new : Line) (x y : ℤ) → (left : Reads level (level + 1) old mid x)
     → operator_at level mid ≡ Ok (Some o) → (right : Reads (level + 1) (level + 1) (after_next mid) new y)
-    → old.symbols ≡ spelling (Infix o left.tree right.tree) ++ new.symbols
-operation_spelled level o old mid new x y left op right =
-    joined o left.tree right.tree old.symbols mid.symbols new.symbols left.spelled (operator_is level mid o op).0 right.spelled
+    → Begins old (spelling (Infix o left.tree right.tree)) new
+operation_begins level o old mid new x y left op right =
+    begins_then (spelling left.tree) (symbol.Punct (binary_punct o) ∷ spelling right.tree) old mid new left.begins
+    (begins_next (symbol.Punct (binary_punct o)) (spelling right.tree) mid new (operator_is level mid o op).0 right.begins)
 
 pub operation_fits : (level : ℕ) (o : Binary) (l r : Tree) → level_of o ≡ level → Fits level l → Fits (level + 1) r → Fits level (Infix o l r)
 operation_fits level o l r e fl fr = (omega (arith, e), rw e fl, rw e fr)
@@ -199,9 +201,8 @@ pub read_operation : (level : ℕ) (o : Binary) (old mid new : Line) (x y v : �
 read_operation level o old mid new x y v left op right e =
     record {
       tree = Infix o left.tree right.tree;
-      spelled = operation_spelled level o old mid new x y left op right;
+      begins = operation_begins level o old mid new x y left op right;
       fits = operation_fits level o left.tree right.tree (operator_is level mid o op).1 left.fits right.fits;
       valued = operation_value o left.tree right.tree x y v left.valued right.valued e;
       stops = right.stops;
-      ending = right.ending ∙ left.ending;
     }

@@ -14,7 +14,7 @@ use Rattle.pp_expression.specs.Operators.{unary_of, binary_of, level_of, unary_p
 use Rattle.pp_expression.specs.Arithmetic.{unary_value, binary_value, literal}
 use Rattle.pp_expression.specs.Trees.{Tree, Number, Group, Prefix, Infix, spelling, Fits, value}
 use Rattle.pp_expression.specs.Answers.{◌>>=◌}
-use Rattle.pp_expression.specs.Lines.{Line, next_of, goes_on, Stops, Reads}
+use Rattle.pp_expression.specs.Lines.{Line, Begins, next_of, goes_on, Stops, Reads}
 use Rattle.pp_expression.specs.inner.Lines.{binds_from}
 use Rattle.pp_expression.specs.inner.Parsing.{sign_at}
 use Rattle.pp_expression.proofs.Levels.{of_level, operator_at, operator_of}
@@ -218,13 +218,13 @@ is_read (Infix o l r) = record {
 }
 
 -- a line is its symbols and its end
-pub line_is : (line rest : Line) (xs : List Symbol) → line.symbols ≡ xs ++ rest.symbols → rest.ending ≡ line.ending → line ≡ onto xs rest
-line_is line rest xs symbols ending =
+pub line_is : (line rest : Line) (xs : List Symbol) → Begins line xs rest → line ≡ onto xs rest
+line_is line rest xs begins =
     let Made : List Symbol → Option ExpressionFault → Line = λ ys e. record { symbols = ys; ending = e } in
-    ap (λ (ys : List Symbol). Made ys line.ending) symbols ∙ ap (λ (e : Option ExpressionFault). Made (xs ++ rest.symbols) e) (sym ending)
+    ap (λ (ys : List Symbol). Made ys line.ending) begins.symbols ∙ ap (λ (e : Option ExpressionFault). Made (xs ++ rest.symbols) e) (sym begins.ending)
 
 -- ---- what is read is what the run gives
 
 pub reads_settles : (level : ℕ) (old new : Line) (v : ℤ) → level ≤ 10 → Reads level level old new v → Settles (Level level) old (Ok (v, new))
 reads_settles level old new v h r =
-    rw (line_is old new (spelling r.tree) r.spelled r.ending) ((is_read r.tree).whole level new v h r.fits r.valued r.stops)
+    rw (line_is old new (spelling r.tree) r.begins) ((is_read r.tree).whole level new v h r.fits r.valued r.stops)

@@ -21,7 +21,7 @@ use Rattle.pp_expression.specs.declared.symbol.Found.{Found}
 use Rattle.pp_expression.specs.Operators.{unary_of, unary_punct, binary_punct, level_of}
 use Rattle.pp_expression.specs.Arithmetic.{unary_value, binary_value}
 use Rattle.pp_expression.specs.Trees.{Tree, Prefix, Infix, spelling, Fits, value}
-use Rattle.pp_expression.specs.Lines.{Line, next, goes_on, Stops, Reads}
+use Rattle.pp_expression.specs.Lines.{Line, Begins, next, goes_on, Stops, Reads}
 
 -- the operator that a symbol is in front of an operand
 abbrev pub sign_of : Option Symbol → Option Unary
@@ -62,93 +62,78 @@ front_spelling (InPrefix operator front) = symbol.Punct (unary_punct operator) �
 front_spelling (InInfix operator left front) =
     spelling left ++ (symbol.Punct (binary_punct operator) ∷ front_spelling front)
 
--- The front may stand where operators bind at least as tightly as level, and each left
--- operand in it is as Finished says.
-abbrev pub FitsFront : (Tree → Type 0) → ℕ → Front → Type 0
-FitsFront Finished level Here = Unit {0}
-FitsFront Finished level (InGroup front) = FitsFront Finished 0 front
-FitsFront Finished level (InPrefix operator front) = FitsFront Finished 10 front
-FitsFront Finished level (InInfix operator left front) =
-    (level ≤ level_of operator)
-    × Fits (level_of operator) left
-    × Finished left
-    × FitsFront Finished (level_of operator + 1) front
+-- The front may stand where operators bind at least as tightly as level.
+abbrev pub FitsFront : ℕ → Front → Type 0
+FitsFront level Here = Unit {0}
+FitsFront level (InGroup front) = FitsFront 0 front
+FitsFront level (InPrefix operator front) = FitsFront 10 front
+FitsFront level (InInfix operator left front) =
+    (level ≤ level_of operator) × Fits (level_of operator) left × FitsFront (level_of operator + 1) front
 
 -- the level of the operand that is wanted at the end of a front
 abbrev pub wanted : ℕ → Front → ℕ
 wanted level Here = level
 wanted level (InGroup front) = wanted 0 front
 wanted level (InPrefix operator front) = wanted 10 front
-wanted level (InInfix operator left front) = wanted ((level_of operator + 1)) front
+wanted level (InInfix operator left front) = wanted (level_of operator + 1) front
 
 -- how many symbols there are from the one at which an operation is computed, where rest is after its right operand
 abbrev pub unread_at : Binary → Line → ℕ
 unread_at operator rest = if nat_lt (level_of operator) 9 then length rest.symbols else length rest.symbols + 1
 
--- The faults that may come where an operand of the level is wanted before the line, with the number of symbols from the
--- one at which each is found on, and with its order. An operand that is finished before is as Finished says.
-pub data Fails (Finished : Tree → Type 0) (level : ℕ) (line : Line) (left order : ℕ)
-    (kind : ExpressionFault) : Type 0 where
+-- The faults that may come where an operand of the level is wanted before the line: each with how many symbols there
+-- are from the one at which it is found on, its order, and its kind.
+pub data Fails (level : ℕ) (line : Line) : ℕ → ℕ → ExpressionFault → Type 0 where
   -- the symbol isn't read
-  unread : next line ≡ Err kind
-      → left ≡ length line.symbols → order ≡ 1
-      → Fails Finished level line left order kind
+  unread : (kind : ExpressionFault)
+      → next line ≡ Err kind
+      → Fails level line (length line.symbols) 1 kind
   -- no operand begins with the symbol, or at the end
-  wrong : (ahead : Option Symbol)
+  wrong : (ahead : Option Symbol) (kind : ExpressionFault)
       → next line ≡ Ok ahead
       → sign_of ahead ≡ None
       → atom_of ahead ≡ Err kind
-      → left ≡ length line.symbols → order ≡ 4
-      → Fails Finished level line left order kind
+      → Fails level line (length line.symbols) 4 kind
   -- the symbol after the operand isn't read
-  unread_after : (tree : Tree) (rest : Line)
+  unread_after : (tree : Tree) (rest : Line) (kind : ExpressionFault)
       → level ≤ 9
-      → line.symbols ≡ spelling tree ++ rest.symbols → rest.ending ≡ line.ending
-      → Fits level tree → Finished tree
+      → Begins line (spelling tree) rest
+      → Fits level tree
       → next rest ≡ Err kind
-      → left ≡ length rest.symbols → order ≡ 1
-      → Fails Finished level line left order kind
+      → Fails level line (length rest.symbols) 1 kind
   -- the parenthesis that begins the operand isn't closed
-  unclosed : (tree : Tree) (rest : Line) (ahead : Option Symbol)
-      → line.symbols ≡ symbol.Punct mark.LeftParen ∷ (spelling tree ++ rest.symbols) → rest.ending ≡ line.ending
-      → Fits 0 tree → Finished tree
+  unclosed : (tree : Tree) (rest : Line) (ahead : Option Symbol) (kind : ExpressionFault)
+      → Begins line (symbol.Punct mark.LeftParen ∷ spelling tree) rest
+      → Fits 0 tree
       → next rest ≡ Ok ahead
       → goes_on 0 rest.symbols ≡ false
       → closing ahead ≡ Err kind
-      → left ≡ length rest.symbols → order ≡ 4
-      → Fails Finished level line left order kind
+      → Fails level line (length rest.symbols) 4 kind
   -- the operator in front that begins the operand has no value
-  signed : (operator : Unary) (operand : Tree) (rest : Line) (number : ℤ)
-      → line.symbols ≡ spelling (Prefix operator operand) ++ rest.symbols → rest.ending ≡ line.ending
+  signed : (operator : Unary) (operand : Tree) (rest : Line) (number : ℤ) (kind : ExpressionFault)
+      → Begins line (spelling (Prefix operator operand)) rest
       → Fits 10 operand
       → value operand ≡ Ok number
       → unary_value operator number ≡ Err kind
-      → left ≡ length rest.symbols + 1 → order ≡ 2
-      → Fails Finished level line left order kind
+      → Fails level line (length rest.symbols + 1) 2 kind
   -- an operator between operands has no value
-  operated : (operator : Binary) (former latter : Tree) (rest : Line) (first second : ℤ)
-      → line.symbols ≡ spelling (Infix operator former latter) ++ rest.symbols → rest.ending ≡ line.ending
+  operated : (operator : Binary) (former latter : Tree) (rest : Line) (first second : ℤ) (kind : ExpressionFault)
+      → Begins line (spelling (Infix operator former latter)) rest
       → Fits level (Infix operator former latter)
-      → value former ≡ Ok first → value latter ≡ Ok second
+      → value former ≡ Ok first
+      → value latter ≡ Ok second
       → binary_value operator first second ≡ Err kind
       → Stops (level_of operator + 1) rest
-      → left ≡ unread_at operator rest → order ≡ 2
-      → Fails Finished level line left order kind
+      → Fails level line (unread_at operator rest) 2 kind
 
--- A fault that the line may have: its operators stand by precedence up to there, and each operand that is
--- finished before is as Finished says.
-pub record Possible (Finished : Tree → Type 0) (level : ℕ) (line : Line) (left order : ℕ)
-    (kind : ExpressionFault) : Type 0 where
+-- A fault that the line may have: its operators stand by precedence up to there. An operand that is finished before may
+-- itself be at fault.
+pub record Possible (level : ℕ) (line : Line) (left order : ℕ) (kind : ExpressionFault) : Type 0 where
   pub front : Front
   pub here : Line
-  pub spelled : line.symbols ≡ front_spelling front ++ here.symbols
-  pub ending : here.ending ≡ line.ending
-  pub stands : FitsFront Finished level front
-  pub fails : Fails Finished (wanted level front) here left order kind
-
--- any operand, also one that is itself at fault
-abbrev pub Any : Tree → Type 0
-Any tree = Unit {0}
+  pub begins : Begins line (front_spelling front) here
+  pub stands : FitsFront level front
+  pub fails : Fails (wanted level front) here left order kind
 
 -- Found at an earlier symbol, where more of them are left, or at the same one and no later in order.
 abbrev pub Before : ℕ → ℕ → ℕ → ℕ → Type 0
@@ -158,9 +143,9 @@ Before left order other_left other_order = (other_left < left) ⊎ ((other_left 
 -- line may have, none comes before it.
 pub record IsFirst (level : ℕ) (line : Line) (found : Found) : Type 0 where
   pub order : ℕ
-  pub possible : Possible Any level line found.left order found.kind
+  pub possible : Possible level line found.left order found.kind
   pub first : (other_left other_order : ℕ) (kind : ExpressionFault)
-      → Possible Any level line other_left other_order kind
+      → Possible level line other_left other_order kind
       → Before found.left order other_left other_order
 
 -- An expression of this value stands at the front of the line, with that many symbols
@@ -169,7 +154,7 @@ pub record IsValue (line : Line) (found : Value) : Type 0 where
   pub rest : Line
   pub reads : Reads 0 0 line rest found.value
   pub after : found.left ≡ length rest.symbols
-  pub faultless : (left order : ℕ) (kind : ExpressionFault) → Possible Any 0 line left order kind → ⊥
+  pub faultless : (left order : ℕ) (kind : ExpressionFault) → Possible 0 line left order kind → ⊥
 
 -- What an evaluation of a line gives: its value, or its first fault.
 abbrev pub Evaluates : Line → Result Value Found → Type 0

@@ -14,6 +14,11 @@ pub record Line : Type 0 where
   pub symbols : List Symbol
   pub ending : Option ExpressionFault
 
+-- the line begins with these symbols, and the rest is the line after them
+pub record Begins (line : Line) (front : List Symbol) (rest : Line) : Type 0 where
+  pub symbols : line.symbols ≡ front ++ rest.symbols
+  pub ending : rest.ending ≡ line.ending
+
 -- the first symbol, or what stands at the end of the symbols
 abbrev pub next_of : List Symbol → Option ExpressionFault → Result (Option Symbol) ExpressionFault
 next_of (first ∷ others) ending = Ok (Some first)
@@ -45,8 +50,7 @@ pub record Stops (level : ℕ) (line : Line) : Type 0 where
 -- next tighter for a left operand, which an operator of its level may follow.
 pub record Reads (level stop : ℕ) (old new : Line) (number : ℤ) : Type 0 where
   pub tree : Tree
-  pub spelled : old.symbols ≡ spelling tree ++ new.symbols
+  pub begins : Begins old (spelling tree) new
   pub fits : Fits level tree
   pub valued : value tree ≡ Ok number
   pub stops : Stops stop new
-  pub ending : new.ending ≡ old.ending

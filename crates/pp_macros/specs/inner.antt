@@ -3,9 +3,8 @@ pub mod Unreported
 pub mod SourceLexed
 pub mod Plain
 pub mod Defined
-pub mod DirectiveItems
-pub mod SourceMoves
 pub mod OpenBlocks
+pub mod SourceMoves
 pub mod Source
 pub mod Reader
 pub mod Reading

@@ -1,5 +1,5 @@
 -- Items that are collected one after another, and arguments that are expanded one after another.
-use Rattle.std.proofs.Common.{◌≡◌, ℕ, zero, suc, ◌<◌, ◌∷◌, ◌++◌, [], List, refl, ap, sym, subst, append_assoc}
+use Rattle.std.proofs.Common.{◌≡◌, ℕ, ◌<◌, ◌∷◌, ◌++◌, [], List, refl, ap, sym, subst, append_assoc}
 use Rattle.std.proofs.Common.{◌+◌, ◌≤◌, length, drop, get_or}
 use Rattle.std.proofs.lemmas.List.{append-nil, drop_all}
 use Rattle.pp_model.proofs.ListLemmas.{drop-item}
@@ -7,9 +7,8 @@ use Rattle.std.specs.Prelude.{Result, Ok, Err}
 use Rattle.pp_model.specs.declared.read.Read.{Read}
 use Rattle.pp_model.specs.Names.{Name}
 use Rattle.pp_model.specs.Definitions.{Definitions}
-use Rattle.pp_model.specs.Reading.{argument_reading, reading_of}
 use Rattle.pp_model.specs.Calls.{Fault}
-use Rattle.pp_model.specs.Emitting.{Collects, Alones, Each, none, first_failed, more, Alone, answers_at}
+use Rattle.pp_model.specs.Emitting.{Alones, Each, none, first_failed, more}
 use Rattle.pp_model.specs.inner.Emitting.{read_before, list_before}
 
 -- the items so far, and then what comes of the rest
@@ -29,12 +28,6 @@ after_lists-before lists list (Err fault) = refl
 
 pub after_items-end : {X : Type 0} (items : List X) → after_items items (Ok []) ≡ Ok items
 after_items-end {X} items = ap (λ (xs : List X). let r : Result (List X) Fault = Ok xs in r) (append-nil items)
-
--- an argument alone is its items up to the end
-pub Alone-collects : (levels : ℕ) (tokens : List Read) (visible : Definitions) (hidden : List Name) (out : Result (List Read) Fault)
-    → Collects argument_reading (answers_at levels) (reading_of tokens visible hidden) out → Alone levels tokens visible hidden out
-Alone-collects zero tokens visible hidden out h = h
-Alone-collects (suc levels) tokens visible hidden out h = h
 
 -- the arguments from a place on, by the one that stands there
 pub each_at-failed : (deeper : Alones) (visible : Definitions) (hidden : List Name) (arguments : List (List Read)) (i : ℕ) (x tokens : List Read)

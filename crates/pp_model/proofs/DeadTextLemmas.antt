@@ -1,9 +1,11 @@
 -- What stands in dead text gives no token, defines nothing and numbers no line.
-use Rattle.std.proofs.Common.{◌≡◌, ◌∙◌, Bool, true, false, if◌then◌else◌, drop, refl, sym, ap, Option, Some, None}
+use Rattle.std.proofs.Common.{◌≡◌, ◌∙◌, Bool, true, false, refl, sym, ap, Option, Some, None}
 use Rattle.pp_model.specs.Sights.{sight_of}
 use Rattle.pp_model.specs.Blocks.{Block, is_live}
 use Rattle.pp_model.specs.SourceReader.{SourceReader}
-use Rattle.pp_model.specs.Acts.{Acted, ended_by, live_act, dead_act}
+use Rattle.pp_model.specs.Moves.{BlockFacts, move_at}
+use Rattle.pp_model.specs.Acts.{Acted, end_by, perform, facts_here}
+use Rattle.pp_model.specs.inner.Acts.{items_left}
 use Rattle.pp_model.specs.BlockLaws.{GivesNothing, DeadTextGivesNothing}
 use Rattle.pp_model.specs.declared.outcome.Outcome.TheVariants as outcome
 use Rattle.pp_model.specs.declared.sight.Sight.{Sight}
@@ -38,13 +40,14 @@ directives_give_nothing r = record {
 }
 
 -- at the end only faults are given, and the end
-end_gives_nothing : (r : SourceReader) (block : Option Block) → GivesNothing r (ended_by block r)
+end_gives_nothing : (r : SourceReader) (block : Option Block) → GivesNothing r (end_by block r)
 end_gives_nothing r (Some block) = gives_nothing r _ refl refl refl
 end_gives_nothing r None = gives_nothing r _ refl refl refl
 
-either_gives_nothing : (live : Bool) (s : Sight) (r : SourceReader) → live ≡ false → GivesNothing r (if live then live_act s r else dead_act s r)
-either_gives_nothing true s r dead = absurd cc
-either_gives_nothing false s r dead = dead_text_holds (GivesNothing r) r (directives_give_nothing r) (end_gives_nothing r) s
+either_gives_nothing : (live : Bool) (block : Option BlockFacts) (s : Sight) (r : SourceReader) → live ≡ false
+    → GivesNothing r (perform (move_at live block s (items_left r)) r)
+either_gives_nothing true block s r dead = absurd cc
+either_gives_nothing false block s r dead = dead_text_holds (GivesNothing r) r (directives_give_nothing r) (end_gives_nothing r) block s
 
 pub dead_text_gives_nothing : DeadTextGivesNothing
-dead_text_gives_nothing r = either_gives_nothing (is_live r.items r.truths r.position) (sight_of (drop r.position r.items)) r
+dead_text_gives_nothing r = either_gives_nothing (is_live r.items r.truths r.position) (facts_here r) (sight_of (items_left r)) r

@@ -4,7 +4,7 @@ use Rattle.pp_lexer.specs.Lexed.{Seen}
 use Rattle.pp_model.specs.Calls.{Answers}
 use Rattle.pp_model.specs.Blocks.{Block}
 use Rattle.pp_model.specs.SourceReader.{SourceReader}
-use Rattle.pp_model.specs.Acts.{Acted, ended_by, act}
+use Rattle.pp_model.specs.Acts.{Acted, end_by, act}
 use Rattle.pp_model.specs.Reads.{Steps, passes, gives, defines, repeats, redefines, decides, undecided, renumbers, unnumbered}
 use Rattle.pp_model.specs.declared.outcome.Outcome.{Outcome}
 use Rattle.pp_model.proofs.ActsLemmas.{HoldsOfDead, HoldsOfLive, act_holds}
@@ -25,7 +25,7 @@ live_keeps r = record {
   token = λ shown count least. refl;
 }
 
-end_keeps : (r : SourceReader) (block : Option Block) → KeepsItems r (ended_by block r)
+end_keeps : (r : SourceReader) (block : Option Block) → KeepsItems r (end_by block r)
 end_keeps r (Some block) = refl
 end_keeps r None = refl
 

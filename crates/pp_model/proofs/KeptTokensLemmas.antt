@@ -1,9 +1,10 @@
 -- What holds of each token that is read, and of each line's number, holds of each token that is given.
 use Rattle.std.proofs.Common.{◌≡◌, ℕ, zero, suc, List, [], ◌∷◌, sym, subst, Option, Some, None}
-use Rattle.std.specs.Prelude.{⊤, IfOk, Result, Ok, Err, Bool, true, false, if◌then◌else◌, ◌||◌}
+use Rattle.std.specs.Prelude.{⊤, IfOk, MatchOption, Result, Ok, Err, Bool, true, false, if◌then◌else◌, ◌||◌}
 use Rattle.std.specs.List.{AllByRecursion as Each}
 use Rattle.pp_lexer.specs.declared.token.Location.{Location}
 use Rattle.pp_lexer.specs.declared.token.PreprocessorError.{PreprocessorError}
+use Rattle.pp_lexer.specs.declared.token.PreprocessorError.TheVariants.{RecursionLimitReached}
 use Rattle.pp_lexer.specs.declared.token.Token.{Token}
 use Rattle.pp_lexer.specs.declared.token.TokenValue.{TokenValue}
 use Rattle.pp_lexer.specs.declared.token.TokenValue.TheVariants.{Ident, Integer, Float, Punct, Version, Extension, Pragma}
@@ -13,7 +14,7 @@ use Rattle.pp_model.specs.Reading.{Reading, Expander, Opening, opening_of, openi
 use Rattle.pp_model.specs.inner.Reading.{first_listed, opening_by, after_listed}
 use Rattle.pp_model.specs.Taking.{Takes, Fetches, held, listed, read}
 use Rattle.pp_model.specs.Calls.{Gathered, before, Fault, Gathers, closed, inside, overfull, ended, failed, Answers, Site, misfit, Called, no_call, refused, fits, called_by, Calls, alone, broken, whole}
-use Rattle.pp_model.specs.Emitting.{opened, Emits, itself, object, name_alone, call_refused, call, Collects, done, failed as failing, item, Alones, Each as Expanded, none, first_failed, more, EachOrRefused, answers_at_limit, answers_below, Alone, answers_at}
+use Rattle.pp_model.specs.Emitting.{opened, Emits, itself, object, name_alone, call_refused, call, Collects, done, failed as failing, item, Alones, Each as Expanded, none, first_failed, more, answers_by, ExpandsArguments, answers_at, Alone}
 use Rattle.pp_model.specs.inner.Emitting.{read_before, list_before}
 use Rattle.pp_model.specs.declared.read.Read.{Read}
 use Rattle.pp_model.specs.declared.read.Taken.{Taken}
@@ -227,19 +228,20 @@ module _ (Q : Token → Type 0) (L : ℕ → Type 0) (closed_under : AreClosed Q
       subst (λ (y : Result (List (List Read)) Fault). IfOk y (λ lists. Each (λ ts. Each (HoldsOfRead Q) ts) lists)) (sym p)
       (list_more c r (keeps t visible hidden (Ok c) a all.0 v) (each_keeps deeper keeps visible hidden ts r later v all.1))
 
-  each_or_refused_keeps : (deeper : Alones) → AloneKeeps deeper
-      → (error : Option PreprocessorError) (site : Site) (out : Result (List (List Read)) Fault) → EachOrRefused deeper error site out
+  abbrev ExpansionKeeps : (Site → Result (List (List Read)) Fault → Type 0) → Type 0
+  ExpansionKeeps Fitting = (site : Site) (out : Result (List (List Read)) Fault) → Fitting site out
       → HoldInBodies Q site.visible → Each (λ ts. Each (HoldsOfRead Q) ts) site.arguments → IfOk out (λ lists. Each (λ ts. Each (HoldsOfRead Q) ts) lists)
-  each_or_refused_keeps deeper keeps (Some error) site out is v all =
-      subst (λ (y : Result (List (List Read)) Fault). IfOk y (λ lists. Each (λ ts. Each (HoldsOfRead Q) ts) lists)) (sym is) tt
-  each_or_refused_keeps deeper keeps None site out is v all = each_keeps deeper keeps site.visible site.open_around site.arguments out is v all
 
-  limit_keeps : AnswersKeep Q L answers_at_limit
-  limit_keeps definition site out is v all =
-      subst (λ (y : Result (List (List Read)) Fault). IfOk y (λ lists. Each (λ ts. Each (HoldsOfRead Q) ts) lists)) (sym is) tt
+  refused_keeps : (fault : Fault) (out : Result (List (List Read)) Fault) → out ≡ Err fault → IfOk out (λ lists. Each (λ ts. Each (HoldsOfRead Q) ts) lists)
+  refused_keeps fault out is = subst (λ (y : Result (List (List Read)) Fault). IfOk y (λ lists. Each (λ ts. Each (HoldsOfRead Q) ts) lists)) (sym is) tt
 
-  below_keeps : (deeper : Alones) → AloneKeeps deeper → AnswersKeep Q L (answers_below deeper)
-  below_keeps deeper keeps definition site out is v all = each_or_refused_keeps deeper keeps (misfit definition.parameters site.arguments) site out is v all
+  answers_by_keep : (Fitting : Site → Result (List (List Read)) Fault → Type 0) → ExpansionKeeps Fitting → AnswersKeep Q L (answers_by Fitting)
+  answers_by_keep Fitting keeps definition site out is v all = decided (misfit definition.parameters site.arguments) is
+    where
+      decided : (error : Option PreprocessorError) → MatchOption error (Fitting site out) (λ error. out ≡ Err (error, site.paren))
+          → IfOk out (λ lists. Each (λ ts. Each (HoldsOfRead Q) ts) lists)
+      decided None is = keeps site out is v all
+      decided (Some error) is = refused_keeps (error, site.paren) out is
 
   collected_keeps : (A : Answers) → AnswersKeep Q L A → (tokens : List Read) (visible : Definitions) (hidden : List Name)
       (out : Result (List Read) Fault) → Collects argument_reading A (reading_of tokens visible hidden) out
@@ -249,12 +251,12 @@ module _ (Q : Token → Type 0) (L : ℕ → Type 0) (closed_under : AreClosed Q
       list_keeps argument_reading HoldsOfListed listed_keeps A answers out (reading_of tokens visible hidden) c
       (record { held = tt; list = tt; reader = (all, v) })
 
-  alone_keeps : (level : ℕ) → AloneKeeps (Alone level)
-  alone_keeps zero tokens visible hidden out c = collected_keeps answers_at_limit limit_keeps tokens visible hidden out c
-  alone_keeps (suc level) tokens visible hidden out c = collected_keeps (answers_below (Alone level)) (below_keeps (Alone level)
-      (alone_keeps level)) tokens visible hidden out c
+  expansion_keeps : (level : ℕ) → ExpansionKeeps (ExpandsArguments level)
+  expansion_keeps zero site out is v all = refused_keeps (RecursionLimitReached, site.paren) out is
+  expansion_keeps (suc level) site out is v all =
+      each_keeps (Alone level) (collected_keeps (answers_at level) (answers_by_keep (ExpandsArguments level) (expansion_keeps level)))
+      site.visible site.open_around site.arguments out is v all
 
   -- what calls come to has it, at every level
   pub answers_keep : (level : ℕ) → AnswersKeep Q L (answers_at level)
-  answers_keep zero = limit_keeps
-  answers_keep (suc level) = below_keeps (Alone level) (alone_keeps level)
+  answers_keep level = answers_by_keep (ExpandsArguments level) (expansion_keeps level)

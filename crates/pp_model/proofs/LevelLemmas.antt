@@ -1,11 +1,13 @@
 -- An argument alone, and a call, have one outcome at every level.
-use Rattle.std.proofs.Common.{◌≡◌, ◌∙◌, ℕ, zero, suc, List, sym, Option, Some, None}
-use Rattle.std.specs.Prelude.{Result, Ok, Err}
+use Rattle.std.proofs.Common.{◌≡◌, ◌≢◌, ◌∙◌, ℕ, zero, suc, ◌-◌, arith, List, refl, sym, subst, Option, Some, None}
+use Rattle.std.specs.Prelude.{MatchOption, Result, Ok, Err}
 use Rattle.pp_lexer.specs.declared.token.PreprocessorError.{PreprocessorError}
+use Rattle.pp_lexer.specs.declared.token.PreprocessorError.TheVariants.{RecursionLimitReached}
 use Rattle.pp_model.specs.declared.read.Read.{Read}
+use Rattle.pp_model.specs.Definitions.{Definition}
 use Rattle.pp_model.specs.Reading.{Reading, argument_reading, reading_of}
-use Rattle.pp_model.specs.Calls.{Fault, Site, misfit}
-use Rattle.pp_model.specs.Emitting.{Alones, none, first_failed, more, EachOrRefused, answers_at_limit, answers_below, Alone, answers_at}
+use Rattle.pp_model.specs.Calls.{Fault, Answers, Site, misfit}
+use Rattle.pp_model.specs.Emitting.{Alones, Each, none, first_failed, more, answers_by, alone_by, ExpandsArguments, answers_at, Alone}
 use Rattle.pp_model.specs.ExpansionLaws.{OneReads, OneAnswer, OneCall, OneItem, OneArgument, OneEach}
 use Rattle.pp_model.proofs.TakingLemmas.{argument_reads_one}
 use Rattle.pp_model.proofs.CallsLemmas.{one_call}
@@ -25,29 +27,52 @@ one_each deeper one visible hidden arguments x y (more t c ts r x1 a v p) (more 
     let rest = one_each deeper one visible hidden ts r s v w in
     p ∙ (rw (tokens, rest) (sym q))
 
-one_each_or_refusal : (deeper : Alones) → OneArgument deeper
-    → (error : Option PreprocessorError) (site : Site) (x y : Result (List (List Read)) Fault) → EachOrRefused deeper error site x
-    → EachOrRefused deeper error site y → x ≡ y
-one_each_or_refusal deeper one (Some error) site x y a b = a ∙ sym b
-one_each_or_refusal deeper one None site x y a b = one_each deeper one site.visible site.open_around site.arguments x y a b
+-- a call has one answer, if each that has the right number of arguments has one
+one_answer_by : (Fitting : Site → Result (List (List Read)) Fault → Type 0)
+    → ((site : Site) (x y : Result (List (List Read)) Fault) → Fitting site x → Fitting site y → x ≡ y) → OneAnswer (answers_by Fitting)
+one_answer_by Fitting one definition site x y a b = decided (misfit definition.parameters site.arguments) a b
+  where
+    decided : (error : Option PreprocessorError) → MatchOption error (Fitting site x) (λ error. x ≡ Err (error, site.paren))
+        → MatchOption error (Fitting site y) (λ error. y ≡ Err (error, site.paren)) → x ≡ y
+    decided None a b = one site x y a b
+    decided (Some error) a b = a ∙ sym b
 
-pub one_answer_at_limit : OneAnswer answers_at_limit
-one_answer_at_limit definition site x y a b = a ∙ sym b
+one_alone : (A : Answers) → OneAnswer A → OneArgument (alone_by A)
+one_alone A one tokens visible hidden x y a b = one_list argument_reading argument_reads_one A one x y (reading_of tokens visible hidden) a b
 
-pub one_answer_below : (deeper : Alones) → OneArgument deeper → OneAnswer (answers_below deeper)
-one_answer_below deeper one definition site x y a b = one_each_or_refusal deeper one (misfit definition.parameters site.arguments) site x y a b
-
--- an argument that is read alone has one list of tokens, or one first fault
-pub one_argument : (level : ℕ) → OneArgument (Alone level)
-one_argument zero tokens visible hidden x y a b = one_list argument_reading argument_reads_one answers_at_limit one_answer_at_limit x y
-    (reading_of tokens visible hidden) a b
-one_argument (suc level) tokens visible hidden x y a b = one_list argument_reading argument_reads_one (answers_below (Alone level))
-    (one_answer_below (Alone level) (one_argument level)) x y (reading_of tokens visible hidden) a b
+-- the arguments of a call have one list each, or there is one fault
+one_expansion : (level : ℕ) (site : Site) (x y : Result (List (List Read)) Fault) → ExpandsArguments level site x → ExpandsArguments level site y → x ≡ y
+one_expansion zero site x y a b = a ∙ sym b
+one_expansion (suc level) site x y a b =
+    one_each (Alone level) (one_alone (answers_at level) (one_answer_by (ExpandsArguments level) (one_expansion level)))
+    site.visible site.open_around site.arguments x y a b
 
 -- a call has one list of expanded arguments, or one fault
 pub one_answer : (level : ℕ) → OneAnswer (answers_at level)
-one_answer zero = one_answer_at_limit
-one_answer (suc level) = one_answer_below (Alone level) (one_argument level)
+one_answer level = one_answer_by (ExpandsArguments level) (one_expansion level)
+
+-- an argument that is read alone has one list of tokens, or one first fault
+pub one_argument : (level : ℕ) → OneArgument (Alone level)
+one_argument level = one_alone (answers_at level) (one_answer level)
+
+-- what the arguments come to is what the call comes to, where their number is right
+pub answers_each : (levels : ℕ) (definition : Definition) (site : Site) (out : Result (List (List Read)) Fault) → levels ≢ 0
+    → misfit definition.parameters site.arguments ≡ None → Each (Alone (levels - 1)) site.visible site.open_around site.arguments out
+    → answers_at levels definition site out
+answers_each zero definition site out some fits each = absurd (some refl)
+answers_each (suc levels) definition site out some fits each =
+    let one : suc levels - 1 ≡ levels = omega arith in
+    subst (λ (o : Option PreprocessorError). MatchOption o (ExpandsArguments (suc levels) site out) (λ error. out ≡ Err (error, site.paren))) (sym fits)
+    (subst (λ (l : ℕ). Each (Alone l) site.visible site.open_around site.arguments out) one each)
+
+-- at the limit no call has lists of arguments
+pub none_at_limit : (definition : Definition) (site : Site) (arguments : List (List Read)) → answers_at 0 definition site (Ok arguments) → ⊥
+none_at_limit definition site arguments a = decided (Ok arguments) refl (misfit definition.parameters site.arguments) a
+  where
+    decided : (out : Result (List (List Read)) Fault) → out ≡ Ok arguments → (error : Option PreprocessorError)
+        → MatchOption error (out ≡ Err (RecursionLimitReached, site.paren)) (λ error. out ≡ Err (error, site.paren)) → ⊥
+    decided out is None a = cc
+    decided out is (Some error) a = cc
 
 -- so each step of expansion has one outcome at every level
 pub one_call_at : {R : Type 0} (I : Reading R) → OneReads I → (level : ℕ) → OneCall I (answers_at level)

@@ -17,10 +17,12 @@ pub mod ReadsLemmas
 pub mod RunLemmas
 pub mod RunStatesLemmas
 pub mod OpenOnceLemmas
+pub mod MovesLemmas
 pub mod ActsLemmas
 pub mod SourceEndLemmas
 pub mod EndLemmas
 pub mod RunEndLemmas
+pub mod DirectivePlaceLemmas
 pub mod BlockLemmas
 pub mod KeptItemsLemmas
 pub mod DeadTextLemmas

@@ -10,7 +10,7 @@ use Rattle.pp_model.specs.Painting.{taken_among}
 use Rattle.pp_model.specs.Reading.{Reading, Expander, masked, argument_reading, reading_of}
 use Rattle.pp_model.specs.Taking.{line_number, shown_token, shown_outcome, Takes, Fetches, held, listed, read}
 use Rattle.pp_model.specs.Calls.{Gathered, before, Fault, Gathers, closed, inside, overfull, ended, failed, Answers, Called, no_call, refused, fits, called_by, Calls, alone, broken, whole}
-use Rattle.pp_model.specs.Emitting.{opened, Emits, itself, object, name_alone, call_refused, call, Collects, done, failed as failing, item, answers_at_limit, answers_below, Alone}
+use Rattle.pp_model.specs.Emitting.{opened, Emits, itself, object, name_alone, call_refused, call, Collects, done, failed as failing, item, answers_at}
 use Rattle.pp_model.specs.inner.Emitting.{read_before}
 use Rattle.pp_model.specs.NoLineName.{is_line_name, HoldsNoLineName, AreNoLineNames, ShowsNoLineName, AloneShowsNoLineName}
 use Rattle.pp_model.specs.declared.read.Taken.{Taken}
@@ -124,6 +124,4 @@ module _ {R : Type 0} (I : Reading R) where
   }
 
 pub alone_shows_no_line_name : AloneShowsNoLineName
-alone_shows_no_line_name zero tokens visible hidden x c = list_shows_none argument_reading answers_at_limit x (reading_of tokens visible hidden) c tt
-alone_shows_no_line_name (suc level) tokens visible hidden x c =
-    list_shows_none argument_reading (answers_below (Alone level)) x (reading_of tokens visible hidden) c tt
+alone_shows_no_line_name level tokens visible hidden x c = list_shows_none argument_reading (answers_at level) x (reading_of tokens visible hidden) c tt

@@ -4,7 +4,7 @@ use Rattle.pp_model.specs.Definitions.{Definition, Definitions}
 use Rattle.pp_model.specs.Calls.{Answers}
 use Rattle.pp_model.specs.Blocks.{Block}
 use Rattle.pp_model.specs.SourceReader.{SourceReader}
-use Rattle.pp_model.specs.Acts.{Acted, ended_by, act}
+use Rattle.pp_model.specs.Acts.{Acted, end_by, act}
 use Rattle.pp_model.specs.RunLaws.{Redefined, RedefinitionIsChecked}
 use Rattle.pp_model.specs.declared.definition.Named.{Named}
 use Rattle.pp_model.specs.declared.outcome.Outcome.{Outcome}
@@ -29,7 +29,7 @@ live_leaves r = record {
   token = λ shown count least named h. refl;
 }
 
-end_leaves : (r : SourceReader) (block : Option Block) → LeavesDefinitions r (ended_by block r)
+end_leaves : (r : SourceReader) (block : Option Block) → LeavesDefinitions r (end_by block r)
 end_leaves r (Some block) named h = refl
 end_leaves r None named h = refl
 

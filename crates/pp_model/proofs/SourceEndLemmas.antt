@@ -1,12 +1,16 @@
 -- Where reading a source gave the end, it gives nothing else.
-use Rattle.std.proofs.Common.{◌≡◌, ◌∙◌, Bool, true, false, if◌then◌else◌, take, drop, length, refl, sym, ap, subst, Option, Some, None}
+use Rattle.std.proofs.Common.{◌≡◌, ◌∙◌, Bool, true, false, take, drop, length, refl, sym, ap, subst, Option, Some, None}
+use Rattle.pp_lexer.specs.declared.token.Location.{Location}
 use Rattle.pp_model.specs.Calls.{Answers}
 use Rattle.pp_model.specs.Sights.{sight_of}
 use Rattle.pp_model.specs.Blocks.{Block, blocks_at, innermost, is_live}
 use Rattle.pp_model.specs.SourceReader.{SourceReader}
-use Rattle.pp_model.specs.Acts.{Acted, live_directive, dead_directive, ended_by, live_act, dead_act, act}
+use Rattle.pp_model.specs.Moves.{BlockFacts, move_at, directive_move}
+use Rattle.pp_model.specs.Acts.{Acted, end_by, perform, facts_here, act}
+use Rattle.pp_model.specs.inner.Acts.{perform_line, items_left, after_word}
 use Rattle.pp_model.specs.Reads.{Steps, passes, gives, defines, repeats, redefines, decides, undecided, renumbers, unnumbered, Reads, here, later}
 use Rattle.pp_model.specs.Painting.{taken_of}
+use Rattle.pp_model.specs.declared.directive.Directive.{Directive}
 use Rattle.pp_model.specs.declared.outcome.Outcome.{Outcome}
 use Rattle.pp_model.specs.declared.read.Taken.{Taken}
 use Rattle.pp_model.specs.declared.read.Taken.TheVariants as taken
@@ -28,8 +32,8 @@ pub record IsAtEnd (r : SourceReader) : Type 0 where
   pub all_reported : reported_next r ≡ None
 
 -- what stands there, live or dead
-abbrev acts : Bool → Sight → SourceReader → Acted
-acts live s r = if live then live_act s r else dead_act s r
+abbrev acts : Bool → Option BlockFacts → Sight → SourceReader → Acted
+acts live block s r = perform (move_at live block s (items_left r)) r
 
 abbrev at_end : SourceReader → Acted
 at_end r = record { step = step.Given outcome.End; after = r }
@@ -59,47 +63,48 @@ live_goes_on r = record {
 no_end : (a : Acted) → GoesOn a → a.step ≡ step.Given outcome.End → ⊥
 no_end a h k = let bad : true ≡ false = sym (ap is_end k) ∙ h in cc
 
-reported_none : (block : Option Block) (r : SourceReader) → (ended_by block r).step ≡ step.Given outcome.End → block ≡ None
+reported_none : (block : Option Block) (r : SourceReader) → (end_by block r).step ≡ step.Given outcome.End → block ≡ None
 reported_none (Some block) r h = cc
 reported_none None r h = refl
 
-ends_there : (live : Bool) (s : Sight) (r : SourceReader) → (acts live s r).step ≡ step.Given outcome.End → (s ≡ sight.End) × (reported_next r ≡ None)
-ends_there true sight.End r h = (refl, reported_none (reported_next r) r h)
-ends_there true sight.NewLine r h = cc
-ends_there true (sight.Fault fault) r h = cc
-ends_there true (sight.Token token) r h = cc
-ends_there true (sight.Hash location) r h = cc
-ends_there true sight.Lone r h = cc
-ends_there true (sight.NoWord fault) r h = cc
-ends_there true (sight.Directive directive word) r h = absurd (no_end (live_directive directive word r)
-    (live_directive_holds GoesOn r (live_goes_on r) directive word) h)
-ends_there false sight.End r h = (refl, reported_none (reported_next r) r h)
-ends_there false sight.NewLine r h = cc
-ends_there false (sight.Fault fault) r h = cc
-ends_there false (sight.Token token) r h = cc
-ends_there false (sight.Hash location) r h = cc
-ends_there false sight.Lone r h = cc
-ends_there false (sight.NoWord fault) r h = cc
-ends_there false (sight.Directive directive word) r h = absurd (no_end (dead_directive directive word r)
-    (dead_directive_holds GoesOn r (dead_goes_on r) directive word) h)
+directive_goes_on : (live : Bool) (block : Option BlockFacts) (directive : Directive) (word : Location) (r : SourceReader)
+    → GoesOn (perform_line (directive_move live block directive word (after_word r)) r)
+directive_goes_on true block directive word r = live_directive_holds GoesOn r (live_goes_on r) block directive word
+directive_goes_on false block directive word r = dead_directive_holds GoesOn r (dead_goes_on r) block directive word
+
+ends_there : (live : Bool) (block : Option BlockFacts) (s : Sight) (r : SourceReader) → (acts live block s r).step ≡ step.Given outcome.End
+    → (s ≡ sight.End) × (reported_next r ≡ None)
+ends_there live block sight.End r h = (refl, reported_none (reported_next r) r h)
+ends_there live block sight.NewLine r h = cc
+ends_there live block (sight.Fault fault) r h = cc
+ends_there true block (sight.Token token) r h = cc
+ends_there false block (sight.Token token) r h = cc
+ends_there true block (sight.Hash location) r h = cc
+ends_there false block (sight.Hash location) r h = cc
+ends_there live block sight.Lone r h = cc
+ends_there true block (sight.NoWord fault) r h = cc
+ends_there false block (sight.NoWord fault) r h = cc
+ends_there live block (sight.Directive directive word) r h =
+    absurd (no_end (acts live block (sight.Directive directive word) r) (directive_goes_on live block directive word r) h)
 
 -- the end is only given at the end,
 only_at_end : (r : SourceReader) → (act r).step ≡ step.Given outcome.End → IsAtEnd r
 only_at_end r h =
-    let there = ends_there (is_live r.items r.truths r.position) (sight_of (drop r.position r.items)) r h in
+    let there = ends_there (is_live r.items r.truths r.position) (facts_here r) (sight_of (items_left r)) r h in
     record { nothing_left = there.0; all_reported = there.1 }
 
-reported_end : (block : Option Block) (r : SourceReader) → block ≡ None → ended_by block r ≡ at_end r
+reported_end : (block : Option Block) (r : SourceReader) → block ≡ None → end_by block r ≡ at_end r
 reported_end (Some block) r h = cc
 reported_end None r h = refl
 
-acts_at_end : (live : Bool) (s : Sight) (r : SourceReader) → s ≡ sight.End → reported_next r ≡ None → acts live s r ≡ at_end r
-acts_at_end true s r h k = subst (λ z. acts true z r ≡ at_end r) (sym h) (reported_end (reported_next r) r k)
-acts_at_end false s r h k = subst (λ z. acts false z r ≡ at_end r) (sym h) (reported_end (reported_next r) r k)
+acts_at_end : (live : Bool) (block : Option BlockFacts) (s : Sight) (r : SourceReader) → s ≡ sight.End → reported_next r ≡ None
+    → acts live block s r ≡ at_end r
+acts_at_end live block s r h k = subst (λ z. acts live block z r ≡ at_end r) (sym h) (reported_end (reported_next r) r k)
 
 -- and there nothing else is
 end_acts : (r : SourceReader) → IsAtEnd r → act r ≡ at_end r
-end_acts r end = acts_at_end (is_live r.items r.truths r.position) (sight_of (drop r.position r.items)) r end.nothing_left end.all_reported
+end_acts r end =
+    acts_at_end (is_live r.items r.truths r.position) (facts_here r) (sight_of (items_left r)) r end.nothing_left end.all_reported
 
 -- only the end is the end
 given_end : (o : Outcome) → taken_of o ≡ taken.End → o ≡ outcome.End

@@ -1,6 +1,6 @@
 -- What holds of each token among a source's items holds of each token that reading it gives, and of the bodies that it defines.
-use Rattle.std.proofs.Common.{◌≡◌, ℕ, ℤ, pos, ◌+◌, ◌+ℤ◌, Bool, true, false, if◌then◌else◌, List, [], ◌∷◌, drop, zero, suc, refl, sym, subst, Option, Some, None, arith}
-use Rattle.std.specs.Prelude.{⊤, IfOk, IfSome, Result, Ok, Err, not}
+use Rattle.std.proofs.Common.{◌≡◌, ℕ, ℤ, pos, ◌+ℤ◌, Bool, true, false, if◌then◌else◌, List, [], ◌∷◌, drop, zero, suc, refl, sym, subst, Option, Some, None, arith}
+use Rattle.std.specs.Prelude.{⊤, IfOk, IfSome, Result, Ok, Err}
 use Rattle.std.specs.List.{AllByRecursion as Each}
 use Rattle.pp_lexer.specs.Items.{Lexeme}
 use Rattle.pp_lexer.specs.Lexed.{Seen}
@@ -9,24 +9,23 @@ use Rattle.pp_lexer.specs.declared.lexer.item.TokenValue.{TokenValue as LexerTok
 use Rattle.pp_lexer.specs.declared.lexer.item.TokenValue.TheVariants.{Hash, NewLine, Ident as LexerIdent, Integer as LexerInteger, Float as LexerFloat, Punct as LexerPunct}
 use Rattle.pp_lexer.specs.declared.token.Location.{Location}
 use Rattle.pp_lexer.specs.declared.token.Token.{Token}
-use Rattle.pp_lexer.specs.declared.token.TokenValue.{TokenValue}
 use Rattle.pp_model.specs.Names.{Name, is_same_name}
 use Rattle.pp_model.specs.Conversions.{identifier_of}
 use Rattle.pp_model.specs.Definitions.{Definition, Definitions, changed}
 use Rattle.pp_model.specs.Calls.{Fault, Answers}
-use Rattle.pp_model.specs.Lines.{line_tokens, first_token, only_name}
+use Rattle.pp_model.specs.Lines.{first_token}
 use Rattle.pp_model.specs.DefineLines.{defined_on}
 use Rattle.pp_model.specs.LineValues.{as_line_number}
 use Rattle.pp_model.specs.Sights.{sight_of, token_sight, named_directive}
 use Rattle.pp_model.specs.inner.Sights.{item_sight, directive_sight}
 use Rattle.pp_model.specs.Blocks.{Block, is_live}
 use Rattle.pp_model.specs.SourceReader.{SourceReader}
-use Rattle.pp_model.specs.Acts.{Acted, passed, given, moved, after_word, after_line, acted, decided, line_item, block_here, live_directive, ended_by, live_act, dead_act, act}
-use Rattle.pp_model.specs.inner.Acts.{is_defined_now}
+use Rattle.pp_model.specs.Moves.{BlockFacts, move_at, directive_move}
+use Rattle.pp_model.specs.Acts.{Acted, pause_at, advanced_by, end_by, perform, facts_here, act}
+use Rattle.pp_model.specs.inner.Acts.{perform_line, item_at, items_left, after_word}
 use Rattle.pp_model.specs.Reads.{Steps, passes, gives, defines, repeats, redefines, decides, undecided, renumbers, unnumbered, Reads, here, later, source_reading}
 use Rattle.pp_model.specs.declared.definition.Named.{Named}
 use Rattle.pp_model.specs.declared.directive.Directive.{Directive}
-use Rattle.pp_model.specs.declared.directive.Directive.TheVariants as d
 use Rattle.pp_model.specs.Painting.{taken_of}
 use Rattle.pp_model.specs.declared.outcome.Outcome.{Outcome}
 use Rattle.pp_model.specs.declared.read.Taken.{Taken}
@@ -34,7 +33,8 @@ use Rattle.pp_model.specs.declared.outcome.Outcome.TheVariants as outcome
 use Rattle.pp_model.specs.declared.sight.Sight.{Sight}
 use Rattle.pp_model.specs.declared.sight.Sight.TheVariants as sight
 use Rattle.pp_model.specs.declared.step.Step.TheVariants as step
-use Rattle.pp_model.proofs.ActsLemmas.{HoldsOfDead, value_holds, condition_holds, elif_holds, else_line_holds, endif_holds, dead_text_holds, either_holds}
+use Rattle.pp_model.proofs.MovesLemmas.{directive_holds}
+use Rattle.pp_model.proofs.ActsLemmas.{HoldsOfDead}
 use Rattle.pp_model.proofs.HoldingLemmas.{AreClosed, HoldInBodies, HoldsOfTaken}
 use Rattle.pp_model.proofs.KeptItemsLemmas.{step_keeps_items}
 use Rattle.pp_model.proofs.KeptTokensLemmas.{ReaderKeeps}
@@ -135,7 +135,7 @@ module _ (Q : Token → Type 0) (L : ℕ → Type 0) (closed : AreClosed Q L) wh
 
   module _ (items_hold : DirectiveItemsHold) (r : SourceReader) (all : HoldInItems Q r.items) (bodies : HoldInBodies Q r.definitions) where
     after : HoldInItems Q (after_word r)
-    after = drop_holds (r.position + 2) r.items all
+    after = drop_holds 2 (items_left r) (drop_holds r.position r.items all)
 
     dead : HoldsOfDead HoldsOfAct r
     dead = record {
@@ -144,75 +144,70 @@ module _ (Q : Token → Type 0) (L : ℕ → Type 0) (closed : AreClosed Q L) wh
       wanted = λ word tokens. record { token = λ token e. cc; body = λ named e. cc; bodies = bodies };
     }
 
-    end : (block : Option Block) → HoldsOfAct (ended_by block r)
+    end : (block : Option Block) → HoldsOfAct (end_by block r)
     end (Some block) = record { token = λ token e. cc; body = λ named e. cc; bodies = bodies }
     end None = record { token = λ token e. cc; body = λ named e. cc; bodies = bodies }
 
-    given_holds : (shown : Token) (after : SourceReader) → Q shown → after.definitions ≡ r.definitions → HoldsOfAct (given shown after)
+    given_holds : (shown : Token) (after : SourceReader) → Q shown → after.definitions ≡ r.definitions → HoldsOfAct (item_at shown after)
     given_holds shown after q same = record {
       token = λ token e. subst Q (same_token shown token e) q;
       body = λ named e. cc;
       bodies = subst (λ (x : Definitions). HoldInBodies Q x) (sym same) bodies;
     }
 
-    passed_holds : (after : SourceReader) → HoldInBodies Q after.definitions → HoldsOfAct (passed after)
+    passed_holds : (after : SourceReader) → HoldInBodies Q after.definitions → HoldsOfAct (pause_at after)
     passed_holds after h = record { token = λ token e. cc; body = λ named e. cc; bodies = h }
 
-    define_by : (line : Result Named Fault) → IfOk line (λ named. Each Q named.definition.body)
-        → HoldsOfAct (acted line r (λ named. record { step = step.Defines named; after = after_line r }))
-    define_by (Ok said) h = record {
+    line_defines : (word : Location) (said : Named) → defined_on word (after_word r) ≡ Ok said → Each Q said.definition.body
+    line_defines word said e =
+        subst (λ (line : Result Named Fault). IfOk line (λ named. Each Q named.definition.body)) e (defined_holds Q word (after_word r) after)
+
+    define_holds : (said : Named) (after : SourceReader) → Each Q said.definition.body → after.definitions ≡ r.definitions
+        → HoldsOfAct (record { step = step.Defines said; after = after })
+    define_holds said after h same = record {
       token = λ token e. cc;
-      body =
-          λ named e. subst (λ (x : Named). Each Q x.definition.body) (same_named said named e) h;
-      bodies = bodies;
+      body = λ named e. subst (λ (x : Named). Each Q x.definition.body) (same_named said named e) h;
+      bodies = subst (λ (x : Definitions). HoldInBodies Q x) (sym same) bodies;
     }
-    define_by (Err fault) h = dead.fault fault
 
-    name_by : (line : Result Name Fault) (after : Name → SourceReader) → ((name : Name) → HoldInBodies Q (after name).definitions)
-        → HoldsOfAct (acted line r (λ name. passed (after name)))
-    name_by line after h = value_holds HoldsOfAct r dead line (λ name. passed (after name)) (λ name. passed_holds (after name) (h name))
+    directive_acts : (live : Bool) (block : Option BlockFacts) (directive : Directive) (word : Location) → L word.line
+        → HoldsOfAct (perform_line (directive_move live block directive word (after_word r)) r)
+    directive_acts live block directive word l =
+        directive_holds (λ move. HoldsOfAct (perform_line move r)) block word (after_word r) live directive (record {
+          failing = λ fault. dead.fault fault;
+          refusing = λ fault. dead.fault fault;
+          unknown = λ live its. dead.nothing 2 (omega arith);
+          passing = λ its. dead.nothing _ (omega arith);
+          items = λ live its value is. given_holds _ _ (items_hold _ (is _ _) l) refl;
+          defining = λ live its named is. define_holds named _ (line_defines word named is) refl;
+          undefining = λ live its name. passed_holds _ (undefined_holds r.definitions name bodies);
+          numbering = λ live its tokens. record { token = λ token e. cc; body = λ named e. cc; bodies = bodies };
+          asking = λ live its holds name. passed_holds _ bodies;
+          opening = λ live its tokens. dead.wanted word tokens;
+          unread = λ live its. dead.nothing _ (omega arith);
+          parting = λ its found is none. dead.nothing _ (omega arith);
+          skipping = λ its found is none skips. dead.nothing _ (omega arith);
+          choosing = λ its found is none reads tokens. dead.wanted word tokens;
+          closing = λ its found is. dead.nothing _ (omega arith);
+        })
 
-    item_by : (value : List Token → TokenValue) (word : Location) → ((tokens : List Token) → is_ordinary (value tokens) ≡ false) → L word.line
-        → HoldsOfAct (line_item value word r)
-    item_by value word other l =
-        value_holds HoldsOfAct r dead (line_tokens (after_word r)) (λ tokens. given (record { value = value tokens; location = word }) (after_line r))
-        (λ tokens. given_holds (record { value = value tokens; location = word }) (after_line r)
-        (items_hold (record { value = value tokens; location = word }) (other tokens) l) refl)
-
-    live_directive_holds : (directive : Directive) (word : Location) → L word.line → HoldsOfAct (live_directive directive word r)
-    live_directive_holds d.Define word l = define_by (defined_on word (after_word r)) (defined_holds Q word (after_word r) after)
-    live_directive_holds d.Undef word l = name_by (only_name word (after_word r)) (λ name. record (after_line r)
-        { definitions = changed r.definitions name None }) (λ name. undefined_holds r.definitions name bodies)
-    live_directive_holds d.If word l = condition_holds HoldsOfAct r dead word
-    live_directive_holds d.Ifdef word l = name_by (only_name word (after_word r)) (λ name. decided r (is_defined_now r name)) (λ name. bodies)
-    live_directive_holds d.Ifndef word l = name_by (only_name word (after_word r)) (λ name. decided r (not (is_defined_now r name))) (λ name. bodies)
-    live_directive_holds d.Elif word l = elif_holds HoldsOfAct r dead (block_here r) word
-    live_directive_holds d.Else word l = else_line_holds HoldsOfAct r dead word
-    live_directive_holds d.Endif word l = endif_holds HoldsOfAct r dead (block_here r) word
-    live_directive_holds d.Error word l = dead.fault _
-    live_directive_holds d.Line word l = value_holds HoldsOfAct r dead (line_tokens (after_word r))
-        (λ tokens. record { step = step.LineNumber word tokens; after = r }) (λ tokens. record { token = λ token e. cc; body = λ named e. cc; bodies = bodies })
-    live_directive_holds d.Version word l = item_by _ word (λ tokens. refl) l
-    live_directive_holds d.Extension word l = item_by _ word (λ tokens. refl) l
-    live_directive_holds d.Pragma word l = item_by _ word (λ tokens. refl) l
-    live_directive_holds d.Unknown word l = dead.fault _
-
-    live_holds : (s : Sight) → HoldsOfSight s → HoldsOfAct (live_act s r)
-    live_holds sight.End h = end _
-    live_holds sight.NewLine h = dead.nothing 1 (omega arith)
-    live_holds (sight.Fault fault) h = dead.fault fault
-    live_holds (sight.Token token) h = given_holds token (moved 1 r) h refl
-    live_holds (sight.Hash location) h = dead.fault _
-    live_holds sight.Lone h = dead.nothing 2 (omega arith)
-    live_holds (sight.NoWord fault) h = dead.fault fault
-    live_holds (sight.Directive directive word) h = live_directive_holds directive word h
+    text_acts : (live : Bool) (block : Option BlockFacts) (s : Sight) → HoldsOfSight s → HoldsOfAct (perform (move_at live block s (items_left r)) r)
+    text_acts live block sight.End h = end _
+    text_acts live block sight.NewLine h = dead.nothing 1 (omega arith)
+    text_acts live block (sight.Fault fault) h = dead.fault fault
+    text_acts true block (sight.Token token) h = given_holds token (advanced_by 1 r) h refl
+    text_acts false block (sight.Token token) h = dead.nothing 1 (omega arith)
+    text_acts true block (sight.Hash location) h = dead.fault _
+    text_acts false block (sight.Hash location) h = dead.nothing 1 (omega arith)
+    text_acts live block sight.Lone h = dead.nothing 2 (omega arith)
+    text_acts true block (sight.NoWord fault) h = dead.fault fault
+    text_acts false block (sight.NoWord fault) h = dead.nothing 2 (omega arith)
+    text_acts live block (sight.Directive directive word) h = directive_acts live block directive word h
 
     act_holds : HoldsOfAct (act r)
     act_holds =
-        let shown = sight_of (drop r.position r.items) in
-        either_holds HoldsOfAct (is_live r.items r.truths r.position) (live_act shown r) (dead_act shown r)
-        (live_holds shown (sight_holds (drop r.position r.items) (drop_holds r.position r.items all)))
-        (dead_text_holds HoldsOfAct r dead end shown)
+        text_acts (is_live r.items r.truths r.position) (facts_here r) (sight_of (items_left r))
+        (sight_holds (items_left r) (drop_holds r.position r.items all))
 
   -- it holds of a source's items and of the bodies of what is defined
   abbrev pub HoldsOfReader : SourceReader → Type 0

@@ -23,7 +23,8 @@ use Rattle.pp_model.specs.inner.Sights.{item_sight}
 use Rattle.pp_model.specs.Blocks.{line_at, block_lines, Block, open_blocks, blocks_at, innermost, is_live}
 use Rattle.pp_model.specs.inner.Blocks.{is_branch_live}
 use Rattle.pp_model.specs.SourceReader.{SourceReader}
-use Rattle.pp_model.specs.Acts.{ended_by, live_act, dead_act, act}
+use Rattle.pp_model.specs.Moves.{move_at}
+use Rattle.pp_model.specs.Acts.{end_by, perform, facts_here, act}
 use Rattle.pp_model.specs.Reading.{Expander, opening}
 use Rattle.pp_model.specs.SpliceList.{outermost_line}
 use Rattle.pp_model.specs.Taking.{line_number, Takes, read, shown_token, shown_outcome}
@@ -121,11 +122,11 @@ module _ (A : Answers) (items : List Seen) (all : Each IsNoHash items) where
   live_there position = ap (list_all (is_branch_live [])) (no_blocks items position all)
 
   act_there : (position : ℕ) (shown : Sight) → sight_of (drop position items) ≡ shown
-      → act (reader_at items position) ≡ live_act shown (reader_at items position)
+      → act (reader_at items position) ≡ perform (move_at true (facts_here (reader_at items position)) shown (drop position items)) (reader_at items position)
   act_there position shown e =
       let r = reader_at items position in
-      ap (λ live. if live then live_act (sight_of (drop position items)) r else dead_act (sight_of (drop position items)) r) (live_there position)
-      ∙ ap (λ s. live_act s r) e
+      ap (λ live. perform (move_at live (facts_here r) (sight_of (drop position items)) (drop position items)) r) (live_there position)
+      ∙ ap (λ s. perform (move_at true (facts_here r) s (drop position items)) r) e
 
   -- what comes first of this text is taken, unpainted, where no name is open
   painted_none : (x : Taken) → taken_among [] x ≡ x
@@ -172,7 +173,7 @@ module _ (A : Answers) (items : List Seen) (all : Each IsNoHash items) where
   reads_end position e =
       let r = reader_at items position in
       let a : act r ≡ record { step = step.Given outcome.End; after = r } = act_there position sight.End (ap sight_of e)
-      ∙ ap (λ block. ended_by block r) ended_there in
+      ∙ ap (λ block. end_by block r) ended_there in
       here outcome.End taken.End r r (gives outcome.End (Some outcome.End) r r (ap (λ x. x.step) a) refl (sym (ap (λ x. x.after) a))) refl
 
   -- after the last token a newline may stand

@@ -1,15 +1,16 @@
 -- The words of a line, read one after another.
-use Rattle.std.proofs.Common.{◌≡◌, ◌∷◌, ◌++◌, [], List, refl, ap, append_assoc, true}
-use Rattle.std.specs.Prelude.{Option, Result, Bool}
+use Rattle.std.proofs.Common.{◌≡◌, ◌∷◌, ◌++◌, [], List, refl, ap, append_assoc}
+use Rattle.std.specs.Prelude.{if◌then◌else◌, Option, Some, Result, Ok, Err, Bool, true, false}
 use Rattle.std.proofs.lemmas.List.{append-nil}
 use Rattle.pp_lexer.specs.declared.token.Location.{Location}
 use Rattle.pp_model.specs.Reading.{Expander, Listed, line_reading}
 use Rattle.pp_model.specs.Taking.{Takes}
 use Rattle.pp_model.specs.Calls.{Fault, Answers}
-use Rattle.pp_model.specs.LineWords.{Words, word_before, Operand}
-use Rattle.pp_model.specs.inner.LineWords.{is_open_paren}
-use Rattle.pp_model.specs.LineWords as line
-use Rattle.pp_model.specs.inner.WordsRead.{unclosed, closed, Parenthesized, no_name, named}
+use Rattle.pp_model.specs.Emitting.{Emits}
+use Rattle.pp_model.specs.Names.{Name}
+use Rattle.pp_model.specs.LineWords.{Words, word_before, InParentheses, named, name_in, is_defined, unwanted_word}
+use Rattle.pp_model.specs.inner.LineWords.{is_close_paren}
+use Rattle.pp_model.specs.inner.WordsRead.{Closes}
 use Rattle.pp_model.specs.declared.read.Taken.{Taken}
 use Rattle.pp_model.specs.declared.word.LineKind.{LineKind}
 use Rattle.pp_model.specs.declared.word.Word.{Word}
@@ -25,11 +26,19 @@ pub after_words-end : (words : List Word) (ending : Option Fault)
     → after_words words (record { words = []; ending = ending }) ≡ record { words = words; ending = ending }
 after_words-end words ending = ap (λ (ws : List Word). let r : Words = record { words = ws; ending = ending } in r) (append-nil words)
 
--- an operand after its `(`
-pub operand_parenthesized : (kind : LineKind) (directive : Location) (A : Answers) (o : Taken) (e f g : Expander Listed) (r : Result Bool Fault)
-    → Takes line_reading e o f → is_open_paren o ≡ true → Parenthesized kind directive A f r g → Operand kind directive A e r g
-operand_parenthesized kind directive A o e f g r takes paren (no_name x _ _ _ taken is w) = line.no_name o x e f g r takes paren taken is w
-operand_parenthesized kind directive A o e f h r takes paren (named x n _ g _ _ taken is (unclosed y _ _ _ emits still w)) =
-    line.unclosed o x y n e f g h r takes paren taken is emits still w
-operand_parenthesized kind directive A o e f h r takes paren (named x n _ g _ _ taken is (closed y _ _ _ emits close w)) =
-    line.in_parentheses o x y n e f g h r takes paren taken is emits close w
+-- the answer after a `)`, and the fault of what is none
+module _ (kind : LineKind) (directive : Location) (A : Answers) (n : Name) (found : Taken) (e f : Expander Listed) (emits : Emits line_reading A e found f)
+  where
+    closes_by : (b : Bool) → is_close_paren found ≡ b → Closes kind directive A n e (if b then Ok (is_defined f n) else Err (unwanted_word kind directive found)) f
+    closes_by b is = record { found = found; emits = emits; answer = rw is refl }
+
+    pub closes : (answer : Bool) → is_close_paren found ≡ true → answer ≡ is_defined f n → Closes kind directive A n e (Ok answer) f
+    closes answer close is = rw is (closes_by true close)
+
+    pub does_not_close : (fault : Fault) → is_close_paren found ≡ false → fault ≡ unwanted_word kind directive found → Closes kind directive A n e (Err fault) f
+    does_not_close fault still is = rw is (closes_by false still)
+
+-- an operand in parentheses whose name was taken
+pub closes_named : (kind : LineKind) (directive : Location) (A : Answers) (n : Name) (o : Taken) (e f g : Expander Listed) (r : Result Bool Fault)
+    → Takes line_reading e o f → name_in o ≡ Some n → Closes kind directive A n f r g → InParentheses kind directive A e r g
+closes_named kind directive A n o e f g r takes is closed = named o closed.found n e f g r takes is closed.emits closed.answer

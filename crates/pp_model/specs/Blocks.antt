@@ -34,22 +34,6 @@ abbrev pub block_lines : ℕ → List Seen → List BlockLine
 block_lines position [] = []
 block_lines position (s ∷ rest) = cons_option (line_at position (sight_of (s ∷ rest))) (block_lines (position + 1) rest)
 
--- the line closes a block in which so many inner blocks are open
-abbrev pub closes_block : Part → ℕ → Bool
-closes_block part.Closes inner = inner == 0
-closes_block _ inner = false
-
--- the inner blocks that are open after the line
-abbrev pub inner_after : Part → ℕ → ℕ
-inner_after part.Opens inner = inner + 1
-inner_after part.Closes inner = inner - 1
-inner_after _ inner = inner
-
--- the block is still open after these lines
-abbrev pub stays_open : ℕ → List BlockLine → Bool
-stays_open inner [] = true
-stays_open inner (line ∷ later) = not (closes_block line.part inner) && stays_open (inner_after line.part inner) later
-
 abbrev pub opens : Part → Bool
 opens part.Opens = true
 opens _ = false
@@ -58,30 +42,33 @@ abbrev pub is_else : Part → Bool
 is_else part.Else = true
 is_else _ = false
 
-abbrev pub parts_block : Part → ℕ → Bool
-parts_block part.Elif inner = inner == 0
-parts_block part.Else inner = inner == 0
-parts_block _ inner = false
+-- The lines that part a block, and no inner one, or none if the block is closed: what the line does, if so many inner
+-- blocks are open before it, and `rest` says the same of the later lines.
+abbrev pub parted_by : Part → BlockLine → ℕ → (ℕ → Option (List BlockLine)) → Option (List BlockLine)
+parted_by part.Opens line inner rest = rest (inner + 1)
+parted_by part.Closes line inner rest = if inner == 0 then None else rest (inner - 1)
+parted_by _ line inner rest = if inner == 0 then option_map (λ lines. line ∷ lines) (rest inner) else rest inner
 
--- the lines that part the block itself, and no inner one
-abbrev pub parting : ℕ → List BlockLine → List BlockLine
-parting inner [] = []
-parting inner (line ∷ later) =
-    if parts_block line.part inner then line ∷ parting (inner_after line.part inner) later
-    else parting (inner_after line.part inner) later
+-- the lines that part a block in which so many inner ones are open, or none if one of these lines closes it
+abbrev pub partings_of : ℕ → List BlockLine → Option (List BlockLine)
+partings_of inner [] = Some []
+partings_of inner (line ∷ later) = parted_by line.part line inner (λ deeper. partings_of deeper later)
 
 -- A block that is open: its first line, and the lines that part it so far. All of these are its branch marks.
 pub record Block : Type 0 where
   pub first : BlockLine
   pub partings : List BlockLine
 
+-- the block that the line opens, if it opens one that is still open after the later lines
+abbrev pub opened_by : BlockLine → List BlockLine → Option Block
+opened_by line later =
+    if opens line.part then option_map (λ partings. record { first = line; partings = partings }) (partings_of 0 later)
+    else None
+
 -- the blocks that are open after these lines, the outermost first
 abbrev pub open_blocks : List BlockLine → List Block
 open_blocks [] = []
-open_blocks (line ∷ later) =
-    if opens line.part && stays_open 0 later
-    then record { first = line; partings = parting 0 later } ∷ open_blocks later
-    else open_blocks later
+open_blocks (line ∷ later) = cons_option (opened_by line later) (open_blocks later)
 
 -- the blocks that are open at a position of a source
 abbrev pub blocks_at : List Seen → ℕ → List Block

@@ -1,6 +1,5 @@
 -- The next item of an expander, and an argument's expansion alone (docs/RULES.md, Expansion 3 to 10).
-use Rattle.std.specs.Prelude.{◌≡◌, ℕ, zero, suc, true, false, List, [], ◌∷◌, Option, Some, None, unwrap_or, Result, Ok, Err}
-use Rattle.pp_lexer.specs.declared.token.PreprocessorError.{PreprocessorError}
+use Rattle.std.specs.Prelude.{◌≡◌, ℕ, zero, suc, true, false, List, [], ◌∷◌, Option, Some, None, MatchOption, Result, Ok, Err}
 use Rattle.pp_lexer.specs.declared.token.PreprocessorError.TheVariants.{RecursionLimitReached}
 use Rattle.pp_expression.specs.Answers.{◌>>=◌}
 use Rattle.pp_model.specs.Names.{Name}
@@ -88,29 +87,30 @@ pub data Each (deeper : Alones) (visible : Definitions) (hidden : List Name)
       → out ≡ first_before expanded rest
       → Each deeper visible hidden (argument ∷ arguments) out
 
-abbrev pub EachOrRefused : Alones → Option PreprocessorError → Site → Result (List (List Read)) Fault → Type 0
-EachOrRefused deeper (Some error) site out = out ≡ Err (error, site.paren)
-EachOrRefused deeper None site out = Each deeper site.visible site.open_around site.arguments out
+-- what calls come to: a wrong number of arguments is refused, and any other call comes to what `Fitting` says
+abbrev pub answers_by : (Site → Result (List (List Read)) Fault → Type 0) → Answers
+answers_by Fitting definition site out =
+    MatchOption (misfit definition.parameters site.arguments)
+    (Fitting site out)
+    (λ error. out ≡ Err (error, site.paren))
 
--- calls in an argument that is read at the limit: one that fits is refused too
-abbrev pub answers_at_limit : Answers
-answers_at_limit definition site out =
-    out ≡ Err (unwrap_or (misfit definition.parameters site.arguments) RecursionLimitReached, site.paren)
+-- what a list of tokens comes to alone, where calls come to this
+abbrev pub alone_by : Answers → Alones
+alone_by A tokens visible hidden out = Collects argument_reading A (reading_of tokens visible hidden) out
 
--- calls whose arguments are expanded so
-abbrev pub answers_below : Alones → Answers
-answers_below deeper definition site out = EachOrRefused deeper (misfit definition.parameters site.arguments) site out
-
--- a list of tokens alone, where arguments may be read inside each other so many levels deeper
-abbrev pub Alone : ℕ → Alones
-Alone zero tokens visible hidden out = Collects argument_reading answers_at_limit (reading_of tokens visible hidden) out
-Alone (suc levels) tokens visible hidden out =
-    Collects argument_reading (answers_below (Alone levels)) (reading_of tokens visible hidden) out
+-- what the arguments of a call come to, where arguments may be read inside each other so many levels deeper
+abbrev pub ExpandsArguments : ℕ → Site → Result (List (List Read)) Fault → Type 0
+ExpandsArguments zero site out = out ≡ Err (RecursionLimitReached, site.paren)
+ExpandsArguments (suc levels) site out =
+    Each (alone_by (answers_by (ExpandsArguments levels))) site.visible site.open_around site.arguments out
 
 -- what calls come to, where arguments may be read inside each other so many levels deeper
 abbrev pub answers_at : ℕ → Answers
-answers_at zero = answers_at_limit
-answers_at (suc levels) = answers_below (Alone levels)
+answers_at levels = answers_by (ExpandsArguments levels)
+
+-- the same of a list of tokens alone
+abbrev pub Alone : ℕ → Alones
+Alone levels = alone_by (answers_at levels)
 
 -- argument expansions inside each other
 unfoldable pub expansion_limit : ℕ

@@ -14,6 +14,7 @@ pub mod DefineLines
 pub mod Sights
 pub mod Blocks
 pub mod SourceReader
+pub mod Moves
 pub mod Acts
 pub mod LineValues
 pub mod Reads

@@ -73,36 +73,46 @@ has_value test _ = false
 abbrev pub is_defined : Expander Listed → Name → Bool
 is_defined e name = is_some (e.reader.visible name)
 
--- what the operand of a `defined` comes to: a name, alone or in parentheses. The `(` and the name are taken and not
--- looked up, the `)` is read expanded.
+-- the answer, if what was read is a `)`, or else the fault of that
+abbrev pub closed_by : LineKind → Location → Bool → Taken → Result Bool Fault
+closed_by kind directive answer o =
+    if has_value is_right_paren o then Ok answer else Err (unwanted_word kind directive o)
+
+-- what the operand of a `defined` comes to after its `(`: the name is taken and not looked up, the `)` is read expanded
+pub data InParentheses (kind : LineKind) (directive : Location) (A : Answers)
+    : Expander Listed → Result Bool Fault → Expander Listed → Type 0 where
+  no_name : (o : Taken) (e f : Expander Listed) (r : Result Bool Fault)
+      → Takes line_reading e o f
+      → name_in o ≡ None
+      → r ≡ Err (unwanted directive o)
+      → InParentheses kind directive A e r f
+  named : (o x : Taken) (n : Name) (e f g : Expander Listed) (r : Result Bool Fault)
+      → Takes line_reading e o f
+      → name_in o ≡ Some n
+      → Emits line_reading A f x g
+      → r ≡ closed_by kind directive (is_defined g n) x
+      → InParentheses kind directive A e r g
+
+-- what the operand of a `defined` comes to: a name, alone or in parentheses. The name or the `(` is taken and not
+-- looked up.
 pub data Operand (kind : LineKind) (directive : Location) (A : Answers)
     : Expander Listed → Result Bool Fault → Expander Listed → Type 0 where
   name : (o : Taken) (n : Name) (e f : Expander Listed) (r : Result Bool Fault)
-      → Takes line_reading e o f → name_in o ≡ Some n
+      → Takes line_reading e o f
+      → name_in o ≡ Some n
       → r ≡ Ok (is_defined f n)
       → Operand kind directive A e r f
+  in_parentheses : (o : Taken) (e f g : Expander Listed) (r : Result Bool Fault)
+      → Takes line_reading e o f
+      → has_value is_left_paren o ≡ true
+      → InParentheses kind directive A f r g
+      → Operand kind directive A e r g
   neither : (o : Taken) (e f : Expander Listed) (r : Result Bool Fault)
-      → Takes line_reading e o f → name_in o ≡ None
+      → Takes line_reading e o f
+      → name_in o ≡ None
       → has_value is_left_paren o ≡ false
       → r ≡ Err (unwanted directive o)
       → Operand kind directive A e r f
-  no_name : (o x : Taken) (e f g : Expander Listed) (r : Result Bool Fault)
-      → Takes line_reading e o f → has_value is_left_paren o ≡ true
-      → Takes line_reading f x g → name_in x ≡ None
-      → r ≡ Err (unwanted directive x)
-      → Operand kind directive A e r g
-  unclosed : (o x y : Taken) (n : Name) (e f g h : Expander Listed) (r : Result Bool Fault)
-      → Takes line_reading e o f → has_value is_left_paren o ≡ true
-      → Takes line_reading f x g → name_in x ≡ Some n
-      → Emits line_reading A g y h → has_value is_right_paren y ≡ false
-      → r ≡ Err (unwanted_word kind directive y)
-      → Operand kind directive A e r h
-  in_parentheses : (o x y : Taken) (n : Name) (e f g h : Expander Listed) (r : Result Bool Fault)
-      → Takes line_reading e o f → has_value is_left_paren o ≡ true
-      → Takes line_reading f x g → name_in x ≡ Some n
-      → Emits line_reading A g y h → has_value is_right_paren y ≡ true
-      → r ≡ Ok (is_defined h n)
-      → Operand kind directive A e r h
 
 -- the words of a line, and the fault of reading that ends them, if one does
 pub record Words : Type 0 where

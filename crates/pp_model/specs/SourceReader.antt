@@ -1,6 +1,6 @@
 -- A reader of a source, and what was read before a position (docs/RULES.md, Directives 1, 11, 13 and 14).
-use Rattle.std.specs.Prelude.{ℕ, zero, suc, ℤ, pos, Bool, false, not, ◌&&◌, ◌||◌, List, [], ◌∷◌, take, drop, length, slice_get, None}
-use Rattle.std.specs.Option.{option_map_or}
+use Rattle.std.specs.Prelude.{ℕ, zero, suc, ℤ, pos, Bool, false, not, ◌&&◌, ◌||◌, List, [], ◌∷◌, take, drop, length, reverse, None}
+use Rattle.std.specs.List.{list_any, take_while}
 use Rattle.pp_lexer.specs.Lexed.{Seen}
 use Rattle.pp_model.specs.Definitions.{Definitions}
 use Rattle.pp_model.specs.Lines.{ends_line}
@@ -32,14 +32,13 @@ abbrev pub has_directive : List Seen → Bool
 has_directive [] = false
 has_directive (s ∷ rest) = is_directive (sight_of (s ∷ rest)) || has_directive rest
 
--- The position is on the line of a directive: the item before it is the directive's number sign, or it ends no line and
--- is on the directive's line too.
+-- the items before the position that are on its line, the nearest first
+abbrev pub earlier_on_line : List Seen → ℕ → List Seen
+earlier_on_line source position = take_while (λ s. not (ends_line s.item)) (reverse (take position source))
+
+-- the position is on the line of a directive, after its number sign
 abbrev pub is_on_directive_line : List Seen → ℕ → Bool
-is_on_directive_line source zero = false
-is_on_directive_line source (suc position) =
-    option_map_or (λ s. is_directive_hash s.item) (slice_get source position) false
-    || (not (option_map_or (λ s. ends_line s.item) (slice_get source position) false)
-    && is_on_directive_line source position)
+is_on_directive_line source position = list_any (λ s. is_directive_hash s.item) (earlier_on_line source position)
 
 -- a live token of the text stands at the position
 abbrev pub is_live_text : List Seen → Truths → ℕ → Bool

@@ -6,10 +6,10 @@ pub mod Emitting
 pub mod Lines
 pub mod DefineLines
 pub mod Run
+pub mod Moves
 pub mod Acts
 pub mod Reads
 pub mod SpliceList
 pub mod LineValues
-pub mod SourceReader
 pub mod LineWords
 pub mod WordsRead

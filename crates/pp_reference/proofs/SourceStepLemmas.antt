@@ -7,7 +7,7 @@ use Rattle.pp_model.specs.Calls.{Fault, Answers}
 use Rattle.pp_model.specs.LineValues.{IsCondition, IsLineNumber}
 use Rattle.pp_model.specs.Blocks.{Block}
 use Rattle.pp_model.specs.SourceReader.{SourceReader}
-use Rattle.pp_model.specs.Acts.{Acted, ended_by, act}
+use Rattle.pp_model.specs.Acts.{Acted, end_by, act}
 use Rattle.pp_model.specs.Reads.{Steps, passes, gives, defines, repeats, redefines, decides, undecided, renumbers, unnumbered}
 use Rattle.pp_model.specs.inner.Reads.{defining}
 use Rattle.pp_reference.specs.inner.Acting.{Defining, Deciding, DecidesBy, Renumbering, RenumbersBy}
@@ -40,7 +40,7 @@ live_waits r = record {
   token = λ shown count least. record { condition = λ word tokens h. cc; number = λ word tokens h. cc };
 }
 
-end_waits : (r : SourceReader) (block : Option Block) → Waits r (ended_by block r)
+end_waits : (r : SourceReader) (block : Option Block) → Waits r (end_by block r)
 end_waits r (Some block) = record { condition = λ word tokens h. cc; number = λ word tokens h. cc }
 end_waits r None = record { condition = λ word tokens h. refl; number = λ word tokens h. refl }
 

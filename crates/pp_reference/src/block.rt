@@ -1,6 +1,6 @@
 //! The blocks that are open at a position of a source, and which of their branches are live.
 
-ghost use Rattle.std.specs.Prelude.{◌≡◌, ◌+◌, ◌^◌, ◌<◌, length, take, IfOk};
+ghost use Rattle.std.specs.Prelude.{◌≡◌, ◌+◌, ◌^◌, ◌<◌, ◌∷◌, length, take, option_map, vec_items, IfOk};
 ghost use Rattle.std.specs.List.{list_all, list_any};
 ghost use Rattle.pp_model.specs.Blocks as spec;
 ghost use Rattle.pp_model.specs.inner.Blocks as parts;
@@ -42,14 +42,7 @@ pub fn part_of(directive: Directive) -> Option<Part>
         Directive::Elif => Some(Part::Elif),
         Directive::Else => Some(Part::Else),
         Directive::Endif => Some(Part::Closes),
-        Directive::Define
-        | Directive::Undef
-        | Directive::Line
-        | Directive::Error
-        | Directive::Version
-        | Directive::Extension
-        | Directive::Pragma
-        | Directive::Unknown => None,
+        _ => None,
     }
 }
 
@@ -99,56 +92,55 @@ pub fn block_lines(
     Ok(lines)
 }
 
-fn closes_block(part: Part, inner: usize) -> bool
-    ensures { result ≡ spec.closes_block part inner }
+// The lines with this one before them.
+fn with_line(
+    line: BlockLine,
+    partings: Option<Vec<BlockLine>>,
+) -> Result<Option<Vec<BlockLine>>, Stop>
+    ensures { IfOk result (λ found. option_map vec_items found
+        ≡ option_map (λ lines. line ∷ lines) (option_map vec_items partings)) }
 {
-    part == Part::Closes && inner == 0
+    let Some(mut partings) = partings else {
+        return Ok(None);
+    };
+    partings.insert(0, line)?;
+    Ok(Some(partings))
 }
 
-fn parts_block(part: Part, inner: usize) -> bool
-    ensures { result ≡ spec.parts_block part inner }
-{
-    matches!(part, Part::Elif | Part::Else) && inner == 0
-}
-
-// The number of inner blocks that are open after the line.
-fn inner_after(part: Part, inner: usize) -> usize
-    requires { inner + 1 < 2 ^ 64 }
-    ensures { result ≡ spec.inner_after part inner }
-{
-    match part {
-        Part::Opens => inner + 1,
-        Part::Closes => inner.saturating_sub(1),
-        Part::Elif | Part::Else => inner,
-    }
-}
-
-// Whether a block with `inner` open inner blocks is still open after these lines.
-fn stays_open(inner: usize, lines: &[BlockLine]) -> bool
+// The lines that part a block with `inner` open inner blocks, or `None` if one of these lines closes it.
+fn partings_of(
+    alloc: Global,
+    inner: usize,
+    lines: &[BlockLine],
+) -> Result<Option<Vec<BlockLine>>, Stop>
     requires { inner + length lines.now < 2 ^ 64 }
-    ensures { result ≡ spec.stays_open inner lines.now }
-{
-    match lines.split_first() {
-        None => true,
-        Some((line, later)) => {
-            !closes_block(line.part, inner) && stays_open(inner_after(line.part, inner), later)
-        }
-    }
-}
-
-// The lines that part the block itself.
-fn parting(alloc: Global, inner: usize, lines: &[BlockLine]) -> Result<Vec<BlockLine>, Stop>
-    requires { inner + length lines.now < 2 ^ 64 }
-    ensures { IfOk result (λ partings. partings.items ≡ spec.parting inner lines.now) }
+    ensures { IfOk result (λ found. option_map vec_items found ≡ spec.partings_of inner lines.now) }
 {
     let Some((line, later)) = lines.split_first() else {
-        return Ok(Vec::new(alloc));
+        return Ok(Some(Vec::new(alloc)));
     };
-    let mut partings = parting(alloc, inner_after(line.part, inner), later)?;
-    if parts_block(line.part, inner) {
-        partings.insert(0, *line)?;
+    match line.part {
+        Part::Opens => partings_of(alloc, inner + 1, later),
+        Part::Closes if inner == 0 => Ok(None),
+        Part::Closes => partings_of(alloc, inner - 1, later),
+        Part::Elif | Part::Else if inner == 0 => {
+            with_line(*line, partings_of(alloc, inner, later)?)
+        }
+        Part::Elif | Part::Else => partings_of(alloc, inner, later),
     }
-    Ok(partings)
+}
+
+// The block that the line opens, if it opens one that is still open after the later lines.
+fn opened_by(alloc: Global, line: BlockLine, later: &[BlockLine]) -> Result<Option<Block>, Stop>
+    ensures { IfOk result (λ block. block ≡ spec.opened_by line later.now) }
+{
+    if line.part != Part::Opens {
+        return Ok(None);
+    }
+    Ok(partings_of(alloc, 0, later)?.map(|partings| Block {
+        first: line,
+        partings,
+    }))
 }
 
 /// The blocks that are open after these lines, the outermost first.
@@ -159,11 +151,7 @@ pub fn open_blocks(alloc: Global, lines: &[BlockLine]) -> Result<Vec<Block>, Sto
         return Ok(Vec::new(alloc));
     };
     let mut blocks = open_blocks(alloc, later)?;
-    if line.part == Part::Opens && stays_open(0, later) {
-        let block = Block {
-            first: *line,
-            partings: parting(alloc, 0, later)?,
-        };
+    if let Some(block) = opened_by(alloc, *line, later)? {
         blocks.insert(0, block)?;
     }
     Ok(blocks)

@@ -3,11 +3,11 @@
 ghost use Rattle.std.specs.Prelude.{◌≡◌, ◌≤◌, [], map, IfOk, MatchResult, Some, None};
 ghost use Rattle.pp_reference.specs.inner.Changes.{meaning_of};
 ghost use Rattle.pp_model.specs.Emitting.{answers_at};
-ghost use Rattle.pp_model.specs.LineWords.{LineWords, Operand, name_in, is_defined, unwanted, unwanted_word};
+ghost use Rattle.pp_model.specs.LineWords.{LineWords, InParentheses, Operand, name_in, is_defined, unwanted, unwanted_word};
 ghost use Rattle.pp_model.specs.inner.LineWords.{is_open_paren, is_close_paren};
 ghost use Rattle.pp_model.specs.Painting.{unpainted};
 ghost use Rattle.pp_model.specs.Reading.{reading_of};
-ghost use Rattle.pp_model.specs.inner.WordsRead.{Closes, Parenthesized};
+ghost use Rattle.pp_model.specs.inner.WordsRead.{Closes};
 ghost use Rattle.pp_reference.specs.inner.Seen.{seen};
 ghost use Rattle.pp_reference.specs.inner.SeenList.{line_state};
 
@@ -109,8 +109,8 @@ fn operand_in_parentheses(
     levels: u32,
     budget: &mut Budget,
 ) -> Result<Result<bool, Fault>, Stop>
-    ensures parenthesized { IfOk result
-        (λ answer. Parenthesized kind directive (answers_at levels)
+    ensures inside { IfOk result
+        (λ answer. InParentheses kind directive (answers_at levels)
         (seen line_state expander.old) answer (seen line_state expander.new)) }
     ensures budget { budget.new.steps ≤ budget.old.steps }
 {

@@ -1,10 +1,13 @@
 //! A reader of a source: what each token or line does.
 
-ghost use Rattle.std.specs.Prelude.{◌≡◌, ◌≤◌, ◌+◌, Some, None, length, IfOk, OnOk};
+ghost use Rattle.std.specs.Prelude.{◌≡◌, ◌≤◌, ◌+◌, Some, None, length, IfOk, OnOk, option_map, not, true, false};
+ghost use Rattle.pp_model.specs.Lines.{only_name, line_tokens, comments_before_end};
+ghost use Rattle.pp_model.specs.DefineLines.{defined_on};
 ghost use Rattle.std.specs.Option.{option_copied};
 ghost use Rattle.pp_reference.specs.inner.Acting.{ActsAs, HasLine, HasLineIfOk};
 ghost use Rattle.pp_model.specs.Acts as spec;
 ghost use Rattle.pp_model.specs.inner.Acts as parts;
+ghost use Rattle.pp_model.specs.Moves as moves;
 ghost use Rattle.pp_model.specs.Blocks.{are_surroundings_live};
 ghost use Rattle.pp_reference.specs.inner.ReaderState.{reader_of};
 ghost use Rattle.pp_model.specs.Reads.{shown_line};
@@ -73,9 +76,9 @@ impl<'a> SourceReader<'a> {
     // The items after the directive's word.
     fn after_word(&self) -> &'a [SourceItem]
         requires { self.now.position + 2 ≤ length self.now.items }
-        ensures { result.now ≡ spec.after_word (reader_of self.now) }
+        ensures { result.now ≡ parts.after_word (reader_of self.now) }
     {
-        &self.items[self.position + 2..]
+        &self.items[self.position..][2..]
     }
 
     // Moves past the directive's line.
@@ -90,7 +93,9 @@ impl<'a> SourceReader<'a> {
     // Skips the directive's line. An error of the lexer on it is returned.
     fn skip_line(&mut self, alloc: Global) -> Result<Step, Halt>
         requires { self.old.position + 2 ≤ length self.old.items }
-        ensures acts { ActsAs result (spec.skipped (reader_of self.old)) (reader_of self.new) }
+        ensures acts { ActsAs result (parts.perform_line
+            (moves.skip_move moves.passes (parts.after_word (reader_of self.old)))
+            (reader_of self.old)) (reader_of self.new) }
         ensures line { HasLineIfOk result self.new }
     {
         match line_fault(alloc, self.after_word())? {
@@ -145,8 +150,10 @@ impl<'a> SourceReader<'a> {
     // Gathers the line of a condition.
     fn condition(&mut self, alloc: Global, word: Location) -> Result<Step, Halt>
         requires { self.old.position + 2 ≤ length self.old.items }
-        ensures acts { ActsAs result (spec.condition word (reader_of self.old))
-            (reader_of self.new) }
+        ensures acts { ActsAs result (parts.perform_line
+            (moves.line_move (line_tokens (parts.after_word (reader_of self.old)))
+            (moves.opens_if word) (parts.after_word (reader_of self.old)))
+            (reader_of self.old)) (reader_of self.new) }
         ensures line { HasLineIfOk result self.new }
     {
         let tokens = line_tokens(alloc, self.after_word())?;
@@ -156,8 +163,10 @@ impl<'a> SourceReader<'a> {
     // Gathers a `#line`.
     fn line_number(&mut self, alloc: Global, word: Location) -> Result<Step, Halt>
         requires { self.old.position + 2 ≤ length self.old.items }
-        ensures acts { ActsAs result (parts.line_number word (reader_of self.old))
-            (reader_of self.new) }
+        ensures acts { ActsAs result (parts.perform_line
+            (moves.line_move (line_tokens (parts.after_word (reader_of self.old)))
+            (moves.renumbers word) (parts.after_word (reader_of self.old)))
+            (reader_of self.old)) (reader_of self.new) }
         ensures line { HasLineIfOk result self.new }
     {
         let tokens = line_tokens(alloc, self.after_word())?;
@@ -167,7 +176,10 @@ impl<'a> SourceReader<'a> {
     // Reads a `#define`.
     fn define(&mut self, alloc: Global, word: Location) -> Result<Step, Halt>
         requires { self.old.position + 2 ≤ length self.old.items }
-        ensures acts { ActsAs result (parts.define word (reader_of self.old)) (reader_of self.new) }
+        ensures acts { ActsAs result (parts.perform_line
+            (moves.line_move (defined_on word (parts.after_word (reader_of self.old)))
+            moves.defines (parts.after_word (reader_of self.old)))
+            (reader_of self.old)) (reader_of self.new) }
         ensures line { HasLineIfOk result self.new }
     {
         let named = defined_on(alloc, word, self.after_word())?;
@@ -178,7 +190,10 @@ impl<'a> SourceReader<'a> {
     // Acts on an `#undef`.
     fn undef(&mut self, alloc: Global, word: Location) -> Result<Step, Halt>
         requires { self.old.position + 2 ≤ length self.old.items }
-        ensures acts { ActsAs result (parts.undef word (reader_of self.old)) (reader_of self.new) }
+        ensures acts { ActsAs result (parts.perform_line
+            (moves.line_move (only_name word (parts.after_word (reader_of self.old)))
+            moves.undefines (parts.after_word (reader_of self.old)))
+            (reader_of self.old)) (reader_of self.new) }
         ensures line { HasLineIfOk result self.new }
     {
         let name = only_name(alloc, word, self.after_word())?;
@@ -190,7 +205,10 @@ impl<'a> SourceReader<'a> {
     // Acts on an `#ifdef`, or an `#ifndef`, whose block is live if the name is not defined.
     fn ifdef(&mut self, alloc: Global, word: Location) -> Result<Step, Halt>
         requires { self.old.position + 2 ≤ length self.old.items }
-        ensures acts { ActsAs result (parts.ifdef word (reader_of self.old)) (reader_of self.new) }
+        ensures acts { ActsAs result (parts.perform_line
+            (moves.line_move (only_name word (parts.after_word (reader_of self.old)))
+            (moves.opens_where (λ is. is) word) (parts.after_word (reader_of self.old)))
+            (reader_of self.old)) (reader_of self.new) }
         ensures line { HasLineIfOk result self.new }
     {
         let name = only_name(alloc, word, self.after_word())?;
@@ -201,7 +219,10 @@ impl<'a> SourceReader<'a> {
 
     fn ifndef(&mut self, alloc: Global, word: Location) -> Result<Step, Halt>
         requires { self.old.position + 2 ≤ length self.old.items }
-        ensures acts { ActsAs result (parts.ifndef word (reader_of self.old)) (reader_of self.new) }
+        ensures acts { ActsAs result (parts.perform_line
+            (moves.line_move (only_name word (parts.after_word (reader_of self.old)))
+            (moves.opens_where not word) (parts.after_word (reader_of self.old)))
+            (reader_of self.old)) (reader_of self.new) }
         ensures line { HasLineIfOk result self.new }
     {
         let name = only_name(alloc, word, self.after_word())?;
@@ -226,8 +247,11 @@ impl<'a> SourceReader<'a> {
         word: Location,
     ) -> Result<Step, Halt>
         requires { self.old.position + 2 ≤ length self.old.items }
-        ensures acts { ActsAs result (spec.elif_in (option_copied block.entry) word
-            (reader_of self.old)) (reader_of self.new) }
+        ensures acts { ActsAs result (parts.perform_line
+            (moves.elif_move
+            (option_map (spec.facts_of (reader_of self.old)) (option_copied block.entry))
+            word (parts.after_word (reader_of self.old))) (reader_of self.old))
+            (reader_of self.new) }
         ensures line { HasLineIfOk result self.new }
     {
         let Some(block) = block else {
@@ -250,9 +274,11 @@ impl<'a> SourceReader<'a> {
         word: Location,
     ) -> Result<Step, Halt>
         requires { self.old.position + 2 ≤ length self.old.items }
-        ensures acts { ActsAs result (spec.only_word word (reader_of self.old)
-            (spec.else_in (option_copied block.entry) word
-            (reader_of self.old))) (reader_of self.new) }
+        ensures acts { ActsAs result (parts.perform_line
+            (moves.else_move
+            (option_map (spec.facts_of (reader_of self.old)) (option_copied block.entry))
+            word (parts.after_word (reader_of self.old))) (reader_of self.old))
+            (reader_of self.new) }
         ensures line { HasLineIfOk result self.new }
     {
         ended_line(alloc, word, self.after_word())?;
@@ -274,8 +300,11 @@ impl<'a> SourceReader<'a> {
         word: Location,
     ) -> Result<Step, Halt>
         requires { self.old.position + 2 ≤ length self.old.items }
-        ensures acts { ActsAs result (spec.endif_in (option_copied block.entry) word
-            (reader_of self.old)) (reader_of self.new) }
+        ensures acts { ActsAs result (parts.perform_line
+            (moves.endif_move
+            (option_map (spec.facts_of (reader_of self.old)) (option_copied block.entry))
+            word (parts.after_word (reader_of self.old))) (reader_of self.old))
+            (reader_of self.new) }
         ensures line { HasLineIfOk result self.new }
     {
         let Some(block) = block else {
@@ -292,7 +321,9 @@ impl<'a> SourceReader<'a> {
     // Reads a line that parts or closes the innermost block.
     fn elif_line(&mut self, alloc: Global, word: Location) -> Result<Step, Halt>
         requires { self.old.position + 2 ≤ length self.old.items }
-        ensures acts { ActsAs result (parts.elif_line word (reader_of self.old))
+        ensures acts { ActsAs result (parts.perform_line
+            (moves.elif_move (spec.facts_here (reader_of self.old)) word
+            (parts.after_word (reader_of self.old))) (reader_of self.old))
             (reader_of self.new) }
         ensures line { HasLineIfOk result self.new }
     {
@@ -302,7 +333,9 @@ impl<'a> SourceReader<'a> {
 
     fn else_line(&mut self, alloc: Global, word: Location) -> Result<Step, Halt>
         requires { self.old.position + 2 ≤ length self.old.items }
-        ensures acts { ActsAs result (parts.else_line word (reader_of self.old))
+        ensures acts { ActsAs result (parts.perform_line
+            (moves.else_move (spec.facts_here (reader_of self.old)) word
+            (parts.after_word (reader_of self.old))) (reader_of self.old))
             (reader_of self.new) }
         ensures line { HasLineIfOk result self.new }
     {
@@ -312,7 +345,9 @@ impl<'a> SourceReader<'a> {
 
     fn endif_line(&mut self, alloc: Global, word: Location) -> Result<Step, Halt>
         requires { self.old.position + 2 ≤ length self.old.items }
-        ensures acts { ActsAs result (parts.endif_line word (reader_of self.old))
+        ensures acts { ActsAs result (parts.perform_line
+            (moves.endif_move (spec.facts_here (reader_of self.old)) word
+            (parts.after_word (reader_of self.old))) (reader_of self.old))
             (reader_of self.new) }
         ensures line { HasLineIfOk result self.new }
     {
@@ -323,7 +358,11 @@ impl<'a> SourceReader<'a> {
     // Gives the item of a `#version`.
     fn version(&mut self, alloc: Global, word: Location) -> Result<Step, Halt>
         requires { self.old.position + 2 ≤ length self.old.items }
-        ensures acts { ActsAs result (spec.version word (reader_of self.old)) (reader_of self.new) }
+        ensures acts { ActsAs result (parts.perform_line
+            (moves.item_move (moves.version_item
+            (comments_before_end (parts.after_word (reader_of self.old)))) word
+            (parts.after_word (reader_of self.old))) (reader_of self.old))
+            (reader_of self.new) }
         ensures line { HasLineIfOk result self.new }
     {
         let tokens = line_tokens(alloc, self.after_word())?;
@@ -339,7 +378,9 @@ impl<'a> SourceReader<'a> {
     // Gives the item of an `#extension`.
     fn extension(&mut self, alloc: Global, word: Location) -> Result<Step, Halt>
         requires { self.old.position + 2 ≤ length self.old.items }
-        ensures acts { ActsAs result (spec.extension word (reader_of self.old))
+        ensures acts { ActsAs result (parts.perform_line
+            (moves.item_move moves.extension_item word
+            (parts.after_word (reader_of self.old))) (reader_of self.old))
             (reader_of self.new) }
         ensures line { HasLineIfOk result self.new }
     {
@@ -355,7 +396,10 @@ impl<'a> SourceReader<'a> {
     // Gives the item of a `#pragma`.
     fn pragma(&mut self, alloc: Global, word: Location) -> Result<Step, Halt>
         requires { self.old.position + 2 ≤ length self.old.items }
-        ensures acts { ActsAs result (parts.pragma word (reader_of self.old)) (reader_of self.new) }
+        ensures acts { ActsAs result (parts.perform_line
+            (moves.item_move moves.pragma_item word
+            (parts.after_word (reader_of self.old))) (reader_of self.old))
+            (reader_of self.new) }
         ensures line { HasLineIfOk result self.new }
     {
         let tokens = line_tokens(alloc, self.after_word())?;
@@ -368,7 +412,7 @@ impl<'a> SourceReader<'a> {
     // Gives a line's item, and moves past the line.
     fn give_line(&mut self, value: TokenValue, word: Location) -> Step
         requires { self.old.position + 2 ≤ length self.old.items }
-        ensures { spec.given (record { value = value; location = word }) (spec.after_line
+        ensures { parts.item_at (record { value = value; location = word }) (spec.after_line
             (reader_of self.old)) ≡ record { step = result; after = (reader_of self.new) } }
     {
         self.pass_line();
@@ -386,7 +430,9 @@ impl<'a> SourceReader<'a> {
         word: Location,
     ) -> Result<Step, Halt>
         requires { self.old.position + 2 ≤ length self.old.items }
-        ensures acts { ActsAs result (spec.live_directive directive word (reader_of self.old))
+        ensures acts { ActsAs result (parts.perform_line
+            (moves.directive_move true (spec.facts_here (reader_of self.old)) directive word
+            (parts.after_word (reader_of self.old))) (reader_of self.old))
             (reader_of self.new) }
         ensures line { HasLineIfOk result self.new }
     {
@@ -416,7 +462,9 @@ impl<'a> SourceReader<'a> {
         word: Location,
     ) -> Result<Step, Halt>
         requires { self.old.position + 2 ≤ length self.old.items }
-        ensures acts { ActsAs result (spec.dead_directive directive word (reader_of self.old))
+        ensures acts { ActsAs result (parts.perform_line
+            (moves.directive_move false (spec.facts_here (reader_of self.old)) directive word
+            (parts.after_word (reader_of self.old))) (reader_of self.old))
             (reader_of self.new) }
         ensures line { HasLineIfOk result self.new }
     {
@@ -443,7 +491,7 @@ impl<'a> SourceReader<'a> {
 
     // Reports the next of the blocks that stay open at the end, or the end.
     fn tell_end(&mut self, alloc: Global) -> Result<Step, Halt>
-        ensures acts { ActsAs result (spec.ended (reader_of self.old)) (reader_of self.new) }
+        ensures acts { ActsAs result (spec.end_at (reader_of self.old)) (reader_of self.new) }
         ensures line { HasLineIfOk result self.new }
     {
         let mut blocks = blocks_at(alloc, self.items, self.items.len())?;
@@ -459,7 +507,7 @@ impl<'a> SourceReader<'a> {
     // Moves on by `count` items, which give nothing.
     fn pass(&mut self, count: usize) -> Step
         requires { self.old.position + count ≤ length self.old.items }
-        ensures acts { spec.passed (spec.moved count (reader_of self.old)) ≡ record {
+        ensures acts { spec.pause_at (spec.advanced_by count (reader_of self.old)) ≡ record {
           step = result;
           after = reader_of self.new;
         } }
@@ -472,7 +520,9 @@ impl<'a> SourceReader<'a> {
     // Acts on a sight at the position, in live text.
     fn act_live(&mut self, alloc: Global, sight: Sight) -> Result<Step, Halt>
         requires { self.old.position + least_items sight ≤ length self.old.items }
-        ensures acts { ActsAs result (spec.live_act sight (reader_of self.old))
+        ensures acts { ActsAs result (spec.perform
+            (moves.move_at true (spec.facts_here (reader_of self.old)) sight
+            (parts.items_left (reader_of self.old))) (reader_of self.old))
             (reader_of self.new) }
         ensures line { HasLineIfOk result self.new }
     {
@@ -493,7 +543,9 @@ impl<'a> SourceReader<'a> {
     // Acts on a sight at the position, in dead text.
     fn act_dead(&mut self, alloc: Global, sight: Sight) -> Result<Step, Halt>
         requires { self.old.position + least_items sight ≤ length self.old.items }
-        ensures acts { ActsAs result (spec.dead_act sight (reader_of self.old))
+        ensures acts { ActsAs result (spec.perform
+            (moves.move_at false (spec.facts_here (reader_of self.old)) sight
+            (parts.items_left (reader_of self.old))) (reader_of self.old))
             (reader_of self.new) }
         ensures line { HasLineIfOk result self.new }
     {

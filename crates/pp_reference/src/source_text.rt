@@ -66,7 +66,8 @@ fn is_directive_hash(item: &LexerItem) -> bool
     }
 }
 
-// Whether the position is on the line of a directive.
+// Whether the position is on the line of a directive: whether the item before it is the directive's `#`, or is on the
+// directive's line and doesn't end it.
 fn is_on_directive_line(source: &[SourceItem], position: usize) -> bool
     requires { position ≤ length source.now }
     ensures { result ≡ spec.is_on_directive_line source.now position }

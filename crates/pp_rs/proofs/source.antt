@@ -12,12 +12,7 @@ pub mod StandsQuietLemmas
 pub mod StandsLineLemmas
 pub mod StandsBlockLemmas
 pub mod EndSimulates
-pub mod BlockSimulates
-pub mod ConditionSimulates
-pub mod DefineSimulates
-pub mod ItemSimulates
 pub mod BareSimulates
-pub mod LiveSimulates
-pub mod DeadSimulates
+pub mod LineSimulates
 pub mod SourceSimulates
 pub mod ReaderInvariantLemmas

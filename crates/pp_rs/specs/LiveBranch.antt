@@ -1,16 +1,16 @@
 -- Which branches of a block are live, once its lines were read (GLSL ES 3.20, section 3.4, and
 -- docs/RULES.md, Directives 7 to 11).
-use Rattle.std.specs.Prelude.{◌≡◌, ℕ, ◌≤◌, ◌<◌, Bool, true, false, List, take, drop, length, Option, Some, None}
+use Rattle.std.specs.Prelude.{◌≡◌, ℕ, ◌≤◌, ◌<◌, true, List, take, drop, length, Some, option_map}
 use Rattle.std.specs.List.{AllByRecursion as Each}
 use Rattle.pp_lexer.specs.Lexed.{Seen}
-use Rattle.pp_model.specs.Blocks.{Truths, Block, line_at, blocks_at, innermost, closes_block, is_last_chosen, are_surroundings_live, has_else}
+use Rattle.pp_model.specs.Blocks.{Truths, Block, line_at, blocks_at, innermost, is_last_chosen, are_surroundings_live, has_else}
 use Rattle.pp_model.specs.Calls.{Answers}
 use Rattle.pp_model.specs.Reading.{Expander}
 use Rattle.pp_model.specs.Run.{items_of}
 use Rattle.pp_model.specs.RunStates.{IsReached}
 use Rattle.pp_model.specs.Sights.{sight_of}
 use Rattle.pp_model.specs.SourceReader.{SourceReader}
-use Rattle.pp_model.specs.declared.block.BlockLine.{BlockLine}
+use Rattle.pp_model.specs.declared.block.Part.TheVariants as part
 
 -- Of a block's marks one is chosen: its first line, after which no parting stands, or the
 -- line after which so many stand.
@@ -28,13 +28,9 @@ AtMostOneIsChosen truths block =
 abbrev pub OneIsChosen : Truths → Block → Type 0
 OneIsChosen truths block = ((mark : ℕ) × IsChosen truths block mark) × AtMostOneIsChosen truths block
 
-abbrev pub is_endif : Option BlockLine → Bool
-is_endif None = false
-is_endif (Some line) = closes_block line.part 0
-
 -- the `#endif` of the block stands at the position
 pub record EndsAt (source : List Seen) (position : ℕ) (block : Block) : Type 0 where
-  pub line : is_endif (line_at position (sight_of (drop position source))) ≡ true
+  pub line : option_map (λ line. line.part) (line_at position (sight_of (drop position source))) ≡ Some part.Closes
   pub open_there : innermost (blocks_at source position) ≡ Some block
 
 -- What was read of blocks: at most one mark of each is chosen, and just one of a block that was read to its `#endif`,

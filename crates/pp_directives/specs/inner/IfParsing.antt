@@ -11,7 +11,7 @@ use Rattle.pp_model.specs.LineWords.{Words, LineWords, name_in, unwanted}
 use Rattle.pp_model.specs.Reading.{reading_of}
 use Rattle.pp_model.specs.declared.word.LineKind.{LineKind}
 use Rattle.pp_macros.specs.inner.Defined.{Defined, meaning_of}
-use Rattle.pp_directives.specs.inner.LineItems.{IsOnLine, IsWorkLess, ReadsItem, ReadsTaken, ReadsOperand, ReadsParenthesized, ReadsClosed, expander_of, outcome_of}
+use Rattle.pp_directives.specs.inner.LineItems.{IsOnLine, IsWorkLess, ReadsItem, ReadsTaken, ReadsOperand, ReadsInParentheses, ReadsClosed, expander_of, outcome_of}
 use Rattle.pp_macros.specs.declared.halt.Halt.{Halt}
 use Rattle.pp_directives.specs.declared.if_parser.IfParser.{IfParser}
 use Rattle.pp_directives.specs.declared.if_parser.LineExpander.{LineExpander}
@@ -47,9 +47,9 @@ GivesOperand parser old result new =
     ReadsOperand parser.kind parser.directive parser.levels parser.definitions.now old.caller old.lexer
     result new.caller new.lexer
 
-abbrev pub GivesParenthesized : IfParser → LineExpander → Result Bool Halt → LineExpander → Type 0
-GivesParenthesized parser old result new =
-    ReadsParenthesized parser.kind parser.directive parser.levels parser.definitions.now old.caller
+abbrev pub GivesInParentheses : IfParser → LineExpander → Result Bool Halt → LineExpander → Type 0
+GivesInParentheses parser old result new =
+    ReadsInParentheses parser.kind parser.directive parser.levels parser.definitions.now old.caller
     old.lexer result new.caller new.lexer
 
 abbrev pub GivesClosed : IfParser → Name → LineExpander → Result Bool Halt → LineExpander → Type 0

@@ -8,8 +8,8 @@ use Rattle.pp_model.specs.Reading.{Expander, Listed, line_reading}
 use Rattle.pp_model.specs.Taking.{Takes}
 use Rattle.pp_model.specs.Calls.{Fault}
 use Rattle.pp_model.specs.Emitting.{Emits, answers_at}
-use Rattle.pp_model.specs.LineWords.{Operand}
-use Rattle.pp_model.specs.inner.WordsRead.{Closes, Parenthesized}
+use Rattle.pp_model.specs.LineWords.{InParentheses, Operand}
+use Rattle.pp_model.specs.inner.WordsRead.{Closes}
 use Rattle.pp_model.specs.declared.read.Taken.{Taken}
 use Rattle.pp_model.specs.declared.read.Taken.TheVariants as given
 use Rattle.pp_model.specs.declared.word.LineKind.{LineKind}
@@ -93,11 +93,11 @@ abbrev pub ReadsOperand : LineKind → Location → ℕ → List Defined → Mac
 ReadsOperand kind directive levels definitions m l =
     Reads levels definitions m l (λ answer f. Operand kind directive (answers_at levels) (expander_of m l) answer f)
 
-abbrev pub ReadsParenthesized : LineKind → Location → ℕ → List Defined → Machine → Listing
+abbrev pub ReadsInParentheses : LineKind → Location → ℕ → List Defined → Machine → Listing
     → Result Bool Halt → Machine → Listing → Type 0
-ReadsParenthesized kind directive levels definitions m l =
+ReadsInParentheses kind directive levels definitions m l =
     Reads levels definitions m l
-    (λ answer f. Parenthesized kind directive (answers_at levels) (expander_of m l) answer f)
+    (λ answer f. InParentheses kind directive (answers_at levels) (expander_of m l) answer f)
 
 abbrev pub ReadsClosed : LineKind → Location → ℕ → List Defined → Name → Machine → Listing
     → Result Bool Halt → Machine → Listing → Type 0

@@ -1,22 +1,22 @@
 -- What a directive does, where the source stands after its word or its number sign.
-use Rattle.std.specs.Prelude.{◌≡◌, ◌≤◌, ◌+◌, Bool, true, false, if◌then◌else◌, List, length, drop, Option, Some, None, Result, Ok, Err, ⊤}
+use Rattle.std.specs.Prelude.{◌≡◌, ◌≤◌, ◌+◌, Bool, false, not, if◌then◌else◌, List, length, Option, Some, None, Result, Ok, Err, ⊤}
 use Rattle.pp_lexer.specs.Lexed.{Seen}
 use Rattle.pp_lexer.specs.declared.lexer.item.Token.{Token as LexerToken}
-use Rattle.pp_lexer.specs.declared.token.Location.{Location}
 use Rattle.pp_lexer.specs.declared.token.PreprocessorError.TheVariants.{DefineRedefined}
 use Rattle.pp_lexer.specs.declared.token.Token.{Token}
 use Rattle.pp_model.specs.Calls.{Fault}
 use Rattle.pp_model.specs.Conversions.{is_newline, identifier_of, refused_token}
 use Rattle.pp_model.specs.Definitions.{Definition, IsSameDefinition}
-use Rattle.pp_model.specs.Lines.{first_token}
 use Rattle.pp_model.specs.Names.{Name}
 use Rattle.pp_model.specs.Sights.{directive_of}
+use Rattle.pp_model.specs.inner.Sights.{directive_sight}
 use Rattle.pp_model.specs.declared.definition.Named.{Named}
 use Rattle.pp_macros.specs.inner.Defined.{Defined, meaning_of, body_tokens}
 use Rattle.pp_macros.specs.Item.{Step}
-use Rattle.pp_macros.specs.declared.blocks.OpenBlock.{OpenBlock}
 use Rattle.pp_macros.specs.inner.Source.{Source, Condition, LineNumber, Makes}
-use Rattle.pp_macros.specs.inner.SourceMoves.{Effect, fails, passes, defines, opens_if, parts_if, renumbers, unnoted, directive_line, Move, failing, directive_move, taking_more}
+use Rattle.pp_model.specs.Moves.{Effect, fails, defines, opens_if, parts_if, renumbers, Move, failing, directive_move, BlockFacts, passing}
+use Rattle.pp_model.specs.inner.Moves.{taking_more}
+use Rattle.pp_macros.specs.inner.SourceMoves.{Note, unnoted, note_at}
 use Rattle.pp_macros.specs.inner.Turns.{as_pause}
 use Rattle.pp_macros.specs.declared.halt.Halt.{Halt}
 use Rattle.pp_macros.specs.declared.halt.Halt.TheVariants as halt
@@ -40,55 +40,57 @@ abbrev pub FailsWith : Effect → List Defined → Fault → Type 0
 FailsWith (fails wanted) definitions fault = fault ≡ wanted
 FailsWith (defines named) definitions fault = RedefinesWith named (meaning_of definitions named.name) fault
 FailsWith (opens_if word tokens) definitions fault = Condition word tokens definitions (Err fault)
-FailsWith (parts_if block word tokens) definitions fault = Condition word tokens definitions (Err fault)
+FailsWith (parts_if word tokens) definitions fault = Condition word tokens definitions (Err fault)
 FailsWith (renumbers word tokens) definitions fault = LineNumber word tokens definitions (Err fault)
 FailsWith _ definitions fault = ⊥
 
 -- a directive does what the move says, where this is the step that its value comes to, unless memory is refused
-abbrev pub ActsAs : {A : Type 0} → (A → Step Token) → Move → Source → Result A Halt → Source → Type 0
-ActsAs shows move old (Ok value) new = Makes move old (shows value) new
-ActsAs shows move old (Err (halt.Fault fault)) new = FailsWith move.effect old.definitions fault × HasKept old new
-ActsAs shows move old (Err halt.OutOfMemory) new = ⊤
+abbrev pub ActsAs : {A : Type 0} → (A → Step Token) → Note → Move → Source → Result A Halt → Source → Type 0
+ActsAs shows note move old (Ok value) new = Makes note move old (shows value) new
+ActsAs shows note move old (Err (halt.Fault fault)) new = FailsWith move.effect old.definitions fault × HasKept old new
+ActsAs shows note move old (Err halt.OutOfMemory) new = ⊤
 
--- a directive that gives nothing
+-- a directive that gives nothing, as one that may give an item
+abbrev pub without_item : Result (Unit {0}) Halt → Result (Option Token) Halt
+without_item (Ok done) = Ok None
+without_item (Err halt) = Err halt
+
+-- whether the condition of an `#ifdef` holds, or that of an `#ifndef`, of a name that is defined or isn't
+abbrev pub is_as : Bool → Bool → Bool
+is_as wanted is = if wanted then is else not is
+
+-- after a directive's word, before it is noted: one that gives an item, one that gives nothing, and any
+abbrev pub ActsAsItem : Move → Source → Result Token Halt → Source → Type 0
+ActsAsItem move old result new = ActsAs (λ token. Ok token) unnoted move old result new
+
 abbrev pub Acts : Move → Source → Result (Unit {0}) Halt → Source → Type 0
-Acts move old result new = ActsAs (λ done. Err Continue) move old result new
+Acts move old result new = ActsAs (λ done. Err Continue) unnoted move old result new
 
--- a directive that gives an item or nothing
 abbrev pub Gives : Move → Source → Result (Option Token) Halt → Source → Type 0
-Gives move old result new = ActsAs as_pause move old result new
+Gives move old result new = ActsAs as_pause unnoted move old result new
 
--- a number sign alone on its line
-abbrev pub lone : Move
-lone = record { effect = passes; taken = 1; note = directive_line }
+-- after its number sign, where this is noted
+abbrev pub ActsNoted : Note → Move → Source → Result (Unit {0}) Halt → Source → Type 0
+ActsNoted note move old result new = ActsAs (λ done. Err Continue) note move old result new
+
+abbrev pub GivesNoted : Note → Move → Source → Result (Option Token) Halt → Source → Type 0
+GivesNoted note move old result new = ActsAs as_pause note move old result new
+
+-- what is noted, if this token is after the number sign
+abbrev pub word_note : Bool → Result LexerToken Fault → Note
+word_note live first = note_at live (directive_sight first)
 
 -- what a directive does after its number sign, if this token is after that, and then these items
-abbrev pub live_name_move : Option OpenBlock → LexerToken → Option Name → List Seen → Move
-live_name_move block token (Some name) after =
-    taking_more 1 (directive_move true block (directive_of name) token.location after)
-live_name_move block token None after = if is_newline token.value then lone else failing (refused_token token)
+abbrev pub name_move : Bool → Option BlockFacts → LexerToken → Option Name → List Seen → Move
+name_move live block token (Some name) after =
+    taking_more 1 (directive_move live block (directive_of name) token.location after)
+name_move live block token None after =
+    if is_newline token.value then passing 1 else if live then failing (refused_token token) else passing 1
 
-abbrev pub live_word_move : Option OpenBlock → Result LexerToken Fault → List Seen → Move
-live_word_move block (Ok token) after = live_name_move block token (identifier_of token.value) after
-live_word_move block (Err fault) after = failing fault
-
--- the same in dead text
-abbrev pub dead_name_move : Option OpenBlock → LexerToken → Option Name → List Seen → Move
-dead_name_move block token (Some name) after =
-    taking_more 1 (directive_move false block (directive_of name) token.location after)
-dead_name_move block token None after =
-    if is_newline token.value then lone else record { effect = passes; taken = 1; note = unnoted }
-
-abbrev pub dead_word_move : Option OpenBlock → Result LexerToken Fault → List Seen → Move
-dead_word_move block (Ok token) after = dead_name_move block token (identifier_of token.value) after
-dead_word_move block (Err fault) after = failing fault
-
--- the same in live or dead text
-abbrev pub word_move : Bool → Option OpenBlock → Location → List Seen → Move
-word_move live block hash rest =
-    if live then live_word_move block (first_token hash rest) (drop 1 rest)
-    else dead_word_move block (first_token hash rest) (drop 1 rest)
+abbrev pub word_move : Bool → Option BlockFacts → Result LexerToken Fault → List Seen → Move
+word_move live block (Ok token) after = name_move live block token (identifier_of token.value) after
+word_move live block (Err fault) after = failing fault
 
 -- a `#define`, once its line is read
 abbrev pub defining : Named → Move
-defining named = record { effect = defines named; taken = 0; note = unnoted }
+defining named = record { effect = defines named; taken = 0 }

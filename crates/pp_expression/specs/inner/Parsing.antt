@@ -1,6 +1,6 @@
 -- What the evaluator's own functions promise each other: steps along a line, and an answer or a fault seen from within.
 -- What is promised to callers is in FirstFault.
-use Rattle.std.specs.Prelude.{ℕ, drop, Option, Some, None, Result, Ok, Err}
+use Rattle.std.specs.Prelude.{ℕ, drop, ⊤, Option, Some, None, Result, Ok, Err}
 use Rattle.pp_expression.specs.declared.operator.Unary.{Unary}
 use Rattle.pp_expression.specs.declared.operator.Binary.{Binary}
 use Rattle.pp_expression.specs.declared.symbol.Symbol.{Symbol}
@@ -11,7 +11,7 @@ use Rattle.pp_expression.specs.Operators.{binary_of}
 use Rattle.pp_expression.specs.Trees.{HasValue}
 use Rattle.pp_expression.specs.Answers.{◌>>=◌}
 use Rattle.pp_expression.specs.Lines.{Line, next}
-use Rattle.pp_expression.specs.FirstFault.{sign_of, atom_of, closing, Possible}
+use Rattle.pp_expression.specs.FirstFault.{sign_of, atom_of, closing, Front, Here, InGroup, InPrefix, InInfix, Fails, unread_after, unclosed, Possible}
 
 -- the line without its next symbol
 abbrev pub after_next : Line → Line
@@ -46,7 +46,27 @@ abbrev pub located : {A : Type 0} → ℕ → Result A ExpressionFault → Resul
 located left (Ok answer) = Ok answer
 located left (Err kind) = Err (record { kind = kind; left = left })
 
+-- every operand that is finished before the end of the front has a value
+abbrev pub HaveValues : Front → Type 0
+HaveValues Here = ⊤
+HaveValues (InGroup front) = HaveValues front
+HaveValues (InPrefix operator front) = HaveValues front
+HaveValues (InInfix operator left front) = HasValue left × HaveValues front
+
+-- so has the operand after which the fault is found, if one is
+abbrev pub IsAfterValue : {level : ℕ} {line : Line} {left order : ℕ} {kind : ExpressionFault}
+    → Fails level line left order kind → Type 0
+IsAfterValue (unread_after tree rest kind tight begins fits is) = HasValue tree
+IsAfterValue (unclosed tree rest ahead kind begins fits is over out) = HasValue tree
+IsAfterValue _ = ⊤
+
 -- A fault that the line may have, where every operand that is finished before has a value.
+pub record IsMet (level : ℕ) (line : Line) (left order : ℕ) (kind : ExpressionFault) : Type 0 where
+  pub possible : Possible level line left order kind
+  pub front : HaveValues possible.front
+  pub operand : IsAfterValue possible.fails
+
+-- the same of a fault and where it is found
 pub record IsFault (level : ℕ) (line : Line) (found : Found) : Type 0 where
   pub order : ℕ
-  pub possible : Possible HasValue level line found.left order found.kind
+  pub met : IsMet level line found.left order found.kind

@@ -71,19 +71,19 @@ pub record IsRightOf (level : ℕ) (binary : Binary) (left : ℤ) (around inner 
 
 -- An expression of the level is wanted before the line around. It begins with what is pending, and what stands within
 -- that is wanted before the inner line.
-abbrev pub Begins : ℕ → Pending → Line → Line → Type 0
-Begins level pending.Group around inner =
+abbrev pub Enters : ℕ → Pending → Line → Line → Type 0
+Enters level pending.Group around inner =
     (next around ≡ Ok (Some (symbol.Punct mark.LeftParen))) × (inner ≡ after_next around)
-Begins level (pending.Operator (operator.Prefix unary)) around inner =
+Enters level (pending.Operator (operator.Prefix unary)) around inner =
     (sign_at around ≡ Ok (Some unary)) × (inner ≡ after_next around)
-Begins level (pending.Operator (operator.Infix binary left)) around inner = IsRightOf level binary left around inner
+Enters level (pending.Operator (operator.Infix binary left)) around inner = IsRightOf level binary left around inner
 
 -- The whole line was read up to the line, where an operand is wanted, and what is pending
 -- is what that operand stands in.
 abbrev pub Awaits : Line → List Pending → Line → Type 0
 Awaits whole [] line = line ≡ whole
 Awaits whole (inner ∷ around) line =
-    (start : Line) × Awaits whole around start × Begins (wanted_in around) inner start line
+    (start : Line) × Awaits whole around start × Enters (wanted_in around) inner start line
 
 -- The whole line was read up to the line. An operand was wanted within what is pending, and one of this value stands
 -- there, whose operators bind at least as tightly as the level, and no operator after it binds tighter than those.

@@ -1,12 +1,12 @@
 -- Calls that are finished, as the code finishes them.
-use Rattle.std.proofs.Common.{◌≡◌, ◌≢◌, ℕ, zero, suc, ◌+◌, ◌-◌, ◌≤◌, arith, All, List, [], ◌∷◌, ◌++◌, length, refl, sym, subst, Option, None, le_trans, true, false, Bool}
+use Rattle.std.proofs.Common.{◌≡◌, ◌≢◌, ℕ, ◌+◌, ◌-◌, ◌≤◌, arith, All, List, [], ◌∷◌, ◌++◌, length, refl, sym, subst, None, le_trans, true, false, Bool}
 use Rattle.std.specs.Prelude.{if◌then◌else◌, Result, Ok, Err, ◌&&◌, ◌==◌}
 use Rattle.std.proofs.lemmas.List.Elements.{All-cons, All-nil, All-append}
 use Rattle.pp_model.specs.declared.read.Read.{Read}
-use Rattle.pp_lexer.specs.declared.token.PreprocessorError.{PreprocessorError}
 use Rattle.pp_model.specs.Names.{Name}
 use Rattle.pp_model.specs.Calls.{Fault, pieces, arguments_of, misfit, cut_before, Pieces, is_comma, nesting_after}
-use Rattle.pp_model.specs.Emitting.{Alone, Each, EachOrRefused, answers_at}
+use Rattle.pp_model.specs.Emitting.{Alone, Each, answers_at}
+use Rattle.pp_model.proofs.LevelLemmas as level
 use Rattle.pp_macros.specs.Halting.{halt_of}
 use Rattle.pp_macros.specs.Item.{is_out_of_memory}
 use Rattle.pp_macros.specs.inner.Calling.{PendingCall}
@@ -67,11 +67,7 @@ pub answers_each : (levels : ℕ) (definitions : List Defined) (around : List Na
     → misfit call.definition.parameters (arguments_of call.tokens) ≡ None → (out : Result (List (List Read)) Fault)
     → Each (Alone (levels - 1)) (meaning_of definitions) around (arguments_of call.tokens) out
     → answers_at levels call.definition (site_at call definitions around) out
-answers_each zero definitions around call some fits out each = absurd (some refl)
-answers_each (suc levels) definitions around call some fits out each =
-    let one : suc levels - 1 ≡ levels = omega arith in
-    subst (λ (o : Option PreprocessorError). EachOrRefused (Alone levels) o (site_at call definitions around) out) (sym fits)
-    (subst (λ (l : ℕ). Each (Alone l) (meaning_of definitions) around (arguments_of call.tokens) out) one each)
+answers_each levels definitions around call some fits out each = level.answers_each levels call.definition (site_at call definitions around) out some fits each
 
 -- no argument of a call is longer than what all of its tokens may come to
 pub of_call : (levels : ℕ) (definitions : List Defined) (call : PendingCall) (arguments : List (List Read))

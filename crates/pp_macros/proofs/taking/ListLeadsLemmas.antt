@@ -10,7 +10,7 @@ use Rattle.pp_model.specs.inner.Emitting.{read_before}
 use Rattle.pp_model.specs.SpliceList.{spliced}
 use Rattle.pp_model.specs.declared.read.Taken.{Taken as Given}
 use Rattle.pp_model.specs.declared.read.Taken.TheVariants as given
-use Rattle.pp_model.proofs.CollectLemmas.{after_items, after_items-before, after_items-end, Alone-collects}
+use Rattle.pp_model.proofs.CollectLemmas.{after_items, after_items-before, after_items-end}
 use Rattle.pp_macros.specs.inner.Calling.{PendingCall}
 use Rattle.pp_macros.specs.inner.CallTurns.{TurnsTo}
 use Rattle.pp_macros.specs.inner.Defined.{Defined, meaning_of}
@@ -46,7 +46,7 @@ reached_start levels definitions hidden tokens items m l e f g =
       state = reading_of tokens (meaning_of definitions) hidden;
       stands = record { holds = refl; list = refl; reader = (refl, refl, refl, refl); names = refl };
       sound = record { apart = tt; defined = tt };
-      goes_on = λ out collects. Alone-collects levels tokens (meaning_of definitions) hidden (after_items [] out) (rw (no_items out) collects);
+      goes_on = λ out collects. rw (no_items out) collects;
       least = omega (arith, start_work levels start);
     })
   where

@@ -1,12 +1,13 @@
 -- The expander over a list of tokens, an argument or a line, is the definitions' expander of it.
 use Rattle.std.proofs.Common.{◌≡◌, ◌∙◌, inl, inr, true, false, ℕ, zero, suc, ◌-◌, All, ◌≤◌, arith, List, [], ◌∷◌, ◌++◌, length, refl, sym, ap, subst, Option, Some, None, Bool}
-use Rattle.std.specs.Prelude.{if◌then◌else◌, ◌&&◌, Ok, Err}
+use Rattle.std.specs.Prelude.{if◌then◌else◌, ◌&&◌}
 use Rattle.pp_model.specs.declared.read.Read.{Read}
 use Rattle.pp_model.specs.Names.{Name, is_same_name, defined_name}
 use Rattle.pp_model.specs.Reading.{Reading, Expander, Listed, masked}
 use Rattle.pp_model.specs.inner.Reading.{first_listed, after_listed, ReadsListed}
 use Rattle.pp_model.specs.Calls.{Answers, arguments_of, site_of}
 use Rattle.pp_model.specs.Definitions.{Definitions}
+use Rattle.pp_model.proofs.LevelLemmas.{none_at_limit}
 use Rattle.pp_macros.specs.inner.Calling.{PendingCall}
 use Rattle.pp_macros.specs.inner.CallTurns.{TurnsTo, TurnsOrRefuses}
 use Rattle.pp_macros.specs.inner.Defined.{Defined, meaning_of}
@@ -106,7 +107,8 @@ module _ (is_line : Bool) (definitions : List Defined) (hidden : List Name) wher
   -- after a call whose frame opened less is left
   pub opened_less : (levels : ℕ) (m n : Machine) (l k : Listing) → (c : PendingCall) (p : Machine) → IsPending levels m (of_list l) c n (of_list k)
       → k.definitions ≡ definitions → IsOpened levels definitions (names_of n.frames ++ hidden) c n p → IsLess levels m (of_list l) p (of_list k)
-  opened_less zero m n l k c p pend same opened = absurd (let bad : Ok opened.arguments ≡ Err _ = opened.answers in cc)
+  opened_less zero m n l k c p pend same opened =
+      absurd (none_at_limit c.definition (site_at c definitions (names_of n.frames ++ hidden)) opened.arguments opened.answers)
   opened_less (suc lower) m n l k c p pend same opened =
       let one : suc lower - 1 ≡ lower = omega arith in
       let least : All (λ (a : List Read). length a ≤ most_alone lower k.definitions (length c.tokens)) opened.arguments = rw (same, ← one) opened.least in

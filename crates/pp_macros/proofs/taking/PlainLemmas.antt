@@ -21,7 +21,6 @@ use Rattle.pp_model.specs.Taking.{Takes}
 use Rattle.pp_model.specs.Calls.{Answers}
 use Rattle.pp_model.specs.Emitting.{itself, Collects, done, item, Alone, Each, none, more, answers_at}
 use Rattle.pp_model.specs.declared.read.Taken.TheVariants as given
-use Rattle.pp_model.proofs.CollectLemmas.{Alone-collects}
 use Rattle.pp_macros.specs.inner.Defined.{Defined, meaning_of, body_tokens}
 use Rattle.pp_macros.specs.declared.argument_lists.Part.{Part}
 use Rattle.pp_macros.specs.inner.Finishing.{AreShort}
@@ -99,7 +98,7 @@ pub plain_alone : (levels : ℕ) (definitions : List Defined) (hidden : List Nam
     → list_all (is_plain definitions hidden) tokens ≡ true
     → Alone levels tokens (meaning_of definitions) hidden (Ok tokens)
 plain_alone levels definitions hidden tokens e =
-    Alone-collects levels tokens (meaning_of definitions) hidden (Ok tokens) (plain_collects (answers_at levels) definitions hidden tokens e)
+    plain_collects (answers_at levels) definitions hidden tokens e
 
 -- tokens are no more than they may come to
 pub plain_short : (levels : ℕ) (definitions : List Defined) (n : ℕ) → n ≤ most_alone levels definitions n

@@ -7,7 +7,8 @@ use Rattle.pp_model.specs.Definitions.{Definition}
 use Rattle.pp_model.specs.declared.definition.Named.{Named}
 use Rattle.pp_macros.specs.inner.Defined.{meaning_of}
 use Rattle.pp_macros.specs.declared.blocks.OpenBlock.{OpenBlock}
-use Rattle.pp_macros.specs.inner.SourceMoves.{Effect, gives, gives_item, fails, ends, passes, defines, undefines, opens_where, opens_if, opens_unread, parts, parts_if, closes, unfinished, renumbers, Note}
+use Rattle.pp_model.specs.Moves.{Effect, gives, gives_item, fails, ends, passes, defines, undefines, opens_where, opens_if, opens_unread, parts, skips_branch, parts_if, closes, renumbers}
+use Rattle.pp_macros.specs.inner.SourceMoves.{Note}
 use Rattle.pp_macros.specs.inner.Source.{Source, DefinesOver, HasEffect, Decides, holds, faulty, Renumbers, numbers, unnumbered}
 use Rattle.pp_macros.specs.declared.step.StepExit.TheVariants.{Finished}
 
@@ -43,8 +44,8 @@ finished_ends (undefines name) taken note old new h = let e = h.0 in cc
 finished_ends (opens_where wanted word name) taken note old new h = let e = h.0 in cc
 finished_ends (opens_if word tokens) taken note old new h = absurd (decides_on word tokens _ taken note old new h)
 finished_ends (opens_unread word) taken note old new h = let e = h.0 in cc
-finished_ends (parts block) taken note old new h = let e = h.0 in cc
-finished_ends (parts_if block word tokens) taken note old new h = absurd (decides_on word tokens _ taken note old new h)
+finished_ends skips_branch taken note old new h = let e = h.0 in cc
+finished_ends parts taken note old new h = let e = h.0 in cc
+finished_ends (parts_if word tokens) taken note old new h = absurd (decides_on word tokens _ taken note old new h)
 finished_ends closes taken note old new h = let e = h.0 in cc
-finished_ends (unfinished word) taken note old new h = let e = h.0 in cc
 finished_ends (renumbers word tokens) taken note old new h = absurd (renumbers_on word tokens taken note old new h)

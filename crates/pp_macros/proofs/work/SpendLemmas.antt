@@ -16,8 +16,11 @@ use Rattle.pp_macros.specs.inner.Left.{reads_left, most_open, most_bodies, one_m
 use Rattle.pp_macros.specs.inner.Machine.{Machine, is_pause, step_of_outcome, taken_as, StepsFetching, StepsTaking, held, moved, TakesNext, now, later, GathersNext, closed, inside, overfull, ended, failed}
 use Rattle.pp_macros.specs.inner.Reach.{grown, through, total}
 use Rattle.pp_macros.specs.inner.Reader.{Reader, of_source, of_list, Listing, listed_step, Reads, shown_line}
-use Rattle.pp_macros.specs.inner.Source.{Source, StepsSource, IsRefusedStep, Makes, HasEffect}
-use Rattle.pp_macros.specs.inner.SourceMoves.{Effect, Note, move_of, gives, gives_item, fails, ends, passes, defines, undefines, opens_where, opens_if, opens_unread, parts, parts_if, closes, unfinished, renumbers}
+use Rattle.pp_macros.specs.inner.Source.{Source, StepsSource, IsRefusedStep, Ends, Makes, HasEffect}
+use Rattle.pp_model.specs.Moves.{Effect, gives, gives_item, fails, ends, passes, defines, undefines, opens_where, opens_if, opens_unread, parts, skips_branch, parts_if, closes, renumbers}
+use Rattle.pp_macros.specs.inner.SourceMoves.{Note, move_of, note_of}
+use Rattle.pp_macros.specs.inner.OpenBlocks.{last_block}
+use Rattle.pp_macros.specs.declared.blocks.OpenBlock.{OpenBlock}
 use Rattle.pp_macros.specs.inner.Turns.{as_pause, frame_move, Moves, masks}
 use Rattle.pp_macros.specs.inner.Reading.{unpainted_step, painted_step}
 use Rattle.pp_macros.specs.inner.Work.{steps_left, is_end}
@@ -64,8 +67,12 @@ pub tightens_then : (r s t : Reader) → Tightens r s → Tightens s t → Tight
 tightens_then r s t h k = record { names = omega (arith, h.names, k.names); bodies = omega (arith, h.bodies, k.bodies) }
 
 -- a source at its end stays as it is
+end_stays : (block : Option OpenBlock) (old new : Source) → Ends block old (Err Finished) new → new ≡ old
+end_stays None old new h = h.1
+end_stays (Some block) old new h = let e = h.0 in cc
+
 effect_stays : (effect : Effect) (taken : ℕ) (note : Note) (old new : Source) → HasEffect effect taken note old (Err Finished) new → new ≡ old
-effect_stays ends taken note old new h = h.1
+effect_stays ends taken note old new h = end_stays (last_block old.blocks) old new h
 effect_stays (gives token) taken note old new h = let e = h.0 in cc
 effect_stays (gives_item item word) taken note old new h = let e = h.0 in cc
 effect_stays (fails fault) taken note old new h = let e = h.0 in cc
@@ -75,22 +82,23 @@ effect_stays (undefines name) taken note old new h = let e = h.0 in cc
 effect_stays (opens_where wanted word name) taken note old new h = let e = h.0 in cc
 effect_stays (opens_if word tokens) taken note old new h = absurd (let bad = finished_ends (opens_if word tokens) taken note old new h in cc)
 effect_stays (opens_unread word) taken note old new h = let e = h.0 in cc
-effect_stays (parts block) taken note old new h = let e = h.0 in cc
-effect_stays (parts_if block word tokens) taken note old new h = absurd (let bad = finished_ends (parts_if block word tokens) taken note old new h in cc)
+effect_stays skips_branch taken note old new h = let e = h.0 in cc
+effect_stays parts taken note old new h = let e = h.0 in cc
+effect_stays (parts_if word tokens) taken note old new h = absurd (let bad = finished_ends (parts_if word tokens) taken note old new h in cc)
 effect_stays closes taken note old new h = let e = h.0 in cc
-effect_stays (unfinished word) taken note old new h = let e = h.0 in cc
 effect_stays (renumbers word tokens) taken note old new h = absurd (let bad = finished_ends (renumbers word tokens) taken note old new h in cc)
 
 pub source_end_stays : (old new : Source) → StepsSource old (Err Finished) new → new ≡ old
 source_end_stays old new h = go old.spent h
   where
     go : (b : Bool) → MatchBool b ((◌≡◌ {A = Step Token} (Err Finished) (Err Finished)) × (new ≡ old))
-        (IsRefusedStep old (Err Finished) ⊎ Makes (move_of old.dead_for_good old.blocks old.rest) old (Err Finished) new) → new ≡ old
+        (IsRefusedStep old (Err Finished)
+        ⊎ Makes (note_of old.dead_for_good old.blocks old.rest) (move_of old.dead_for_good old.blocks old.rest) old (Err Finished) new) → new ≡ old
     go true h = h.1
     go false (inl h) = let bad = h.fault in cc
     go false (inr h) =
         let move = move_of old.dead_for_good old.blocks old.rest in
-        effect_stays move.effect move.taken move.note old new h
+        effect_stays move.effect move.taken (note_of old.dead_for_good old.blocks old.rest) old new h
 
 -- what a step of a reader leaves: less, but at the end
 abbrev pub ReadSpends : Step Read → Reader → Reader → Type 0

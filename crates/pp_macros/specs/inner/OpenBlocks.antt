@@ -1,11 +1,13 @@
 -- What is kept of the blocks that are open, and the blocks of the definitions that this stands for
 -- (docs/RULES.md, Directives 7 to 11).
-use Rattle.std.specs.Prelude.{◌≡◌, ℕ, ◌<◌, ◌-◌, Bool, true, false, not, ◌&&◌, ◌||◌, List, ◌∷◌, length, take, slice_get, Option, Some, None}
+use Rattle.std.specs.Prelude.{◌≡◌, ℕ, ◌<◌, ◌-◌, Bool, true, false, not, ◌&&◌, ◌||◌, List, [], ◌∷◌, ◌++◌, length, take, slice_get, Option, Some, None, option_map}
+use Rattle.std.specs.Option.{option_map_or}
 use Rattle.std.specs.List.{AllByRecursion as Each, AllZip, list_all}
 use Rattle.pp_lexer.specs.Lexed.{Seen}
 use Rattle.pp_lexer.specs.declared.token.Location.{Location}
 use Rattle.pp_model.specs.Blocks.{Block, Truths, fails_at, are_surroundings_live, has_taken_branch, has_else}
 use Rattle.pp_model.specs.inner.Blocks.{is_branch_live}
+use Rattle.pp_model.specs.Moves.{BlockFacts}
 use Rattle.pp_model.specs.declared.block.BlockLine.{BlockLine}
 -- A block that is open: the place of its first line's word, whether its surroundings are live, whether a branch of it
 -- was taken, whether it has an `#else`, and whether the branch that is being read is chosen.
@@ -17,6 +19,21 @@ last_block blocks = slice_get blocks (length blocks - 1)
 
 abbrev pub outer_blocks : List OpenBlock → List OpenBlock
 outer_blocks blocks = take (length blocks - 1) blocks
+
+-- the blocks with another innermost one
+abbrev pub with_last : (OpenBlock → OpenBlock) → List OpenBlock → List OpenBlock
+with_last change blocks = outer_blocks blocks ++ option_map_or (λ block. change block ∷ []) (last_block blocks) []
+
+-- what the table of directives asks of the innermost block
+abbrev pub kept_facts : OpenBlock → BlockFacts
+kept_facts block = record {
+  are_surroundings_live = block.live_around;
+  has_taken_branch = block.taken;
+  has_else = block.with_else;
+}
+
+abbrev pub facts_among : List OpenBlock → Option BlockFacts
+facts_among blocks = option_map kept_facts (last_block blocks)
 
 -- the text is live outside all blocks, and in a chosen branch of a block whose surroundings are live
 abbrev pub is_live_in : Option OpenBlock → Bool

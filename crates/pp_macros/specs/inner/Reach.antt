@@ -1,4 +1,20 @@
--- How much work tokens make at most: a bound, by how many more names may open over each region of them.
+-- How much work tokens make at most: a number that falls with each step of an expander, so that it comes to an end.
+--
+-- A region is the steps that are left in an open frame, or in the reader; the innermost comes first, the reader last. A
+-- step takes one from the innermost region, and may open a frame, a region more in front. Names that are open over each
+-- other differ: if `names` may be open together, then over a region with k others around it names - k more may open.
+-- With c all that is at hand, the sum of the regions, a frame that opens has at most `frame c` steps.
+--
+-- `grown frame n c` is what is at hand after one token over which n names may open. It makes one if n is 0: c + 1. Else
+-- it may open a frame, each step of which is a token over which n - 1 names may open: one more than what `grown frame
+-- (n - 1)`, applied `frame c` times, makes of c + frame c. `through` applies `grown` once for each step of each region,
+-- and `work_in`, the number that falls, is what it makes of the sum. A step that opens nothing leaves out one `grown`,
+-- and that always adds. A step that opens a frame puts at most `frame c` of them, each with a name less, in place of
+-- one, and is less by what `grown` is (`OpenedFalls`). How long a frame is, `frame_steps` says: each token of its body
+-- may be a parameter, whose argument, alone and a level deeper, comes to `most_tokens` at most.
+--
+-- The lemmas (proofs/work) call a function steep if it keeps m < n, level if it keeps m ≤ n, and up if it gives no less
+-- than it is given; it is under another if it is nowhere more.
 use Rattle.std.specs.Prelude.{ℕ, zero, suc, ◌+◌, ◌*◌, ◌-◌, ◌≤◌, ◌<◌, List, [], ◌∷◌, length}
 use Rattle.std.specs.Fn.{iterate}
 

@@ -1,5 +1,5 @@
 -- What the reader of a source keeps, and one step of it.
-use Rattle.std.specs.Prelude.{◌≡◌, ◌≢◌, ℕ, ◌+◌, ◌<◌, ◌≤◌, ◌⊎◌, Bool, false, if◌then◌else◌, not, ◌||◌, is_some, List, [], ◌∷◌, ◌++◌, length, drop, Option, Some, None, Result, Ok, Err, MatchBool, ℤ, pos, ◌-ℤ◌}
+use Rattle.std.specs.Prelude.{◌≡◌, ◌≢◌, ℕ, ◌+◌, ◌<◌, ◌≤◌, ◌⊎◌, Bool, false, not, ◌||◌, is_some, List, [], ◌∷◌, ◌++◌, length, drop, Option, Some, None, Result, Ok, Err, MatchBool, ℤ, pos, ◌-ℤ◌}
 use Rattle.pp_lexer.specs.Lexed.{Seen}
 use Rattle.pp_lexer.specs.PreprocessorError.{out_of_memory}
 use Rattle.pp_lexer.specs.declared.token.PreprocessorError.TheVariants.{DefineRedefined, UnfinishedBlock}
@@ -10,12 +10,12 @@ use Rattle.pp_model.specs.Definitions.{Definition, IsSameDefinition}
 use Rattle.pp_model.specs.Emitting.{answers_at, expansion_limit}
 use Rattle.pp_model.specs.LineValues.{IsCondition, IsLineNumber}
 use Rattle.pp_model.specs.declared.definition.Named.{Named}
-use Rattle.pp_macros.specs.inner.DirectiveItems.{value_of}
 use Rattle.pp_macros.specs.Item.{Step}
 use Rattle.pp_macros.specs.inner.Defined.{Defined, meaning_of, body_tokens, IsChanged}
-use Rattle.pp_macros.specs.inner.OpenBlocks.{outer_blocks, block_opened, block_unread, block_decided}
+use Rattle.pp_macros.specs.inner.OpenBlocks.{last_block, outer_blocks, with_last, block_opened, block_unread, block_parted, block_skipped, block_decided}
 use Rattle.pp_macros.specs.declared.blocks.OpenBlock.{OpenBlock}
-use Rattle.pp_macros.specs.inner.SourceMoves.{Effect, gives, gives_item, fails, ends, passes, defines, undefines, opens_where, opens_if, opens_unread, parts, parts_if, closes, unfinished, renumbers, Note, notes_text, notes_directive, Move, move_of}
+use Rattle.pp_model.specs.Moves.{Effect, gives, gives_item, fails, ends, passes, defines, undefines, opens_where, opens_if, opens_unread, parts, skips_branch, parts_if, closes, renumbers, Move}
+use Rattle.pp_macros.specs.inner.SourceMoves.{Note, notes_text, notes_directive, move_of, note_of}
 use Rattle.pp_macros.specs.inner.Unreported.{Unreported, unreported}
 use Rattle.pp_macros.specs.declared.step.StepExit.TheVariants.{Error, Continue, Finished}
 
@@ -79,9 +79,10 @@ DefinesOver named (Some before) taken note old step new =
     × (step ≡ Err (Error (DefineRedefined, named.location)))
     × IsAfterFault old new)
 
--- whether the condition of an `#ifdef` holds, or that of an `#ifndef`, of a name for which this is found
-abbrev pub holds_where : Bool → Option Definition → Bool
-holds_where wanted found = if wanted then is_some found else not (is_some found)
+-- at the end the innermost block is reported, or nothing is left
+abbrev pub Ends : Option OpenBlock → Source → Step Token → Source → Type 0
+Ends (Some block) old step new = (step ≡ Err (Error (UnfinishedBlock, block.word))) × IsAfterBlock old new
+Ends None old step new = (step ≡ Err Finished) × (new ≡ old)
 
 -- a pause after so many items, of which this is remembered, where these blocks are open
 abbrev pub Pauses : ℕ → Note → List OpenBlock → Source → Step Token → Source → Type 0
@@ -128,35 +129,34 @@ pub data Renumbers (word : Location) (tokens : List Token) (taken : ℕ) (note :
 abbrev pub HasEffect : Effect → ℕ → Note → Source → Step Token → Source → Type 0
 HasEffect (gives token) taken note old step new =
     (step ≡ Ok token) × IsAfter taken note old.blocks old new × (new.definitions ≡ old.definitions)
-HasEffect (gives_item item word) taken note old step new =
-    (step ≡ Ok (record { value = value_of item old.has_text old.has_directive; location = word }))
+HasEffect (gives_item value word) taken note old step new =
+    (step ≡ Ok (record { value = value old.has_text (not (old.has_directive || old.has_text)); location = word }))
     × IsAfter taken note old.blocks old new
     × (new.definitions ≡ old.definitions)
 HasEffect (fails fault) taken note old step new = (step ≡ Err (Error fault)) × IsAfterFault old new
-HasEffect ends taken note old step new = (step ≡ Err Finished) × (new ≡ old)
+HasEffect ends taken note old step new = Ends (last_block old.blocks) old step new
 HasEffect passes taken note old step new = Pauses taken note old.blocks old step new
 HasEffect (defines named) taken note old step new =
     DefinesOver named (meaning_of old.definitions named.name) taken note old step new
 HasEffect (undefines name) taken note old step new = (step ≡ Err Continue) × IsAfter taken note old.blocks old new
     × IsChanged name None old.definitions new.definitions
-HasEffect (opens_where wanted word name) taken note old step new =
+HasEffect (opens_where asked word name) taken note old step new =
     Pauses taken note
-    (old.blocks ++ block_opened word (holds_where wanted (meaning_of old.definitions name)) ∷ [])
+    (old.blocks ++ block_opened word (asked (is_some (meaning_of old.definitions name))) ∷ [])
     old step new
 HasEffect (opens_if word tokens) taken note old step new =
     Decides word tokens (λ value. old.blocks ++ block_opened word value ∷ []) taken note old step new
 HasEffect (opens_unread word) taken note old step new =
     Pauses taken note (old.blocks ++ block_unread word ∷ []) old step new
-HasEffect (parts block) taken note old step new = Pauses taken note (outer_blocks old.blocks ++ block ∷ []) old step new
-HasEffect (parts_if block word tokens) taken note old step new =
-    Decides word tokens (λ value. outer_blocks old.blocks ++ block_decided block value ∷ []) taken note old step new
+HasEffect parts taken note old step new = Pauses taken note (with_last block_parted old.blocks) old step new
+HasEffect skips_branch taken note old step new = Pauses taken note (with_last block_skipped old.blocks) old step new
+HasEffect (parts_if word tokens) taken note old step new =
+    Decides word tokens (λ value. with_last (λ block. block_decided block value) old.blocks) taken note old step new
 HasEffect closes taken note old step new = Pauses taken note (outer_blocks old.blocks) old step new
-HasEffect (unfinished word) taken note old step new =
-    (step ≡ Err (Error (UnfinishedBlock, word))) × IsAfterBlock old new
 HasEffect (renumbers word tokens) taken note old step new = Renumbers word tokens taken note old step new
 
-abbrev pub Makes : Move → Source → Step Token → Source → Type 0
-Makes move old step new = HasEffect move.effect move.taken move.note old step new
+abbrev pub Makes : Note → Move → Source → Step Token → Source → Type 0
+Makes note move old step new = HasEffect move.effect move.taken note old step new
 
 -- memory was refused, where something is left to read
 pub record IsRefusedStep (old : Source) (step : Step Token) : Type 0 where
@@ -167,4 +167,5 @@ pub record IsRefusedStep (old : Source) (step : Step Token) : Type 0 where
 abbrev pub StepsSource : Source → Step Token → Source → Type 0
 StepsSource old step new =
     MatchBool old.spent ((step ≡ Err Finished) × (new ≡ old))
-    (IsRefusedStep old step ⊎ Makes (move_of old.dead_for_good old.blocks old.rest) old step new)
+    (IsRefusedStep old step ⊎
+    Makes (note_of old.dead_for_good old.blocks old.rest) (move_of old.dead_for_good old.blocks old.rest) old step new)

@@ -1,13 +1,13 @@
 -- At every level an argument that is read alone gives a list of tokens, or a fault, and each call has an answer.
-use Rattle.std.proofs.Common.{ℕ, zero, suc, false, List, [], ◌∷◌, refl, Option, Some, None}
-use Rattle.std.specs.Prelude.{Result, Ok, Err, unwrap_or}
+use Rattle.std.proofs.Common.{◌≡◌, ℕ, zero, suc, false, List, [], ◌∷◌, refl, Option, Some, None}
+use Rattle.std.specs.Prelude.{MatchOption, Result, Ok, Err}
 use Rattle.pp_lexer.specs.declared.token.PreprocessorError.{PreprocessorError}
 use Rattle.pp_lexer.specs.declared.token.PreprocessorError.TheVariants.{RecursionLimitReached}
 use Rattle.pp_model.specs.Names.{Name}
 use Rattle.pp_model.specs.Definitions.{Definitions}
 use Rattle.pp_model.specs.Reading.{reading_of}
-use Rattle.pp_model.specs.Calls.{Fault, Site, misfit}
-use Rattle.pp_model.specs.Emitting.{Alones, first_before, Each, none, first_failed, more, EachOrRefused, answers_at_limit, answers_below, Alone, answers_at}
+use Rattle.pp_model.specs.Calls.{Fault, Answers, Site, misfit}
+use Rattle.pp_model.specs.Emitting.{Alones, first_before, Each, none, first_failed, more, answers_by, alone_by, ExpandsArguments, answers_at, Alone}
 use Rattle.pp_model.specs.ExistenceLaws.{IsFinite, AnAnswer, AnArgument}
 use Rattle.pp_model.specs.declared.read.Read.{Read}
 use Rattle.pp_model.proofs.existence.ListLemmas.{a_list}
@@ -28,25 +28,30 @@ module _ (deeper : Alones) (argument_alone : AnArgument deeper) (visible : Defin
       let first = argument_alone argument visible hidden finite in
       and_more argument arguments first.0 first.1 (each arguments)
 
-module _ (deeper : Alones) (argument_alone : AnArgument deeper) where
-  each_or_refusal : (error : Option PreprocessorError) (site : Site) → IsFinite site.visible
-      → (out : Result (List (List Read)) Fault) × EachOrRefused deeper error site out
-  each_or_refusal (Some error) site finite = (Err (error, site.paren), refl)
-  each_or_refusal None site finite = each deeper argument_alone site.visible site.open_around finite site.arguments
+-- a call has an answer, if each that has the right number of arguments has one
+an_answer_by : (Fitting : Site → Result (List (List Read)) Fault → Type 0)
+    → ((site : Site) → IsFinite site.visible → (out : Result (List (List Read)) Fault) × Fitting site out) → AnAnswer (answers_by Fitting)
+an_answer_by Fitting fitting definition site finite = decided (misfit definition.parameters site.arguments)
+  where
+    decided : (error : Option PreprocessorError)
+        → (out : Result (List (List Read)) Fault) × MatchOption error (Fitting site out) (λ error. out ≡ Err (error, site.paren))
+    decided None = fitting site finite
+    decided (Some error) = (Err (error, site.paren), refl)
 
-  an_answer_below : AnAnswer (answers_below deeper)
-  an_answer_below definition site finite = each_or_refusal (misfit definition.parameters site.arguments) site finite
+an_argument_by : (A : Answers) → AnAnswer A → AnArgument (alone_by A)
+an_argument_by A answers tokens visible hidden finite = a_list (λ name. false) A answers (reading_of tokens visible hidden) finite
 
-an_answer_at_limit : AnAnswer answers_at_limit
-an_answer_at_limit definition site finite = (Err (unwrap_or (misfit definition.parameters site.arguments) RecursionLimitReached, site.paren), refl)
-
--- An argument that is read alone gives a list of tokens, or a fault.
-pub an_argument : (level : ℕ) → AnArgument (Alone level)
-an_argument zero tokens visible hidden finite = a_list (λ name. false) answers_at_limit an_answer_at_limit (reading_of tokens visible hidden) finite
-an_argument (suc level) tokens visible hidden finite =
-    a_list (λ name. false) (answers_below (Alone level)) (an_answer_below (Alone level) (an_argument level)) (reading_of tokens visible hidden) finite
+-- the arguments of a call have a list each, or there is a fault
+an_expansion : (level : ℕ) (site : Site) → IsFinite site.visible → (out : Result (List (List Read)) Fault) × ExpandsArguments level site out
+an_expansion zero site finite = (Err (RecursionLimitReached, site.paren), refl)
+an_expansion (suc level) site finite =
+    each (Alone level) (an_argument_by (answers_at level) (an_answer_by (ExpandsArguments level) (an_expansion level)))
+    site.visible site.open_around finite site.arguments
 
 -- A call gives a list of expanded arguments, or a fault.
 pub an_answer : (level : ℕ) → AnAnswer (answers_at level)
-an_answer zero = an_answer_at_limit
-an_answer (suc level) = an_answer_below (Alone level) (an_argument level)
+an_answer level = an_answer_by (ExpandsArguments level) (an_expansion level)
+
+-- An argument that is read alone gives a list of tokens, or a fault.
+pub an_argument : (level : ℕ) → AnArgument (Alone level)
+an_argument level = an_argument_by (answers_at level) (an_answer level)

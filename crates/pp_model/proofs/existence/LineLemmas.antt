@@ -8,7 +8,7 @@ use Rattle.pp_model.specs.Reading.{Expander, Listed, line_reading}
 use Rattle.pp_model.specs.Taking.{Takes}
 use Rattle.pp_model.specs.Calls.{Fault, Answers, is_left_paren, is_right_paren}
 use Rattle.pp_model.specs.Emitting.{opened, Emits, itself, object, name_alone, call_refused, call}
-use Rattle.pp_model.specs.LineWords.{Reading, operator, word, fault, reading, unwanted, unwanted_word, name_in, has_value, is_defined, Operand, name, neither, no_name, unclosed, in_parentheses, Words, word_before, LineWords, ended, failed, refused, plain, answered, faulty}
+use Rattle.pp_model.specs.LineWords.{Reading, operator, word, fault, reading, unwanted, name_in, has_value, is_defined, closed_by, InParentheses, no_name, named, Operand, name, in_parentheses, neither, Words, word_before, LineWords, ended, failed, refused, plain, answered, faulty}
 use Rattle.pp_model.specs.ExistenceLaws.{AnAnswer, AnOperand, ALine}
 use Rattle.pp_model.specs.declared.read.Read.{Read}
 use Rattle.pp_model.specs.declared.read.Taken.{Taken}
@@ -72,37 +72,47 @@ module _ (kind : LineKind) (directive : Location) (A : Answers) where
     operand : Operand kind directive A e result after
     goes : is_ok result ≡ true → Worded after
 
-  closed_by : (e f g : Expander Listed) (o x : Taken) (n : Name) → Takes line_reading e o f → has_value is_left_paren o ≡ true
-      → Takes line_reading f x g → name_in x ≡ Some n → (c : Closing g) → (b : Bool) → has_value is_right_paren c.given ≡ b → Operating e
-  closed_by e f g o x n t p u q c true v = record {
-    result = Ok (is_defined c.after n);
-    after = c.after;
-    operand = in_parentheses o x c.given n e f g c.after (Ok (is_defined c.after n)) t p u q c.emits v refl;
-    goes = λ k. c.goes v;
-  }
-  closed_by e f g o x n t p u q c false v = record {
-    result = Err (unwanted_word kind directive c.given);
-    after = c.after;
-    operand = unclosed o x c.given n e f g c.after (Err (unwanted_word kind directive c.given)) t p u q c.emits v refl;
-    goes = λ k. cc;
-  }
+  -- the operand after its `(`
+  record Enclosing (e : Expander Listed) : Type 0 where
+    result : Result Bool Fault
+    after : Expander Listed
+    inside : InParentheses kind directive A e result after
+    goes : is_ok result ≡ true → Worded after
 
-  named_by : (e f : Expander Listed) (o : Taken) → Takes line_reading e o f → has_value is_left_paren o ≡ true → (a : Naming f)
-      → (m : Option Name) → name_in a.given ≡ m → Operating e
-  named_by e f o t p a None q = record {
+  answered_closed : (answer : Bool) (o : Taken) → is_ok (closed_by kind directive answer o) ≡ true → has_value is_right_paren o ≡ true
+  answered_closed answer o k = closes (has_value is_right_paren o) refl
+    where
+      closes : (b : Bool) → has_value is_right_paren o ≡ b → has_value is_right_paren o ≡ true
+      closes true v = v
+      closes false v = let unanswered : is_ok (closed_by kind directive answer o) ≡ false = rw v refl in cc
+
+  named_by : (e : Expander Listed) → (a : Naming e) → (m : Option Name) → name_in a.given ≡ m → Enclosing e
+  named_by e a None q = record {
     result = Err (unwanted directive a.given);
     after = a.after;
-    operand = no_name o a.given e f a.after (Err (unwanted directive a.given)) t p a.takes q refl;
+    inside = no_name a.given e a.after (Err (unwanted directive a.given)) a.takes q refl;
     goes = λ k. cc;
   }
-  named_by e f o t p a (Some n) q =
+  named_by e a (Some n) q =
       let c = a.goes (name_is_token a.given n q) in
-      closed_by e f a.after o a.given n t p a.takes q c (has_value is_right_paren c.given) refl
+      let result = closed_by kind directive (is_defined c.after n) c.given in
+      record {
+        result = result;
+        after = c.after;
+        inside = named a.given c.given n e a.after c.after result a.takes q c.emits refl;
+        goes = λ k. c.goes (answered_closed (is_defined c.after n) c.given k);
+      }
 
   parenthesized : (e : Expander Listed) (a : Asking e) → name_in a.given ≡ None → (b : Bool) → has_value is_left_paren a.given ≡ b → Operating e
   parenthesized e a q true p =
       let n = a.names (value_is_token is_left_paren a.given p) in
-      named_by e a.after a.given a.takes p n (name_in n.given) refl
+      let inside = named_by a.after n (name_in n.given) refl in
+      record {
+        result = inside.result;
+        after = inside.after;
+        operand = in_parentheses a.given e a.after inside.after inside.result a.takes p inside.inside;
+        goes = inside.goes;
+      }
   parenthesized e a q false p = record {
     result = Err (unwanted directive a.given);
     after = a.after;

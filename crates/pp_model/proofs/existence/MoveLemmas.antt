@@ -1,14 +1,13 @@
 -- Each act of a source keeps its items and finitely many definitions, and if reading goes on after it, the position has moved.
 use Rattle.std.proofs.Common.{◌≡◌, ◌∙◌, ℕ, ◌+◌, ◌≤◌, ◌<◌, Bool, true, false, not, List, [], ◌∷◌, drop, length, refl, sym, ap, arith, Option, Some, None}
 use Rattle.std.proofs.lemmas.List.{length-drop}
-use Rattle.pp_model.specs.Blocks.{Block, is_live}
+use Rattle.pp_model.specs.Blocks.{Block}
 use Rattle.pp_model.specs.SourceReader.{SourceReader}
-use Rattle.pp_model.specs.Acts.{Acted, ended_by, live_act, dead_act, act}
+use Rattle.pp_model.specs.Acts.{Acted, end_by, act}
 use Rattle.pp_model.specs.ExistenceLaws.{is_given_token, IsFinite}
-use Rattle.pp_model.specs.declared.sight.Sight.TheVariants as sight
 use Rattle.pp_model.specs.declared.step.Step.{Step}
 use Rattle.pp_model.specs.declared.step.Step.TheVariants as step
-use Rattle.pp_model.proofs.ActsLemmas.{HoldsOfDead, HoldsOfLive, either_holds, act_holds}
+use Rattle.pp_model.proofs.ActsLemmas.{HoldsOfDead, HoldsOfLive, act_holds}
 use Rattle.pp_model.proofs.existence.DefinitionLemmas.{without_one}
 
 -- an error or the end is given, after which nothing is read
@@ -46,7 +45,7 @@ live_moves r = record {
   token = λ shown count least. record { items = refl; finite = λ f. f; further = λ h. omega (arith, least) };
 }
 
-end_moves : (r : SourceReader) (block : Option Block) → Moves r (ended_by block r)
+end_moves : (r : SourceReader) (block : Option Block) → Moves r (end_by block r)
 end_moves r (Some block) = record { items = refl; finite = λ f. f; further = λ h. cc }
 end_moves r None = record { items = refl; finite = λ f. f; further = λ h. cc }
 
@@ -59,13 +58,12 @@ moves r = act_holds (Moves r) r (live_moves r) (end_moves r)
 abbrev pub left : SourceReader → ℕ
 left r = length (drop r.position r.items)
 
-ended_stops : (block : Option Block) (r : SourceReader) → stops (ended_by block r).step ≡ true
+ended_stops : (block : Option Block) (r : SourceReader) → stops (end_by block r).step ≡ true
 ended_stops (Some block) r = refl
 ended_stops None r = refl
 
 at_end : (r : SourceReader) → drop r.position r.items ≡ [] → stops (act r).step ≡ true
-at_end r p = rw p (either_holds (λ a. stops a.step ≡ true) (is_live r.items r.truths r.position) (live_act sight.End r) (dead_act sight.End r)
-    (ended_stops _ r) (ended_stops _ r))
+at_end r p = rw p (ended_stops _ r)
 
 some_left : (r : SourceReader) → stops (act r).step ≡ false → 1 ≤ left r
 some_left r h = go (drop r.position r.items) refl

@@ -1,42 +1,32 @@
 -- Parts of what a directive does, under names of their own.
-use Rattle.std.specs.Prelude.{Bool, not, is_some, Option}
-use Rattle.pp_lexer.specs.declared.token.Location.{Location}
-use Rattle.pp_model.specs.Names.{Name}
-use Rattle.pp_model.specs.Acts.{Acted, if_defined, failed, passed, after_line, elif_in, else_in, endif_in, block_here, only_word, live_directive}
-use Rattle.pp_model.specs.declared.directive.Directive.TheVariants as d
-use Rattle.pp_model.specs.SourceReader.{SourceReader}
-use Rattle.std.specs.Option.{option_map_or}
+use Rattle.std.specs.Prelude.{List, Option, drop}
+use Rattle.pp_lexer.specs.Lexed.{Seen}
+use Rattle.pp_lexer.specs.declared.token.Token.{Token}
 use Rattle.pp_model.specs.Calls.{Fault}
+use Rattle.pp_model.specs.Blocks.{Block, blocks_at, innermost}
+use Rattle.pp_model.specs.Moves.{Move}
+use Rattle.pp_model.specs.inner.Moves.{taking_more}
+use Rattle.pp_model.specs.Acts.{Acted, outcome_at, perform}
+use Rattle.pp_model.specs.SourceReader.{SourceReader}
+use Rattle.pp_model.specs.declared.outcome.Outcome.TheVariants as outcome
 
-abbrev pub is_defined_now : SourceReader → Name → Bool
-is_defined_now reader name = is_some (reader.definitions name)
+abbrev pub fault_at : Fault → SourceReader → Acted
+fault_at fault reader = outcome_at (outcome.Fault fault) reader
 
-abbrev pub ifdef : Location → SourceReader → Acted
-ifdef word reader = if_defined (λ defined. defined) word reader
+abbrev pub item_at : Token → SourceReader → Acted
+item_at token after = outcome_at (outcome.Token token) after
 
-abbrev pub ifndef : Location → SourceReader → Acted
-ifndef word reader = if_defined not word reader
+-- the items that are left
+abbrev pub items_left : SourceReader → List Seen
+items_left reader = drop reader.position reader.items
 
-abbrev pub skipped_by : Option Fault → SourceReader → Acted
-skipped_by fault reader = option_map_or (λ fault. failed fault reader) fault (passed (after_line reader))
+-- the items after the directive's word
+abbrev pub after_word : SourceReader → List Seen
+after_word reader = drop 2 (items_left reader)
 
-abbrev pub elif_line : Location → SourceReader → Acted
-elif_line word reader = elif_in (block_here reader) word reader
+abbrev pub block_here : SourceReader → Option Block
+block_here reader = innermost (blocks_at reader.items reader.position)
 
-abbrev pub else_line : Location → SourceReader → Acted
-else_line word reader = only_word word reader (else_in (block_here reader) word reader)
-
-abbrev pub endif_line : Location → SourceReader → Acted
-endif_line word reader = endif_in (block_here reader) word reader
-
-abbrev pub define : Location → SourceReader → Acted
-define word reader = live_directive d.Define word reader
-
-abbrev pub undef : Location → SourceReader → Acted
-undef word reader = live_directive d.Undef word reader
-
-abbrev pub line_number : Location → SourceReader → Acted
-line_number word reader = live_directive d.Line word reader
-
-abbrev pub pragma : Location → SourceReader → Acted
-pragma word reader = live_directive d.Pragma word reader
+-- what a directive's line does to the reader at its number sign
+abbrev pub perform_line : Move → SourceReader → Acted
+perform_line move reader = perform (taking_more 2 move) reader

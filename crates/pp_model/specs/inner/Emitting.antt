@@ -1,7 +1,5 @@
 -- Parts of emitting, under names of their own.
-use Rattle.std.specs.Prelude.{List, Option, Some, unwrap_or, Result}
-use Rattle.pp_lexer.specs.declared.token.PreprocessorError.{PreprocessorError}
-use Rattle.pp_lexer.specs.declared.token.PreprocessorError.TheVariants.{RecursionLimitReached}
+use Rattle.std.specs.Prelude.{List, Some, Result}
 use Rattle.pp_lexer.specs.declared.token.Token.{Token}
 use Rattle.pp_model.specs.declared.read.Read.{Read}
 use Rattle.pp_model.specs.Calls.{Fault}
@@ -17,9 +15,6 @@ read_before read rest = first_before read rest
 
 abbrev pub list_before : List Read → Result (List (List Read)) Fault → Result (List (List Read)) Fault
 list_before tokens rest = first_before tokens rest
-
-abbrev pub refusal : Option PreprocessorError → PreprocessorError
-refusal error = unwrap_or error RecursionLimitReached
 
 abbrev pub holding : {R : Type 0} → Taken → Expander R → Expander R
 holding o expander = record expander { held = Some o }

@@ -8,7 +8,8 @@ use Rattle.pp_model.specs.Calls.{Fault, Answers}
 use Rattle.pp_model.specs.LineValues.{IsCondition, IsLineNumber}
 use Rattle.pp_model.specs.SourceReader.{SourceReader}
 use Rattle.pp_reference.specs.inner.ReaderState.{ReaderState}
-use Rattle.pp_model.specs.Acts.{Acted, failed, decided}
+use Rattle.pp_model.specs.Acts.{Acted, decided}
+use Rattle.pp_model.specs.inner.Acts.{fault_at}
 use Rattle.pp_model.specs.inner.Reads.{defining, renumbered}
 use Rattle.pp_model.specs.declared.definition.Named.{Named}
 use Rattle.pp_model.specs.declared.outcome.Outcome.{Outcome}
@@ -21,7 +22,7 @@ use Rattle.pp_reference.specs.declared.stop.Halt.TheVariants as halt
 -- a step and the reader after it are those wanted, or the fault is, which leaves the reader where it is
 abbrev pub ActsAs : Result Step Halt → Acted → SourceReader → Type 0
 ActsAs (Ok step) wanted after = wanted ≡ record { step = step; after = after }
-ActsAs (Err (halt.Fault fault)) wanted after = wanted ≡ failed fault after
+ActsAs (Err (halt.Fault fault)) wanted after = wanted ≡ fault_at fault after
 ActsAs (Err (halt.Stop stop)) wanted after = ⊤
 
 -- a line whose value is wanted stands at the position: its number sign and its word

@@ -1,16 +1,17 @@
 -- Where the lines of blocks stand, and so the marks of the blocks that are open.
-use Rattle.std.proofs.Common.{◌≡◌, ℕ, zero, suc, ◌+◌, ◌≤◌, ◌<◌, Bool, true, false, ◌&&◌, if◌then◌else◌, List, [], ◌∷◌, ◌++◌, length, take, refl, subst, Option, Some, None, arith}
+use Rattle.std.proofs.Common.{◌≡◌, ℕ, zero, suc, ◌+◌, ◌≤◌, ◌<◌, Bool, true, false, ◌&&◌, if◌then◌else◌, List, [], ◌∷◌, ◌++◌, length, take, refl, sym, subst, Option, Some, None, arith}
 use Rattle.std.specs.List.{AllByRecursion as Each, cons_option}
 use Rattle.pp_lexer.specs.Lexed.{Seen}
 use Rattle.pp_lexer.specs.declared.token.Location.{Location}
 use Rattle.pp_model.specs.Sights.{sight_of}
-use Rattle.pp_model.specs.Blocks.{part_of, line_at, block_lines, stays_open, inner_after, opens, parts_block, parting, Block, open_blocks, blocks_at}
+use Rattle.pp_model.specs.Blocks.{part_of, line_at, block_lines, opens, Block, open_blocks, blocks_at}
 use Rattle.pp_model.specs.inner.Blocks.{line_with}
 use Rattle.pp_model.specs.declared.block.BlockLine.{BlockLine}
 use Rattle.pp_model.specs.declared.block.Part.{Part}
 use Rattle.pp_model.specs.declared.sight.Sight.{Sight}
 use Rattle.pp_model.specs.declared.sight.Sight.TheVariants as sight
 use Rattle.pp_macros.specs.inner.OpenBlocks.{marks}
+use Rattle.pp_rs.proofs.blocks.InnerBlocksLemmas.{inner_after, stays_open, parts_block, parting, open_blocks_step}
 
 module _ {X : Type 0} (P : X → Type 0) where
   pub each_weaker : (Q : X → Type 0) → ((x : X) → P x → Q x) → (xs : List X) → Each P xs → Each Q xs
@@ -85,8 +86,9 @@ module _ (P : BlockLine → Type 0) where
   pub each_mark : (lines : List BlockLine) → Each P lines → Each (λ block. Each P (marks block)) (open_blocks lines)
   each_mark [] all = tt
   each_mark (line ∷ later) all =
-      each_block_if (opens line.part && stays_open 0 later) (record { first = line; partings = parting 0 later }) (open_blocks later)
-      (all.0, each_parting 0 later all.1) (each_mark later all.1)
+      subst (λ (blocks : List Block). Each (λ block. Each P (marks block)) blocks) (sym (open_blocks_step line later))
+      (each_block_if (opens line.part && stays_open 0 later) (record { first = line; partings = parting 0 later }) (open_blocks later)
+      (all.0, each_parting 0 later all.1) (each_mark later all.1))
 
 -- all marks of a block stand before a position
 abbrev pub LiesBefore : ℕ → Block → Type 0

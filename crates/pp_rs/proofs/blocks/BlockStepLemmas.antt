@@ -3,11 +3,12 @@ use Rattle.std.proofs.Common.{◌≡◌, ◌∙◌, ℕ, Bool, true, false, ◌&
 use Rattle.std.proofs.lemmas.Slice.Zip.{all_zipped_more}
 use Rattle.std.proofs.Math.Bool.{or-true}
 use Rattle.pp_lexer.specs.Lexed.{Seen}
-use Rattle.pp_model.specs.Blocks.{block_lines, opens, parts_block, is_else, Block, open_blocks, blocks_at, Truths, is_live, has_else}
+use Rattle.pp_model.specs.Blocks.{block_lines, opens, is_else, Block, open_blocks, blocks_at, Truths, is_live, has_else}
 use Rattle.pp_model.specs.declared.block.BlockLine.{BlockLine}
 use Rattle.pp_model.specs.declared.block.Part.TheVariants as part
 use Rattle.pp_macros.specs.inner.OpenBlocks.{IsSettled, StandsForBlock, StandForBlocks}
 use Rattle.pp_macros.specs.declared.blocks.OpenBlock.{OpenBlock}
+use Rattle.pp_rs.proofs.blocks.InnerBlocksLemmas.{parts_block}
 use Rattle.pp_rs.proofs.blocks.OpenBlocksLemmas.{opened, parted, opens_one, closes_one, parts_one}
 use Rattle.pp_rs.proofs.blocks.BlockPositionLemmas.{LiesBefore, blocks_lie_before, last_lies_before, around_lie_before}
 use Rattle.pp_rs.proofs.blocks.TruthLemmas.{with_truth, IsUnread, is_live_before, surroundings_before}

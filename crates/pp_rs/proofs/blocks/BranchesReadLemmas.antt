@@ -3,7 +3,7 @@ use Rattle.std.proofs.Common.{◌≡◌, ◌∙◌, ◌⊎◌, inl, inr, ℕ, �
 use Rattle.std.specs.List.{AllByRecursion as Each, cons_option}
 use Rattle.std.proofs.lemmas.Bool.{cases_lt}
 use Rattle.pp_lexer.specs.Lexed.{Seen}
-use Rattle.pp_model.specs.Blocks.{Truths, Block, block_lines, opens, parts_block, open_blocks, blocks_at, is_live, are_surroundings_live, has_taken_branch, has_else}
+use Rattle.pp_model.specs.Blocks.{Truths, Block, block_lines, opens, open_blocks, blocks_at, is_live, are_surroundings_live, has_taken_branch, has_else}
 use Rattle.pp_model.specs.declared.block.BlockLine.{BlockLine}
 use Rattle.pp_model.specs.declared.block.Part.TheVariants as part
 use Rattle.pp_directives.specs.inner.Lined.{AreLined}
@@ -13,6 +13,7 @@ use Rattle.pp_rs.proofs.blocks.BranchLemmas.{else_settled, skipped_settled, elif
 use Rattle.pp_rs.proofs.blocks.BranchedLemmas.{IsBranched, all_branched_before, opened_branched, unread_branched, parted_branched}
 use Rattle.pp_rs.proofs.blocks.FewerLinesLemmas.{open_between}
 use Rattle.pp_rs.proofs.blocks.LinesBeforeLemmas.{AreLinesBefore, AddsLines, lines_here, lines_further}
+use Rattle.pp_rs.proofs.blocks.InnerBlocksLemmas.{parts_block}
 use Rattle.pp_rs.proofs.blocks.OpenBlocksLemmas.{opened, parted, opens_one, closes_one, parts_one}
 use Rattle.pp_rs.proofs.blocks.TruthLemmas.{with_truth, IsUnread, before_unread, before_later, before_more, surroundings_before}
 

@@ -1,11 +1,40 @@
--- How many inner blocks are open after the lines of a block.
+-- Whether a block is still open after later lines, which of these part it, and how many inner blocks are open then.
 use Rattle.std.proofs.Common.{◌≡◌, ◌∙◌, ℕ, zero, suc, ◌+◌, ◌-◌, ◌≤◌, ◌<◌, Bool, true, false, ◌&&◌, not, if◌then◌else◌, List, [], ◌∷◌, ◌++◌, length, refl, ap, sym, ne_eqb, arith}
-use Rattle.std.specs.Prelude.{◌==◌}
+use Rattle.std.specs.Prelude.{◌==◌, Option, Some, None, option_map}
+use Rattle.std.specs.List.{cons_option}
 use Rattle.std.proofs.Math.Bool.{and_assoc}
-use Rattle.pp_model.specs.Blocks.{closes_block, inner_after, stays_open, opens, parts_block, parting, Block, open_blocks}
+use Rattle.pp_model.specs.Blocks.{opens, parted_by, partings_of, Block, open_blocks}
 use Rattle.pp_model.specs.declared.block.BlockLine.{BlockLine}
 use Rattle.pp_model.specs.declared.block.Part.{Part}
 use Rattle.pp_model.specs.declared.block.Part.TheVariants as part
+
+-- the line closes a block in which so many inner blocks are open
+abbrev pub closes_block : Part → ℕ → Bool
+closes_block part.Closes inner = inner == 0
+closes_block _ inner = false
+
+-- the inner blocks that are open after the line
+abbrev pub inner_after : Part → ℕ → ℕ
+inner_after part.Opens inner = inner + 1
+inner_after part.Closes inner = inner - 1
+inner_after _ inner = inner
+
+-- the block is still open after these lines
+abbrev pub stays_open : ℕ → List BlockLine → Bool
+stays_open inner [] = true
+stays_open inner (line ∷ later) = not (closes_block line.part inner) && stays_open (inner_after line.part inner) later
+
+-- the line parts the block, and no inner one
+abbrev pub parts_block : Part → ℕ → Bool
+parts_block part.Elif inner = inner == 0
+parts_block part.Else inner = inner == 0
+parts_block _ inner = false
+
+-- the lines that part the block
+abbrev pub parting : ℕ → List BlockLine → List BlockLine
+parting inner [] = []
+parting inner (line ∷ later) =
+    if parts_block line.part inner then line ∷ parting (inner_after line.part inner) later else parting (inner_after line.part inner) later
 
 -- how many inner blocks are open after these lines
 abbrev pub inner_after_lines : ℕ → List BlockLine → ℕ
@@ -25,6 +54,41 @@ closing_outer (line ∷ later) = closing_with line.part (closing_outer later)
 -- a number with one more is not 0
 pub is_not_zero : (n : ℕ) → suc n == 0 ≡ false
 is_not_zero n = ne_eqb (suc n) 0 (λ e. absurd (omega (arith, e)))
+
+parted_with : (p : Part) (line : BlockLine) (inner : ℕ) (rest : ℕ → Option (List BlockLine)) (stays : Bool) (marks : List BlockLine)
+    → rest (inner_after p inner) ≡ (if stays then Some marks else None)
+    → parted_by p line inner rest ≡ (if not (closes_block p inner) && stays then Some (if parts_block p inner then line ∷ marks else marks) else None)
+parted_with part.Opens line inner rest stays marks h = h
+parted_with part.Closes line zero rest stays marks h = refl
+parted_with part.Closes line (suc inner) rest stays marks h = rw (is_not_zero inner) h
+parted_with part.Elif line zero rest true marks h = ap (option_map (λ lines. line ∷ lines)) h
+parted_with part.Elif line zero rest false marks h = ap (option_map (λ lines. line ∷ lines)) h
+parted_with part.Elif line (suc inner) rest stays marks h = rw (is_not_zero inner) h
+parted_with part.Else line zero rest true marks h = ap (option_map (λ lines. line ∷ lines)) h
+parted_with part.Else line zero rest false marks h = ap (option_map (λ lines. line ∷ lines)) h
+parted_with part.Else line (suc inner) rest stays marks h = rw (is_not_zero inner) h
+
+partings_are : (inner : ℕ) (lines : List BlockLine) → partings_of inner lines ≡ (if stays_open inner lines then Some (parting inner lines) else None)
+partings_are inner [] = refl
+partings_are inner (line ∷ later) =
+    let next = inner_after line.part inner in
+    parted_with line.part line inner (λ deeper. partings_of deeper later) (stays_open next later) (parting next later) (partings_are next later)
+
+opened_with : (begins stays : Bool) (line : BlockLine) (marks : List BlockLine) (blocks : List Block)
+    → cons_option (if begins then option_map (λ (partings : List BlockLine). let b : Block = record { first = line; partings = partings } in b)
+    (if stays then Some marks else None) else None) blocks
+    ≡ (if begins && stays then record { first = line; partings = marks } ∷ blocks else blocks)
+opened_with true true line marks blocks = refl
+opened_with true false line marks blocks = refl
+opened_with false stays line marks blocks = refl
+
+-- the blocks that are open after a line and those after it
+pub open_blocks_step : (line : BlockLine) (later : List BlockLine) → open_blocks (line ∷ later)
+    ≡ (if opens line.part && stays_open 0 later then record { first = line; partings = parting 0 later } ∷ open_blocks later else open_blocks later)
+open_blocks_step line later =
+    ap (λ (found : Option (List BlockLine)). cons_option (if opens line.part then option_map (λ (partings : List BlockLine). let b : Block =
+    record { first = line; partings = partings } in b) found else None) (open_blocks later)) (partings_are 0 later)
+    ∙ opened_with (opens line.part) (stays_open 0 later) line (parting 0 later) (open_blocks later)
 
 enough_with : (p : Part) (inner closing : ℕ) (later : Bool) → (later ≡ true → closing ≤ inner_after p inner)
     → not (closes_block p inner) && later ≡ true → closing_with p closing ≤ inner
@@ -83,7 +147,7 @@ inner_counted inner (line ∷ later) e =
     counted_with line.part (stays_open 0 later) (stays_open (inner_after line.part inner) later)
     (record { first = line; partings = parting 0 later }) (open_blocks later) inner
     (closing_outer later) (inner_after_lines (inner_after line.part inner) later) (enough_inner 0 later) (fewer_inner 0 later) e
-    (inner_counted (inner_after line.part inner) later)
+    (inner_counted (inner_after line.part inner) later) ∙ ap (λ (blocks : List Block). inner + length blocks) (sym (open_blocks_step line later))
 
 -- in a block that stays open as many inner ones are open as its lines open
 pub inner_open : (lines : List BlockLine) → stays_open 0 lines ≡ true → inner_after_lines 0 lines ≡ length (open_blocks lines)

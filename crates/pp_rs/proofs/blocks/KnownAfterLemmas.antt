@@ -1,16 +1,15 @@
 -- What is known of the blocks that a reader has met stays known after an item, and after the line of a directive.
 use Rattle.std.proofs.Common.{◌≡◌, ◌∙◌, ℕ, ◌+◌, ◌-◌, Bool, true, false, ◌||◌, not, List, [], ◌∷◌, ◌++◌, length, take, drop, refl, ap, subst, Option, Some, None, arith}
 use Rattle.std.specs.List.{cons_option}
-use Rattle.std.proofs.lemmas.List.{drop-drop}
 use Rattle.pp_lexer.specs.Lexed.{Seen}
 use Rattle.pp_lexer.specs.declared.token.Location.{Location}
-use Rattle.pp_model.specs.Calls.{Fault}
 use Rattle.pp_model.specs.Lines.{line_length}
 use Rattle.pp_model.specs.Sights.{sight_of}
 use Rattle.pp_model.specs.Blocks.{part_of, line_at, block_lines, Block, blocks_at, is_live, are_surroundings_live, has_taken_branch, has_else}
 use Rattle.pp_model.specs.inner.Blocks.{line_with}
 use Rattle.pp_model.specs.SourceReader.{SourceReader}
-use Rattle.pp_model.specs.Acts.{moved, after_word, after_line, decided, block_here}
+use Rattle.pp_model.specs.Acts.{advanced_by, after_line, decided}
+use Rattle.pp_model.specs.inner.Acts.{after_word, block_here}
 use Rattle.pp_model.specs.declared.block.Part.{Part}
 use Rattle.pp_model.specs.declared.block.Part.TheVariants as part
 use Rattle.pp_model.specs.declared.directive.Directive.{Directive}
@@ -31,12 +30,12 @@ HasRead r = BranchesRead r.items r.position r.truths
 
 module _ (r : SourceReader) (b : HasRead r) where
   -- one item that adds no line of a block
-  pub one_keeps : (shown : Sight) → sight_of (drop r.position r.items) ≡ shown → is_one_item shown ≡ true → HasRead (moved 1 r)
+  pub one_keeps : (shown : Sight) → sight_of (drop r.position r.items) ≡ shown → is_one_item shown ≡ true → HasRead (advanced_by 1 r)
   one_keeps shown e one = read_quiet r.items r.position r.truths b 1 (λ after. quiet_one r.position (drop r.position r.items) after (ap is_one_item e ∙ one))
 
   -- two items, which are the number sign and the word
   two_keeps : (hash name : Seen) (rest : List Seen) → drop r.position r.items ≡ hash ∷ name ∷ rest
-      → ((later : List Seen) → block_lines r.position (hash ∷ name ∷ later) ≡ block_lines (r.position + 2) later) → HasRead (moved 2 r)
+      → ((later : List Seen) → block_lines r.position (hash ∷ name ∷ later) ≡ block_lines (r.position + 2) later) → HasRead (advanced_by 2 r)
   two_keeps hash name rest front quiet = read_quiet r.items r.position r.truths b 2
       (λ after. ap (λ items. block_lines r.position (take 2 items ++ after)) front ∙ quiet after)
 
@@ -45,7 +44,7 @@ module _ (r : SourceReader) (b : HasRead r) where
 
   -- a number sign without a word
   pub bare_keeps : (shown : Sight) → is_bare shown ≡ true → ((position : ℕ) → line_at position shown ≡ None) → sight_of (drop r.position r.items) ≡ shown
-      → HasRead (moved 2 r)
+      → HasRead (advanced_by 2 r)
   bare_keeps shown bare none e =
       let found = begins_bare (drop r.position r.items) shown bare e in
       let there : AreLined (found.hash ∷ found.name ∷ found.after) = subst AreLined found.front lined_here in
@@ -57,7 +56,7 @@ module _ (r : SourceReader) (b : HasRead r) where
   -- the line of a directive
   module _ (directive : Directive) (word : Location) (e : sight_of (drop r.position r.items) ≡ sight.Directive directive word) where
     -- of which only the word is passed
-    pub unknown_keeps : part_of directive ≡ None → HasRead (moved 2 r)
+    pub unknown_keeps : part_of directive ≡ None → HasRead (advanced_by 2 r)
     unknown_keeps its =
         let begun = begins_directive (drop r.position r.items) directive word e in
         two_keeps begun.hash begun.name begun.after begun.front (λ later. quiet_word r.position (drop r.position r.items) later directive word begun its)
@@ -67,10 +66,8 @@ module _ (r : SourceReader) (b : HasRead r) where
     line_adds its is =
         subst (λ (found : Option Part). AddsLines r.position (2 + line_length (after_word r)) (drop r.position r.items)
         (cons_option (line_with r.position word found) [])) is
-        (subst (λ (after : List Seen). AddsLines r.position (2 + line_length after) (drop r.position r.items)
-        (cons_option (line_with r.position word (part_of directive)) [])) (drop-drop 2 r.position r.items)
         (directive_adds r.position (drop r.position r.items) directive word e
-        (λ position after. quiet_after_word position (drop r.position r.items) after directive word e lined_here)))
+        (λ position after. quiet_after_word position (drop r.position r.items) after directive word e lined_here))
 
     -- which is no line of a block
     pub line_keeps : part_of directive ≡ None → HasRead (after_line r)

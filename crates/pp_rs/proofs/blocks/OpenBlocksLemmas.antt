@@ -1,11 +1,13 @@
 -- What one more line makes of the blocks that are open.
-use Rattle.std.proofs.Common.{◌≡◌, ◌∙◌, ℕ, Bool, true, false, ◌&&◌, not, if◌then◌else◌, List, [], ◌∷◌, ◌++◌, length, refl, ap, append-nil}
+use Rattle.std.proofs.Common.{◌≡◌, ◌∙◌, ℕ, Bool, true, false, ◌&&◌, not, if◌then◌else◌, List, [], ◌∷◌, ◌++◌, length, refl, ap, sym, append-nil}
+use Rattle.std.specs.Prelude.{Some, None}
+use Rattle.std.specs.List.{cons_option}
 use Rattle.std.proofs.Math.Bool.{and-true}
-use Rattle.pp_model.specs.Blocks.{closes_block, stays_open, opens, parts_block, parting, Block, open_blocks}
+use Rattle.pp_model.specs.Blocks.{opens, Block, open_blocks}
 use Rattle.pp_model.specs.declared.block.BlockLine.{BlockLine}
 use Rattle.pp_model.specs.declared.block.Part.{Part}
 use Rattle.pp_model.specs.declared.block.Part.TheVariants as part
-use Rattle.pp_rs.proofs.blocks.InnerBlocksLemmas.{is_not_zero, inner_after_lines, inner_open, stays_open_append, parting_append}
+use Rattle.pp_rs.proofs.blocks.InnerBlocksLemmas.{closes_block, stays_open, parts_block, parting, open_blocks_step, is_not_zero, inner_after_lines, inner_open, stays_open_append, parting_append}
 
 -- the block that a line opens
 abbrev pub opened : BlockLine → Block
@@ -61,7 +63,7 @@ block_step p false stays depth first line marks inner e = refl
 block_step p true false depth first line marks inner e = refl
 block_step p true true depth first line marks inner e = rw (and-true (not (closes_block p depth)), e refl) (inner_step p first line marks inner)
 
-first_line : (p : Part) (line : BlockLine) → (if opens p && true then opened line ∷ [] else []) ≡ blocks_from_none p line
+first_line : (p : Part) (line : BlockLine) → cons_option (if opens p then Some (opened line) else None) [] ≡ blocks_from_none p line
 first_line part.Opens line = refl
 first_line part.Closes line = refl
 first_line part.Elif line = refl
@@ -71,9 +73,11 @@ first_line part.Else line = refl
 pub open_blocks_more : (lines : List BlockLine) (line : BlockLine) → open_blocks (lines ++ line ∷ []) ≡ blocks_after line.part line (open_blocks lines)
 open_blocks_more [] line = first_line line.part line
 open_blocks_more (first ∷ later) line =
-    rw (stays_open_append 0 later (line ∷ []), parting_append 0 later (line ∷ []), open_blocks_more later line)
+    open_blocks_step first (later ++ line ∷ [])
+    ∙ rw (stays_open_append 0 later (line ∷ []), parting_append 0 later (line ∷ []), open_blocks_more later line)
     (block_step line.part (opens first.part) (stays_open 0 later) (inner_after_lines 0 later) first line (parting 0 later) (open_blocks later)
     (inner_open later))
+    ∙ ap (λ (blocks : List Block). blocks_after line.part line blocks) (sym (open_blocks_step first later))
 
 -- a line that opens a block adds it
 pub after_opens : (line : BlockLine) (blocks : List Block) → blocks_after part.Opens line blocks ≡ blocks ++ opened line ∷ []

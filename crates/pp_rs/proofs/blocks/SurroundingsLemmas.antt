@@ -1,10 +1,10 @@
 -- The blocks around an open block are those that were open at its first line.
 use Rattle.std.proofs.Common.{◌≡◌, ◌∙◌, ℕ, zero, suc, ◌+◌, ◌≤◌, ◌<◌, Bool, true, false, ◌&&◌, not, if◌then◌else◌, List, [], ◌∷◌, ◌++◌, refl, ap, sym, subst, append-nil, arith}
-use Rattle.pp_model.specs.Blocks.{closes_block, inner_after, stays_open, opens, parts_block, parting, Block, open_blocks}
+use Rattle.pp_model.specs.Blocks.{opens, Block, open_blocks}
 use Rattle.pp_model.specs.declared.block.BlockLine.{BlockLine}
 use Rattle.pp_model.specs.declared.block.Part.{Part}
 use Rattle.pp_model.specs.declared.block.Part.TheVariants as part
-use Rattle.pp_rs.proofs.blocks.InnerBlocksLemmas.{is_not_zero, inner_after_lines, enough_inner, fewer_inner, stays_open_append, parting_append}
+use Rattle.pp_rs.proofs.blocks.InnerBlocksLemmas.{closes_block, inner_after, stays_open, parts_block, parting, open_blocks_step, is_not_zero, inner_after_lines, enough_inner, fewer_inner, stays_open_append, parting_append}
 
 -- a block in which more inner ones are open stays open too
 stays_deeper : (inner deeper : ℕ) (lines : List BlockLine) → inner ≤ deeper → stays_open inner lines ≡ true → stays_open deeper lines ≡ true
@@ -83,7 +83,7 @@ module _ (line : BlockLine) (later : List BlockLine) (block : Block) where
         split = ap (λ lines. line ∷ lines) o.split;
         begins = o.begins;
         stays = o.stays;
-        around = rw (begins, front, same, o.around) refl;
+        around = open_blocks_step line o.earlier ∙ rw (begins, front, same, o.around) refl;
       }
 
   -- a line that opens none of the blocks around it
@@ -94,7 +94,7 @@ module _ (line : BlockLine) (later : List BlockLine) (block : Block) where
     split = ap (λ lines. line ∷ lines) o.split;
     begins = o.begins;
     stays = o.stays;
-    around = rw (still (opens line.part) (stays_open 0 o.earlier) refl refl) o.around;
+    around = open_blocks_step line o.earlier ∙ rw (still (opens line.part) (stays_open 0 o.earlier) refl refl) o.around;
   }
     where
       still : (begins front : Bool) → opens line.part ≡ begins → stays_open 0 o.earlier ≡ front → opens line.part && stays_open 0 o.earlier ≡ false
@@ -140,4 +140,5 @@ pub open_at : (lines : List BlockLine) (before : List Block) (block : Block) (in
     → IsOpen lines before block
 open_at [] before block inner e = absurd (none_within before inner block e)
 open_at (line ∷ later) before block inner e =
-    at_line line later block (opens line.part) (stays_open 0 later) before inner refl refl (λ around. open_at later around block inner) e
+    at_line line later block (opens line.part) (stays_open 0 later) before inner refl refl (λ around. open_at later around block inner)
+    (sym (open_blocks_step line later) ∙ e)

@@ -5,6 +5,7 @@ use Rattle.pp_lexer.specs.declared.token.Token.{Token}
 use Rattle.pp_model.specs.Calls.{Site, arguments_of, site_of}
 use Rattle.pp_model.specs.Definitions.{Definitions}
 use Rattle.pp_model.specs.Emitting.{Emits, answers_at}
+use Rattle.pp_model.proofs.LevelLemmas.{none_at_limit}
 use Rattle.pp_model.specs.Names.{Name}
 use Rattle.pp_model.specs.Painting.{item_of}
 use Rattle.pp_model.specs.Reading.{Expander, masked}
@@ -102,7 +103,7 @@ module _ (levels : ℕ) (m : Machine) (old new : Source) (fit : IsFit m old) whe
 
   opened_less : (levels' : ℕ) → levels' ≡ levels → (c : PendingCall) (n p : Machine) → IsPending levels' m (of_source old) c n (of_source new)
       → IsOpened levels' new.definitions (names_of n.frames ++ []) c n p → IsLess levels' m (of_source old) p (of_source new)
-  opened_less zero e c n p pend o = absurd (let bad : Ok o.arguments ≡ Err _ = o.answers in cc)
+  opened_less zero e c n p pend o = absurd (none_at_limit c.definition (site_at c new.definitions (names_of n.frames ++ [])) o.arguments o.answers)
   opened_less (suc lower) e c n p pend o =
       let one : suc lower - 1 ≡ lower = omega arith in
       let least : All (λ (a : List Read). length a ≤ most_alone lower new.definitions (length c.tokens)) o.arguments = rw (← one) o.least in

@@ -7,9 +7,11 @@ use Rattle.pp_model.specs.Definitions.{Definition}
 use Rattle.pp_model.specs.declared.definition.Named.{Named}
 use Rattle.pp_macros.specs.Item.{Step, wants_memory}
 use Rattle.pp_macros.specs.inner.Defined.{meaning_of}
-use Rattle.pp_macros.specs.inner.Source.{Source, DefinesOver, HasEffect, IsRefusedStep, Makes, Decides, holds, faulty, Renumbers, numbers, unnumbered}
+use Rattle.pp_macros.specs.inner.Source.{Source, Ends, DefinesOver, HasEffect, IsRefusedStep, Makes, Decides, holds, faulty, Renumbers, numbers, unnumbered}
 use Rattle.pp_macros.specs.declared.blocks.OpenBlock.{OpenBlock}
-use Rattle.pp_macros.specs.inner.SourceMoves.{Effect, gives, gives_item, fails, ends, passes, defines, undefines, opens_where, opens_if, opens_unread, parts, parts_if, closes, unfinished, renumbers, Note, move_of}
+use Rattle.pp_model.specs.Moves.{Effect, gives, gives_item, fails, ends, passes, defines, undefines, opens_where, opens_if, opens_unread, parts, skips_branch, parts_if, closes, renumbers}
+use Rattle.pp_macros.specs.inner.OpenBlocks.{last_block}
+use Rattle.pp_macros.specs.inner.SourceMoves.{Note, note_of, move_of}
 use Rattle.pp_macros.specs.declared.step.StepExit.TheVariants.{Finished}
 
 module _ (old new : Source) (step : Step Token) (unspent : old.spent ≡ false) where
@@ -28,25 +30,30 @@ module _ (old new : Source) (step : Step Token) (unspent : old.spent ≡ false) 
   renumbers_unspent word tokens taken note (numbers n number h) = h.1.spent
   renumbers_unspent word tokens taken note (unnumbered fault number failed left) = left.spent
 
+  end_unspent : (last : Option OpenBlock) → Ends last old step new → new.spent ≡ false
+  end_unspent None h = ap (λ (s : Source). s.spent) h.1 ∙ unspent
+  end_unspent (Some block) h = h.1.spent
+
   effect_unspent : (effect : Effect) (taken : ℕ) (note : Note) → HasEffect effect taken note old step new → new.spent ≡ false
   effect_unspent (gives token) taken note h = h.1.spent
   effect_unspent (gives_item item word) taken note h = h.1.spent
   effect_unspent (fails fault) taken note h = h.1.spent
-  effect_unspent ends taken note h = ap (λ (s : Source). s.spent) h.1 ∙ unspent
+  effect_unspent ends taken note h = end_unspent (last_block old.blocks) h
   effect_unspent passes taken note h = h.1.spent
   effect_unspent (defines named) taken note h = defines_unspent named (meaning_of old.definitions named.name) taken note h
   effect_unspent (undefines name) taken note h = h.1.spent
   effect_unspent (opens_where wanted word name) taken note h = h.1.spent
   effect_unspent (opens_if word tokens) taken note h = decides_unspent word tokens _ taken note h
   effect_unspent (opens_unread word) taken note h = h.1.spent
-  effect_unspent (parts block) taken note h = h.1.spent
-  effect_unspent (parts_if block word tokens) taken note h = decides_unspent word tokens _ taken note h
+  effect_unspent parts taken note h = h.1.spent
+  effect_unspent skips_branch taken note h = h.1.spent
+  effect_unspent (parts_if word tokens) taken note h = decides_unspent word tokens _ taken note h
   effect_unspent closes taken note h = h.1.spent
-  effect_unspent (unfinished word) taken note h = h.1.spent
   effect_unspent (renumbers word tokens) taken note h = renumbers_unspent word tokens taken note h
 
   pub steps_unspent : (spent : Bool) → old.spent ≡ spent → wants_memory step ≡ false
-      → MatchBool spent ((step ≡ Err Finished) × (new ≡ old)) (IsRefusedStep old step ⊎ Makes (move_of old.dead_for_good old.blocks old.rest) old step new)
+      → MatchBool spent ((step ≡ Err Finished) × (new ≡ old)) (IsRefusedStep old step
+      ⊎ Makes (note_of old.dead_for_good old.blocks old.rest) (move_of old.dead_for_good old.blocks old.rest) old step new)
       → new.spent ≡ false
   steps_unspent true e reported h = cc
   steps_unspent false e reported (inl h) =
@@ -54,4 +61,4 @@ module _ (old new : Source) (step : Step Token) (unspent : old.spent ≡ false) 
       cc
   steps_unspent false e reported (inr h) =
       let move = move_of old.dead_for_good old.blocks old.rest in
-      effect_unspent move.effect move.taken move.note h
+      effect_unspent move.effect move.taken (note_of old.dead_for_good old.blocks old.rest) h

@@ -1,27 +1,27 @@
 -- A number sign without a word after it: that it is passed is a step of the reader.
-use Rattle.std.proofs.Common.{◌≡◌, ◌∙◌, ℕ, suc, ◌+◌, Bool, true, false, if◌then◌else◌, List, ◌∷◌, refl, ap, sym, subst, Option, Some, None, arith}
+use Rattle.std.proofs.Common.{◌≡◌, ◌∙◌, ℕ, suc, ◌+◌, true, false, List, ◌∷◌, refl, ap, sym, subst, None, arith}
 use Rattle.std.specs.List.{cons_option}
 use Rattle.pp_lexer.specs.Lexed.{Seen}
 use Rattle.pp_model.specs.Sights.{sight_of}
 use Rattle.pp_model.specs.Blocks.{line_at, block_lines}
 use Rattle.pp_model.specs.SourceReader.{SourceReader, is_on_directive_line}
-use Rattle.pp_model.specs.Acts.{passed, moved, live_act, dead_act}
+use Rattle.pp_model.specs.Calls.{Fault}
+use Rattle.pp_model.specs.Acts.{pause_at, advanced_by, act}
 use Rattle.pp_model.specs.declared.sight.Sight.{Sight}
 use Rattle.pp_model.specs.declared.sight.Sight.TheVariants as sight
 use Rattle.pp_macros.specs.Item.{Step}
 use Rattle.pp_lexer.specs.declared.token.Token.{Token}
 use Rattle.pp_directives.specs.inner.Lined.{AreLined}
 use Rattle.pp_macros.specs.inner.OpenBlocks.{last_block, is_live_in}
-use Rattle.pp_macros.specs.inner.SourceMoves as moves
-use Rattle.pp_macros.specs.inner.SourceMoves.{notes_text, notes_directive}
+use Rattle.pp_macros.specs.inner.SourceMoves.{Note, unnoted, directive_line, notes_text, notes_directive}
 use Rattle.pp_macros.specs.inner.Source.{Source, Pauses}
 use Rattle.pp_rs.specs.inner.Stands.{StandsForReader}
-use Rattle.pp_rs.proofs.source.DirectiveBeforeLemmas.{begins_with_hash, AddsDirective, lone_adds}
+use Rattle.pp_rs.proofs.source.DirectiveBeforeLemmas.{begins_with_hash, AddsDirective, lone_adds, no_word_adds}
 use Rattle.pp_rs.proofs.source.DirectivePlaceLemmas.{one_after, off_line_after_end}
 use Rattle.pp_macros.proofs.work.QuietLemmas.{is_bare, BeginsBare, begins_bare, lone_ends, quiet_item}
 use Rattle.pp_rs.proofs.source.Simulates.{Simulates}
 use Rattle.pp_rs.proofs.source.StandsAfterLemmas.{lined_here}
-use Rattle.pp_rs.proofs.source.StepHereLemmas.{acts_on, pauses_here}
+use Rattle.pp_rs.proofs.source.StepHereLemmas.{pauses_here}
 use Rattle.pp_rs.proofs.source.StandsQuietLemmas.{stands_two}
 
 -- a number sign and a token after it that is no word add no line of a block
@@ -44,30 +44,34 @@ bare_begins sight.Lone h = refl
 bare_begins (sight.NoWord fault) h = refl
 bare_begins (sight.Directive directive word) h = cc
 
-module _ {old : Source} {r : SourceReader} (s : StandsForReader old r) {live : Bool} (alive : is_live_in (last_block old.blocks) ≡ live)
-    (move : Step Token) (new : Source) where
-  pub bare_passes : {shown : Sight} (e : sight_of old.rest ≡ shown) → is_bare shown ≡ true → ((position : ℕ) → line_at position shown ≡ None)
-      → {note : moves.Note} → notes_text note ≡ false
+module _ {old : Source} {r : SourceReader} (s : StandsForReader old r) (move : Step Token) (new : Source) where
+  bare_passes : {shown : Sight} (e : sight_of old.rest ≡ shown) → is_bare shown ≡ true → ((position : ℕ) → line_at position shown ≡ None)
+      → {note : Note} → notes_text note ≡ false
       → (is_live_in (last_block old.blocks) ≡ true → is_on_directive_line r.items (suc (suc r.position)) ≡ false)
-      → AddsDirective 2 old.rest (notes_directive note) → acts_on live shown r ≡ passed (moved 2 r)
+      → AddsDirective 2 old.rest (notes_directive note) → act r ≡ pause_at (advanced_by 2 r)
       → Pauses 2 note old.blocks old move new → Simulates move r new
   bare_passes {shown} e bare none text off adds acts h =
       let b = begins_bare old.rest shown bare e in
-      pauses_here s alive move new e acts (
+      pauses_here s move new acts (
         h.0,
         stands_two s off e b.hash b.name b.after (bare_begins shown bare) text adds b.front
             (bare_quiet r.position b none (lined_here old r s)) h.1 h.2,
       )
 
-  lone_acts : (shown_live : Bool) → acts_on shown_live sight.Lone r ≡ passed (moved 2 r)
-  lone_acts true = refl
-  lone_acts false = refl
-
-  pub lone_passes : sight_of old.rest ≡ sight.Lone → Pauses 2 moves.directive_line old.blocks old move new → Simulates move r new
-  lone_passes e h =
+  -- a number sign alone on its line
+  pub lone_passes : sight_of old.rest ≡ sight.Lone → act r ≡ pause_at (advanced_by 2 r) → Pauses 2 directive_line old.blocks old move new
+      → Simulates move r new
+  lone_passes e a h =
       let b = begins_bare old.rest sight.Lone refl e in
       let front = sym s.rest ∙ b.front in
       bare_passes e refl (λ position. refl) refl
       (λ is. off_line_after_end r.items (suc r.position) b.name b.after (one_after r.items r.position b.hash (b.name ∷ b.after) front)
       (lone_ends b.hash b.name b.after (b.seen b.after)))
-      (lone_adds old.rest e) (lone_acts live) h
+      (lone_adds old.rest e) a h
+
+  -- in dead text one before what is no word
+  pub no_word_passes : is_live_in (last_block old.blocks) ≡ false → (fault : Fault) → sight_of old.rest ≡ sight.NoWord fault
+      → act r ≡ pause_at (advanced_by 2 r) → Pauses 2 unnoted old.blocks old move new → Simulates move r new
+  no_word_passes dead fault e a h =
+      bare_passes e refl (λ position. refl) refl (λ alive. let bad : true ≡ false = sym alive ∙ dead in cc)
+      (no_word_adds old.rest fault e (lined_here old r s)) a h

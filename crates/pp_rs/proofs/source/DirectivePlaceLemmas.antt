@@ -1,16 +1,13 @@
 -- Which positions of a source lie on a directive's line, by the items that stand there.
-use Rattle.std.proofs.Common.{◌≡◌, ◌≢◌, ◌∙◌, ℕ, zero, suc, ◌+◌, Bool, true, false, ◌&&◌, ◌||◌, not, if◌then◌else◌, List, [], ◌∷◌, drop, refl, ap, sym, Option, Some, Ok, Err, arith}
+use Rattle.std.proofs.Common.{◌≡◌, ◌≢◌, ◌∙◌, ℕ, zero, suc, ◌+◌, Bool, true, false, ◌&&◌, ◌||◌, not, if◌then◌else◌, List, [], ◌∷◌, drop, refl, ap, sym, Some, arith}
 use Rattle.std.specs.List.{slice_get}
 use Rattle.std.proofs.lemmas.List.{drop-drop}
-use Rattle.pp_lexer.specs.Items.{Lexeme}
 use Rattle.pp_lexer.specs.Lexed.{Seen}
-use Rattle.pp_lexer.specs.declared.lexer.item.TokenValue.{TokenValue as LexerTokenValue}
-use Rattle.pp_lexer.specs.declared.lexer.item.TokenValue.TheVariants.{Hash, NewLine, Ident as LexerIdent, Integer as LexerInteger, Float as LexerFloat, Punct as LexerPunct}
-use Rattle.pp_model.specs.Conversions.{is_newline, is_hash}
 use Rattle.pp_model.specs.Lines.{ends_line, line_length}
 use Rattle.pp_model.specs.Sights.{is_directive_hash}
 use Rattle.pp_model.specs.SourceReader.{is_on_directive_line}
-use Rattle.pp_model.specs.inner.SourceReader.{is_directive_hash_at, ends_line_at}
+use Rattle.pp_model.proofs.DirectivePlaceLemmas.{end_is_no_hash}
+use Rattle.pp_model.proofs.DirectivePlaceLemmas as place
 
 -- the item at a position is the first one after it
 pub item_here : (source : List Seen) (position : ℕ) (s : Seen) (rest : List Seen) → drop position source ≡ s ∷ rest → slice_get source position ≡ Some s
@@ -24,26 +21,11 @@ one_after source position s rest e =
     let next : suc position ≡ position + 1 = omega arith in
     ap (λ k. drop k source) next ∙ sym (drop-drop 1 position source) ∙ ap (drop 1) e
 
-newline_begins_none : (value : LexerTokenValue) (at_start : Bool) → is_newline value ≡ true → is_hash value && at_start ≡ false
-newline_begins_none Hash at_start e = cc
-newline_begins_none NewLine at_start e = refl
-newline_begins_none (LexerIdent name) at_start e = cc
-newline_begins_none (LexerInteger i) at_start e = cc
-newline_begins_none (LexerFloat f) at_start e = cc
-newline_begins_none (LexerPunct p) at_start e = cc
-
--- what ends a line is no number sign
-end_is_no_hash : (item : Lexeme) → ends_line item ≡ true → is_directive_hash item ≡ false
-end_is_no_hash (Ok token) e = newline_begins_none token.value token.start_of_line e
-end_is_no_hash (Err fault) e = cc
-
 module _ (source : List Seen) where
   -- after an item a directive's line goes on, or begins
   pub on_line_after : (position : ℕ) (s : Seen) (rest : List Seen) → drop position source ≡ s ∷ rest
       → is_on_directive_line source (suc position) ≡ (is_directive_hash s.item || (not (ends_line s.item) && is_on_directive_line source position))
-  on_line_after position s rest e =
-      ap (λ (found : Option Seen). is_directive_hash_at found || (not (ends_line_at found) && is_on_directive_line source position))
-      (item_here source position s rest e)
+  on_line_after position s rest e = place.on_line_after source position s (item_here source position s rest e)
 
   -- after the number sign of a directive it has begun
   pub on_line_after_hash : (position : ℕ) (s : Seen) (rest : List Seen) → drop position source ≡ s ∷ rest → is_directive_hash s.item ≡ true

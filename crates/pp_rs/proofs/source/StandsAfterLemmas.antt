@@ -6,7 +6,7 @@ use Rattle.pp_lexer.specs.Lexed.{Seen}
 use Rattle.pp_model.specs.Definitions.{Definitions}
 use Rattle.pp_model.specs.Blocks.{Truths, open_blocks, block_lines, blocks_at, innermost, is_live}
 use Rattle.pp_model.specs.SourceReader.{SourceReader}
-use Rattle.pp_model.specs.Acts.{after_word}
+use Rattle.pp_model.specs.inner.Acts.{after_word}
 use Rattle.pp_model.specs.declared.block.BlockLine.{BlockLine}
 use Rattle.pp_macros.specs.inner.Defined.{meaning_of}
 use Rattle.pp_directives.specs.inner.Lined.{AreLined}
@@ -67,7 +67,7 @@ module _ (old : Source) (r : SourceReader) (s : StandsForReader old r) where
   lined_here = subst AreLined (sym s.rest) (lined_after r.position r.items s.lined)
 
   pub after_here : after_word r ≡ drop 2 old.rest
-  after_here = sym (drop-drop 2 r.position r.items) ∙ ap (λ items. drop 2 items) (sym s.rest)
+  after_here = ap (λ items. drop 2 items) (sym s.rest)
 
   pub remembered_here : IsRemembered old r.items r.truths r.position
   remembered_here = record { text = s.remembers_text; directive = s.remembers_directive; apart = s.directives; off_line = s.off_line }

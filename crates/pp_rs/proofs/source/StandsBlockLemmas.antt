@@ -14,7 +14,7 @@ use Rattle.pp_model.specs.declared.sight.Sight.TheVariants as sight
 use Rattle.pp_macros.specs.Item.{Step}
 use Rattle.pp_macros.specs.inner.OpenBlocks.{last_block, outer_blocks, is_live_in, block_opened, block_unread, block_parted, block_skipped, block_decided, AreBefore}
 use Rattle.pp_macros.specs.declared.blocks.OpenBlock.{OpenBlock}
-use Rattle.pp_macros.specs.inner.SourceMoves as moves
+use Rattle.pp_macros.specs.inner.SourceMoves.{directive_line}
 use Rattle.pp_macros.specs.inner.Source.{Source, Pauses}
 use Rattle.pp_rs.specs.inner.Stands.{StandsForReader}
 use Rattle.pp_rs.proofs.blocks.BlockStepLemmas.{AddsLine, opens_read, opens_unread, closes_last, parts_else, parts_skipped, parts_read}
@@ -38,7 +38,7 @@ module _ {old : Source} {r : SourceReader} (s : StandsForReader old r)
   module _ {move : Step Token} {new : Source} where
     -- a skipped line that opens a block
     pub opened_unread : is_live_in (last_block old.blocks) ≡ false → part_of directive ≡ Some part.Opens
-        → Pauses (whole_line old.rest) moves.directive_line (old.blocks ++ block_unread word ∷ []) old move new → PausesAt move new (after_line r)
+        → Pauses (whole_line old.rest) directive_line (old.blocks ++ block_unread word ∷ []) old move new → PausesAt move new (after_line r)
     opened_unread dead its h =
         block_pauses s e r.truths (old.blocks ++ block_unread word ∷ []) its refl
         (opens_unread r.items (block_line r word part.Opens) (r.position + whole_line old.rest) (adds_here part.Opens its) r.truths
@@ -46,7 +46,7 @@ module _ {old : Source} {r : SourceReader} (s : StandsForReader old r)
 
     -- a line whose condition is read in live text, and opens a block
     pub opened_read : (holds : Bool) → is_live_in (last_block old.blocks) ≡ true → part_of directive ≡ Some part.Opens
-        → Pauses (whole_line old.rest) moves.directive_line (old.blocks ++ block_opened word holds ∷ []) old move new → PausesAt move new (decided r holds)
+        → Pauses (whole_line old.rest) directive_line (old.blocks ++ block_opened word holds ∷ []) old move new → PausesAt move new (decided r holds)
     opened_read holds alive its h =
         block_pauses s e (with_truth r.position holds r.truths) (old.blocks ++ block_opened word holds ∷ []) its
         (text_before_truth r.items r.position holds r.truths r.position (omega arith))
@@ -56,7 +56,7 @@ module _ {old : Source} {r : SourceReader} (s : StandsForReader old r)
 
     -- a line that closes the innermost block
     pub closed_last : (kept : OpenBlock) → last_block old.blocks ≡ Some kept → part_of directive ≡ Some part.Closes
-        → Pauses (whole_line old.rest) moves.directive_line (outer_blocks old.blocks) old move new → PausesAt move new (after_line r)
+        → Pauses (whole_line old.rest) directive_line (outer_blocks old.blocks) old move new → PausesAt move new (after_line r)
     closed_last kept found its h =
         block_pauses s e r.truths (outer_blocks old.blocks) its refl
         (closes_last r.items (block_line r word part.Closes) (r.position + whole_line old.rest) (adds_here part.Closes its) r.truths
@@ -65,7 +65,7 @@ module _ {old : Source} {r : SourceReader} (s : StandsForReader old r)
 
     -- an `#else` of the innermost block
     pub parted_last : (kept : OpenBlock) → last_block old.blocks ≡ Some kept → part_of directive ≡ Some part.Else
-        → Pauses (whole_line old.rest) moves.directive_line (outer_blocks old.blocks ++ block_parted kept ∷ []) old move new → PausesAt move new (after_line r)
+        → Pauses (whole_line old.rest) directive_line (outer_blocks old.blocks ++ block_parted kept ∷ []) old move new → PausesAt move new (after_line r)
     parted_last kept found its h =
         block_pauses s e r.truths (outer_blocks old.blocks ++ block_parted kept ∷ []) its refl
         (parts_else r.items (block_line r word part.Else) (r.position + whole_line old.rest) (adds_here part.Else its) r.truths (outer_blocks old.blocks) kept
@@ -73,7 +73,7 @@ module _ {old : Source} {r : SourceReader} (s : StandsForReader old r)
 
     -- an `#elif` of the innermost block that is skipped
     pub skipped_last : (kept : OpenBlock) → last_block old.blocks ≡ Some kept → part_of directive ≡ Some part.Elif → kept.live_around && not kept.taken ≡ false
-        → Pauses (whole_line old.rest) moves.directive_line (outer_blocks old.blocks ++ block_skipped kept ∷ []) old move new → PausesAt move new (after_line r)
+        → Pauses (whole_line old.rest) directive_line (outer_blocks old.blocks ++ block_skipped kept ∷ []) old move new → PausesAt move new (after_line r)
     skipped_last kept found its skips h =
         block_pauses s e r.truths (outer_blocks old.blocks ++ block_skipped kept ∷ []) its refl
         (parts_skipped r.items (block_line r word part.Elif) (r.position + whole_line old.rest) (adds_here part.Elif its) r.truths
@@ -83,7 +83,7 @@ module _ {old : Source} {r : SourceReader} (s : StandsForReader old r)
     -- an `#elif` of the innermost block whose condition is read
     pub decided_last : (kept : OpenBlock) → last_block old.blocks ≡ Some kept → part_of directive ≡ Some part.Elif → kept.live_around ≡ true
         → kept.taken ≡ false → (holds : Bool)
-        → Pauses (whole_line old.rest) moves.directive_line (outer_blocks old.blocks ++ block_decided kept holds ∷ []) old move new
+        → Pauses (whole_line old.rest) directive_line (outer_blocks old.blocks ++ block_decided kept holds ∷ []) old move new
         → PausesAt move new (decided r holds)
     decided_last kept found its around untaken holds h =
         block_pauses s e (with_truth r.position holds r.truths) (outer_blocks old.blocks ++ block_decided kept holds ∷ []) its

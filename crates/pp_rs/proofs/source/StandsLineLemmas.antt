@@ -19,7 +19,7 @@ use Rattle.pp_macros.specs.Item.{Step}
 use Rattle.pp_macros.specs.inner.Defined.{meaning_of}
 use Rattle.pp_macros.specs.inner.OpenBlocks.{StandForBlocks, AreBefore}
 use Rattle.pp_macros.specs.declared.blocks.OpenBlock.{OpenBlock}
-use Rattle.pp_macros.specs.inner.SourceMoves as moves
+use Rattle.pp_macros.specs.inner.SourceMoves.{directive_line}
 use Rattle.pp_macros.specs.inner.Source.{Source, IsAfter, Pauses}
 use Rattle.pp_rs.specs.inner.Stands.{StandsForReader}
 use Rattle.pp_macros.proofs.work.BodyLemmas.{line_length_least}
@@ -61,12 +61,12 @@ module _ {old : Source} {r : SourceReader} (s : StandsForReader old r)
   module _ {new : Source} where
     remembers_line : (truths : Truths) (blocks : List OpenBlock)
         → has_live_text_before r.items truths r.position ≡ has_live_text_before r.items r.truths r.position
-        → IsAfter (whole_line old.rest) moves.directive_line blocks old new → IsRemembered new r.items truths (r.position + whole_line old.rest)
+        → IsAfter (whole_line old.rest) directive_line blocks old new → IsRemembered new r.items truths (r.position + whole_line old.rest)
     remembers_line truths blocks same b = line_remembered old new r.items r.truths r.position s.rest
         (remembered_here old r s) directive word e truths same blocks b
 
     -- after a line that is none of a block
-    pub stands_line : (definitions : Definitions) → part_of directive ≡ None → IsAfter (whole_line old.rest) moves.directive_line old.blocks old new
+    pub stands_line : (definitions : Definitions) → part_of directive ≡ None → IsAfter (whole_line old.rest) directive_line old.blocks old new
         → definitions ≡ meaning_of new.definitions → StandsForReader new (record (after_line r) { definitions = definitions })
     stands_line definitions its b means =
         after_line_is s definitions r.truths (stands_quiet s (whole_line old.rest) definitions (line_there old.rest directive word e) b means
@@ -74,7 +74,7 @@ module _ {old : Source} {r : SourceReader} (s : StandsForReader old r)
         (remembers_line r.truths old.blocks refl b))
 
     -- the same where no definition changes
-    pub line_stays : part_of directive ≡ None → IsAfter (whole_line old.rest) moves.directive_line old.blocks old new
+    pub line_stays : part_of directive ≡ None → IsAfter (whole_line old.rest) directive_line old.blocks old new
         → new.definitions ≡ old.definitions → StandsForReader new (after_line r)
     line_stays its b same = stands_line r.definitions its b (same_meaning s new same)
 
@@ -82,7 +82,7 @@ module _ {old : Source} {r : SourceReader} (s : StandsForReader old r)
     pub block_pauses : {p : Part} {move : Step Token} (truths : Truths) (blocks : List OpenBlock) → part_of directive ≡ Some p
         → has_live_text_before r.items truths r.position ≡ has_live_text_before r.items r.truths r.position
         → StandForBlocks r.items truths blocks (blocks_at r.items (r.position + whole_line old.rest)) → AreBefore (r.position + whole_line old.rest) truths
-        → Pauses (whole_line old.rest) moves.directive_line blocks old move new → PausesAt move new (record (after_line r) { truths = truths })
+        → Pauses (whole_line old.rest) directive_line blocks old move new → PausesAt move new (record (after_line r) { truths = truths })
     block_pauses {p} truths blocks is text stand before h = (
       h.0,
       after_line_is s r.definitions truths (stands_further old r s (whole_line old.rest) r.definitions truths (block_line r word p ∷ []) new

@@ -5,13 +5,12 @@ use Rattle.pp_model.specs.Definitions.{Definitions}
 use Rattle.pp_model.specs.Sights.{sight_of, is_text}
 use Rattle.pp_model.specs.Blocks.{block_lines, Block, blocks_at}
 use Rattle.pp_model.specs.SourceReader.{SourceReader, is_on_directive_line}
-use Rattle.pp_model.specs.Acts.{moved}
+use Rattle.pp_model.specs.Acts.{advanced_by}
 use Rattle.pp_model.specs.declared.sight.Sight.{Sight}
 use Rattle.pp_macros.specs.inner.Defined.{meaning_of}
 use Rattle.pp_macros.specs.inner.OpenBlocks.{last_block, is_live_in, StandForBlocks}
 use Rattle.pp_macros.specs.declared.blocks.OpenBlock.{OpenBlock}
-use Rattle.pp_macros.specs.inner.SourceMoves as moves
-use Rattle.pp_macros.specs.inner.SourceMoves.{notes_text, notes_directive}
+use Rattle.pp_macros.specs.inner.SourceMoves.{Note, notes_text, notes_directive}
 use Rattle.pp_macros.specs.inner.Source.{Source, IsAfter}
 use Rattle.pp_rs.specs.inner.Stands.{StandsForReader}
 use Rattle.pp_rs.proofs.source.DirectiveBeforeLemmas.{begins_with_hash, AddsDirective}
@@ -28,7 +27,7 @@ module _ {old : Source} {r : SourceReader} (s : StandsForReader old r) (new : So
 
 module _ {old : Source} {r : SourceReader} (s : StandsForReader old r) {new : Source} where
   -- after so many items among which no line of a block stands
-  pub stands_quiet : (n : ℕ) {note : moves.Note} (definitions : Definitions) → n ≤ length old.rest → IsAfter n note old.blocks old new
+  pub stands_quiet : (n : ℕ) {note : Note} (definitions : Definitions) → n ≤ length old.rest → IsAfter n note old.blocks old new
       → definitions ≡ meaning_of new.definitions → AddsLines r.position n old.rest [] → IsRemembered new r.items r.truths (r.position + n)
       → StandsForReader new (record r { position = r.position + n; definitions = definitions })
   stands_quiet n definitions within b means adds remembered =
@@ -38,16 +37,16 @@ module _ {old : Source} {r : SourceReader} (s : StandsForReader old r) {new : So
       (before_later r.position (r.position + n) r.truths (omega arith) s.truths) remembered
 
   -- the same where no definition changes
-  stands_same : (n : ℕ) {note : moves.Note} → n ≤ length old.rest → IsAfter n note old.blocks old new → new.definitions ≡ old.definitions
+  stands_same : (n : ℕ) {note : Note} → n ≤ length old.rest → IsAfter n note old.blocks old new → new.definitions ≡ old.definitions
       → AddsLines r.position n old.rest []
-      → IsRemembered new r.items r.truths (r.position + n) → StandsForReader new (moved n r)
+      → IsRemembered new r.items r.truths (r.position + n) → StandsForReader new (advanced_by n r)
   stands_same n within b same adds remembered = stands_quiet n r.definitions within b (same_meaning s new same) adds remembered
 
   -- after one item, a newline, a token of the text or a number sign that begins no line
-  pub stands_one : {live : Bool} (alive : is_live_in (last_block old.blocks) ≡ live) {shown : Sight} (e : sight_of old.rest ≡ shown) {note : moves.Note}
+  pub stands_one : {live : Bool} (alive : is_live_in (last_block old.blocks) ≡ live) {shown : Sight} (e : sight_of old.rest ≡ shown) {note : Note}
       → is_one_item shown ≡ true → notes_text note ≡ (live && is_text shown) → notes_directive note ≡ false → IsAfter 1 note old.blocks old new
       → new.definitions ≡ old.definitions
-      → StandsForReader new (moved 1 r)
+      → StandsForReader new (advanced_by 1 r)
   stands_one {live} alive e {note} one text none b same =
       let h : is_one_item (sight_of old.rest) ≡ true = ap is_one_item e ∙ one in
       let f = one_in_front old.rest h in
@@ -58,11 +57,11 @@ module _ {old : Source} {r : SourceReader} (s : StandsForReader old r) {new : So
 
   -- after the number sign of a directive and what stands after it, where they add no line of a block
   pub stands_two : (off : is_live_in (last_block old.blocks) ≡ true → is_on_directive_line r.items (suc (suc r.position)) ≡ false) {shown : Sight} (e : sight_of old.rest ≡ shown)
-      {note : moves.Note} (a b : Seen) (rest : List Seen)
+      {note : Note} (a b : Seen) (rest : List Seen)
       → begins_with_hash shown ≡ true → notes_text note ≡ false → AddsDirective 2 old.rest (notes_directive note) → old.rest ≡ a ∷ b ∷ rest
       → ((later : List Seen) → block_lines r.position (a ∷ b ∷ later) ≡ block_lines (r.position + 2) later) → IsAfter 2 note old.blocks old new
       → new.definitions ≡ old.definitions
-      → StandsForReader new (moved 2 r)
+      → StandsForReader new (advanced_by 2 r)
   stands_two off {shown} e {note} a b rest begins text adds front quiet after same =
       stands_same 2 (omega (arith, ap length front)) after same (λ later. ap (λ items. block_lines r.position (take 2 items ++ later)) front ∙ quiet later)
       (two_remembered old new r.items r.truths r.position s.rest (remembered_here old r s) off shown e begins a b rest front note text

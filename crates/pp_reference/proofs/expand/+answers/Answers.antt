@@ -1,17 +1,32 @@
-use Rattle.std.proofs.Common.{[], refl, ◌∙◌, subst, arith}
-use Rattle.std.specs.Prelude.{Ok, Err}
+use Rattle.std.proofs.Common.{rules, ◌≡◌, ◌-◌, List, [], refl, ◌∙◌, subst, arith}
+use Rattle.std.specs.Prelude.{None, Ok, Err}
 use Rattle.std.proofs.lemmas.Result.{IfOk-weaker}
 use Rattle.pp_reference.specs.inner.Changes.{meaning_of}
-use Rattle.pp_model.specs.Emitting.{Collects, done, failed, item, Alone, answers_at}
+use Rattle.pp_model.specs.Calls.{Site, misfit}
+use Rattle.pp_model.specs.Emitting.{Collects, Each, done, failed, item, Alone, answers_at}
 use Rattle.pp_model.specs.inner.Emitting.{read_before, list_before}
 use Rattle.pp_model.specs.Reading.{Expander, Listed, argument_reading}
 use Rattle.pp_reference.specs.inner.Seen.{seen}
 use Rattle.pp_reference.specs.inner.SeenList.{list_state}
 use Rattle.pp_reference.specs.declared.expander.Turn.TheVariants.{Item, Replaced, Called}
 use Rattle.pp_model.specs.declared.read.Taken.TheVariants as taken
-use Rattle.pp_model.proofs.CollectLemmas.{after_items-before, after_lists-before, after_items-end, Alone-collects, each_at-failed, each_at-more, each_at-end}
+use Rattle.pp_model.proofs.CollectLemmas.{after_items-before, after_lists-before, after_items-end, each_at-failed, each_at-more, each_at-end}
+use Rattle.pp_model.specs.declared.read.Read.{Read}
+use Rattle.pp_model.proofs.LevelLemmas.{answers_each}
 use Rattle.pp_reference.proofs.TurnLemmas.{turns_mean, answer_known, resolves_fault, resolves_next}
 use Rattle.pp_reference.proofs.expand.+answers.Goals as goal
+
+pub answer-returns-clause-answers : goal.answer-returns-clause-answers
+answer-returns-clause-answers t c =
+    let definition = c.args.call.now.opening.definition in
+    let arguments = c.args.call.now.site.arguments in
+    let site : Site = record { paren = c.args.call.now.site.paren; arguments = arguments; visible = meaning_of c.args.visible.now; open_around = c.args.hidden.now } in
+    let fits : misfit definition.parameters arguments ≡ None = search rules in
+    let same : c.deref.result.now ≡ arguments = search rules in
+    IfOk-weaker c.expand_arguments.result _ _
+    (λ out h. answers_each c.args.levels definition site out c.if-levels-eq0.false fits
+    (subst (λ (lists : List (List Read)). Each (Alone (c.args.levels - 1)) (meaning_of c.args.visible.now) c.args.hidden.now lists out) same h))
+    c.expand_arguments.ensures.each
 
 pub answer_alone-returns-clause-answers : goal.answer_alone-returns-clause-answers
 answer_alone-returns-clause-answers t c =
@@ -75,10 +90,8 @@ collect-returns-in-End-clause-collects t c =
 
 pub expand_argument-returns-clause-alone : goal.expand_argument-returns-clause-alone
 expand_argument-returns-clause-alone t c =
-    IfOk-weaker c.collect-expanded.result _ _ (λ out h. Alone-collects c.args.levels c.args.tokens.now
-    (meaning_of c.args.visible.now) c.args.hidden.now out
-    (subst (λ (e : Expander Listed). Collects argument_reading
-    (answers_at c.args.levels) e out) c.in_ok-expander.ensures h)) c.collect-expanded.ensures.collects
+    IfOk-weaker c.collect-expanded.result _ _ (λ out h. subst (λ (e : Expander Listed). Collects argument_reading
+    (answers_at c.args.levels) e out) c.in_ok-expander.ensures h) c.collect-expanded.ensures.collects
 
 pub expand_arguments-returns-in-Err-clause-each : goal.expand_arguments-returns-in-Err-clause-each
 expand_arguments-returns-in-Err-clause-each t c =

@@ -2,16 +2,13 @@ use Rattle.std.proofs.Common.{sym, ap, ◌∙◌}
 use Rattle.std.specs.Prelude.{Result, Ok, Err, Bool}
 use Rattle.std.proofs.lemmas.Result.{IfOk-weaker}
 use Rattle.pp_model.specs.Calls.{Fault}
-use Rattle.pp_model.specs.Emitting.{answers_at}
-use Rattle.pp_model.specs.LineWords.{name, neither}
-use Rattle.pp_model.proofs.WordLemmas.{operand_parenthesized}
+use Rattle.pp_model.specs.LineWords.{name, in_parentheses, neither}
 use Rattle.pp_reference.proofs.line_words.operand.Goals as goal
 
 pub returns-then-is_open_paren-clause-operand : goal.returns-then-is_open_paren-clause-operand
 returns-then-is_open_paren-clause-operand c =
-    IfOk-weaker c.operand_in_parentheses.result _ _ (λ answer h. operand_parenthesized c.args.kind c.args.directive
-    (answers_at c.args.levels) c.in_ok-found.found _ _ _ answer c.in_ok-found.ensures.takes
-    (sym c.is_open_paren.ensures ∙ c.if-is_open_paren.true) h) c.operand_in_parentheses.ensures.parenthesized
+    IfOk-weaker c.operand_in_parentheses.result _ _ (λ answer h. in_parentheses c.in_ok-found.found _ _ _ answer c.in_ok-found.ensures.takes
+    (sym c.is_open_paren.ensures ∙ c.if-is_open_paren.true) h) c.operand_in_parentheses.ensures.inside
 
 pub returns-in-Ok-clause-operand : goal.returns-in-Ok-clause-operand
 returns-in-Ok-clause-operand c =

@@ -1,5 +1,5 @@
 use Rattle.std.proofs.Common.{arith, refl, sym}
-use Rattle.pp_macros.specs.inner.SourceMoves.{renumbers}
+use Rattle.pp_model.specs.Moves.{renumbers}
 use Rattle.pp_directives.proofs.SourceActsLemmas.{err_result}
 use Rattle.pp_directives.proofs.ConditionActsLemmas.{tokens_failed, number_failed, numbering_failed, line_numbers}
 use Rattle.pp_directives.proofs.directives.DirectiveProcessor.number_lines.Goals as goal

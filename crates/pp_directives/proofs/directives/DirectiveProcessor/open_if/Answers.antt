@@ -1,6 +1,6 @@
 use Rattle.std.proofs.Common.{arith, ◌∙◌, ◌∷◌, ◌++◌, [], ap}
 use Rattle.pp_macros.specs.declared.blocks.OpenBlock.{OpenBlock}
-use Rattle.pp_macros.specs.inner.SourceMoves.{opens_if}
+use Rattle.pp_model.specs.Moves.{opens_if}
 use Rattle.pp_directives.proofs.SourceActsLemmas.{err_result}
 use Rattle.pp_directives.proofs.ConditionActsLemmas.{tokens_failed, if_failed, if_opens}
 use Rattle.pp_directives.proofs.directives.DirectiveProcessor.open_if.Goals as goal

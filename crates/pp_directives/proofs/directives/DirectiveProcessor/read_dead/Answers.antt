@@ -1,6 +1,7 @@
 use Rattle.std.proofs.Common.{None, false}
 use Rattle.pp_model.specs.Sights.{directive_of}
-use Rattle.pp_macros.specs.inner.OpenBlocks.{last_block}
+use Rattle.pp_model.specs.Moves.{directive_move}
+use Rattle.pp_macros.specs.inner.OpenBlocks.{facts_among}
 use Rattle.pp_directives.proofs.NotedLemmas.{word_read}
 use Rattle.pp_directives.proofs.directives.DirectiveProcessor.read_dead.Goals as goal
 
@@ -10,5 +11,5 @@ returns-in-Ident-clause-acts c =
     let e = c.in_ok-token.ensures in
     let acts = rw (c.directive_of-directive.ensures, c.in-Ident.name-is, ← c.self-in-Ident.view_is) at c.in_ok-act_dead-in-Ident.ensures.acts in
     rw (← c.self.view_is, e.is, c.in-Ident.is, ← e.takes.rest)
-    (word_read p.definitions p.blocks p.line_offset p.has_text p.has_directive p.dead_for_good p.lexer c.first_token.new.lexer e.takes.rest false
-    (last_block p.blocks) (directive_of c.in-Ident.name) c.in_ok-token.token.location None _ acts)
+    (word_read p.definitions p.blocks p.line_offset p.has_text p.has_directive p.dead_for_good p.lexer c.first_token.new.lexer e.takes.rest
+    (directive_move false (facts_among p.blocks) (directive_of c.in-Ident.name) c.in_ok-token.token.location c.first_token.new.lexer.rest) None _ acts)

@@ -1,0 +1,141 @@
+-- What holds of each kind of line holds of all directives: the one place where a proof goes through the table of Moves.
+use Rattle.std.proofs.Common.{◌≡◌, refl, Bool, true, false, not, ◌||◌, if◌then◌else◌, List, Option, Some, None}
+use Rattle.std.specs.Prelude.{Result, Ok, Err}
+use Rattle.pp_lexer.specs.Entry.{Entry}
+use Rattle.pp_lexer.specs.Lexed.{Seen}
+use Rattle.pp_lexer.specs.Preorder.{preorder}
+use Rattle.pp_lexer.specs.TokenValue.{is_ordinary}
+use Rattle.pp_lexer.specs.declared.token.Location.{Location}
+use Rattle.pp_lexer.specs.declared.token.PreprocessorError.TheVariants.{ElifAfterElse, MoreThanOneElse}
+use Rattle.pp_lexer.specs.declared.token.Token.{Token}
+use Rattle.pp_lexer.specs.declared.token.TokenValue.{TokenValue}
+use Rattle.pp_model.specs.Names.{Name}
+use Rattle.pp_model.specs.Calls.{Fault}
+use Rattle.pp_model.specs.Lines.{line_length, line_fault, line_tokens, comments_before_end, ended_line, only_name}
+use Rattle.pp_model.specs.DefineLines.{defined_on}
+use Rattle.pp_model.specs.Blocks.{part_of}
+use Rattle.pp_model.specs.Moves.{BlockFacts, Effect, gives_item, fails, passes, defines, undefines, opens_where, opens_if, opens_unread, parts, skips_branch, parts_if, closes, renumbers, Move, failing, passing, line_move, skip_move, item_move, version_item, extension_item, pragma_item, elif_move, else_effect, else_move, endif_move, directive_move}
+use Rattle.pp_model.specs.inner.Moves.{skip_by}
+use Rattle.pp_model.specs.declared.block.Part.TheVariants as part
+use Rattle.pp_model.specs.declared.definition.Named.{Named}
+use Rattle.pp_model.specs.declared.directive.Directive.{Directive}
+use Rattle.pp_model.specs.declared.directive.Directive.TheVariants as d
+
+-- an effect of the whole line
+abbrev pub over_line : Effect → List Seen → Move
+over_line effect after = record { effect = effect; taken = line_length after }
+
+-- whether an `#elif` of the block is skipped
+abbrev pub skips : BlockFacts → Bool
+skips block = not block.are_surroundings_live || block.has_taken_branch
+
+-- The value is that of an item that holds a directive's tokens, whatever stands before it.
+abbrev pub IsDirectiveItem : (Bool → Bool → TokenValue) → Type 0
+IsDirectiveItem value = (has_text is_first : Bool) → is_ordinary (value has_text is_first) ≡ false
+
+-- It holds of each kind of line that this directive has, in live or in dead text.
+pub record HoldsOfLine (P : Move → Type 0) (live : Bool) (block : Option BlockFacts) (directive : Directive)
+    (word : Location) (after : List Seen) : Type 0 where
+  pub failing : (fault : Fault) → P (failing fault)
+  pub refusing : (fault : Fault) → P (over_line (fails fault) after)
+  pub unknown : live ≡ false → part_of directive ≡ None → P (passing 0)
+  pub passing : part_of directive ≡ None → P (over_line passes after)
+  pub items : live ≡ true → part_of directive ≡ None → (value : Bool → Bool → TokenValue) → IsDirectiveItem value
+      → P (over_line (gives_item value word) after)
+  pub defining : live ≡ true → part_of directive ≡ None → (named : Named) → defined_on word after ≡ Ok named → P (over_line (defines named) after)
+  pub undefining : live ≡ true → part_of directive ≡ None → (name : Name) → P (over_line (undefines name) after)
+  pub numbering : live ≡ true → part_of directive ≡ None → (tokens : List Token) → P (over_line (renumbers word tokens) after)
+  pub asking : live ≡ true → part_of directive ≡ Some part.Opens → (holds : Bool → Bool) (name : Name) → P (over_line (opens_where holds word name) after)
+  pub opening : live ≡ true → part_of directive ≡ Some part.Opens → (tokens : List Token) → P (over_line (opens_if word tokens) after)
+  pub unread : live ≡ false → part_of directive ≡ Some part.Opens → P (over_line (opens_unread word) after)
+  pub parting : part_of directive ≡ Some part.Else → (found : BlockFacts) → block ≡ Some found → found.has_else ≡ false → P (over_line parts after)
+  pub skipping : part_of directive ≡ Some part.Elif → (found : BlockFacts) → block ≡ Some found → found.has_else ≡ false → skips found ≡ true
+      → P (over_line skips_branch after)
+  pub choosing : part_of directive ≡ Some part.Elif → (found : BlockFacts) → block ≡ Some found → found.has_else ≡ false → skips found ≡ false
+      → (tokens : List Token) → P (over_line (parts_if word tokens) after)
+  pub closing : part_of directive ≡ Some part.Closes → (found : BlockFacts) → block ≡ Some found → P (over_line closes after)
+
+module _ (P : Move → Type 0) (word : Location) (after : List Seen) (none : (fault : Fault) → P (failing fault)) where
+  line_holds : {A : Type 0} (line : Result A Fault) (effect : A → Effect) → ((value : A) → line ≡ Ok value → P (over_line (effect value) after))
+      → P (line_move line effect after)
+  line_holds (Ok value) effect h = h value refl
+  line_holds (Err fault) effect h = none fault
+
+  skip_holds : (effect : Effect) → P (over_line effect after) → P (skip_move effect after)
+  skip_holds effect h = go (line_fault after)
+    where
+      go : (found : Option Fault) → P (skip_by found effect (line_length after))
+      go (Some fault) = none fault
+      go None = h
+
+  item_holds : (value : List Entry → Bool → Bool → TokenValue) → ((tokens : List Entry) → P (over_line (gives_item (value tokens) word) after))
+      → P (item_move value word after)
+  item_holds value h =
+      line_holds (line_tokens after) (λ tokens. gives_item (value (preorder tokens)) word) (λ tokens is. h (preorder tokens))
+
+module _ (P : Move → Type 0) (live : Bool) (directive : Directive) (word : Location) (after : List Seen) where
+  elif_holds : (block : Option BlockFacts) → HoldsOfLine P live block directive word after → part_of directive ≡ Some part.Elif
+      → P (elif_move block word after)
+  elif_holds None all its = all.failing _
+  elif_holds (Some found) all its = go found.has_else (skips found) refl refl
+    where
+      go : (e s : Bool) → found.has_else ≡ e → skips found ≡ s → P (if e then failing (ElifAfterElse, word) else if s then skip_move skips_branch after
+          else line_move (line_tokens after) (parts_if word) after)
+      go true s p q = all.failing _
+      go false true p q = skip_holds P word after all.failing skips_branch (all.skipping its found refl p q)
+      go false false p q = line_holds P word after all.failing (line_tokens after) (parts_if word) (λ tokens is. all.choosing its found refl p q tokens)
+
+  else_holds : (block : Option BlockFacts) → HoldsOfLine P live block directive word after → part_of directive ≡ Some part.Else
+      → P (else_move block word after)
+  else_holds block all its = line_holds P word after all.failing (ended_line word after) (λ end. else_effect block word) (λ end is. of block refl)
+    where
+      of : (b : Option BlockFacts) → block ≡ b → P (over_line (else_effect b word) after)
+      of None p = all.refusing _
+      of (Some found) p = go found.has_else refl
+        where
+          go : (e : Bool) → found.has_else ≡ e → P (over_line (if e then fails (MoreThanOneElse, word) else parts) after)
+          go true q = all.refusing _
+          go false q = all.parting its found p q
+
+  endif_holds : (block : Option BlockFacts) → HoldsOfLine P live block directive word after → part_of directive ≡ Some part.Closes
+      → P (endif_move block word after)
+  endif_holds None all its = all.failing _
+  endif_holds (Some found) all its = go found.are_surroundings_live
+    where
+      go : (b : Bool) → P (if b then line_move (ended_line word after) (λ end. closes) after else skip_move closes after)
+      go true = line_holds P word after all.failing (ended_line word after) (λ end. closes) (λ end is. all.closing its found refl)
+      go false = skip_holds P word after all.failing closes (all.closing its found refl)
+
+module _ (P : Move → Type 0) (block : Option BlockFacts) (word : Location) (after : List Seen) where
+  live_holds : (directive : Directive) → HoldsOfLine P true block directive word after → P (directive_move true block directive word after)
+  live_holds d.Define all = line_holds P word after all.failing (defined_on word after) defines (all.defining refl refl)
+  live_holds d.Undef all = line_holds P word after all.failing (only_name word after) undefines (λ name is. all.undefining refl refl name)
+  live_holds d.If all = line_holds P word after all.failing (line_tokens after) (opens_if word) (λ tokens is. all.opening refl refl tokens)
+  live_holds d.Ifdef all =
+      line_holds P word after all.failing (only_name word after) (opens_where (λ is. is) word) (λ name is. all.asking refl refl _ name)
+  live_holds d.Ifndef all = line_holds P word after all.failing (only_name word after) (opens_where not word) (λ name is. all.asking refl refl not name)
+  live_holds d.Elif all = elif_holds P true d.Elif word after block all refl
+  live_holds d.Else all = else_holds P true d.Else word after block all refl
+  live_holds d.Endif all = endif_holds P true d.Endif word after block all refl
+  live_holds d.Error all = all.failing _
+  live_holds d.Line all = line_holds P word after all.failing (line_tokens after) (renumbers word) (λ tokens is. all.numbering refl refl tokens)
+  live_holds d.Version all = item_holds P word after all.failing (version_item (comments_before_end after)) (λ tokens. all.items refl refl _ (λ a b. refl))
+  live_holds d.Extension all = item_holds P word after all.failing extension_item (λ tokens. all.items refl refl _ (λ a b. refl))
+  live_holds d.Pragma all = item_holds P word after all.failing pragma_item (λ tokens. all.items refl refl _ (λ a b. refl))
+  live_holds d.Unknown all = all.failing _
+
+  dead_holds : (directive : Directive) → HoldsOfLine P false block directive word after → P (directive_move false block directive word after)
+  dead_holds d.If all = skip_holds P word after all.failing (opens_unread word) (all.unread refl refl)
+  dead_holds d.Ifdef all = skip_holds P word after all.failing (opens_unread word) (all.unread refl refl)
+  dead_holds d.Ifndef all = skip_holds P word after all.failing (opens_unread word) (all.unread refl refl)
+  dead_holds d.Elif all = elif_holds P false d.Elif word after block all refl
+  dead_holds d.Else all = else_holds P false d.Else word after block all refl
+  dead_holds d.Endif all = endif_holds P false d.Endif word after block all refl
+  dead_holds d.Unknown all = all.unknown refl refl
+  dead_holds _ all = skip_holds P word after all.failing passes (all.passing refl)
+
+  -- so it holds of each directive
+  pub directive_holds : (live : Bool) (directive : Directive) → HoldsOfLine P live block directive word after
+      → P (directive_move live block directive word after)
+  directive_holds true directive all = live_holds directive all
+  directive_holds false directive all = dead_holds directive all

@@ -1,0 +1,149 @@
+-- The table of directives: what a token or a line at the front of the items that are left does, one equation a rule
+-- (GLSL ES 3.20, section 3.4, and docs/RULES.md, Directives 1 to 14). Acts says what each effect does to a reader.
+-- The lines of `#define`, `#if`, `#elif` and `#line` are gathered here and decided in Reads.
+use Rattle.std.specs.Prelude.{ℕ, ◌+◌, Bool, true, false, not, ◌||◌, if◌then◌else◌, List, drop, Option, Some, None, Result, Ok, Err}
+use Rattle.std.specs.Option.{option_map_or}
+use Rattle.pp_lexer.specs.Entry.{Entry}
+use Rattle.pp_lexer.specs.Lexed.{Seen}
+use Rattle.pp_lexer.specs.Preorder.{preorder}
+use Rattle.pp_lexer.specs.declared.token.Location.{Location}
+use Rattle.pp_lexer.specs.declared.token.PreprocessorError.TheVariants.{UnexpectedHash, ErrorDirective, UnknownDirective, ElifOutsideOfBlock, ElseOutsideOfBlock, EndifOutsideOfBlock, ElifAfterElse, MoreThanOneElse}
+use Rattle.pp_lexer.specs.declared.token.Token.{Token}
+use Rattle.pp_lexer.specs.declared.token.TokenValue.{TokenValue}
+use Rattle.pp_lexer.specs.declared.token.TokenValue.TheVariants.{Version, Extension, Pragma}
+use Rattle.pp_model.specs.Names.{Name}
+use Rattle.pp_model.specs.Calls.{Fault}
+use Rattle.pp_model.specs.Lines.{line_length, line_fault, line_tokens, comments_before_end, ended_line, only_name}
+use Rattle.pp_model.specs.DefineLines.{defined_on}
+use Rattle.pp_model.specs.declared.definition.Named.{Named}
+use Rattle.pp_model.specs.declared.directive.Directive.{Directive}
+use Rattle.pp_model.specs.declared.directive.Directive.TheVariants as d
+use Rattle.pp_model.specs.declared.sight.Sight.{Sight}
+use Rattle.pp_model.specs.declared.sight.Sight.TheVariants as sight
+
+-- what a line that parts or closes the innermost block asks of it
+pub record BlockFacts : Type 0 where
+  pub are_surroundings_live : Bool
+  pub has_taken_branch : Bool
+  pub has_else : Bool
+
+pub data Effect : Type 0 where
+  -- a token of the text is given,
+  gives : Token → Effect
+  -- or an item, whose value depends on whether live text stands before it, and whether it is the first directive,
+  gives_item : (Bool → Bool → TokenValue) → Location → Effect
+  -- or a fault, or at the end first the fault of each block that is open;
+  fails : Fault → Effect
+  ends : Effect
+  -- nothing;
+  passes : Effect
+  -- a name is defined, or is no more;
+  defines : Named → Effect
+  undefines : Name → Effect
+  -- a block opens, live as it says of a name that is defined or isn't, or by the condition of these tokens, or unread;
+  opens_where : (Bool → Bool) → Location → Name → Effect
+  opens_if : Location → List Token → Effect
+  opens_unread : Location → Effect
+  -- the innermost block comes to its `#else`, or to an `#elif` that is skipped, or has a condition, or it closes;
+  parts : Effect
+  skips_branch : Effect
+  parts_if : Location → List Token → Effect
+  closes : Effect
+  -- or lines are numbered anew.
+  renumbers : Location → List Token → Effect
+
+-- what is done, and how many items are taken
+pub record Move : Type 0 where
+  pub effect : Effect
+  pub taken : ℕ
+
+-- after a fault nothing is said of how many items are taken
+abbrev pub failing : Fault → Move
+failing fault = record { effect = fails fault; taken = 0 }
+
+abbrev pub passing : ℕ → Move
+passing count = record { effect = passes; taken = count }
+
+-- a line with this value or fault, and these items after its word
+abbrev pub line_move : {A : Type 0} → Result A Fault → (A → Effect) → List Seen → Move
+line_move (Ok value) effect after = record { effect = effect value; taken = line_length after }
+line_move (Err fault) effect after = failing fault
+
+-- a line that is skipped, but for the lexer's errors
+abbrev pub skip_move : Effect → List Seen → Move
+skip_move effect line = option_map_or failing (line_fault line) (record { effect = effect; taken = line_length line })
+
+-- an item that holds the tokens of its line
+abbrev pub item_move : (List Entry → Bool → Bool → TokenValue) → Location → List Seen → Move
+item_move value word after = line_move (line_tokens after) (λ tokens. gives_item (value (preorder tokens)) word) after
+
+abbrev pub version_item : Bool → List Entry → Bool → Bool → TokenValue
+version_item has_comments tokens has_text is_first =
+    Version (record { tokens = tokens; is_first_directive = is_first; has_comments_before = has_comments })
+
+abbrev pub extension_item : List Entry → Bool → Bool → TokenValue
+extension_item tokens has_text is_first = Extension (record { tokens = tokens; has_non_directive_before = has_text })
+
+abbrev pub pragma_item : List Entry → Bool → Bool → TokenValue
+pragma_item tokens has_text is_first = Pragma (record { tokens = tokens })
+
+-- an `#elif` of the block: it is skipped where it can't be the first branch to be taken
+abbrev pub elif_move : Option BlockFacts → Location → List Seen → Move
+elif_move None word after = failing (ElifOutsideOfBlock, word)
+elif_move (Some block) word after =
+    if block.has_else then failing (ElifAfterElse, word)
+    else if not block.are_surroundings_live || block.has_taken_branch then skip_move skips_branch after
+    else line_move (line_tokens after) (parts_if word) after
+
+-- an `#else` of the block, once its line has ended
+abbrev pub else_effect : Option BlockFacts → Location → Effect
+else_effect None word = fails (ElseOutsideOfBlock, word)
+else_effect (Some block) word = if block.has_else then fails (MoreThanOneElse, word) else parts
+
+abbrev pub else_move : Option BlockFacts → Location → List Seen → Move
+else_move block word after = line_move (ended_line word after) (λ end. else_effect block word) after
+
+-- the `#endif` of the block
+abbrev pub endif_move : Option BlockFacts → Location → List Seen → Move
+endif_move None word after = failing (EndifOutsideOfBlock, word)
+endif_move (Some block) word after =
+    if block.are_surroundings_live then line_move (ended_line word after) (λ end. closes) after
+    else skip_move closes after
+
+-- A directive in live or in dead text, where these items stand after its word. Those that part and close blocks act in
+-- dead text too;
+abbrev pub directive_move : Bool → Option BlockFacts → Directive → Location → List Seen → Move
+directive_move live block d.Elif word after = elif_move block word after
+directive_move live block d.Else word after = else_move block word after
+directive_move live block d.Endif word after = endif_move block word after
+-- in live text each other directive acts;
+directive_move true block d.Define word after = line_move (defined_on word after) defines after
+directive_move true block d.Undef word after = line_move (only_name word after) undefines after
+directive_move true block d.If word after = line_move (line_tokens after) (opens_if word) after
+directive_move true block d.Ifdef word after = line_move (only_name word after) (opens_where (λ is. is) word) after
+directive_move true block d.Ifndef word after = line_move (only_name word after) (opens_where not word) after
+directive_move true block d.Error word after = failing (ErrorDirective, word)
+directive_move true block d.Line word after = line_move (line_tokens after) (renumbers word) after
+directive_move true block d.Version word after = item_move (version_item (comments_before_end after)) word after
+directive_move true block d.Extension word after = item_move extension_item word after
+directive_move true block d.Pragma word after = item_move pragma_item word after
+directive_move true block d.Unknown word after = failing (UnknownDirective, word)
+-- in dead text a block is opened unread, after an unknown word the line is dead text, and each other line is skipped.
+directive_move false block d.If word after = skip_move (opens_unread word) after
+directive_move false block d.Ifdef word after = skip_move (opens_unread word) after
+directive_move false block d.Ifndef word after = skip_move (opens_unread word) after
+directive_move false block d.Unknown word after = passing 0
+directive_move false block _ word after = skip_move passes after
+
+-- what stands in front, in live or in dead text, where the innermost block is this
+abbrev pub move_at : Bool → Option BlockFacts → Sight → List Seen → Move
+move_at live block sight.End rest = record { effect = ends; taken = 0 }
+move_at live block sight.NewLine rest = passing 1
+move_at live block (sight.Fault fault) rest = failing fault
+move_at live block (sight.Token token) rest = if live then record { effect = gives token; taken = 1 } else passing 1
+move_at live block (sight.Hash location) rest = if live then failing (UnexpectedHash, location) else passing 1
+move_at live block sight.Lone rest = passing 2
+move_at live block (sight.NoWord fault) rest = if live then failing fault else passing 2
+move_at live block (sight.Directive directive word) rest =
+    let line = directive_move live block directive word (drop 2 rest) in
+    record line { taken = 2 + line.taken }

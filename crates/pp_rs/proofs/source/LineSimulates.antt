@@ -1,0 +1,268 @@
+-- What each effect of a directive's line is to the source's reader: a step of it.
+use Rattle.std.proofs.Common.{◌≡◌, ◌∙◌, inl, inr, Bool, true, false, ◌&&◌, ◌||◌, not, ℕ, List, drop, refl, ap, sym, subst, Option, Some, None, is_some}
+use Rattle.std.specs.Prelude.{pos, ◌-ℤ◌, Ok, Err, option_map}
+use Rattle.pp_lexer.specs.declared.token.Location.{Location}
+use Rattle.pp_lexer.specs.declared.token.Token.{Token}
+use Rattle.pp_lexer.specs.declared.token.TokenValue.{TokenValue}
+use Rattle.pp_model.specs.Names.{Name}
+use Rattle.pp_model.specs.Definitions.{Definition, Definitions, changed}
+use Rattle.pp_model.specs.Emitting.{answers_at, expansion_limit}
+use Rattle.pp_model.specs.LineValues.{IsCondition, IsLineNumber}
+use Rattle.pp_model.specs.Sights.{sight_of}
+use Rattle.pp_model.specs.Blocks.{part_of}
+use Rattle.pp_model.specs.SourceReader.{SourceReader}
+use Rattle.pp_model.specs.Moves.{BlockFacts, Effect, gives_item, defines, undefines, opens_where, opens_if, opens_unread, parts, skips_branch, parts_if, closes, passes, renumbers, directive_move}
+use Rattle.pp_model.specs.inner.Moves.{taking_more}
+use Rattle.pp_model.specs.Acts.{pause_at, outcome_at, advanced_by, after_line, decided, effect_on, perform, act}
+use Rattle.pp_model.specs.Reads.{defines as defines_new, repeats, redefines, decides, undecided, renumbers as numbers_anew, unnumbered}
+use Rattle.pp_model.specs.inner.Reads.{defining, renumbered}
+use Rattle.pp_model.specs.declared.block.Part.TheVariants as part
+use Rattle.pp_model.specs.declared.definition.Named.{Named}
+use Rattle.pp_model.specs.declared.directive.Directive.{Directive}
+use Rattle.pp_model.specs.declared.outcome.Outcome.TheVariants as outcome
+use Rattle.pp_model.specs.declared.sight.Sight.TheVariants as sight
+use Rattle.pp_model.specs.declared.step.Step.TheVariants as step
+use Rattle.pp_model.proofs.MovesLemmas.{skips, directive_holds}
+use Rattle.pp_macros.specs.Item.{Step}
+use Rattle.pp_macros.specs.inner.Defined.{meaning_of}
+use Rattle.pp_macros.specs.inner.OpenBlocks.{last_block, kept_facts, facts_among, is_live_in, block_parted, block_skipped, block_decided}
+use Rattle.pp_macros.specs.declared.blocks.OpenBlock.{OpenBlock}
+use Rattle.pp_macros.specs.inner.Source.{Source, Pauses, DefinesOver, HasEffect, Decides, holds, faulty, numbers, unnumbered as faulty_number, Makes}
+use Rattle.pp_macros.specs.inner.SourceMoves.{directive_line}
+use Rattle.pp_rs.specs.inner.Stands.{StandsForReader}
+use Rattle.pp_macros.proofs.work.DirectiveLineLemmas.{begins_directive, quiet_word}
+use Rattle.pp_directives.proofs.ConditionActsLemmas.{with_last_is}
+use Rattle.pp_rs.proofs.source.DirectiveBeforeLemmas.{word_adds}
+use Rattle.pp_rs.proofs.source.Simulates.{Simulates}
+use Rattle.pp_rs.proofs.source.StandsBlockLemmas.{opened_read, opened_unread, closed_last, parted_last, skipped_last, decided_last}
+use Rattle.pp_rs.proofs.source.StandsLineLemmas.{stands_line, line_stays}
+use Rattle.pp_rs.proofs.source.StandsQuietLemmas.{stands_two}
+use Rattle.pp_rs.proofs.source.StepHereLemmas.{whole_line, PausesAt, gives_here, line_here, fails_here, pauses_here, passes_line}
+
+defined_now : {old : Source} {r : SourceReader} (s : StandsForReader old r) (name : Name) {found : Option Definition}
+    → meaning_of old.definitions name ≡ found → r.definitions name ≡ found
+defined_now s name known = ap (λ (m : Definitions). m name) s.definitions ∙ known
+
+-- where an `#elif` is skipped, no branch of the block can be the first to be taken
+skipped_dead : (around taken : Bool) → not around || taken ≡ true → around && not taken ≡ false
+skipped_dead true true e = refl
+skipped_dead true false e = cc
+skipped_dead false taken e = refl
+
+read_live : (around taken : Bool) → not around || taken ≡ false → around ≡ true
+read_live true taken e = refl
+read_live false taken e = cc
+
+read_untaken : (around taken : Bool) → not around || taken ≡ false → taken ≡ false
+read_untaken true true e = cc
+read_untaken false true e = cc
+read_untaken around false e = refl
+
+-- the same source with other numbers of lines
+renumbered_stands : (old : Source) (r : SourceReader) (s : StandsForReader old r) (word : Location) (n : ℕ)
+    → StandsForReader (record old { line_offset = pos n -ℤ pos word.line }) (record r { line_offset = pos n -ℤ pos word.line })
+renumbered_stands old r s word n = record {
+  rest = s.rest;
+  within = s.within;
+  definitions = s.definitions;
+  line_offset = refl;
+  lined = s.lined;
+  lines = s.lines;
+  blocks = s.blocks;
+  truths = s.truths;
+  unfinished = s.unfinished;
+  unspent = s.unspent;
+  not_dead = s.not_dead;
+  remembers_text = s.remembers_text;
+  remembers_directive = s.remembers_directive;
+  directives = s.directives;
+  off_line = s.off_line;
+}
+
+-- the innermost block of the facts that the table asks
+record Kept (blocks : List OpenBlock) (found : BlockFacts) : Type 0 where
+  block : OpenBlock
+  last : last_block blocks ≡ Some block
+  facts : kept_facts block ≡ found
+
+kept_among : (blocks : List OpenBlock) (found : BlockFacts) → facts_among blocks ≡ Some found → Kept blocks found
+kept_among blocks found e = go (last_block blocks) refl e
+  where
+    go : (last : Option OpenBlock) → last_block blocks ≡ last → option_map kept_facts last ≡ Some found → Kept blocks found
+    go None is e = cc
+    go (Some block) is e = record { block = block; last = is; facts = (let same : kept_facts block ≡ found = cc in same) }
+
+module _ {old : Source} {r : SourceReader} (s : StandsForReader old r) (move : Step Token) (new : Source)
+    {directive : Directive} {word : Location} (e : sight_of old.rest ≡ sight.Directive directive word) where
+  -- the effect of the line, on both sides
+  abbrev ActsBy : Effect → Type 0
+  ActsBy effect = act r ≡ effect_on effect (whole_line old.rest) r
+
+  abbrev Has : Effect → Type 0
+  Has effect = HasEffect effect (whole_line old.rest) directive_line old move new
+
+  passes_simulates : part_of directive ≡ None → ActsBy passes → Has passes → Simulates move r new
+  passes_simulates its a h = passes_line s move new a (h.0, line_stays s e its h.1 h.2)
+
+  item_simulates : part_of directive ≡ None → (value : Bool → Bool → TokenValue) → ActsBy (gives_item value word) → Has (gives_item value word)
+      → Simulates move r new
+  item_simulates its value a h =
+      let shown = value old.has_text (not (old.has_directive || old.has_text)) in
+      let same : act r ≡ outcome_at (outcome.Token (record { value = shown; location = word })) (advanced_by (whole_line old.rest) r) =
+      rw (s.remembers_text, s.remembers_directive) a in
+      rw h.0 (record {
+        after = after_line r;
+        steps = gives_here s (line_here s (λ n. outcome_at (outcome.Token (record { value = shown; location = word })) (advanced_by n r)) same);
+        stands = line_stays s e its h.1 h.2;
+      })
+
+  -- the name stood for nothing, for the same or for something else
+  define_over : part_of directive ≡ None → (named : Named) → act r ≡ record { step = step.Defines named; after = after_line r }
+      → (before : Option Definition) → meaning_of old.definitions named.name ≡ before
+      → DefinesOver named before (whole_line old.rest) directive_line old move new → Simulates move r new
+  define_over its named a None known h =
+      let t = record (after_line r) { definitions = changed r.definitions named.name (Some named.definition) } in
+      rw h.0 (record {
+        after = t;
+        steps = defines_new named None r t (ap (λ x. x.step) a) (defined_now s named.name known) refl (ap (λ x. defining named x.after) (sym a));
+        stands = stands_line s e (changed r.definitions named.name (Some named.definition)) its h.1
+            (ap (λ (m : Definitions). changed m named.name (Some named.definition)) s.definitions ∙ sym h.2.meaning);
+      })
+  define_over its named a (Some before) known (inl h) =
+      rw h.1 (record {
+        after = after_line r;
+        steps = repeats named before None r (after_line r) (ap (λ x. x.step) a) (defined_now s named.name known) h.0 refl (sym (ap (λ x. x.after) a));
+        stands = line_stays s e its h.2 h.3;
+      })
+  define_over its named a (Some before) known (inr h) =
+      rw h.1 (record {
+        after = after_line r;
+        steps = redefines named before _ r (after_line r) (ap (λ x. x.step) a) (defined_now s named.name known) h.0 refl (sym (ap (λ x. x.after) a));
+      })
+
+  define_simulates : part_of directive ≡ None → (named : Named) → ActsBy (defines named) → Has (defines named) → Simulates move r new
+  define_simulates its named a h =
+      define_over its named (line_here s (λ n. record { step = step.Defines named; after = advanced_by n r }) a)
+      (meaning_of old.definitions named.name) refl h
+
+  undefine_simulates : part_of directive ≡ None → (name : Name) → ActsBy (undefines name) → Has (undefines name) → Simulates move r new
+  undefine_simulates its name a h =
+      pauses_here s move new (line_here s (λ n. pause_at (record (advanced_by n r) { definitions = changed r.definitions name None })) a) (
+        h.0,
+        stands_line s e (changed r.definitions name None) its h.1
+            (ap (λ (m : Definitions). changed m name None) s.definitions ∙ sym h.2.meaning),
+      )
+
+  number_simulates : part_of directive ≡ None → (tokens : List Token) → ActsBy (renumbers word tokens) → Has (renumbers word tokens)
+      → Simulates move r new
+  number_simulates its tokens a (numbers n number pauses) =
+      let same : IsLineNumber (answers_at expansion_limit) word tokens r.definitions (Ok n) =
+      subst (λ (m : Definitions). IsLineNumber (answers_at expansion_limit) word tokens m (Ok n)) (sym s.definitions) number in
+      rw pauses.0 (record {
+        after = renumbered r word n;
+        steps = numbers_anew word tokens n None r (renumbered r word n) (ap (λ x. x.step) a) same refl refl;
+        stands = line_stays (renumbered_stands old r s word n) e its pauses.1 pauses.2;
+      })
+  number_simulates its tokens a (faulty_number fault number failed left) =
+      let same : IsLineNumber (answers_at expansion_limit) word tokens r.definitions (Err fault) =
+      subst (λ (m : Definitions). IsLineNumber (answers_at expansion_limit) word tokens m (Err fault)) (sym s.definitions) number in
+      rw failed (record { after = r; steps = unnumbered word tokens fault (Some (outcome.Fault fault)) r r (ap (λ x. x.step) a) same refl refl })
+
+  -- a line whose condition holds or not, or is at fault
+  condition_simulates : (tokens : List Token) (blocks : Bool → List OpenBlock) → act r ≡ record { step = step.Condition word tokens; after = r }
+      → ((value : Bool) → Pauses (whole_line old.rest) directive_line (blocks value) old move new → PausesAt move new (decided r value))
+      → Decides word tokens blocks (whole_line old.rest) directive_line old move new → Simulates move r new
+  condition_simulates tokens blocks a stands (holds value condition pauses) =
+      let there = stands value pauses in
+      let same : IsCondition (answers_at expansion_limit) word tokens r.definitions (Ok value) =
+      subst (λ (m : Definitions). IsCondition (answers_at expansion_limit) word tokens m (Ok value)) (sym s.definitions) condition in
+      rw there.0 (record {
+        after = decided r value;
+        steps = decides word tokens value None r (decided r value) (ap (λ x. x.step) a) same refl refl;
+        stands = there.1;
+      })
+  condition_simulates tokens blocks a stands (faulty fault condition failed left) =
+      let same : IsCondition (answers_at expansion_limit) word tokens r.definitions (Err fault) =
+      subst (λ (m : Definitions). IsCondition (answers_at expansion_limit) word tokens m (Err fault)) (sym s.definitions) condition in
+      rw failed (record { after = r; steps = undecided word tokens fault (Some (outcome.Fault fault)) r r (ap (λ x. x.step) a) same refl refl })
+
+  -- lines of blocks: a block opens,
+  ask_simulates : is_live_in (last_block old.blocks) ≡ true → part_of directive ≡ Some part.Opens → (asked : Bool → Bool) (name : Name)
+      → ActsBy (opens_where asked word name) → Has (opens_where asked word name) → Simulates move r new
+  ask_simulates alive its asked name a h =
+      pauses_here s move new (a ∙ ap (λ (m : Definitions). pause_at (decided r (asked (is_some (m name))))) s.definitions)
+      (opened_read s e (asked (is_some (meaning_of old.definitions name))) alive its h)
+
+  open_simulates : is_live_in (last_block old.blocks) ≡ true → part_of directive ≡ Some part.Opens → (tokens : List Token)
+      → ActsBy (opens_if word tokens) → Has (opens_if word tokens) → Simulates move r new
+  open_simulates alive its tokens a h = condition_simulates tokens _ a (λ value. opened_read s e value alive its) h
+
+  unread_simulates : is_live_in (last_block old.blocks) ≡ false → part_of directive ≡ Some part.Opens → ActsBy (opens_unread word)
+      → Has (opens_unread word) → Simulates move r new
+  unread_simulates dead its a h = passes_line s move new a (opened_unread s e dead its h)
+
+  -- or the innermost one is parted or closes
+  part_simulates : part_of directive ≡ Some part.Else → (found : BlockFacts) → facts_among old.blocks ≡ Some found → ActsBy parts → Has parts
+      → Simulates move r new
+  part_simulates its found is a h =
+      let k = kept_among old.blocks found is in
+      passes_line s move new a (parted_last s e k.block k.last its (rw (with_last_is block_parted old.blocks k.block k.last) at h))
+
+  skip_simulates : part_of directive ≡ Some part.Elif → (found : BlockFacts) → facts_among old.blocks ≡ Some found → skips found ≡ true
+      → ActsBy skips_branch → Has skips_branch → Simulates move r new
+  skip_simulates its found is skipped a h =
+      let k = kept_among old.blocks found is in
+      let dead : skips (kept_facts k.block) ≡ true = ap skips k.facts ∙ skipped in
+      passes_line s move new a (skipped_last s e k.block k.last its (skipped_dead k.block.live_around k.block.taken dead)
+      (rw (with_last_is block_skipped old.blocks k.block k.last) at h))
+
+  choose_simulates : part_of directive ≡ Some part.Elif → (found : BlockFacts) → facts_among old.blocks ≡ Some found → skips found ≡ false
+      → (tokens : List Token) → ActsBy (parts_if word tokens) → Has (parts_if word tokens) → Simulates move r new
+  choose_simulates its found is reads tokens a h =
+      let k = kept_among old.blocks found is in
+      let live : skips (kept_facts k.block) ≡ false = ap skips k.facts ∙ reads in
+      condition_simulates tokens _ a (λ value pauses.
+      decided_last s e k.block k.last its (read_live k.block.live_around k.block.taken live) (read_untaken k.block.live_around k.block.taken live) value
+      (rw (with_last_is (λ block. block_decided block value) old.blocks k.block k.last) at pauses)) h
+
+  close_simulates : part_of directive ≡ Some part.Closes → (found : BlockFacts) → facts_among old.blocks ≡ Some found → ActsBy closes → Has closes
+      → Simulates move r new
+  close_simulates its found is a h =
+      let k = kept_among old.blocks found is in
+      passes_line s move new a (closed_last s e k.block k.last its h)
+
+  -- after an unknown word in dead text the line is dead text
+  unknown_simulates : is_live_in (last_block old.blocks) ≡ false → part_of directive ≡ None → act r ≡ pause_at (advanced_by 2 r)
+      → Pauses 2 directive_line old.blocks old move new → Simulates move r new
+  unknown_simulates dead its a h =
+      let b = begins_directive old.rest directive word e in
+      pauses_here s move new a (
+        h.0,
+        stands_two s (λ alive. let bad : true ≡ false = sym alive ∙ dead in cc) e b.hash b.name b.after refl refl (word_adds old.rest directive word e) b.front
+            (λ later. quiet_word r.position old.rest later directive word b its) h.1 h.2,
+      )
+
+  -- the line of a directive is the reader's step, in live and in dead text
+  pub directive_simulates : (live : Bool) → is_live_in (last_block old.blocks) ≡ live
+      → act r ≡ perform (taking_more 2 (directive_move live (facts_among old.blocks) directive word (drop 2 old.rest))) r
+      → Makes directive_line (taking_more 2 (directive_move live (facts_among old.blocks) directive word (drop 2 old.rest))) old move new
+      → Simulates move r new
+  directive_simulates live alive =
+      directive_holds (λ m. act r ≡ perform (taking_more 2 m) r → Makes directive_line (taking_more 2 m) old move new → Simulates move r new)
+      (facts_among old.blocks) word (drop 2 old.rest) live directive (record {
+        failing = λ fault a h. fails_here s move new a h.0;
+        refusing = λ fault a h. fails_here s move new a h.0;
+        unknown = λ now its a h. unknown_simulates (alive ∙ now) its a h;
+        passing = λ its a h. passes_simulates its a h;
+        items = λ now its value is a h. item_simulates its value a h;
+        defining = λ now its named is a h. define_simulates its named a h;
+        undefining = λ now its name a h. undefine_simulates its name a h;
+        numbering = λ now its tokens a h. number_simulates its tokens a h;
+        asking = λ now its asked name a h. ask_simulates (alive ∙ now) its asked name a h;
+        opening = λ now its tokens a h. open_simulates (alive ∙ now) its tokens a h;
+        unread = λ now its a h. unread_simulates (alive ∙ now) its a h;
+        parting = λ its found is none a h. part_simulates its found is a h;
+        skipping = λ its found is none skipped a h. skip_simulates its found is skipped a h;
+        choosing = λ its found is none reads tokens a h. choose_simulates its found is reads tokens a h;
+        closing = λ its found is a h. close_simulates its found is a h;
+      })
