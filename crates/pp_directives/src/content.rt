@@ -6,11 +6,11 @@ ghost use Rattle.pp_model.specs.Conversions.{is_newline};
 ghost use Rattle.pp_model.specs.Run.{items_of, content_tokens};
 ghost use Rattle.pp_macros.specs.inner.LineReading as spec;
 
-use crate::convert::convert_lexer_token;
 use crate::source_lexer::SourceLexer;
 use pp_lexer::lexer;
 use pp_lexer::token::Token;
 use pp_macros::halt::Halt;
+use pp_model::conversion::convert_lexer_token;
 use std::alloc::Global;
 
 // Whether it is a newline.

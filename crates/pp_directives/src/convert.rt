@@ -11,32 +11,12 @@ ghost use Rattle.pp_model.specs.Conversions.{conversion};
 ghost use Rattle.pp_macros.specs.Item.{as_step};
 
 use pp_lexer::lexer::{self, PlainItem, plain_value};
-use pp_lexer::token::{Location, PreprocessorError, Token, TokenValue};
+use pp_lexer::token::{Token, TokenValue};
 use pp_macros::step::{Step, StepExit};
+use pp_model::conversion::convert_lexer_token;
 use std::alloc::{AllocError, Global};
 
-/// The token with its value and place.
-///
-/// A number sign is no token of the preprocessed source: it is `UnexpectedHash` at its place. A
-/// newline has no result, since each caller handles it as a separator. It allocates nothing.
-pub fn convert_lexer_token(token: lexer::Token) -> Result<Token, (PreprocessorError, Location)>
-    requires { token.value ≢ NewLine }
-    ensures is { result ≡ conversion token }
-    ensures ordinary { IfOk result (λ token. IsTrue (is_ordinary token.value)) }
-{
-    let location = token.location;
-    let value = match token.value {
-        lexer::TokenValue::Ident(name) => TokenValue::Ident(name),
-        lexer::TokenValue::Integer(integer) => TokenValue::Integer(integer),
-        lexer::TokenValue::Float(float) => TokenValue::Float(float),
-        lexer::TokenValue::Punct(punct) => TokenValue::Punct(punct),
-        lexer::TokenValue::Hash => return Err((PreprocessorError::UnexpectedHash, location)),
-        lexer::TokenValue::NewLine => unreachable!(),
-    };
-    Ok(Token { value, location })
-}
-
-/// The same as a step: for a number sign it is an `Error`.
+/// `convert_lexer_token` as a step: for a number sign it is an `Error`.
 pub fn convert_lexer_token_to_step(token: lexer::Token) -> Step<Token>
     requires { token.value ≢ NewLine }
     ensures is { result ≡ as_step (conversion token) }

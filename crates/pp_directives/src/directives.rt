@@ -27,7 +27,7 @@ use crate::convert::{convert_lexer_token_to_step, word_token};
 use crate::line_value::{condition, line_number};
 use crate::lines::{
     DefineLine, define_line, ended_line, endif_end, first_name, first_token, line_tokens,
-    only_name, refused_token, rest_of_line, skip_line,
+    only_name, rest_of_line, skip_line,
 };
 use crate::live_names::LiveNames;
 use crate::source_lexer::SourceLexer;
@@ -40,6 +40,7 @@ use pp_macros::define::Define;
 use pp_macros::definitions::Definitions;
 use pp_macros::halt::Halt;
 use pp_macros::step::{Step, StepExit};
+use pp_model::conversion::refused_token;
 use pp_model::directive::{Directive, directive_of};
 use std::alloc::Global;
 use std::marker::Model;

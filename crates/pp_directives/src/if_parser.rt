@@ -10,7 +10,7 @@ ghost use Rattle.pp_directives.specs.inner.LineItems.{outcome_of};
 
 use pp_lexer::token::{Location, PreprocessorError, Text, Token, TokenValue};
 use pp_macros::arguments::finish_call;
-use pp_macros::calls::{Caller, Taken, is_left_paren, is_right_paren};
+use pp_macros::calls::{Caller, Taken};
 use pp_macros::definitions::Definitions;
 use pp_macros::halt::{Halt, halt_of};
 use pp_macros::list_lexer::{ListLexer, unpainted};
@@ -18,6 +18,7 @@ use pp_macros::list_step::{step_list, take_list};
 use pp_macros::open_around::OpenAround;
 use pp_macros::step::StepExit;
 use pp_model::outcome::Fault;
+use pp_model::parentheses::{is_left_paren, is_right_paren};
 use pp_model::read::Read;
 use pp_model::word::{LineKind, Word, WordReading, Words, reading_of, unwanted_reading};
 use std::alloc::{AllocError, Global};

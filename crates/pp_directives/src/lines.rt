@@ -3,7 +3,6 @@
 ghost use Rattle.std.specs.Prelude.{◌≡◌, ◌≢◌, [], false, Some, Ok, IsTrue, All, IfOk, IfSome};
 ghost use Rattle.pp_lexer.specs.Lexed.{comments_before};
 ghost use Rattle.pp_lexer.specs.TokenValue.{is_ordinary};
-ghost use Rattle.pp_model.specs.Conversions as conversions;
 ghost use Rattle.pp_model.specs.DefineLines.{is_attached_paren, definition_at, defined_on};
 ghost use Rattle.pp_model.specs.Lines.{first_token, first_name, ended_line, only_name, line_tokens, line_length, comments_before_end};
 ghost use Rattle.pp_directives.specs.inner.LineEntries.{line_entries};
@@ -14,13 +13,13 @@ ghost use Rattle.pp_macros.specs.inner.ParameterReading.{function_at};
 ghost use Rattle.pp_macros.specs.inner.SourceLexed.{unreported_at};
 ghost use Rattle.pp_macros.specs.inner.Unreported.{Reports};
 
-use crate::convert::convert_lexer_token;
 use crate::parameters::parameters;
 use crate::source_lexer::SourceLexer;
 use pp_lexer::lexer;
-use pp_lexer::token::{Location, PreprocessorError, Punct, Text, Token, TokenValue, Tokens};
+use pp_lexer::token::{Location, PreprocessorError, Punct, Text, Token, Tokens};
 use pp_macros::define::Define;
 use pp_macros::halt::Halt;
+use pp_model::conversion::{convert_lexer_token, refused_token};
 use std::alloc::Global;
 
 /// The next token. The end of the source is an error at the directive's word.
@@ -35,30 +34,6 @@ pub fn first_token(word: Location, lexer: &mut SourceLexer<'_>) -> Result<lexer:
         Some(token) => Ok(token),
         None => Err(Halt::Fault((PreprocessorError::UnexpectedEndOfInput, word))),
     }
-}
-
-/// The fault of a token where the directive doesn't allow it.
-pub fn refused_token(token: lexer::Token) -> (PreprocessorError, Location)
-    ensures { result ≡ conversions.refused_token token }
-{
-    let location = token.location;
-    let error = match token.value {
-        lexer::TokenValue::Hash => PreprocessorError::UnexpectedHash,
-        lexer::TokenValue::NewLine => PreprocessorError::UnexpectedNewLine,
-        lexer::TokenValue::Ident(name) => {
-            PreprocessorError::UnexpectedToken(TokenValue::Ident(name))
-        }
-        lexer::TokenValue::Integer(integer) => {
-            PreprocessorError::UnexpectedToken(TokenValue::Integer(integer))
-        }
-        lexer::TokenValue::Float(float) => {
-            PreprocessorError::UnexpectedToken(TokenValue::Float(float))
-        }
-        lexer::TokenValue::Punct(punct) => {
-            PreprocessorError::UnexpectedToken(TokenValue::Punct(punct))
-        }
-    };
-    (error, location)
 }
 
 /// A name with its place.

@@ -9,12 +9,13 @@ ghost use Rattle.pp_macros.specs.inner.SourceLexed.{unreported_at};
 ghost use Rattle.pp_macros.specs.inner.Unreported.{Reports};
 ghost use Rattle.pp_directives.specs.inner.ReadNames.{parameters_to};
 
-use crate::lines::{first_token, refused_token};
+use crate::lines::first_token;
 use crate::source_lexer::SourceLexer;
 use pp_lexer::lexer;
 use pp_lexer::token::{Location, PreprocessorError, Punct, Text};
 use pp_macros::halt::Halt;
 use pp_macros::parameter_names::ParameterNames;
+use pp_model::conversion::refused_token;
 use std::alloc::Global;
 
 // The name of one more parameter, which comes next.

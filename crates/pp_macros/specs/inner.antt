@@ -25,7 +25,6 @@ pub mod Idle
 pub mod Left
 pub mod Calling
 pub mod CallTurns
-pub mod CallNesting
 pub mod Seeking
 pub mod Finishing
 pub mod ParameterReading

@@ -1,8 +1,8 @@
 //! Arguments of calls, each expanded alone.
 
-ghost use Rattle.std.specs.Prelude.{◌≡◌, ◌&&◌, ◌==◌, ◌++◌, ◌-◌, ◌<◌, ◌^◌, [], IfOk, OnOk, length, Ok, Err};
+ghost use Rattle.std.specs.Prelude.{◌≡◌, ◌++◌, ◌-◌, [], IfOk, OnOk, length, Ok, Err};
 ghost use Rattle.std.specs.List.{list_all};
-ghost use Rattle.pp_model.specs.Calls.{arguments_of, misfit, is_comma, nesting_after};
+ghost use Rattle.pp_model.specs.Calls.{arguments_of, misfit};
 ghost use Rattle.pp_model.specs.Emitting.{Alone, Each, answers_at};
 ghost use Rattle.pp_macros.specs.inner.Defined.{meaning_of};
 ghost use Rattle.pp_macros.specs.inner.Finishing.{Finishes, IsAtStart, IsShort, AreShort, AreOfCall, read_to_end, site_at};
@@ -14,46 +14,19 @@ ghost use Rattle.pp_macros.specs.inner.Plain.{is_plain};
 ghost use Rattle.pp_macros.specs.declared.step.StepExit.TheVariants.{Error};
 
 use crate::argument_lists::{ArgumentLists, Part};
-use crate::calls::{Call, Caller, Taken, is_left_paren, is_right_paren};
+use crate::calls::{Call, Caller, Taken};
 use crate::define::Define;
-use crate::definitions::Definitions;
-use crate::expander::is_line_name;
+use crate::definitions::{Definitions, gives_itself};
 use crate::halt::{Halt, halt_of};
 use crate::list_lexer::{ListLexer, take_out};
 use crate::list_step::step_list;
 use crate::open_around::OpenAround;
 use crate::step::StepExit;
-use pp_lexer::token::{PreprocessorError, Punct, TokenValue};
+use pp_lexer::token::PreprocessorError;
+use pp_model::names::is_line_name;
+use pp_model::parentheses::{ends_argument, nesting_after};
 use pp_model::read::Read;
 use std::alloc::{AllocError, Global};
-
-// Whether it is a comma.
-fn is_comma(value: &TokenValue) -> bool
-    ensures { result ≡ is_comma value.now }
-{
-    matches!(value, TokenValue::Punct(Punct::Comma))
-}
-
-// Whether it is a comma outside inner parentheses.
-fn ends_argument(depth: usize, value: &TokenValue) -> bool
-    ensures { result ≡ (is_comma value.now && (depth == 0)) }
-{
-    is_comma(value) && depth == 0
-}
-
-// How many parentheses are open after a token, if `depth` are open before it.
-fn nesting_after(depth: usize, value: &TokenValue) -> usize
-    requires { depth < 2 ^ 63 }
-    ensures { result ≡ nesting_after depth value.now }
-{
-    if is_left_paren(value) {
-        depth + 1
-    } else if is_right_paren(value) {
-        depth.saturating_sub(1)
-    } else {
-        depth
-    }
-}
 
 // The parts between the commas that are outside inner parentheses.
 fn parts_of(alloc: Global, tokens: &[Read]) -> Result<Vec<Part>, AllocError>
@@ -222,15 +195,10 @@ fn is_plain(read: &Read, definitions: &Definitions, hidden: &OpenAround<'_>) -> 
     ensures { result ≡ is_plain definitions.now hidden.now read.now }
 {
     let value = &read.token.value;
-    match value {
-        TokenValue::Ident(name) => {
-            !is_line_name(value)
-                && (read.painted
-                    || (definitions.find(name.as_str()).is_none()
-                        && !hidden.is_open(name.as_str())))
-        }
-        _ => true,
+    if read.painted {
+        return !is_line_name(value);
     }
+    gives_itself(definitions, value) && !hidden.is_open_name(value)
 }
 
 // Whether each token gives itself.

@@ -2,9 +2,7 @@
 
 ghost use Rattle.std.specs.Prelude.{◌≡◌, ◌⊎◌, ◌∷◌, ◌++◌, [], OnOk, true, false, IfOk, IfSome, Ok, Err, Some, None, IsSome, is_some, option_map};
 ghost use Rattle.pp_lexer.specs.PreprocessorError.{out_of_memory};
-ghost use Rattle.pp_model.specs.Calls.{is_left_paren, is_right_paren, nesting};
 ghost use Rattle.pp_model.specs.Painting.{unpainted, painted_among};
-ghost use Rattle.pp_macros.specs.inner.CallNesting.{nesting_named};
 ghost use Rattle.pp_macros.specs.inner.Seeking.{FindsBy, Enters, FollowsToken};
 ghost use Rattle.pp_macros.specs.inner.Frames.{layer, names_of, outermost_frame_line};
 ghost use Rattle.pp_macros.specs.Held.{HoldsOrdinary};
@@ -20,14 +18,16 @@ ghost use Rattle.pp_macros.specs.declared.step.StepExit.TheVariants.{Error, Cont
 
 use crate::argument_lists::ArgumentLists;
 use crate::define::Define;
-use crate::expander::{MacroProcessor, gives_line_name, is_line_name};
+use crate::expander::{MacroProcessor, gives_line_name};
 use crate::frames::Ahead;
 use crate::halt::{Halt, halt_of};
 use crate::list_lexer::ListLexer;
 use crate::open_around::OpenAround;
 use crate::reader::MeLexer;
 use crate::step::{Step, StepExit, is_out_of_memory};
-use pp_lexer::token::{Location, PreprocessorError, Punct, Text, Token, TokenValue, out_of_memory};
+use pp_lexer::token::{Location, PreprocessorError, Text, Token, TokenValue, out_of_memory};
+use pp_model::names::is_line_name;
+use pp_model::parentheses::{Nesting, is_left_paren, nesting_of};
 use pp_model::read::Read;
 use std::alloc::{AllocError, Global};
 use std::marker::Model;
@@ -109,17 +109,6 @@ impl Model for Caller {
     ghost invariant = { λ c. IfSome c.held (λ step. IfOk step (λ read. HoldsOrdinary read.token.value)) };
 }
 
-/// The position of a token among the parentheses of a call.
-#[derive(Clone, Copy)]
-pub enum Nesting {
-    /// It closes the call.
-    Closes,
-    /// This many inner parentheses are open after it.
-    Within(u32),
-    /// It opens one too many.
-    TooMany,
-}
-
 /// The tokens between the parentheses of a call, and the place of the closing one.
 #[derive(Drop)]
 pub struct Gathered {
@@ -136,41 +125,6 @@ impl Model for Gathered {
     ghost view = { λ g. record { tokens = g.tokens.items; closing = g.closing } };
 
     ghost invariant = { λ g. AllReadOrdinary g.tokens.items };
-}
-
-/// Whether it is a `(`.
-pub fn is_left_paren(value: &TokenValue) -> bool
-    ensures { result ≡ is_left_paren value.now }
-{
-    matches!(value, TokenValue::Punct(Punct::LeftParen))
-}
-
-/// Whether it is a `)`.
-pub fn is_right_paren(value: &TokenValue) -> bool
-    ensures { result ≡ is_right_paren value.now }
-{
-    matches!(value, TokenValue::Punct(Punct::RightParen))
-}
-
-// The position of a token among the parentheses of a call.
-fn nesting_of(depth: u32, value: &TokenValue) -> Nesting
-    ensures { nesting depth value.now ≡ nesting_named result }
-{
-    if is_left_paren(value) {
-        if depth < u32::MAX {
-            Nesting::Within(depth + 1)
-        } else {
-            Nesting::TooMany
-        }
-    } else if is_right_paren(value) {
-        if depth == 0 {
-            Nesting::Closes
-        } else {
-            Nesting::Within(depth - 1)
-        }
-    } else {
-        Nesting::Within(depth)
-    }
 }
 
 /// What follows the name of a function-like macro.

@@ -3,10 +3,12 @@
 ghost use Rattle.std.specs.Prelude.{◌≡◌, [], Some, None, option_map, OnOk, OnErr};
 ghost use Rattle.std.specs.Str.{chars};
 ghost use Rattle.pp_macros.specs.inner.Defined.{meaning_of, IsChanged};
+ghost use Rattle.pp_macros.specs.inner.Plain.{gives_itself};
 
 use crate::define::Define;
 use crate::names::Names;
-use pp_lexer::token::Text;
+use pp_lexer::token::{Text, TokenValue};
+use pp_model::names::is_line_name;
 use std::alloc::{AllocError, Global};
 use std::marker::Model;
 use std::rc::Rc;
@@ -30,6 +32,20 @@ impl Model for Definitions {
     ghost view = { λ d. defined_among d.names (map (λ define. option_map (λ m. m.value) define) d.defines.items) };
 
     ghost invariant = { λ d. AreApart d.names × (length d.defines.items ≡ length d.names) };
+}
+
+/// Whether a value that isn't painted gives itself while no macro is open: it isn't `__LINE__`, nor a
+/// name that is defined.
+#[inline(always)]
+pub fn gives_itself(definitions: &Definitions, value: &TokenValue) -> bool
+    ensures { result ≡ gives_itself definitions.now value.now }
+{
+    match value {
+        TokenValue::Ident(name) => {
+            !is_line_name(value) && definitions.find(name.as_str()).is_none()
+        }
+        _ => true,
+    }
 }
 
 impl Definitions {

@@ -5,7 +5,7 @@ ghost use Rattle.std.specs.List.{list_any};
 ghost use Rattle.std.specs.Str.{chars};
 ghost use Rattle.pp_lexer.specs.declared.token.PreprocessorError.TheVariants.{LineOverflow};
 ghost use Rattle.pp_lexer.specs.declared.token.TokenValue.TheVariants as value;
-ghost use Rattle.pp_model.specs.Names.{is_in, is_identifier, is_same_name, line_name};
+ghost use Rattle.pp_model.specs.Names.{is_in, is_same_name};
 ghost use Rattle.pp_model.specs.Painting.{is_one_of, painted_among};
 ghost use Rattle.pp_model.specs.declared.read.Taken.TheVariants as given;
 ghost use Rattle.pp_macros.specs.inner.Frames.{layer, names_of, outermost_frame_line};
@@ -23,7 +23,7 @@ use crate::open_names::OpenNames;
 use crate::reader::MeLexer;
 use crate::step::{Step, StepExit};
 use pp_lexer::token::{Integer, Location, Text, Token, TokenValue};
-use pp_model::names::is_spelled;
+use pp_model::names::is_line_name;
 use pp_model::read::Read;
 use std::alloc::{AllocError, Global};
 use std::marker::Model;
@@ -90,17 +90,6 @@ fn free_name(names: &mut OpenNames, frames: usize)
 {
     if frames >= FEW {
         names.close(frames - FEW);
-    }
-}
-
-/// Whether the token is `__LINE__`.
-#[inline(always)]
-pub fn is_line_name(value: &TokenValue) -> bool
-    ensures { result ≡ is_identifier line_name value.now }
-{
-    match value {
-        TokenValue::Ident(name) => is_spelled(name, "__LINE__"),
-        _ => false,
     }
 }
 

@@ -4,9 +4,11 @@ ghost use Rattle.std.specs.Prelude.{◌≡◌, ◌++◌, [], IfOk};
 ghost use Rattle.std.specs.List.{list_any};
 ghost use Rattle.std.specs.Str.{chars};
 ghost use Rattle.pp_model.specs.Names.{is_in};
+ghost use Rattle.pp_model.specs.Painting.{is_one_of};
 ghost use Rattle.pp_macros.specs.inner.Frames.{names_of};
 
 use crate::expander::MacroProcessor;
+use pp_lexer::token::TokenValue;
 use std::alloc::{AllocError, Global};
 use std::marker::Model;
 
@@ -66,5 +68,15 @@ impl<'a> OpenAround<'a> {
         ensures { result ≡ is_in (chars name.now) self.now }
     {
         is_open_in(&self.expanders, name)
+    }
+
+    /// Whether the value is the name of a macro that is open.
+    pub fn is_open_name(&self, value: &TokenValue) -> bool
+        ensures { result ≡ is_one_of self.now value.now }
+    {
+        match value {
+            TokenValue::Ident(name) => self.is_open(name.as_str()),
+            _ => false,
+        }
     }
 }

@@ -5,6 +5,7 @@ pub mod SpliceList
 pub mod Reading
 pub mod Taking
 pub mod Calls
+pub mod CallNesting
 pub mod Emitting
 pub mod LineWords
 pub mod WordReadings

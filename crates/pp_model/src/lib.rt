@@ -5,6 +5,7 @@
 
 pub mod block;
 pub mod call;
+pub mod conversion;
 pub mod copies;
 pub mod definition;
 pub mod directive;
@@ -12,6 +13,7 @@ pub mod laws;
 pub mod line_value;
 pub mod names;
 pub mod outcome;
+pub mod parentheses;
 pub mod read;
 pub mod sight;
 pub mod splice;

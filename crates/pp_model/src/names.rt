@@ -14,6 +14,7 @@ pub fn is_spelled(text: &Text, spelling: &str) -> bool
 }
 
 /// Returns whether the token is `__LINE__`.
+#[inline(always)]
 pub fn is_line_name(value: &TokenValue) -> bool
     ensures { result ≡ is_identifier line_name value.now }
 {

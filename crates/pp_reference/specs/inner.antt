@@ -1,6 +1,5 @@
 -- What only says how far a body has come: no definition here has to be believed.
 pub mod Changes
-pub mod Nested
 pub mod Seen
 pub mod SeenList
 pub mod Halting

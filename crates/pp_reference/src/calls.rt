@@ -1,27 +1,16 @@
 //! The arguments of calls.
 
-ghost use Rattle.std.specs.Prelude.{◌≡◌, ◌≤◌, ◌<◌, ◌+◌, ◌^◌, ◌&&◌, ◌==◌, IfOk};
-ghost use Rattle.pp_model.specs.Calls.{nesting, nesting_after, arguments_of, misfit, paren_at, is_left_paren, is_right_paren, is_comma, is_one_empty};
-ghost use Rattle.pp_reference.specs.inner.Nested.{nesting_named};
+ghost use Rattle.std.specs.Prelude.{◌≡◌, IfOk};
+ghost use Rattle.pp_model.specs.Calls.{arguments_of, misfit, paren_at, is_one_empty};
 
 use crate::list::take_first;
 use crate::lists::{ReadList, ReadLists};
-use pp_lexer::token::{Location, PreprocessorError, Punct, TokenValue};
+use pp_lexer::token::{Location, PreprocessorError};
 use pp_model::definition::Definition;
+use pp_model::parentheses::{ends_argument, is_left_paren, nesting_after};
 use pp_model::read::{Read, Taken};
 use std::alloc::{AllocError, Global};
 use std::marker::Model;
-
-/// The position of a token among the parentheses of a call.
-#[derive(Clone, Copy)]
-pub enum Nesting {
-    /// It closes the call.
-    Closes,
-    /// This many inner parentheses are open after it.
-    Within(u32),
-    /// It opens one too many.
-    TooMany,
-}
 
 /// The tokens between the parentheses of a call, and the place of the closing one.
 #[derive(Drop)]
@@ -40,27 +29,6 @@ impl Model for Gathered {
     ghost view = { λ g. record { tokens = g.tokens.items; closing = g.closing } };
 }
 
-/// Whether it is a `(`.
-pub fn is_left_paren(value: &TokenValue) -> bool
-    ensures { result ≡ is_left_paren value.now }
-{
-    matches!(value, TokenValue::Punct(Punct::LeftParen))
-}
-
-/// Whether it is a `)`.
-pub fn is_right_paren(value: &TokenValue) -> bool
-    ensures { result ≡ is_right_paren value.now }
-{
-    matches!(value, TokenValue::Punct(Punct::RightParen))
-}
-
-/// Whether it is a `,`.
-pub fn is_comma(value: &TokenValue) -> bool
-    ensures { result ≡ is_comma value.now }
-{
-    matches!(value, TokenValue::Punct(Punct::Comma))
-}
-
 /// The place of the `(`, if what was taken is one.
 pub fn paren_at(taken: &Taken) -> Option<Location>
     ensures { result ≡ paren_at taken.now }
@@ -69,49 +37,6 @@ pub fn paren_at(taken: &Taken) -> Option<Location>
         Taken::Token(read) if is_left_paren(&read.token.value) => Some(read.token.location),
         _ => None,
     }
-}
-
-/// The position of a token among the parentheses of a call.
-pub fn nesting_of(depth: u32, value: &TokenValue) -> Nesting
-    ensures { nesting depth value.now ≡ nesting_named result }
-{
-    if is_left_paren(value) {
-        if depth < u32::MAX {
-            Nesting::Within(depth + 1)
-        } else {
-            Nesting::TooMany
-        }
-    } else if is_right_paren(value) {
-        if depth == 0 {
-            Nesting::Closes
-        } else {
-            Nesting::Within(depth - 1)
-        }
-    } else {
-        Nesting::Within(depth)
-    }
-}
-
-/// How many parentheses are open after a token, if `depth` are open before it.
-fn nesting_after(depth: usize, value: &TokenValue) -> usize
-    requires { depth + 1 < 2 ^ 64 }
-    ensures is { result ≡ nesting_after depth value.now }
-    ensures most { result ≤ depth + 1 }
-{
-    if is_left_paren(value) {
-        depth + 1
-    } else if is_right_paren(value) {
-        depth.saturating_sub(1)
-    } else {
-        depth
-    }
-}
-
-/// Whether an argument ends at a token, if `depth` parentheses are open before it.
-fn ends_argument(depth: usize, value: &TokenValue) -> bool
-    ensures { result ≡ (is_comma value.now && (depth == 0)) }
-{
-    is_comma(value) && depth == 0
 }
 
 /// The tokens of a call, cut at the commas outside inner parentheses.

@@ -6,7 +6,9 @@ ghost use Rattle.pp_reference.specs.inner.Halting.{Meets};
 
 use crate::stop::{Halt, Stop};
 use pp_lexer::lexer;
-use pp_lexer::token::{PreprocessorError, Punct, Text, Token, TokenValue};
+use pp_lexer::token::{PreprocessorError, Punct, Text, Token};
+use pp_model::conversion;
+use pp_model::conversion::convert_lexer_token;
 use pp_model::outcome::Fault;
 use std::alloc::Global;
 
@@ -45,37 +47,19 @@ pub fn parts_parameters(value: &lexer::TokenValue) -> bool
 pub fn conversion(alloc: Global, token: &lexer::Token) -> Result<Token, Halt>
     ensures { Meets result (spec.conversion token.now) }
 {
-    let copy = token.value.clone(alloc).map_err(|_| Stop::OutOfMemory)?;
-    let value = match copy {
-        lexer::TokenValue::Ident(name) => TokenValue::Ident(name),
-        lexer::TokenValue::Integer(integer) => TokenValue::Integer(integer),
-        lexer::TokenValue::Float(float) => TokenValue::Float(float),
-        lexer::TokenValue::Punct(punct) => TokenValue::Punct(punct),
-        lexer::TokenValue::Hash => {
-            return Err(Halt::Fault((PreprocessorError::UnexpectedHash, token.location)));
-        }
-        lexer::TokenValue::NewLine => {
-            return Err(Halt::Fault((PreprocessorError::UnexpectedNewLine, token.location)));
-        }
-    };
-    Ok(Token {
-        value,
-        location: token.location,
-    })
+    let copy = token.clone(alloc).map_err(|_| Stop::OutOfMemory)?;
+    if is_newline(&copy.value) {
+        return Err(Halt::Fault((PreprocessorError::UnexpectedNewLine, copy.location)));
+    }
+    Ok(convert_lexer_token(copy)?)
 }
 
 /// The fault of a token where it isn't allowed.
 pub fn refused_token(alloc: Global, token: &lexer::Token) -> Result<Fault, Stop>
     ensures { IfOk result (λ fault. fault ≡ spec.refused_token token.now) }
 {
-    match conversion(alloc, token) {
-        Ok(token) => Ok((
-            PreprocessorError::UnexpectedToken(token.value),
-            token.location,
-        )),
-        Err(Halt::Fault(fault)) => Ok(fault),
-        Err(Halt::Stop(stop)) => Err(stop),
-    }
+    let copy = token.clone(alloc).map_err(|_| Stop::OutOfMemory)?;
+    Ok(conversion::refused_token(copy))
 }
 
 /// The text of the value, if it is an identifier.

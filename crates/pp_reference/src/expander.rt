@@ -8,7 +8,7 @@ ghost use Rattle.pp_model.specs.Calls.{Gathers};
 ghost use Rattle.pp_model.specs.Emitting.{opened};
 ghost use Rattle.pp_reference.specs.inner.Seen.{seen, turned, Resolves, TakesParen, Finds, TurnsAt, Turns};
 
-use crate::calls::{Gathered, Nesting, arguments_of, nesting_of, paren_at};
+use crate::calls::{Gathered, arguments_of, paren_at};
 use crate::copies::{copy_definition, copy_names};
 use crate::list;
 use crate::list::{open_names, outermost_line, take_token};
@@ -21,6 +21,7 @@ use pp_model::copies::copy_token;
 use pp_model::definition::Definition;
 use pp_model::names::is_line_name;
 use pp_model::outcome::Fault;
+use pp_model::parentheses::{Nesting, nesting_of};
 use pp_model::read::{Read, Taken};
 use pp_model::splice::Entry;
 use std::alloc::{AllocError, Global};

@@ -11,7 +11,6 @@ ghost use Rattle.pp_model.specs.inner.WordsRead.{Closes};
 ghost use Rattle.pp_reference.specs.inner.Seen.{seen};
 ghost use Rattle.pp_reference.specs.inner.SeenList.{line_state};
 
-use crate::calls::{is_left_paren, is_right_paren};
 use crate::definitions::Definitions;
 use crate::expand::emit;
 use crate::expander::Expander;
@@ -19,6 +18,7 @@ use crate::reader::LineReader;
 use crate::stop::{Budget, Stop};
 use pp_lexer::token::{Location, PreprocessorError, Text, Token, TokenValue};
 use pp_model::outcome::Fault;
+use pp_model::parentheses::{is_left_paren, is_right_paren};
 use pp_model::read::{Read, Taken};
 use pp_model::word::{LineKind, Word, WordReading, Words, reading_of, unwanted_reading};
 use std::alloc::{AllocError, Global};

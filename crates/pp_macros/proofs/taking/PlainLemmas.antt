@@ -1,7 +1,6 @@
 -- A list of tokens that give themselves comes to itself.
 use Rattle.std.proofs.Common.{◌≡◌, ◌∙◌, sym, ap, take, drop, ◌-◌, le_trans, ◌||◌, ◌+◌, ◌≤◌, ℕ, Bool, true, false, not, ◌&&◌, List, [], ◌∷◌, length, refl, Option, Some, None, Ok}
 use Rattle.std.specs.Prelude.{if◌then◌else◌, is_none}
-use Rattle.std.proofs.Math.Bool.{or-false}
 use Rattle.std.proofs.lemmas.Bool.{and_parts, not-true}
 use Rattle.std.proofs.lemmas.List.{take-append-drop}
 use Rattle.std.proofs.lemmas.List.Elements.{All-weaker}
@@ -12,7 +11,7 @@ use Rattle.pp_model.specs.declared.read.Read.{Read}
 use Rattle.pp_model.specs.Painting.{is_one_of}
 use Rattle.pp_lexer.specs.declared.token.TokenValue.{TokenValue}
 use Rattle.pp_lexer.specs.declared.token.TokenValue.TheVariants.{Ident}
-use Rattle.pp_model.specs.Names.{Name, is_in, is_same_name, is_identifier, line_name}
+use Rattle.pp_model.specs.Names.{Name, is_same_name, is_identifier, line_name}
 use Rattle.pp_model.specs.Definitions.{Definition}
 use Rattle.pp_model.specs.Reading.{Expander, Listed, opening_of, argument_reading, reading_of}
 use Rattle.pp_model.specs.inner.Reading.{opening_by}
@@ -27,39 +26,51 @@ use Rattle.pp_macros.specs.inner.Finishing.{AreShort}
 use Rattle.pp_macros.specs.inner.Left.{most_alone}
 use Rattle.pp_macros.specs.inner.Parts.{list_of, lists_of}
 use Rattle.pp_macros.specs.inner.Reach.{frame_steps, grown}
-use Rattle.pp_macros.specs.inner.Plain.{is_plain, is_plain_value}
+use Rattle.pp_macros.specs.inner.Plain.{gives_itself, is_plain, is_plain_value}
 use Rattle.pp_macros.proofs.work.IterateLemmas.{iterate_up}
 use Rattle.pp_macros.proofs.work.ReachLemmas.{grown_up}
 
-no_opening : (painted : Bool) (token : Token) (name : Name) (o : Option Definition) (masked : Bool) → (painted || (is_none o && not masked)) ≡ true
-    → (if painted then None else opening_by token name o) ≡ None
-no_opening true token name o masked e = refl
-no_opening false token name None masked e = refl
-no_opening false token name (Some definition) masked e = cc
+unopened : (token : Token) (name : Name) (o : Option Definition) → is_none o ≡ true → opening_by token name o ≡ None
+unopened token name None e = refl
+unopened token name (Some definition) e = cc
+
+-- unpainted it gives itself where no macro is open
+plain_itself : (definitions : List Defined) (hidden : List Name) (value : TokenValue) → is_plain_value definitions hidden false value ≡ true
+    → gives_itself definitions value ≡ true
+plain_itself definitions hidden value e = (and_parts (gives_itself definitions value) (not (is_one_of hidden value)) e).0
+
+no_opening : (definitions : List Defined) (hidden : List Name) (painted : Bool) (token : Token) (name : Name)
+    → is_plain_value definitions hidden painted (Ident name) ≡ true
+    → (if painted then None else opening_by token name (meaning_of definitions name)) ≡ None
+no_opening definitions hidden true token name e = refl
+no_opening definitions hidden false token name e = unopened token name (meaning_of definitions name)
+    (and_parts (not (is_same_name name line_name)) (is_none (meaning_of definitions name)) (plain_itself definitions hidden (Ident name) e)).1
+
+-- a value that gives itself is no `__LINE__`
+pub itself_apart : (definitions : List Defined) (value : TokenValue) → gives_itself definitions value ≡ true → is_identifier line_name value ≡ false
+itself_apart definitions (Ident name) e = not-true (is_same_name name line_name)
+    (and_parts (not (is_same_name name line_name)) (is_none (meaning_of definitions name)) e).0
+itself_apart definitions _ e = refl
 
 -- such a value is no `__LINE__`
 plain_apart : (definitions : List Defined) (hidden : List Name) (painted : Bool) (value : TokenValue) → is_plain_value definitions hidden painted value ≡ true
     → is_identifier line_name value ≡ false
-plain_apart definitions hidden painted (Ident name) e = not-true (is_same_name name line_name) (and_parts (not (is_same_name name line_name))
-    (painted || (is_none (meaning_of definitions name) && not (is_in name hidden))) e).0
-plain_apart definitions hidden painted _ e = refl
+plain_apart definitions hidden true value e = not-true (is_identifier line_name value) e
+plain_apart definitions hidden false value e = itself_apart definitions value (plain_itself definitions hidden value e)
 
 -- it keeps its paint
 plain_paint : (definitions : List Defined) (hidden : List Name) (painted : Bool) (value : TokenValue) → is_plain_value definitions hidden painted value ≡ true
     → (painted || is_one_of hidden value) ≡ painted
-plain_paint definitions hidden true (Ident name) e = refl
-plain_paint definitions hidden false (Ident name) e =
-    let h = and_parts (not (is_same_name name line_name)) (is_none (meaning_of definitions name) && not (is_in name hidden)) e in
-    not-true (is_in name hidden) (and_parts (is_none (meaning_of definitions name)) (not (is_in name hidden)) h.1).1
-plain_paint definitions hidden painted _ e = or-false painted
+plain_paint definitions hidden true value e = refl
+plain_paint definitions hidden false value e =
+    not-true (is_one_of hidden value) (and_parts (gives_itself definitions value) (not (is_one_of hidden value)) e).1
 
 -- and opens nothing
 plain_opens : (definitions : List Defined) (hidden : List Name) (rest : List Read) (read : Read) (value : TokenValue)
     → is_plain_value definitions hidden read.painted value ≡ true
     → opening_of argument_reading (reading_of rest (meaning_of definitions) hidden) read value ≡ None
 plain_opens definitions hidden rest read (Ident name) e =
-    no_opening read.painted read.token name (meaning_of definitions name) (is_in name hidden)
-    (and_parts (not (is_same_name name line_name)) (read.painted || (is_none (meaning_of definitions name) && not (is_in name hidden))) e).1
+    no_opening definitions hidden read.painted read.token name e
 plain_opens definitions hidden rest read _ e = refl
 
 plain_takes : (definitions : List Defined) (hidden : List Name) (read : Read) (rest : List Read) → is_plain definitions hidden read ≡ true

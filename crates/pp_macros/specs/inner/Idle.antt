@@ -3,8 +3,6 @@
 use Rattle.std.specs.Prelude.{◌≡◌, ◌&&◌, not, is_some, Bool, [], Some, Ok, Err}
 use Rattle.pp_lexer.specs.declared.token.PreprocessorError.TheVariants.{LineOverflow}
 use Rattle.pp_lexer.specs.declared.token.Token.{Token}
-use Rattle.pp_lexer.specs.declared.token.TokenValue.{TokenValue}
-use Rattle.pp_model.specs.Names.{is_identifier, line_name}
 use Rattle.pp_model.specs.Painting.{unpainted}
 use Rattle.pp_model.specs.declared.read.Read.{Read}
 use Rattle.pp_model.specs.declared.read.Taken.TheVariants as given
@@ -13,16 +11,12 @@ use Rattle.pp_macros.specs.Item.{Step}
 use Rattle.pp_macros.specs.inner.Machine.{Machine}
 use Rattle.pp_macros.specs.inner.Reader.{of_source}
 use Rattle.pp_macros.specs.inner.Source.{Source}
-use Rattle.pp_macros.specs.inner.Turns.{opens_value, taken_in}
+use Rattle.pp_macros.specs.inner.Turns.{taken_in}
 use Rattle.pp_macros.specs.declared.step.StepExit.TheVariants.{Error}
 
 -- nothing is held, and no macro is open
 abbrev pub is_idle : Machine → Bool
 is_idle m = not (is_some m.held) && not (is_some (outermost_frame_line m.frames))
-
--- the value is given as it stands in the source, where no macro is open: it is not `__LINE__`, and opens none
-abbrev pub gives_itself : Source → TokenValue → Bool
-gives_itself source value = not (is_identifier line_name value) && not (is_some (opens_value (of_source source) value))
 
 -- the word as it is taken is held
 pub record IsHeld (word : Token) (source : Source) (old new : Machine) : Type 0 where

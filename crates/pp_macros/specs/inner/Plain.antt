@@ -1,16 +1,21 @@
 -- Tokens that give themselves when they are expanded.
-use Rattle.std.specs.Prelude.{Bool, true, not, ◌&&◌, ◌||◌, List, is_none}
+use Rattle.std.specs.Prelude.{Bool, true, false, not, ◌&&◌, List, is_none}
 use Rattle.pp_lexer.specs.declared.token.TokenValue.{TokenValue}
 use Rattle.pp_lexer.specs.declared.token.TokenValue.TheVariants.{Ident}
-use Rattle.pp_model.specs.Names.{Name, is_same_name, is_in, line_name}
+use Rattle.pp_model.specs.Names.{Name, is_same_name, is_identifier, line_name}
+use Rattle.pp_model.specs.Painting.{is_one_of}
 use Rattle.pp_model.specs.declared.read.Read.{Read}
 use Rattle.pp_macros.specs.inner.Defined.{Defined, meaning_of}
 
--- a value that gives itself, with its paint: no `__LINE__`, and painted or no identifier that is defined or open around
+-- a value that gives itself where no macro is open, unless it is painted: no `__LINE__`, and no name that is defined
+abbrev pub gives_itself : List Defined → TokenValue → Bool
+gives_itself definitions (Ident name) = not (is_same_name name line_name) && is_none (meaning_of definitions name)
+gives_itself definitions _ = true
+
+-- a value that gives itself, with its paint, also where macros are open around it
 abbrev pub is_plain_value : List Defined → List Name → Bool → TokenValue → Bool
-is_plain_value definitions hidden painted (Ident name) =
-    not (is_same_name name line_name) && (painted || (is_none (meaning_of definitions name) && not (is_in name hidden)))
-is_plain_value definitions hidden painted _ = true
+is_plain_value definitions hidden true value = not (is_identifier line_name value)
+is_plain_value definitions hidden false value = gives_itself definitions value && not (is_one_of hidden value)
 
 abbrev pub is_plain : List Defined → List Name → Read → Bool
 is_plain definitions hidden read = is_plain_value definitions hidden read.painted read.token.value

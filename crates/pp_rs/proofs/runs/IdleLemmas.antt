@@ -1,23 +1,31 @@
 -- A token of a source, where no macro is open: it is given at once, or is taken, held, and goes on from there.
-use Rattle.std.proofs.Common.{◌≡◌, ◌∙◌, ◌&&◌, inl, inr, ℕ, Bool, true, false, not, is_some, [], ◌∷◌, List, refl, ap, sym, Option, Some, None, Ok, Err}
+use Rattle.std.proofs.Common.{◌≡◌, ◌∙◌, inl, inr, ℕ, Bool, true, not, [], ◌∷◌, List, refl, ap, sym, Option, Some, None, Ok, Err}
+use Rattle.std.specs.Prelude.{is_none}
+use Rattle.std.proofs.lemmas.Bool.{and_parts}
 use Rattle.pp_lexer.specs.declared.token.Token.{Token}
+use Rattle.pp_lexer.specs.declared.token.TokenValue.{TokenValue}
+use Rattle.pp_lexer.specs.declared.token.TokenValue.TheVariants.{Ident}
 use Rattle.pp_model.specs.declared.read.Read.{Read}
-use Rattle.pp_model.specs.Names.{Name, is_identifier, line_name}
+use Rattle.pp_model.specs.Names.{Name, is_same_name, line_name}
+use Rattle.pp_model.specs.Definitions.{Definition}
 use Rattle.pp_model.specs.Painting.{unpainted}
 use Rattle.pp_model.proofs.SpelledRunLemmas.{or_none}
 use Rattle.pp_macros.specs.inner.CallTurns.{TurnsTo, passes, gives, object, seeks}
+use Rattle.pp_macros.specs.inner.Defined.{meaning_of}
 use Rattle.pp_macros.specs.inner.Frames.{Layer}
-use Rattle.pp_macros.specs.inner.Idle.{is_idle, gives_itself, IsHeld, HoldsWord}
+use Rattle.pp_macros.specs.inner.Idle.{is_idle, IsHeld, HoldsWord}
 use Rattle.pp_macros.specs.Item.{Step}
 use Rattle.pp_macros.specs.inner.Machine.{Machine, taken_as, StepsFetching, StepsTaking, held, moved}
+use Rattle.pp_macros.specs.inner.Plain.{gives_itself}
 use Rattle.pp_macros.specs.inner.Reader.{Reader, of_source}
 use Rattle.pp_macros.specs.inner.Reading.{painted_step}
 use Rattle.pp_macros.specs.inner.Source.{Source}
 use Rattle.pp_rs.specs.inner.SourceTurns.{StepsOver}
-use Rattle.pp_macros.specs.inner.Turns.{masks, opens_value}
+use Rattle.pp_macros.specs.inner.Turns.{masks, opened_by, opens_value}
 use Rattle.pp_macros.specs.declared.calls.Taken.{Taken}
 use Rattle.pp_macros.specs.declared.calls.Taken.TheVariants as taken
 use Rattle.pp_macros.specs.declared.step.StepExit.{StepExit}
+use Rattle.pp_macros.proofs.taking.PlainLemmas.{itself_apart}
 use Rattle.pp_macros.proofs.taking.MachineLemmas.{fetches_shown, fetches_step, shows_token}
 use Rattle.pp_rs.proofs.source.UnpaintedLemmas.{StepsReporting, reads_step}
 
@@ -33,10 +41,15 @@ idle_at (Some step) fs e = cc
 pub is_idle-idle : (m : Machine) → is_idle m ≡ true → m ≡ idle
 is_idle-idle m e = idle_at m.held m.frames e
 
-neither : {A : Type 0} (b : Bool) (o : Option A) → (not b && not (is_some o)) ≡ true → (b ≡ false) × (o ≡ None)
-neither false None e = (refl, refl)
-neither false (Some x) e = cc
-neither true o e = cc
+unopened : (name : Name) (o : Option Definition) → is_none o ≡ true → opened_by name o ≡ None
+unopened name None e = refl
+unopened name (Some definition) e = cc
+
+-- a value that gives itself opens no macro
+opens_none : (source : Source) (value : TokenValue) → gives_itself source.definitions value ≡ true → opens_value (of_source source) value ≡ None
+opens_none source (Ident name) e = unopened name (meaning_of source.definitions name)
+    (and_parts (not (is_same_name name line_name)) (is_none (meaning_of source.definitions name)) e).1
+opens_none source _ e = refl
 
 -- where nothing is open nothing is painted
 painted_nothing : (step : Step Read) → painted_step [] step ≡ step
@@ -89,13 +102,14 @@ module _ (levels : ℕ) (r s : Source) where
 
   -- a token that is given as it stands there
   pub idle_token : (m : Machine) (token : Token) → m ≡ idle → StepsReporting r (Ok token) s
-      → gives_itself s token.value ≡ true → StepsOver levels m r (Ok token) m s
+      → gives_itself s.definitions token.value ≡ true → StepsOver levels m r (Ok token) m s
   idle_token m token e reads itself =
       let read = unpainted token in
-      let plain = neither (is_identifier line_name token.value) (opens_value (of_source s) token.value) itself in
+      let apart = itself_apart s.definitions token.value itself in
       let fetches = fetches_step idle None None [] [] (Ok read) (of_source r) (of_source s) refl refl refl
-      (refl, reads_step r s (Ok token) reads) plain.0 in
-      let turns = gives read (Ok (taken.Token read)) idle idle (of_source r) (of_source s) (takes_first (Ok read) fetches) plain.1 refl in
+      (refl, reads_step r s (Ok token) reads) apart in
+      let turns = gives read (Ok (taken.Token read)) idle idle (of_source r) (of_source s) (takes_first (Ok read) fetches)
+      (opens_none s token.value itself) refl in
       rw e (inl (record { taken = Ok (taken.Token read); between = idle; turns = turns; follows = (refl, refl) }))
 
   -- a step as which the word is taken

@@ -7,22 +7,24 @@ ghost use Rattle.pp_model.specs.Emitting.{expansion_limit};
 ghost use Rattle.pp_model.specs.Painting.{unpainted};
 ghost use Rattle.pp_model.specs.declared.read.Taken.TheVariants as given;
 ghost use Rattle.pp_macros.specs.Held.{HoldsOrdinary};
-ghost use Rattle.pp_macros.specs.inner.Idle.{gives_itself, HoldsWord};
+ghost use Rattle.pp_macros.specs.inner.Idle.{HoldsWord};
 ghost use Rattle.pp_macros.specs.inner.Reader.{of_source};
 ghost use Rattle.pp_rs.specs.inner.SourceTurns.{FollowsCall, StepsOver};
 ghost use Rattle.pp_macros.specs.inner.Turns.{taken_in};
 ghost use Rattle.pp_macros.specs.declared.step.StepExit.TheVariants.{Error};
 
 use crate::pp::preprocessor_step::step_source;
-use crate::token::{Token, TokenValue};
+use crate::token::Token;
 use pp_directives::directives::DirectiveProcessor;
 use pp_directives::limit::expansion_limit;
 use pp_macros::arguments::finish_call;
 use pp_macros::calls::{Call, Caller, Taken};
-use pp_macros::expander::{is_line_name, make_line_number};
+use pp_macros::definitions::gives_itself;
+use pp_macros::expander::make_line_number;
 use pp_macros::open_around::OpenAround;
 use pp_macros::reader::MeLexer;
 use pp_macros::step::{Step, StepExit};
+use pp_model::names::is_line_name;
 use std::alloc::Global;
 
 // Finishes a call, over the definitions of the source, with nothing open around. It is a function of its own, so that
@@ -63,17 +65,6 @@ fn turn_caller(
     match step_source(caller, source)? {
         Taken::Token(read) => Ok(read.token),
         Taken::Call(call) => follow_call(alloc, caller, &*source, call),
-    }
-}
-
-// Whether a value of the source is given unchanged if no macro is open.
-#[inline(always)]
-fn gives_itself(source: &DirectiveProcessor<'_>, value: &TokenValue) -> bool
-    ensures { result ≡ gives_itself source.now value.now }
-{
-    match value {
-        TokenValue::Ident(name) => !is_line_name(value) && source.find(name.as_str()).is_none(),
-        _ => true,
     }
 }
 
@@ -123,7 +114,7 @@ pub fn turn_source(
 {
     if caller.is_idle() {
         let token = source.step()?;
-        if gives_itself(source, &token.value) {
+        if gives_itself(source.definitions(), &token.value) {
             return Ok(token);
         }
         hold_word(caller, &*source, token)?;

@@ -12,7 +12,7 @@ loop-at-preserved-then-ends_argument c =
 
 pub loop-at-preserved : goal.loop-at-preserved
 loop-at-preserved c =
-    rw c.nesting_after-depth.ensures
+    rw c.nesting_after-depth.ensures.is
     (cut_token c.args.tokens.now c.loop-at.parts.items c.loop-at.start c.loop-at.at c.loop-at.depth c.loop-at.invariant c.index-tokens-at.result
     (rw (← c.index-tokens-at.is) at (drop_more c.args.tokens.now c.loop-at.at c.index-tokens-at.result (omega arith)))
     (sym c.ends_argument.ensures ∙ c.if-ends_argument.false)
