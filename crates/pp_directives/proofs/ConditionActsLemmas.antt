@@ -12,7 +12,7 @@ use Rattle.pp_macros.specs.inner.LineReading.{HasTaken, Meets, TakesItems}
 use Rattle.pp_macros.specs.inner.OpenBlocks.{last_block, outer_blocks, with_last, block_opened, block_decided}
 use Rattle.pp_macros.specs.declared.blocks.OpenBlock.{OpenBlock}
 use Rattle.pp_macros.specs.inner.Source.{Source, IsAfter, Condition, LineNumber, holds, numbers}
-use Rattle.pp_macros.specs.inner.Machine.{Satisfies}
+use Rattle.pp_macros.specs.inner.Expander.{Satisfies}
 use Rattle.pp_macros.specs.declared.halt.Halt.{Halt}
 use Rattle.pp_macros.specs.declared.halt.Halt.TheVariants as halt
 use Rattle.pp_directives.specs.inner.SourceActs.{Acts, HasKept}

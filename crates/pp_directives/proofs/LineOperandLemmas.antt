@@ -7,7 +7,7 @@ use Rattle.pp_model.specs.Names.{Name}
 use Rattle.pp_model.specs.Reading.{Expander, Listed, line_reading}
 use Rattle.pp_model.specs.Calls.{Fault}
 use Rattle.pp_model.specs.Emitting.{Emits, answers_at}
-use Rattle.pp_model.specs.LineWords.{InParentheses, Operand, is_defined, name_in, unwanted, unwanted_word}
+use Rattle.pp_model.specs.LineWords.{InParentheses, Operand, is_defined, name_in, unwanted_part, unwanted_closing}
 use Rattle.pp_model.specs.inner.LineWords.{is_open_paren, is_close_paren}
 use Rattle.pp_model.specs.LineWords as line
 use Rattle.pp_model.specs.inner.WordsRead.{Closes}
@@ -15,15 +15,15 @@ use Rattle.pp_model.specs.declared.read.Taken.TheVariants as given
 use Rattle.pp_model.specs.declared.word.LineKind.{LineKind}
 use Rattle.pp_model.proofs.WordLemmas.{closes, does_not_close, closes_named}
 use Rattle.pp_macros.specs.inner.Defined.{Defined, meaning_of}
-use Rattle.pp_directives.specs.inner.LineItems.{ReadsOn, ReadsItem, ReadsTaken, ReadsClosed, ReadsInParentheses, ReadsOperand, expander_of, outcome_of, outcome_of_item}
-use Rattle.pp_macros.specs.inner.Machine.{Machine}
+use Rattle.pp_directives.specs.inner.LineItems.{ReadsOn, ReadsItem, ReadsTaken, ReadsClosed, ReadsInParentheses, ReadsOperand, expander_of, taken_of_read, taken_of_item}
+use Rattle.pp_macros.specs.inner.Expander as kept
 use Rattle.pp_macros.specs.inner.Reader.{Listing}
 use Rattle.pp_macros.specs.declared.halt.Halt.{Halt}
 use Rattle.pp_macros.specs.declared.halt.Halt.TheVariants as halt
 use Rattle.pp_directives.proofs.LineReadLemmas.{reads_broken, reads_then}
 
 -- a name is defined there where it is defined
-defined_there : (levels : ℕ) (definitions : List Defined) (m n : Machine) (l k : Listing) (name : Name) (b : Bool)
+defined_there : (levels : ℕ) (definitions : List Defined) (m n : kept.Expander) (l k : Listing) (name : Name) (b : Bool)
     → ReadsOn levels definitions m l n k → b ≡ is_some (meaning_of definitions name) → b ≡ is_defined (expander_of n k) name
 defined_there levels definitions m n l k name b after is = is ∙ ap (λ (ds : List Defined). is_some (meaning_of ds name)) (sym after.stands.defined)
 
@@ -33,73 +33,73 @@ answered_there is = ap (λ (x : Bool). let r : Result Bool Fault = Ok x in r) is
 reported_fault : (fault wanted : Fault) → fault ≡ wanted → ◌≡◌ {A = Result Bool Fault} (Err fault) (Err wanted)
 reported_fault fault wanted is = ap (λ (f : Fault). let r : Result Bool Fault = Err f in r) is
 
-module _ (kind : LineKind) (directive : Location) (levels : ℕ) (definitions : List Defined) (m : Machine) (l : Listing) (n : Machine) (k : Listing) where
+module _ (kind : LineKind) (directive : Location) (levels : ℕ) (definitions : List Defined) (m : kept.Expander) (l : Listing) (n : kept.Expander) (k : Listing) where
   -- after the `(` and the name
   pub closed_broken : (name : Name) (h : Halt) (r : Result Bool Halt) → r ≡ Err h → ReadsItem levels definitions m l (Err h) n k
       → ReadsClosed kind directive levels definitions name m l r n k
   closed_broken name h r is reads =
       reads_broken levels definitions m l (λ (item : Result (Option Read) Fault) (f : Expander Listed). Emits line_reading (answers_at levels)
-      (expander_of m l) (outcome_of_item item) f)
+      (expander_of m l) (taken_of_item item) f)
       (λ (answer : Result Bool Fault) (f : Expander Listed). Closes kind directive (answers_at levels) name
       (expander_of m l) answer f) h n n k k r is (λ fault f emits. does_not_close kind directive (answers_at levels) name (given.Fault fault)
       (expander_of m l) f emits fault refl refl) reads
 
   module _ (found : Option Read) (item : ReadsItem levels definitions m l (Ok found) n k) where
-    pub closed_answer : (name : Name) (b : Bool) → is_close_paren (outcome_of found) ≡ true → b ≡ is_some (meaning_of definitions name)
+    pub closed_answer : (name : Name) (b : Bool) → is_close_paren (taken_of_read found) ≡ true → b ≡ is_some (meaning_of definitions name)
         → ReadsClosed kind directive levels definitions name m l (Ok b) n k
     closed_answer name b close is = (
-      closes kind directive (answers_at levels) name (outcome_of found) (expander_of m l) (expander_of n k) item.0 b close
+      closes kind directive (answers_at levels) name (taken_of_read found) (expander_of m l) (expander_of n k) item.0 b close
           (defined_there levels definitions m n l k name b item.1 is),
       item.1,
     )
 
-    pub closed_fault : (name : Name) (fault : Fault) → is_close_paren (outcome_of found) ≡ false
-        → fault ≡ unwanted_word kind directive (outcome_of found) → ReadsClosed kind directive levels definitions name m l (Err (halt.Fault fault)) n k
+    pub closed_fault : (name : Name) (fault : Fault) → is_close_paren (taken_of_read found) ≡ false
+        → fault ≡ unwanted_closing kind directive (taken_of_read found) → ReadsClosed kind directive levels definitions name m l (Err (halt.Fault fault)) n k
     closed_fault name fault still is = (
       expander_of n k,
-      does_not_close kind directive (answers_at levels) name (outcome_of found) (expander_of m l) (expander_of n k) item.0 fault still is,
+      does_not_close kind directive (answers_at levels) name (taken_of_read found) (expander_of m l) (expander_of n k) item.0 fault still is,
     )
 
   module _ (found : Option Read) (taken : ReadsTaken levels definitions m l (Ok found) n k) where
     -- after the `(`
-    pub parenthesized_name : (name : Name) (r : Result Bool Halt) (p : Machine) (q : Listing) → name_in (outcome_of found) ≡ Some name
+    pub parenthesized_name : (name : Name) (r : Result Bool Halt) (p : kept.Expander) (q : Listing) → name_in (taken_of_read found) ≡ Some name
         → ReadsClosed kind directive levels definitions name n k r p q → ReadsInParentheses kind directive levels definitions m l r p q
     parenthesized_name name r p q is reads =
         reads_then levels definitions m l (λ (answer : Result Bool Fault) (f : Expander Listed). Closes kind directive (answers_at levels) name
         (expander_of n k) answer f)
         (λ (answer : Result Bool Fault) (f : Expander Listed). InParentheses kind directive (answers_at levels) (expander_of m l) answer f) n p k q r taken.1
-        (λ answer f closed. closes_named kind directive (answers_at levels) name (outcome_of found) (expander_of m l)
+        (λ answer f closed. closes_named kind directive (answers_at levels) name (taken_of_read found) (expander_of m l)
         (expander_of n k) f answer taken.0 is closed) reads
 
-    pub parenthesized_fault : (fault : Fault) → (name_in (outcome_of found) ≡ None) × (fault ≡ unwanted directive (outcome_of found))
+    pub parenthesized_fault : (fault : Fault) → (name_in (taken_of_read found) ≡ None) × (fault ≡ unwanted_part directive (taken_of_read found))
         → ReadsInParentheses kind directive levels definitions m l (Err (halt.Fault fault)) n k
     parenthesized_fault fault is = (
       expander_of n k,
-      line.no_name (outcome_of found) (expander_of m l) (expander_of n k) (Err fault) taken.0 is.0
-          (reported_fault fault (unwanted directive (outcome_of found)) is.1),
+      line.no_name (taken_of_read found) (expander_of m l) (expander_of n k) (Err fault) taken.0 is.0
+          (reported_fault fault (unwanted_part directive (taken_of_read found)) is.1),
     )
 
     -- the whole operand
-    pub operand_opened : (r : Result Bool Halt) (p : Machine) (q : Listing) → is_open_paren (outcome_of found) ≡ true
+    pub operand_opened : (r : Result Bool Halt) (p : kept.Expander) (q : Listing) → is_open_paren (taken_of_read found) ≡ true
         → ReadsInParentheses kind directive levels definitions n k r p q → ReadsOperand kind directive levels definitions m l r p q
     operand_opened r p q open_paren reads =
         reads_then levels definitions m l (λ (answer : Result Bool Fault) (f : Expander Listed). InParentheses kind directive (answers_at levels)
         (expander_of n k) answer f)
         (λ (answer : Result Bool Fault) (f : Expander Listed). Operand kind directive (answers_at levels) (expander_of m l) answer f) n p k q r taken.1
-        (λ answer f within. line.in_parentheses (outcome_of found) (expander_of m l) (expander_of n k) f answer taken.0 open_paren within) reads
+        (λ answer f within. line.in_parentheses (taken_of_read found) (expander_of m l) (expander_of n k) f answer taken.0 open_paren within) reads
 
-    pub operand_name : (name : Name) (b : Bool) → name_in (outcome_of found) ≡ Some name → b ≡ is_some (meaning_of definitions name)
+    pub operand_name : (name : Name) (b : Bool) → name_in (taken_of_read found) ≡ Some name → b ≡ is_some (meaning_of definitions name)
         → ReadsOperand kind directive levels definitions m l (Ok b) n k
     operand_name name b is answer = (
-      line.name (outcome_of found) name (expander_of m l) (expander_of n k) (Ok b) taken.0 is
+      line.name (taken_of_read found) name (expander_of m l) (expander_of n k) (Ok b) taken.0 is
           (answered_there (defined_there levels definitions m n l k name b taken.1 answer)),
       taken.1,
     )
 
-    pub operand_fault : (fault : Fault) → is_open_paren (outcome_of found) ≡ false → (name_in (outcome_of found) ≡ None)
-        × (fault ≡ unwanted directive (outcome_of found)) → ReadsOperand kind directive levels definitions m l (Err (halt.Fault fault)) n k
+    pub operand_fault : (fault : Fault) → is_open_paren (taken_of_read found) ≡ false → (name_in (taken_of_read found) ≡ None)
+        × (fault ≡ unwanted_part directive (taken_of_read found)) → ReadsOperand kind directive levels definitions m l (Err (halt.Fault fault)) n k
     operand_fault fault still is = (
       expander_of n k,
-      line.neither (outcome_of found) (expander_of m l) (expander_of n k)
-          (Err fault) taken.0 is.0 still (reported_fault fault (unwanted directive (outcome_of found)) is.1),
+      line.neither (taken_of_read found) (expander_of m l) (expander_of n k)
+          (Err fault) taken.0 is.0 still (reported_fault fault (unwanted_part directive (taken_of_read found)) is.1),
     )

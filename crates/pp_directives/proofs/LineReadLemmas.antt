@@ -7,7 +7,7 @@ use Rattle.pp_model.specs.Calls.{Fault}
 use Rattle.pp_model.specs.Emitting.{Emits, answers_at}
 use Rattle.pp_model.specs.Taking.{Takes}
 use Rattle.pp_model.specs.declared.read.Taken.TheVariants as given
-use Rattle.pp_macros.specs.inner.Calling.{PendingCall}
+use Rattle.pp_macros.specs.inner.Calling.{MacroCall}
 use Rattle.pp_macros.specs.inner.CallTurns.{TurnsTo, TurnsOrRefuses}
 use Rattle.pp_macros.specs.inner.Finishing.{Finishes, IsOpened}
 use Rattle.pp_macros.specs.inner.Frames.{names_of}
@@ -15,8 +15,9 @@ use Rattle.pp_macros.specs.inner.Defined.{Defined}
 use Rattle.pp_macros.specs.Halting.{halt_of}
 use Rattle.pp_macros.specs.Item.{Step, is_out_of_memory}
 use Rattle.pp_macros.specs.inner.Left.{work_of}
-use Rattle.pp_directives.specs.inner.LineItems.{IsOnLine, IsWorkLess, Reads, ReadsOn, ReadsItem, ReadsTaken, expander_of, outcome_of_item}
-use Rattle.pp_macros.specs.inner.Machine.{Machine, TakesNext}
+use Rattle.pp_directives.specs.inner.LineItems.{IsOnLine, IsWorkLess, ReadsOfLine, ReadsOn, ReadsItem, ReadsTaken, expander_of, taken_of_item}
+use Rattle.pp_macros.specs.inner.Expander as kept
+use Rattle.pp_macros.specs.inner.Expander.{TakesNext}
 use Rattle.pp_macros.specs.inner.Reader.{of_list, Listing}
 use Rattle.pp_macros.specs.declared.calls.Taken.{Taken}
 use Rattle.pp_macros.specs.declared.calls.Taken.TheVariants as taken
@@ -27,57 +28,57 @@ use Rattle.pp_macros.proofs.open_frames.ReportedLemmas.{wants_taken}
 use Rattle.pp_macros.specs.declared.halt.Halt.{Halt}
 use Rattle.pp_macros.specs.declared.halt.Halt.TheVariants as halt
 
-module _ (levels : ℕ) (definitions : List Defined) (m : Machine) (l : Listing) where
+module _ (levels : ℕ) (definitions : List Defined) (m : kept.Expander) (l : Listing) where
   -- the fault of a step, unless memory was refused
-  pub reads_fault : {T : Type 0} (P : Result T Fault → Expander Listed → Type 0) (h : Halt) (n : Machine) (k : Listing) (fault : Fault)
-      → h ≡ halt_of fault → (is_out_of_memory fault.0 ≡ false → (f : Expander Listed) × P (Err fault) f) → Reads {T = T} levels definitions m l P (Err h) n k
-  reads_fault {T} P h n k fault is passes = subst (λ (x : Halt). Reads {T = T} levels definitions m l P (Err x) n k) (sym is)
+  pub reads_fault : {T : Type 0} (P : Result T Fault → Expander Listed → Type 0) (h : Halt) (n : kept.Expander) (k : Listing) (fault : Fault)
+      → h ≡ halt_of fault → (is_out_of_memory fault.0 ≡ false → (f : Expander Listed) × P (Err fault) f) → ReadsOfLine {T = T} levels definitions m l P (Err h) n k
+  reads_fault {T} P h n k fault is passes = subst (λ (x : Halt). ReadsOfLine {T = T} levels definitions m l P (Err x) n k) (sym is)
       (go (is_out_of_memory fault.0) refl)
     where
-      go : (b : Bool) → is_out_of_memory fault.0 ≡ b → Reads {T = T} levels definitions m l P (Err (if b then halt.OutOfMemory else halt.Fault fault)) n k
+      go : (b : Bool) → is_out_of_memory fault.0 ≡ b → ReadsOfLine {T = T} levels definitions m l P (Err (if b then halt.OutOfMemory else halt.Fault fault)) n k
       go true e = tt
       go false e = passes e
 
   -- what was read before has a fault, which is that of the whole
   pub reads_broken : {T U : Type 0} (P : Result T Fault → Expander Listed → Type 0) (Q : Result U Fault → Expander Listed → Type 0)
-      (h : Halt) (n p : Machine) (k q : Listing) (r : Result U Halt) → r ≡ Err h
-      → ((fault : Fault) (f : Expander Listed) → P (Err fault) f → Q (Err fault) f) → Reads {T = T} levels definitions m l P (Err h) n k
-      → Reads {T = U} levels definitions m l Q r p q
-  reads_broken {T} {U} P Q h n p k q r is on reads = subst (λ (x : Result U Halt). Reads {T = U} levels definitions m l Q x p q) (sym is) (go h reads)
+      (h : Halt) (n p : kept.Expander) (k q : Listing) (r : Result U Halt) → r ≡ Err h
+      → ((fault : Fault) (f : Expander Listed) → P (Err fault) f → Q (Err fault) f) → ReadsOfLine {T = T} levels definitions m l P (Err h) n k
+      → ReadsOfLine {T = U} levels definitions m l Q r p q
+  reads_broken {T} {U} P Q h n p k q r is on reads = subst (λ (x : Result U Halt). ReadsOfLine {T = U} levels definitions m l Q x p q) (sym is) (go h reads)
     where
-      go : (h : Halt) → Reads {T = T} levels definitions m l P (Err h) n k → Reads {T = U} levels definitions m l Q (Err h) p q
+      go : (h : Halt) → ReadsOfLine {T = T} levels definitions m l P (Err h) n k → ReadsOfLine {T = U} levels definitions m l Q (Err h) p q
       go (halt.Fault fault) reads = (reads.0, on fault reads.0 reads.1)
       go halt.OutOfMemory reads = tt
 
   -- what is read after something that was read
-  pub reads_then : {T : Type 0} (P Q : Result T Fault → Expander Listed → Type 0) (n p : Machine) (k q : Listing) (r : Result T Halt)
+  pub reads_then : {T : Type 0} (P Q : Result T Fault → Expander Listed → Type 0) (n p : kept.Expander) (k q : Listing) (r : Result T Halt)
       → ReadsOn levels definitions m l n k → ((x : Result T Fault) (f : Expander Listed) → P x f → Q x f)
-      → Reads {T = T} levels definitions n k P r p q → Reads {T = T} levels definitions m l Q r p q
+      → ReadsOfLine {T = T} levels definitions n k P r p q → ReadsOfLine {T = T} levels definitions m l Q r p q
   reads_then P Q n p k q (Ok value) before on (read, after) =
       (on (Ok value) _ read, record { stands = after.stands; least = le_trans after.least before.least })
   reads_then P Q n p k q (Err (halt.Fault fault)) before on (f, read) = (f, on (Err fault) f read)
   reads_then P Q n p k q (Err halt.OutOfMemory) before on reads = tt
 
 -- what is taken next has a fault, or memory was refused
-pub taken_fault : (levels : ℕ) (definitions : List Defined) (m : Machine) (l : Listing) → IsOnLine definitions m l
-    → (n : Machine) (k : Listing) (fault : Fault) (h : Halt) → TakesNext m (of_list l) (Err (Error fault)) n (of_list k) → h ≡ halt_of fault
+pub taken_fault : (levels : ℕ) (definitions : List Defined) (m : kept.Expander) (l : Listing) → IsOnLine definitions m l
+    → (n : kept.Expander) (k : Listing) (fault : Fault) (h : Halt) → TakesNext m (of_list l) (Err (Error fault)) n (of_list k) → h ≡ halt_of fault
     → ReadsTaken levels definitions m l (Err h) n k
 taken_fault levels definitions m l on n k fault h next is =
     reads_fault levels definitions m l (λ (item : Result (Option Read) Fault) (f : Expander Listed). Takes line_reading (expander_of m l)
-    (outcome_of_item item) f) h n k fault is
+    (taken_of_item item) f) h n k fault is
     (λ reported. let read = next_read levels definitions m n l k on (Err (Error fault)) next reported in (expander_of n k, read.0))
 
 -- What the search for the next item has reached: the items from here on are those from the beginning on.
-pub record ItemsOn (levels : ℕ) (definitions : List Defined) (m : Machine) (l : Listing) (n : Machine) (k : Listing) : Type 0 where
+pub record ItemsOn (levels : ℕ) (definitions : List Defined) (m : kept.Expander) (l : Listing) (n : kept.Expander) (k : Listing) : Type 0 where
   pub goes_on : GoesOn levels m l n k
   pub stands : IsOnLine definitions n k
   pub least : work_of levels n (of_list k) ≤ work_of levels m (of_list l)
 
-pub items_start : (levels : ℕ) (definitions : List Defined) (m : Machine) (l : Listing) → IsOnLine definitions m l → ItemsOn levels definitions m l m l
+pub items_start : (levels : ℕ) (definitions : List Defined) (m : kept.Expander) (l : Listing) → IsOnLine definitions m l → ItemsOn levels definitions m l m l
 items_start levels definitions m l on = record { goes_on = λ o g emits. emits; stands = on; least = omega arith }
 
-module _ (levels : ℕ) (definitions : List Defined) (m : Machine) (l : Listing) (n : Machine) (k : Listing) (on : ItemsOn levels definitions m l n k)
-    (p : Machine) (q : Listing) where
+module _ (levels : ℕ) (definitions : List Defined) (m : kept.Expander) (l : Listing) (n : kept.Expander) (k : Listing) (on : ItemsOn levels definitions m l n k)
+    (p : kept.Expander) (q : Listing) where
   itself : (step : Step Taken) → TurnsOrRefuses n (of_list k) step p (of_list q) → wants_taken step ≡ false → TurnsTo n (of_list k) step p (of_list q)
   itself step turns reported = turned n p (of_list k) (of_list q) step turns reported
 
@@ -100,7 +101,7 @@ module _ (levels : ℕ) (definitions : List Defined) (m : Machine) (l : Listing)
       (on.goes_on given.End (expander_of p q) h.0, record { stands = after.stands; least = omega (arith, on.least, after.least) })
 
   -- a part of the line was passed, and the items go on
-  passed : (p : Machine) → GoesOn levels n k p q → IsOnLine definitions p q → IsWorkLess levels n k p q → ItemsOn levels definitions m l p q
+  passed : (p : kept.Expander) → GoesOn levels n k p q → IsOnLine definitions p q → IsWorkLess levels n k p q → ItemsOn levels definitions m l p q
   passed p goes stands less = record { goes_on = λ o g emits. on.goes_on o g (goes o g emits); stands = stands; least = omega (arith, on.least, less) }
 
   pub items_pause : TurnsOrRefuses n (of_list k) (Err Continue) p (of_list q) → ItemsOn levels definitions m l p q
@@ -115,23 +116,23 @@ module _ (levels : ℕ) (definitions : List Defined) (m : Machine) (l : Listing)
       → ReadsItem levels definitions m l (Err h) p q
   items_fault fault h turns is =
       reads_fault levels definitions m l (λ (item : Result (Option Read) Fault) (f : Expander Listed). Emits line_reading (answers_at levels)
-      (expander_of m l) (outcome_of_item item) f) h p q fault is
+      (expander_of m l) (taken_of_item item) f) h p q fault is
       (λ reported. let read = fault_read levels definitions n p k q on.stands fault (itself (Err (Error fault)) turns reported) reported in
       (read.0, on.goes_on (given.Fault fault) read.0 read.1))
 
-  module _ (c : PendingCall) (turns : TurnsOrRefuses n (of_list k) (Ok (taken.Call c)) p (of_list q)) where
+  module _ (c : MacroCall) (turns : TurnsOrRefuses n (of_list k) (Ok (taken.Call c)) p (of_list q)) where
     call : TurnsTo n (of_list k) (Ok (taken.Call c)) p (of_list q)
     call = itself (Ok (taken.Call c)) turns refl
 
-    pub items_call : (u : Machine) → IsOpened levels definitions (names_of p.frames ++ []) c p u → ItemsOn levels definitions m l u q
+    pub items_call : (u : kept.Expander) → IsOpened levels definitions (names_of p.frames ++ []) c p u → ItemsOn levels definitions m l u q
     items_call u opened =
         let h = call_read levels definitions n p k q on.stands c call u opened in
         passed u h.0 h.1 h.2
 
-    pub items_call_less : (u : Machine) → IsOpened levels definitions (names_of p.frames ++ []) c p u → IsWorkLess levels n k u q
+    pub items_call_less : (u : kept.Expander) → IsOpened levels definitions (names_of p.frames ++ []) c p u → IsWorkLess levels n k u q
     items_call_less u opened = (call_read levels definitions n p k q on.stands c call u opened).2
 
-    pub items_call_fault : (u : Machine) (h : Halt) (r : Result (Option Read) Halt) → Finishes levels definitions [] c p (Err h) u → r ≡ Err h
+    pub items_call_fault : (u : kept.Expander) (h : Halt) (r : Result (Option Read) Halt) → Finishes levels definitions [] c p (Err h) u → r ≡ Err h
         → ReadsItem levels definitions m l r u q
     items_call_fault u h r finishes is = subst (λ (x : Result (Option Read) Halt). ReadsItem levels definitions m l x u q) (sym is) (go h finishes)
       where

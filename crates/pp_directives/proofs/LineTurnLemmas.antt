@@ -7,20 +7,21 @@ use Rattle.pp_model.specs.Definitions.{Definition}
 use Rattle.pp_model.specs.Emitting.{Emits, answers_at}
 use Rattle.pp_model.specs.Names.{Name, is_identifier, line_name}
 use Rattle.pp_model.specs.Reading.{Expander, Listed, line_reading}
-use Rattle.pp_model.specs.SpliceList.{spliced}
+use Rattle.pp_model.specs.SpliceList.{macro_before}
 use Rattle.pp_model.specs.Taking.{Takes, line_number}
 use Rattle.pp_model.specs.declared.read.Taken.{Taken as Given}
 use Rattle.pp_model.specs.declared.read.Taken.TheVariants as given
 use Rattle.pp_model.specs.declared.splice.Entry.{Entry}
-use Rattle.pp_macros.specs.inner.Calling.{PendingCall}
+use Rattle.pp_macros.specs.inner.Calling.{MacroCall}
 use Rattle.pp_macros.specs.inner.CallTurns.{Sought, no_call, refused, gathered, sought_by, Seeks, alone, called, Finds, TurnsTo, passes, gives, object, seeks}
 use Rattle.pp_macros.specs.inner.Defined.{Defined}
 use Rattle.pp_macros.specs.inner.Finishing.{site_at, IsOpened}
-use Rattle.pp_macros.specs.inner.Frames.{Layer, Advance, advance, names_of, outermost_frame_line}
+use Rattle.pp_macros.specs.inner.Frames.{Frame, Advance, advance, names_of, outermost_frame_line}
 use Rattle.pp_macros.specs.Item.{Step, wants_memory, is_out_of_memory}
 use Rattle.pp_macros.specs.inner.Left.{work_of, IsSound, most_open, most_bodies, regions}
 use Rattle.pp_directives.specs.inner.LineItems.{expander_of, IsHeld, IsOnLine, ReadsOn, IsWorkLess}
-use Rattle.pp_macros.specs.inner.Machine.{Machine, outcome_of_step, step_of_outcome, taken_as, is_pause, StepsFetching, StepsTaking, held, moved, TakesNext, now, later}
+use Rattle.pp_macros.specs.inner.Expander as kept
+use Rattle.pp_macros.specs.inner.Expander.{outcome_of_step, step_of_outcome, taken_as, is_pause, StepsFetching, StepsTaking, held, moved, TakesNext, now, later}
 use Rattle.pp_macros.specs.inner.Reader.{Reader, of_source, of_list, Listing, listed_step}
 use Rattle.pp_macros.specs.inner.Reading.{painted_step}
 use Rattle.pp_macros.specs.inner.Turns.{Moves, as_pause, frame_move, masks}
@@ -30,7 +31,7 @@ use Rattle.pp_macros.specs.declared.step.StepExit.{StepExit}
 use Rattle.pp_macros.specs.declared.step.StepExit.TheVariants.{Error, Continue, Finished}
 use Rattle.pp_macros.proofs.work.CallFallsLemmas.{IsLess, IsPending, turn_falls}
 use Rattle.pp_macros.proofs.taking.ListedLeadsLemmas.{IsListed, list_simulates, list_shows, list_hides, list_sees, StandsListed, listed_leads, stands_listed, site_same, opened_less}
-use Rattle.pp_macros.proofs.taking.MachineLemmas.{next_no_pause}
+use Rattle.pp_macros.proofs.taking.ExpanderLemmas.{next_no_pause}
 use Rattle.pp_macros.proofs.open_frames.OpenSoundLemmas.{next_sound}
 use Rattle.pp_macros.proofs.open_frames.ReportedLemmas.{wants_taken, not_refused, painted_reported, taken_reported}
 use Rattle.pp_macros.proofs.work.ReachLemmas.{frame_steps_level}
@@ -55,7 +56,7 @@ record IsQuiet (step : Step Read) (s : Reader) : Type 0 where
   quiet : IsNoFault step
   list : IsList s
 
-taken_quiet : (move : Step Read) (fs : List Layer) (s : Reader) → IsList s → IsNoFault move → IsNoFault (taken_as move fs s)
+taken_quiet : (move : Step Read) (fs : List Frame) (s : Reader) → IsList s → IsNoFault move → IsNoFault (taken_as move fs s)
 taken_quiet (Err exit) fs s list h = h
 taken_quiet (Ok read) fs (of_source source) list h = absurd list
 taken_quiet (Ok read) fs (of_list l) list h = go (is_identifier line_name read.token.value)
@@ -73,11 +74,11 @@ pause_quiet : (o : Option Read) → IsNoFault (as_pause o)
 pause_quiet None = tt
 pause_quiet (Some read) = tt
 
-frame_quiet : (fs : List Layer) (o : Option Advance) → IsNoFault (frame_move fs o).gives
+frame_quiet : (fs : List Frame) (o : Option Advance) → IsNoFault (frame_move fs o).gives
 frame_quiet fs None = tt
 frame_quiet fs (Some a) = pause_quiet a.gives
 
-moves_quiet : (frames gs : List Layer) (r s : Reader) (move : Step Read) → IsList r → Moves frames r move gs s → wants_memory move ≡ false → IsQuiet move s
+moves_quiet : (frames gs : List Frame) (r s : Reader) (move : Step Read) → IsList r → Moves frames r move gs s → wants_memory move ≡ false → IsQuiet move s
 moves_quiet [] gs (of_list old) (of_list new) move list (e, inl h) reported = record { quiet = rw h.0 (listed_quiet old.tokens); list = tt }
 moves_quiet [] gs (of_list old) (of_list new) move list (e, inr h) reported = absurd (let bad : true ≡ false = rw h at reported in cc)
 moves_quiet [] gs (of_list old) (of_source new) move list (e, h) reported = absurd h
@@ -100,14 +101,14 @@ quiet_held (Err (Error fault)) h goes = h
 free_held : (o : Option (Step Read)) → o ≡ None → IsHeld o
 free_held o e = subst IsHeld (sym e) tt
 
-fetch_frees : (m n : Machine) (r s : Reader) (step : Step Read) → StepsFetching m r step n s → n.held ≡ None
-fetch_frees m n r s step (held step1 m1 n1 r1 s1 is at same) = ap (λ (k : Machine). k.held) at
+fetch_frees : (m n : kept.Expander) (r s : Reader) (step : Step Read) → StepsFetching m r step n s → n.held ≡ None
+fetch_frees m n r s step (held step1 m1 n1 r1 s1 is at same) = ap (λ (k : kept.Expander). k.held) at
 fetch_frees m n r s step (moved move step1 m1 n1 r1 s1 free moves is freed) = freed
 
-step_frees : (m n : Machine) (r s : Reader) (step : Step Read) → StepsTaking m r step n s → n.held ≡ None
+step_frees : (m n : kept.Expander) (r s : Reader) (step : Step Read) → StepsTaking m r step n s → n.held ≡ None
 step_frees m n r s step steps = fetch_frees m n r s steps.first steps.fetches
 
-fetch_quiet : (m n : Machine) (r s : Reader) (step : Step Read) → IsList r → IsHeld m.held → StepsFetching m r step n s → wants_memory step ≡ false
+fetch_quiet : (m n : kept.Expander) (r s : Reader) (step : Step Read) → IsList r → IsHeld m.held → StepsFetching m r step n s → wants_memory step ≡ false
     → IsQuiet step s
 fetch_quiet m n r s step list holds (held step1 m1 n1 r1 s1 is at same) reported =
     record { quiet = held_quiet step (subst IsHeld is holds); list = rw same list }
@@ -119,35 +120,35 @@ painted_quiet : (names : List Name) (first : Step Read) → IsNoFault first → 
 painted_quiet names (Ok read) h = h
 painted_quiet names (Err exit) h = h
 
-step_quiet : (m n : Machine) (r s : Reader) (step : Step Read) → IsList r → IsHeld m.held → StepsTaking m r step n s → wants_memory step ≡ false
+step_quiet : (m n : kept.Expander) (r s : Reader) (step : Step Read) → IsList r → IsHeld m.held → StepsTaking m r step n s → wants_memory step ≡ false
     → IsQuiet step s
 step_quiet m n r s step list holds steps reported =
     let names = masks n.frames s in
     let h = fetch_quiet m n r s steps.first list holds steps.fetches (painted_reported names steps.first (rw steps.paints at reported)) in
     record { quiet = rw steps.paints (painted_quiet names steps.first h.quiet); list = h.list }
 
-next_quiet : (m n : Machine) (r s : Reader) (step : Step Read) → IsList r → IsHeld m.held → TakesNext m r step n s → wants_memory step ≡ false → IsQuiet step s
+next_quiet : (m n : kept.Expander) (r s : Reader) (step : Step Read) → IsList r → IsHeld m.held → TakesNext m r step n s → wants_memory step ≡ false → IsQuiet step s
 next_quiet m n r s step list holds (now step1 m1 n1 r1 s1 steps goes) reported = step_quiet m n r s step list holds steps reported
 next_quiet m n r s step list holds (later step1 m1 between n1 r1 s1 t1 steps next) reported =
     let h = step_quiet m between r s1 (Err Continue) list holds steps refl in
     next_quiet between n s1 s step h.list (free_held between.held (step_frees m between r s1 (Err Continue) steps)) next reported
 
 -- what is held after a turn; after a call it is said elsewhere
-abbrev HoldsAfter : Step Taken → Machine → Type 0
+abbrev HoldsAfter : Step Taken → kept.Expander → Type 0
 HoldsAfter (Ok (taken.Token read)) n = IsHeld n.held
 HoldsAfter (Ok (taken.Call c)) n = ⊤
 HoldsAfter (Err Continue) n = IsHeld n.held
 HoldsAfter (Err Finished) n = IsHeld n.held
 HoldsAfter (Err (Error fault)) n = ⊤
 
-free_after : (step : Step Taken) (n : Machine) → n.held ≡ None → HoldsAfter step n
+free_after : (step : Step Taken) (n : kept.Expander) → n.held ≡ None → HoldsAfter step n
 free_after (Ok (taken.Token read)) n e = free_held n.held e
 free_after (Ok (taken.Call c)) n e = tt
 free_after (Err Continue) n e = free_held n.held e
 free_after (Err Finished) n e = free_held n.held e
 free_after (Err (Error fault)) n e = tt
 
-sought_holds : (read : Read) (name : Name) (definition : Definition) (c : Sought) (step : Step Taken) (n p q : Machine) (s t : Reader) → IsList s
+sought_holds : (read : Read) (name : Name) (definition : Definition) (c : Sought) (step : Step Taken) (n p q : kept.Expander) (s t : Reader) → IsList s
     → n.held ≡ None → Seeks n s c p t → Finds read name definition c step p q → HoldsAfter step q
 sought_holds read name definition c step n p q s t list free (alone next n1 p1 s1 t1 c1 taken_next none reported is) found =
     let found' : Finds read name definition (no_call next) step p q = subst (λ (x : Sought). Finds read name definition x step p q) is found in
@@ -160,17 +161,17 @@ sought_holds read name definition c step n p q s t list free (called next paren 
     go (Err fault) h = rw h.0 tt
     go (Ok g) h = rw h.0 tt
 
-turn_holds : (m n : Machine) (r s : Reader) (step : Step Taken) → IsList r → IsHeld m.held → TurnsTo m r step n s → HoldsAfter step n
+turn_holds : (m n : kept.Expander) (r s : Reader) (step : Step Taken) → IsList r → IsHeld m.held → TurnsTo m r step n s → HoldsAfter step n
 turn_holds m n r s step list holds (passes exit step1 m1 n1 r1 s1 steps is) = free_after step n (step_frees m n r s (Err exit) steps)
 turn_holds m n r s step list holds (gives read step1 m1 n1 r1 s1 steps none is) = free_after step n (step_frees m n r s (Ok read) steps)
 turn_holds m p r s step list holds (object read name definition step1 m1 n p1 r1 s1 steps some plain is at) =
-    free_after step p (ap (λ (k : Machine). k.held) at ∙ step_frees m n r s (Ok read) steps)
+    free_after step p (ap (λ (k : kept.Expander). k.held) at ∙ step_frees m n r s (Ok read) steps)
 turn_holds m q r t step list holds (seeks read name definition c step1 m1 n p q1 r1 s t1 steps some function sought found) =
     sought_holds read name definition c step n p q s t (step_quiet m n r s (Ok read) list holds steps refl).list
     (step_frees m n r s (Ok read) steps) sought found
 
 -- the end is taken where a turn comes to it
-end_taken : (m n : Machine) (r s : Reader) (step : Step Taken) → step ≡ Err Finished → TurnsTo m r step n s → StepsTaking m r (Err Finished) n s
+end_taken : (m n : kept.Expander) (r s : Reader) (step : Step Taken) → step ≡ Err Finished → TurnsTo m r step n s → StepsTaking m r (Err Finished) n s
 end_taken m n r s step e (passes exit step1 m1 n1 r1 s1 steps is) = subst (λ (x : StepExit). StepsTaking m r (Err x) n s) (exit_same exit (sym is ∙ e)) steps
   where
     exit_same : (exit : StepExit) → ◌≡◌ {A = Step Taken} (Err exit) (Err Finished) → exit ≡ Finished
@@ -201,7 +202,7 @@ module _ (definitions : List Defined) where
   stands_held (Some (Err Continue)) l x h listed = absurd h
   stands_held (Some (Err (Error fault))) l x h listed = absurd h
 
-  stands_here : (m : Machine) (l : Listing) → IsOnLine definitions m l → StandsListed true definitions [] m l (expander_of m l)
+  stands_here : (m : kept.Expander) (l : Listing) → IsOnLine definitions m l → StandsListed true definitions [] m l (expander_of m l)
   stands_here m l on = record {
     holds = refl;
     list = refl;
@@ -211,7 +212,7 @@ module _ (definitions : List Defined) where
   }
 
   -- where the code stands is where the definitions stand
-  here : (n : Machine) (k : Listing) (f : Expander Listed) → StandsListed true definitions [] n k f → IsHeld n.held → IsSound n (of_list k)
+  here : (n : kept.Expander) (k : Listing) (f : Expander Listed) → StandsListed true definitions [] n k f → IsHeld n.held → IsSound n (of_list k)
       → (f ≡ expander_of n k) × IsOnLine definitions n k
   here n k f stands holds sound =
       let listed = stands_held n.held k f.reader holds stands.reader in
@@ -224,11 +225,11 @@ module _ (definitions : List Defined) where
       )
 
 -- the items from here on are those from the beginning on
-abbrev pub GoesOn : ℕ → Machine → Listing → Machine → Listing → Type 0
+abbrev pub GoesOn : ℕ → kept.Expander → Listing → kept.Expander → Listing → Type 0
 GoesOn levels m l n k = (o : Given) (g : Expander Listed) → Emits line_reading (answers_at levels) (expander_of n k) o g
     → Emits line_reading (answers_at levels) (expander_of m l) o g
 
-module _ (levels : ℕ) (definitions : List Defined) (m n : Machine) (l k : Listing) (on : IsOnLine definitions m l) where
+module _ (levels : ℕ) (definitions : List Defined) (m n : kept.Expander) (l k : Listing) (on : IsOnLine definitions m l) where
   leads : (step : Step Taken) → TurnsTo m (of_list l) step n (of_list k) → wants_taken step ≡ false
       → LeadsTo line_reading (IsListed true definitions []) [] (list_simulates true definitions []) (list_shows true definitions
       []) (list_hides true definitions []) (list_sees true definitions []) (answers_at levels) step (expander_of m l) n (of_list k)
@@ -272,7 +273,7 @@ module _ (levels : ℕ) (definitions : List Defined) (m n : Machine) (l k : List
       → (f : Expander Listed) × Emits line_reading (answers_at levels) (expander_of m l) (given.Fault fault) f
   fault_read fault turns reported = leads (Err (Error fault)) turns reported
 
-  module _ (c : PendingCall) (turns : TurnsTo m (of_list l) (Ok (taken.Call c)) n (of_list k)) where
+  module _ (c : MacroCall) (turns : TurnsTo m (of_list l) (Ok (taken.Call c)) n (of_list k)) where
     pending : IsPending levels m (of_list l) c n (of_list k)
     pending = turn_falls levels m (of_list l) on.sound (Ok (taken.Call c)) n (of_list k) turns refl
 
@@ -289,22 +290,22 @@ module _ (levels : ℕ) (definitions : List Defined) (m n : Machine) (l k : List
     call_fault_read fault answers = (led.0, led.2 fault (subst (λ (x : Site). answers_at levels c.definition x (Err fault)) (sym site) answers))
 
     -- a call whose frame opened
-    pub call_read : (p : Machine) → IsOpened levels definitions (names_of n.frames ++ []) c n p → GoesOn levels m l p k × IsOnLine definitions p k
+    pub call_read : (p : kept.Expander) → IsOpened levels definitions (names_of n.frames ++ []) c n p → GoesOn levels m l p k × IsOnLine definitions p k
         × IsWorkLess levels m l p k
     call_read p opened =
         let less : IsLess levels m (of_list l) p (of_list k) =
         opened_less true definitions [] levels m n l k c p pending (stands_listed true definitions [] n k led.0 led.1 pending.free).3 opened in
-        let f : Expander Listed = record led.0 { list = spliced c.name c.definition c.closing.line opened.arguments led.0.list } in
+        let f : Expander Listed = record led.0 { list = macro_before c.name c.definition c.closing.line opened.arguments led.0.list } in
         let stood : StandsListed true definitions [] n k led.0 = led.1 in
         let stands : StandsListed true definitions [] p k f =
-        subst (λ (q : Machine). StandsListed true definitions [] q k f) (sym opened.opens)
+        subst (λ (q : kept.Expander). StandsListed true definitions [] q k f) (sym opened.opens)
         (record {
           holds = stood.holds;
-          list = ap (spliced c.name c.definition c.closing.line opened.arguments) stood.list;
+          list = ap (macro_before c.name c.definition c.closing.line opened.arguments) stood.list;
           reader = stood.reader;
           names = stood.names;
         }) in
-        let at = here definitions p k f stands (free_held p.held (ap (λ (q : Machine). q.held) opened.opens ∙ pending.free)) less.sound in (
+        let at = here definitions p k f stands (free_held p.held (ap (λ (q : kept.Expander). q.held) opened.opens ∙ pending.free)) less.sound in (
           λ o g emits. led.3 opened.arguments (subst (λ (x : Site). answers_at levels c.definition x (Ok opened.arguments))
               (sym site) opened.answers) o g (subst (λ (e : Expander Listed). Emits line_reading (answers_at levels) e o g) (sym at.0) emits),
           at.1,
@@ -324,7 +325,7 @@ module _ (levels : ℕ) (definitions : List Defined) (m n : Machine) (l k : List
       let sound : IsSound n s = next_sound None step m n r s next reported on.sound in
       let free : n.held ≡ None = (next_spends (frame_of levels r) (most_open r) level step m n r s next reported).free in
       let left = next_left (frame_of levels r) (most_open r) level step m n r s next reported in
-      let holding : Machine = record n { held = Some step } in
+      let holding : kept.Expander = record n { held = Some step } in
       let at = here definitions holding k (record h.0 { held = Some (outcome_of_step step) }) h.2
       (quiet_held step quiet.quiet (next_no_pause m n r s step next)) sound in
       let same : h.0 ≡ expander_of n k =

@@ -14,23 +14,23 @@ use Rattle.pp_model.specs.declared.word.Word.TheVariants.{Plain, Defined}
 use Rattle.pp_model.proofs.WordLemmas.{after_words, after_words-before, after_words-end}
 use Rattle.pp_macros.specs.inner.Defined as definitions
 use Rattle.pp_directives.specs.inner.LineItems.{IsOnLine, ReadsItem, ReadsOperand, expander_of}
-use Rattle.pp_macros.specs.inner.Machine.{Machine}
+use Rattle.pp_macros.specs.inner.Expander.{Expander}
 use Rattle.pp_macros.specs.inner.Reader.{Listing}
 use Rattle.pp_macros.specs.declared.halt.Halt.TheVariants as halt
 
 -- What the reading of a line has reached: its words so far, after which those from here on come.
 pub record WordsOn (kind : LineKind) (directive : Location) (levels : ℕ) (defined : List definitions.Defined)
-    (m : Machine) (l : Listing) (words : List Word) (n : Machine) (k : Listing) : Type 0 where
+    (m : Expander) (l : Listing) (words : List Word) (n : Expander) (k : Listing) : Type 0 where
   pub goes_on : (rest : Words) → LineWords kind directive (answers_at levels) (expander_of n k) rest
       → LineWords kind directive (answers_at levels) (expander_of m l) (after_words words rest)
   pub stands : IsOnLine defined n k
 
 pub words_start : (kind : LineKind) (directive : Location) (levels : ℕ) (defined : List definitions.Defined)
-    (m : Machine) (l : Listing) (words : List Word) → IsOnLine defined m l → words ≡ [] → WordsOn kind directive levels defined m l words m l
+    (m : Expander) (l : Listing) (words : List Word) → IsOnLine defined m l → words ≡ [] → WordsOn kind directive levels defined m l words m l
 words_start kind directive levels defined m l words on none = rw none (record { goes_on = λ rest h. h; stands = on })
 
-module _ (kind : LineKind) (directive : Location) (levels : ℕ) (defined : List definitions.Defined) (m : Machine) (l : Listing) (words : List Word)
-    (n : Machine) (k : Listing) (on : WordsOn kind directive levels defined m l words n k) (p : Machine) (q : Listing) where
+module _ (kind : LineKind) (directive : Location) (levels : ℕ) (defined : List definitions.Defined) (m : Expander) (l : Listing) (words : List Word)
+    (n : Expander) (k : Listing) (on : WordsOn kind directive levels defined m l words n k) (p : Expander) (q : Listing) where
   -- the words so far with what ends them are those of the line
   end_with : (ending : Option Fault) (w : Words) → w ≡ record { words = words; ending = ending }
       → LineWords kind directive (answers_at levels) (expander_of n k) (record { words = []; ending = ending })
@@ -61,7 +61,7 @@ module _ (kind : LineKind) (directive : Location) (levels : ℕ) (defined : List
           stands = item.1.stands;
         })
 
-    pub words_answered : (answer : Bool) (u : Machine) (v : Listing) (more : List Word) → reading kind read.token ≡ line.operator
+    pub words_answered : (answer : Bool) (u : Expander) (v : Listing) (more : List Word) → reading kind read.token ≡ line.operator
         → ReadsOperand kind directive levels defined p q (Ok answer) u v → more ≡ words ++ Defined read.token.location (Ok answer) ∷ []
         → WordsOn kind directive levels defined m l more u v
     words_answered answer u v more reads operand is =
@@ -73,7 +73,7 @@ module _ (kind : LineKind) (directive : Location) (levels : ℕ) (defined : List
           stands = operand.1.stands;
         })
 
-    pub words_faulty : (fault : Fault) (u : Machine) (v : Listing) (more : List Word) (w : Words) → reading kind read.token ≡ line.operator
+    pub words_faulty : (fault : Fault) (u : Expander) (v : Listing) (more : List Word) (w : Words) → reading kind read.token ≡ line.operator
         → ReadsOperand kind directive levels defined p q (Err (halt.Fault fault)) u v → more ≡ words ++ Defined read.token.location (Err fault) ∷ []
         → w ≡ record { words = more; ending = None } → LineWords kind directive (answers_at levels) (expander_of m l) w
     words_faulty fault u v more w reads operand grown is =

@@ -17,7 +17,7 @@ use Rattle.pp_macros.specs.inner.LineReading.{Meets, TakesItems, HasTaken}
 use Rattle.pp_macros.specs.inner.OpenBlocks.{last_block, facts_among}
 use Rattle.pp_macros.specs.declared.blocks.OpenBlock.{OpenBlock}
 use Rattle.pp_macros.specs.inner.Source.{Source, IsAfter, IsAfterFault, Ends, DefinesOver, HasEffect, Decides, holds, faulty, Renumbers, numbers, unnumbered}
-use Rattle.pp_directives.specs.inner.SourceActs.{HasKept, RedefinesWith, FailsWith, Acts, ActsNoted, GivesNoted, defining}
+use Rattle.pp_directives.specs.inner.SourceActs.{HasKept, RedefinesWith, FailsWith, Acts, ActsNoted, GivesNoted, define_move}
 use Rattle.pp_macros.specs.inner.SourceLexed.{SourceLexed}
 use Rattle.pp_model.specs.Moves.{Effect, gives, gives_item, fails, ends, passes, defines, undefines, opens_where, opens_if, opens_unread, parts, skips_branch, parts_if, closes, renumbers, Move, line_move, directive_move}
 use Rattle.pp_macros.specs.inner.SourceMoves.{Note, unnoted}
@@ -171,7 +171,7 @@ module _ (definitions : List Defined) (blocks : List OpenBlock)
       (line_length old.rest) definitions blocks blocks (omega arith) line_offset has_text has_directive dead old new m t
 
   pub define_acts : (named : Named) (result : Result (Unit {0}) Halt) (after : Source) → defined_on word old.rest ≡ Ok named
-      → HasTaken (line_length old.rest) old new → Acts (defining named) (source_of new definitions blocks line_offset has_text has_directive dead) result after
+      → HasTaken (line_length old.rest) old new → Acts (define_move named) (source_of new definitions blocks line_offset has_text has_directive dead) result after
       → Acts (directive_move true (facts_among blocks) d.Define word old.rest) (source_of old definitions blocks line_offset has_text has_directive dead) result after
   define_acts named result after e t acts =
       subst (λ (move : Move). Acts move (source_of old definitions blocks line_offset has_text has_directive dead) result after)

@@ -25,7 +25,7 @@ use Rattle.pp_macros.specs.inner.OpenBlocks.{facts_among, is_live_among}
 use Rattle.pp_macros.specs.declared.blocks.OpenBlock.{OpenBlock}
 use Rattle.pp_macros.specs.inner.Source.{Source, Pauses, Makes, IsRefusedStep, StepsSource}
 use Rattle.pp_directives.specs.inner.SourceActs.{GivesNoted, word_note, name_move, word_move}
-use Rattle.pp_macros.specs.inner.SourceLexed.{SourceLexed, EndStays}
+use Rattle.pp_macros.specs.inner.SourceLexed.{SourceLexed, EndKeepsPlaces}
 use Rattle.pp_model.specs.Moves.{Effect, fails, passes, Move, failing, directive_move, move_at, BlockFacts, passing}
 use Rattle.pp_model.specs.inner.Moves.{taking_more}
 use Rattle.pp_macros.specs.inner.SourceMoves.{Note, unnoted, directive_line, note_at, note_of, move_of}
@@ -197,7 +197,7 @@ module _ (definitions : List Defined) (blocks : List OpenBlock) (line_offset : �
 
   pub step_ends : (next : Option LexerToken) → next ≡ None → (old.spent ≡ true → ◌≡◌ {A = Result (Option LexerToken) Halt} (Ok next) (Ok None)
       × (mid ≡ old)) → (old.spent ≡ false → next_token old.rest ≡ Ok next) → (old.spent ≡ false → HasTaken 1 old mid)
-      → EndStays (Ok next) old mid → (step : Step Token) (new : Source)
+      → EndKeepsPlaces (Ok next) old mid → (step : Step Token) (new : Source)
       → StepsSource (source_of mid definitions blocks line_offset has_text has_directive dead) step new
       → StepsSource (source_of old definitions blocks line_offset has_text has_directive dead) step new
   step_ends next none spent gave took ended step new h = subst (λ (s : Source). StepsSource s step new) (go old.spent refl) h

@@ -12,12 +12,12 @@ ghost use Rattle.pp_macros.specs.inner.Defined.{meaning_of};
 ghost use Rattle.pp_macros.specs.Held.{HoldsOrdinary};
 ghost use Rattle.pp_macros.specs.Item.{as_step};
 ghost use Rattle.pp_directives.specs.inner.PlainText.{StepsPlain, GivesWord, PausesAtNewline};
-ghost use Rattle.pp_directives.specs.inner.ReadNames.{named};
+ghost use Rattle.pp_directives.specs.inner.ReadNames.{as_named};
 ghost use Rattle.pp_macros.specs.inner.OpenBlocks.{last_block, facts_among, is_live_among};
 ghost use Rattle.pp_directives.specs.inner.SettingContent.{SetsContent};
 ghost use Rattle.pp_macros.specs.inner.Source.{StepsSource, unreported_of};
 ghost use Rattle.pp_directives.specs.inner.LineEntries.{entries_move};
-ghost use Rattle.pp_directives.specs.inner.SourceActs.{Acts, ActsAsItem, ActsNoted, Gives, GivesNoted, is_as, without_item, word_move, word_note, defining};
+ghost use Rattle.pp_directives.specs.inner.SourceActs.{Acts, ActsAsItem, ActsNoted, Gives, GivesNoted, is_as, without_item, word_move, word_note, define_move};
 ghost use Rattle.pp_directives.specs.inner.Starting.{source_start};
 ghost use Rattle.pp_model.specs.Moves as moves;
 ghost use Rattle.pp_macros.specs.inner.Unreported.{Unreported, Reports, ExitReports, StepReports};
@@ -162,7 +162,7 @@ impl<'a> DirectiveProcessor<'a> {
     // Defines a name as its line says. If the name has the same definition already, the old one stays.
     fn add(&mut self, line: DefineLine) -> Result<(), Halt>
         requires { self.old.spent ≡ false }
-        ensures acts { Acts (defining (named line)) self.old result self.new }
+        ensures acts { Acts (define_move (as_named line)) self.old result self.new }
         ensures errors { Reports result (unreported_of self.old) (unreported_of self.new) }
     {
         if let Some(before) = self.definitions.find(line.name.as_str()) {

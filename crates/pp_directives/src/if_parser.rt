@@ -1,16 +1,16 @@
 //! The words of an `#if`, `#elif` or `#line` line.
 
 ghost use Rattle.std.specs.Prelude.{◌≡◌, [], IfOk, is_some};
-ghost use Rattle.pp_model.specs.LineWords.{unwanted_word};
+ghost use Rattle.pp_model.specs.LineWords.{unwanted_closing};
 ghost use Rattle.pp_model.specs.inner.LineWords.{is_open_paren, is_close_paren};
 ghost use Rattle.pp_macros.specs.inner.Defined.{meaning_of};
 ghost use Rattle.pp_macros.specs.Held.{AllHoldOrdinary};
-ghost use Rattle.pp_directives.specs.inner.IfParsing.{Stands, GivesItem, TakesOff, GivesTaken, IsNameOrFault, GivesOperand, GivesInParentheses, GivesClosed, AreWordsOf, AreWordsOfLine};
-ghost use Rattle.pp_directives.specs.inner.LineItems.{outcome_of};
+ghost use Rattle.pp_directives.specs.inner.IfParsing.{IsReading, GivesItem, TakesOff, GivesTaken, IsNameOrFault, GivesOperand, GivesInParentheses, GivesClosed, AreWordsOf, AreWordsOfLine};
+ghost use Rattle.pp_directives.specs.inner.LineItems.{taken_of_read};
 
 use pp_lexer::token::{Location, PreprocessorError, Text, Token, TokenValue};
 use pp_macros::arguments::finish_call;
-use pp_macros::calls::{Caller, Taken};
+use pp_macros::calls::{Expander, Taken};
 use pp_macros::definitions::Definitions;
 use pp_macros::halt::{Halt, halt_of};
 use pp_macros::list_lexer::{ListLexer, unpainted};
@@ -26,7 +26,7 @@ use std::alloc::{AllocError, Global};
 // A line that is read: the macros that are open, and the rest of its tokens.
 #[derive(Drop)]
 struct LineExpander<'a> {
-    caller: Caller,
+    expander: Expander,
     lexer: ListLexer<'a>,
 }
 
@@ -43,7 +43,7 @@ struct IfParser<'a> {
 
 // Whether it is a `(`.
 fn is_open_paren(found: &Option<Read>) -> bool
-    ensures { result ≡ is_open_paren (outcome_of found.now) }
+    ensures { result ≡ is_open_paren (taken_of_read found.now) }
 {
     match found {
         Some(read) => is_left_paren(&read.token.value),
@@ -53,7 +53,7 @@ fn is_open_paren(found: &Option<Read>) -> bool
 
 // Whether it is a `)`.
 fn is_close_paren(found: &Option<Read>) -> bool
-    ensures { result ≡ is_close_paren (outcome_of found.now) }
+    ensures { result ≡ is_close_paren (taken_of_read found.now) }
 {
     match found {
         Some(read) => is_right_paren(&read.token.value),
@@ -64,7 +64,7 @@ fn is_close_paren(found: &Option<Read>) -> bool
 impl<'a> IfParser<'a> {
     // The next item of the line, or `None` at its end.
     fn next_item(&self, line: &mut LineExpander<'_>) -> Result<Option<Read>, Halt>
-        requires { Stands self.now line.old }
+        requires { IsReading self.now line.old }
         ensures reads { GivesItem self.now line.old result line.new }
         ensures less { TakesOff self.now line.old result line.new }
     {
@@ -78,17 +78,17 @@ impl<'a> IfParser<'a> {
         line: &mut LineExpander<'_>,
         around: &OpenAround<'_>,
     ) -> Result<Option<Read>, Halt>
-        requires stands { Stands self.now line.old }
+        requires stands { IsReading self.now line.old }
         requires alone { around.now ≡ [] }
         ensures reads { GivesItem self.now line.old result line.new }
         ensures less { TakesOff self.now line.old result line.new }
     {
         'items: loop {
-            match step_list(&mut line.caller, &mut line.lexer) {
+            match step_list(&mut line.expander, &mut line.lexer) {
                 Ok(Taken::Token(read)) => return Ok(Some(read)),
                 Ok(Taken::Call(call)) => finish_call(
                     self.alloc,
-                    &mut line.caller,
+                    &mut line.expander,
                     call,
                     self.definitions,
                     around,
@@ -103,10 +103,10 @@ impl<'a> IfParser<'a> {
 
     // Takes the next token without looking it up, or `None` at the end of the line.
     fn take(&self, line: &mut LineExpander<'_>) -> Result<Option<Read>, Halt>
-        requires { Stands self.now line.old }
+        requires { IsReading self.now line.old }
         ensures { GivesTaken self.now line.old result line.new }
     {
-        match take_list(&mut line.caller, &mut line.lexer) {
+        match take_list(&mut line.expander, &mut line.lexer) {
             Ok(read) => Ok(Some(read)),
             Err(StepExit::Finished) => Ok(None),
             Err(StepExit::Continue) => Ok(None),
@@ -123,7 +123,7 @@ impl<'a> IfParser<'a> {
 
     // The fault of an item where `defined` needs its operand or a parenthesis.
     fn unwanted_word(&self, found: Option<Read>) -> Fault
-        ensures { result ≡ unwanted_word self.now.kind self.now.directive (outcome_of found) }
+        ensures { result ≡ unwanted_closing self.now.kind self.now.directive (taken_of_read found) }
     {
         match found {
             Some(read) => unwanted_reading(reading_of(self.kind, read.token)),
@@ -149,7 +149,7 @@ impl<'a> IfParser<'a> {
 
     // The value of a `defined` after its `(` and the name.
     fn closed_operand(&self, line: &mut LineExpander<'_>, name: &Text) -> Result<bool, Halt>
-        requires { Stands self.now line.old }
+        requires { IsReading self.now line.old }
         ensures { GivesClosed self.now name.now line.old result line.new }
     {
         let found = self.next_item(line)?;
@@ -163,7 +163,7 @@ impl<'a> IfParser<'a> {
 
     // The value of a `defined` after its `(`.
     fn operand_in_parentheses(&self, line: &mut LineExpander<'_>) -> Result<bool, Halt>
-        requires { Stands self.now line.old }
+        requires { IsReading self.now line.old }
         ensures { GivesInParentheses self.now line.old result line.new }
     {
         let found = self.take(line)?;
@@ -175,7 +175,7 @@ impl<'a> IfParser<'a> {
 
     // The value of a `defined`, from its operand.
     fn operand(&self, line: &mut LineExpander<'_>) -> Result<bool, Halt>
-        requires { Stands self.now line.old }
+        requires { IsReading self.now line.old }
         ensures { GivesOperand self.now line.old result line.new }
     {
         let found = self.take(line)?;
@@ -191,7 +191,7 @@ impl<'a> IfParser<'a> {
 
     // The words of the rest of a line.
     fn read_words(&self, line: &mut LineExpander<'_>) -> Result<Words, AllocError>
-        requires { Stands self.now line.old }
+        requires { IsReading self.now line.old }
         ensures { IfOk result (AreWordsOf self.now line.old) }
     {
         let mut words = Vec::new(self.alloc);
@@ -238,7 +238,7 @@ impl<'a> IfParser<'a> {
         let mut reads = unpainted(self.alloc, tokens)?;
         let lexer = ListLexer::line(&mut reads, definitions, &*around);
         let mut line = LineExpander {
-            caller: Caller::new(self.alloc),
+            expander: Expander::new(self.alloc),
             lexer,
         };
         let words = self.read_words(&mut line);

@@ -4,7 +4,7 @@ ghost use Rattle.pp_model.specs.Emitting.{answers_at, expansion_limit};
 ghost use Rattle.pp_model.specs.LineValues.{IsCondition, IsLineNumber};
 ghost use Rattle.pp_macros.specs.inner.Defined.{meaning_of};
 ghost use Rattle.pp_macros.specs.Held.{AllHoldOrdinary};
-ghost use Rattle.pp_macros.specs.inner.Machine.{Satisfies};
+ghost use Rattle.pp_macros.specs.inner.Expander.{Satisfies};
 ghost use Rattle.pp_directives.specs.inner.LineHalts.{without_number};
 
 use crate::if_parser::line_words;

@@ -8,7 +8,7 @@ ghost use Rattle.pp_model.specs.Lines.{first_token, first_name, ended_line, only
 ghost use Rattle.pp_directives.specs.inner.LineEntries.{line_entries};
 ghost use Rattle.pp_macros.specs.Held.{is_ordinary_leaf};
 ghost use Rattle.pp_macros.specs.inner.LineReading as spec;
-ghost use Rattle.pp_directives.specs.inner.ReadNames.{named, placed};
+ghost use Rattle.pp_directives.specs.inner.ReadNames.{as_named, as_placed};
 ghost use Rattle.pp_macros.specs.inner.ParameterReading.{function_at};
 ghost use Rattle.pp_macros.specs.inner.SourceLexed.{unreported_at};
 ghost use Rattle.pp_macros.specs.inner.Unreported.{Reports};
@@ -46,7 +46,7 @@ pub struct PlacedName {
 /// The name that comes next. Anything else is an error.
 pub fn first_name(word: Location, lexer: &mut SourceLexer<'_>) -> Result<PlacedName, Halt>
     requires { lexer.old.spent ≡ false }
-    ensures is { spec.Meets placed result (first_name word lexer.old.rest) }
+    ensures is { spec.Meets as_placed result (first_name word lexer.old.rest) }
     ensures takes { spec.TakesItems 1 lexer.old result lexer.new }
     ensures errors { Reports result (unreported_at lexer.old) (unreported_at lexer.new) }
     ensures left { IfOk result (λ name. lexer.new.rest ≢ []) }
@@ -268,7 +268,7 @@ pub fn define_line(
     lexer: &mut SourceLexer<'_>,
 ) -> Result<DefineLine, Halt>
     requires { lexer.old.spent ≡ false }
-    ensures is { spec.Meets named result (defined_on word lexer.old.rest) }
+    ensures is { spec.Meets as_named result (defined_on word lexer.old.rest) }
     ensures takes { spec.TakesItems (line_length lexer.old.rest) lexer.old result lexer.new }
     ensures errors { Reports result (unreported_at lexer.old) (unreported_at lexer.new) }
 {

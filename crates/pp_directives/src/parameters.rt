@@ -4,7 +4,7 @@ ghost use Rattle.std.specs.Prelude.{◌≡◌, ◌++◌, ◌∷◌, [], false, I
 ghost use Rattle.pp_model.specs.DefineLines.{parameters};
 ghost use Rattle.pp_model.specs.Names.{is_in};
 ghost use Rattle.pp_macros.specs.inner.LineReading as spec;
-ghost use Rattle.pp_macros.specs.inner.ParameterReading.{ends_parameters, one_parameter, first_parameter, alone, GoesOn};
+ghost use Rattle.pp_macros.specs.inner.ParameterReading.{ends_parameters, one_parameter, first_parameter, alone, GoesOnInLine};
 ghost use Rattle.pp_macros.specs.inner.SourceLexed.{unreported_at};
 ghost use Rattle.pp_macros.specs.inner.Unreported.{Reports};
 ghost use Rattle.pp_directives.specs.inner.ReadNames.{parameters_to};
@@ -85,7 +85,7 @@ pub fn parameters(
     requires { lexer.old.spent ≡ false }
     ensures is { spec.Meets (λ names. parameters_to names lexer.new) result
         (parameters word lexer.old.rest) }
-    ensures goes { GoesOn result lexer.old lexer.new }
+    ensures goes { GoesOnInLine result lexer.old lexer.new }
     ensures errors { Reports result (unreported_at lexer.old) (unreported_at lexer.new) }
 {
     let none = ParameterNames::new(alloc);

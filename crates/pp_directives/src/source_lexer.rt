@@ -5,7 +5,7 @@ ghost use Rattle.pp_lexer.specs.Lexed.{start_of, comments_before};
 ghost use Rattle.pp_lexer.specs.Spots.{spots_of};
 ghost use Rattle.pp_directives.specs.inner.PlainText.{GivesPlain, GivesUnknown, PassesNewline};
 ghost use Rattle.pp_macros.specs.inner.LineReading as spec;
-ghost use Rattle.pp_macros.specs.inner.SourceLexed.{beginning, unreported_at, EndStays};
+ghost use Rattle.pp_macros.specs.inner.SourceLexed.{beginning, unreported_at, EndKeepsPlaces};
 ghost use Rattle.pp_macros.specs.inner.Unreported.{Reports};
 
 use pp_lexer::lexer::{self, KnownNames, Lexer, PlainItem};
@@ -125,7 +125,7 @@ impl<'a> SourceLexer<'a> {
         ensures comments { IfOk result (λ token. self.old.spent ≡ false → self.new.had_comments
             ≡ comments_before self.old.rest self.old.at_end) }
         ensures left { IfOk result (λ token. spec.LeavesSome token self.new.rest) }
-        ensures ended { EndStays result self.old self.new }
+        ensures ended { EndKeepsPlaces result self.old self.new }
         ensures errors { Reports result (unreported_at self.old) (unreported_at self.new) }
         ensures refused { spec.RefusedWithin result self.old.rest }
         ensures spent { self.old.spent ≡ true → (result ≡ Ok None) × (self.new ≡ self.old) }

@@ -5,7 +5,7 @@ pub mod PartLemmas
 pub mod PieceLemmas
 pub mod PlainLemmas
 pub mod Walk
-pub mod MachineLemmas
+pub mod ExpanderLemmas
 pub mod SearchSimulates
 pub mod TurnLeadsLemmas
 pub mod ListedLeadsLemmas

@@ -20,7 +20,7 @@ pub mod Ahead
 pub mod Work
 pub mod LineReading
 pub mod Reach
-pub mod Machine
+pub mod Expander
 pub mod Idle
 pub mod Left
 pub mod Calling

@@ -7,14 +7,14 @@ ghost use Rattle.pp_model.specs.Emitting.{Alone, Each, answers_at};
 ghost use Rattle.pp_macros.specs.inner.Defined.{meaning_of};
 ghost use Rattle.pp_macros.specs.inner.Finishing.{Finishes, IsAtStart, IsShort, AreShort, AreOfCall, read_to_end, site_at};
 ghost use Rattle.pp_macros.specs.inner.Frames.{names_of};
-ghost use Rattle.pp_macros.specs.inner.Parts.{added, lists_of, AreInOrder};
+ghost use Rattle.pp_macros.specs.inner.Parts.{addition, lists_of, AreInOrder};
 ghost use Rattle.pp_macros.specs.inner.Reading.{AllReadOrdinary};
-ghost use Rattle.pp_macros.specs.inner.Machine.{Satisfies};
+ghost use Rattle.pp_macros.specs.inner.Expander.{Satisfies};
 ghost use Rattle.pp_macros.specs.inner.Plain.{is_plain};
 ghost use Rattle.pp_macros.specs.declared.step.StepExit.TheVariants.{Error};
 
 use crate::argument_lists::{ArgumentLists, Part};
-use crate::calls::{Call, Caller, Taken};
+use crate::calls::{Expander, MacroCall, Taken};
 use crate::define::Define;
 use crate::definitions::{Definitions, gives_itself};
 use crate::halt::{Halt, halt_of};
@@ -81,16 +81,16 @@ fn misfit(define: &Define, arguments: &ArgumentLists) -> Option<PreprocessorErro
 #[cycle(answers)]
 pub fn finish_call(
     alloc: Global,
-    caller: &mut Caller,
-    mut call: Call,
+    expander: &mut Expander,
+    mut call: MacroCall,
     definitions: &Definitions,
     hidden: &OpenAround<'_>,
     levels: u32,
 ) -> Result<(), Halt>
-    ensures { Finishes levels definitions.now hidden.now call caller.old result caller.new }
+    ensures { Finishes levels definitions.now hidden.now call expander.old result expander.new }
 {
-    let expanded = expand_call(alloc, &*caller, &mut call, definitions, hidden, levels)?;
-    caller.open_call(call, expanded)?;
+    let expanded = expand_call(alloc, &*expander, &mut call, definitions, hidden, levels)?;
+    expander.open_call(call, expanded)?;
     Ok(())
 }
 
@@ -98,14 +98,14 @@ pub fn finish_call(
 #[cycle(answers)]
 fn expand_call(
     alloc: Global,
-    caller: &Caller,
-    call: &mut Call,
+    expander: &Expander,
+    call: &mut MacroCall,
     definitions: &Definitions,
     hidden: &OpenAround<'_>,
     levels: u32,
 ) -> Result<ArgumentLists, Halt>
     ensures answers { Satisfies result (λ out. answers_at levels call.old.definition
-        (site_at call.old definitions.now (names_of caller.now.frames ++ hidden.now)) out) }
+        (site_at call.old definitions.now (names_of expander.now.frames ++ hidden.now)) out) }
     ensures least { IfOk result (λ outs. AreOfCall levels definitions.now call.old outs) }
     ensures left { call.new ≡ record call.old { tokens = [] } }
 {
@@ -117,24 +117,24 @@ fn expand_call(
     if levels == 0 {
         return Err(Halt::Fault((PreprocessorError::RecursionLimitReached, call.paren())));
     }
-    expand_within(alloc, caller, arguments, definitions, hidden, levels - 1)
+    expand_within(alloc, expander, arguments, definitions, hidden, levels - 1)
 }
 
-// The arguments, each expanded alone, with the macros of the caller and those around it open.
+// The arguments, each expanded alone, with the macros of the expander and those around it open.
 #[cycle(answers)]
 fn expand_within(
     alloc: Global,
-    caller: &Caller,
+    expander: &Expander,
     arguments: ArgumentLists,
     definitions: &Definitions,
     hidden: &OpenAround<'_>,
     levels: u32,
 ) -> Result<ArgumentLists, Halt>
     ensures each { Satisfies result (λ out. Each (Alone levels) (meaning_of definitions.now)
-        (names_of caller.now.frames ++ hidden.now) arguments out) }
+        (names_of expander.now.frames ++ hidden.now) arguments out) }
     ensures least { IfOk result (λ outs. AreShort levels definitions.now arguments outs) }
 {
-    let around = (&*caller).around(&*hidden)?;
+    let around = (&*expander).around(&*hidden)?;
     expand_arguments(alloc, arguments, definitions, &around, levels)
 }
 
@@ -233,11 +233,11 @@ fn expand_argument(
     requires ordinary { AllReadOrdinary tokens.old }
     requires before { AllReadOrdinary items.old.items }
     ensures keeps { OnOk result (items.new.items
-        ≡ items.old.items ++ added items.old.items items.new.items) }
+        ≡ items.old.items ++ addition items.old.items items.new.items) }
     ensures alone { Satisfies result (λ end. Alone levels tokens.old (meaning_of definitions.now)
-        hidden.now (read_to_end (added items.old.items items.new.items) end)) }
+        hidden.now (read_to_end (addition items.old.items items.new.items) end)) }
     ensures least { OnOk result (IsShort levels definitions.now (length tokens.old)
-        (added items.old.items items.new.items)) }
+        (addition items.old.items items.new.items)) }
     ensures holds { OnOk result (AllReadOrdinary items.new.items) }
 {
     if are_plain(&*tokens, definitions, hidden) {
@@ -260,25 +260,25 @@ fn expand_tokens(
     requires ordinary { AllReadOrdinary tokens.old }
     requires before { AllReadOrdinary items.old.items }
     ensures keeps { OnOk result (items.new.items
-        ≡ items.old.items ++ added items.old.items items.new.items) }
+        ≡ items.old.items ++ addition items.old.items items.new.items) }
     ensures alone { Satisfies result (λ end. Alone levels tokens.old (meaning_of definitions.now)
-        hidden.now (read_to_end (added items.old.items items.new.items) end)) }
+        hidden.now (read_to_end (addition items.old.items items.new.items) end)) }
     ensures least { OnOk result (IsShort levels definitions.now (length tokens.old)
-        (added items.old.items items.new.items)) }
+        (addition items.old.items items.new.items)) }
     ensures holds { OnOk result (AllReadOrdinary items.new.items) }
 {
     let mut lexer = ListLexer::argument(tokens, definitions, &*hidden);
-    let mut caller = Caller::new(alloc);
+    let mut expander = Expander::new(alloc);
     let ended = expand_list(
         alloc,
-        &mut caller,
+        &mut expander,
         &mut lexer,
         items,
         definitions,
         hidden,
         levels,
     );
-    drop(caller);
+    drop(expander);
     drop(lexer);
     ended
 }
@@ -287,30 +287,30 @@ fn expand_tokens(
 #[cycle(answers)]
 fn expand_list(
     alloc: Global,
-    caller: &mut Caller,
+    expander: &mut Expander,
     lexer: &mut ListLexer<'_>,
     items: &mut Vec<Read>,
     definitions: &Definitions,
     hidden: &OpenAround<'_>,
     levels: u32,
 ) -> Result<(), Halt>
-    requires start { IsAtStart definitions.now hidden.now caller.old lexer.old }
+    requires start { IsAtStart definitions.now hidden.now expander.old lexer.old }
     requires before { AllReadOrdinary items.old.items }
     ensures keeps { OnOk result (items.new.items
-        ≡ items.old.items ++ added items.old.items items.new.items) }
+        ≡ items.old.items ++ addition items.old.items items.new.items) }
     ensures alone { Satisfies result (λ end. Alone levels lexer.old.tokens
         (meaning_of definitions.now) hidden.now
-        (read_to_end (added items.old.items items.new.items) end)) }
+        (read_to_end (addition items.old.items items.new.items) end)) }
     ensures least { OnOk result (IsShort levels definitions.now (length lexer.old.tokens)
-        (added items.old.items items.new.items)) }
+        (addition items.old.items items.new.items)) }
     ensures holds { OnOk result (AllReadOrdinary items.new.items) }
 {
     'items: loop {
-        caller.give_frames(&*lexer, items)?;
-        match step_list(&mut *caller, &mut *lexer) {
+        expander.give_frames(&*lexer, items)?;
+        match step_list(&mut *expander, &mut *lexer) {
             Ok(Taken::Token(read)) => items.push(read)?,
             Ok(Taken::Call(call)) => {
-                finish_call(alloc, &mut *caller, call, definitions, hidden, levels)?
+                finish_call(alloc, &mut *expander, call, definitions, hidden, levels)?
             }
             Err(StepExit::Continue) => {}
             Err(StepExit::Finished) => return Ok(()),

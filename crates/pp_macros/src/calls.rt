@@ -4,24 +4,24 @@ ghost use Rattle.std.specs.Prelude.{◌≡◌, ◌⊎◌, ◌∷◌, ◌++◌, [
 ghost use Rattle.pp_lexer.specs.PreprocessorError.{out_of_memory};
 ghost use Rattle.pp_model.specs.Painting.{unpainted, painted_among};
 ghost use Rattle.pp_macros.specs.inner.Seeking.{FindsBy, Enters, FollowsToken};
-ghost use Rattle.pp_macros.specs.inner.Frames.{layer, names_of, outermost_frame_line};
+ghost use Rattle.pp_macros.specs.inner.Frames.{new_frame, names_of, outermost_frame_line};
 ghost use Rattle.pp_macros.specs.Held.{HoldsOrdinary};
 ghost use Rattle.pp_macros.specs.inner.Reading.{AllReadOrdinary};
 ghost use Rattle.pp_macros.specs.inner.Giving.{GivesEach, GivesNext, PausesEach, is_at_pause};
 ghost use Rattle.pp_macros.specs.inner.Idle.{is_idle};
-ghost use Rattle.pp_macros.specs.inner.CallTurns.{TurnsOrRefuses, is_refusal, paren_of, TakenHoldsOrdinary};
-ghost use Rattle.pp_macros.specs.inner.Machine.{StepsFetching, StepsTaking, TakesNext, GathersNext, Satisfies, gathered_to, taken_as, is_pause};
+ghost use Rattle.pp_macros.specs.inner.CallTurns.{TurnsOrRefuses, is_out_of_memory_step, paren_of, TakenHoldsOrdinary};
+ghost use Rattle.pp_macros.specs.inner.Expander.{StepsFetching, StepsTaking, TakesNext, GathersNext, Satisfies, gathered_to, taken_as, is_pause};
 ghost use Rattle.pp_macros.specs.inner.Reader.{of_list};
-ghost use Rattle.pp_macros.specs.inner.Turns.{opens, masks};
+ghost use Rattle.pp_macros.specs.inner.Turns.{macro_of, masks};
 ghost use Rattle.pp_lexer.specs.declared.token.TokenValue.TheVariants as value;
 ghost use Rattle.pp_macros.specs.declared.step.StepExit.TheVariants.{Error, Continue};
 
 use crate::argument_lists::ArgumentLists;
 use crate::define::Define;
-use crate::expander::{MacroProcessor, gives_line_name};
 use crate::frames::Ahead;
 use crate::halt::{Halt, halt_of};
 use crate::list_lexer::ListLexer;
+use crate::macro_processor::{MacroProcessor, gives_line_name};
 use crate::open_around::OpenAround;
 use crate::reader::MeLexer;
 use crate::step::{Step, StepExit, is_out_of_memory};
@@ -36,7 +36,7 @@ use std::rc::Rc;
 
 /// A call whose `)` has been taken.
 #[derive(Drop)]
-pub struct Call {
+pub struct MacroCall {
     name: Text,
     define: Rc<Define>,
     paren: Location,
@@ -44,18 +44,18 @@ pub struct Call {
     tokens: Vec<Read>,
 }
 
-impl Model for Call {
-    ghost use Rattle.pp_macros.specs.inner.Calling.{PendingCall};
+impl Model for MacroCall {
+    ghost use Rattle.pp_macros.specs.inner.Calling as spec;
     ghost use Rattle.pp_macros.specs.inner.Reading.{AllReadOrdinary};
 
-    ghost Value = { PendingCall };
+    ghost Value = { spec.MacroCall };
 
     ghost view = { λ c. record { name = c.name; definition = c.define.value; paren = c.paren; closing = c.closing; tokens = c.tokens.items } };
 
     ghost invariant = { λ c. AllReadOrdinary c.tokens.items };
 }
 
-impl Call {
+impl MacroCall {
     /// Moves out the tokens between its parentheses.
     pub fn take_tokens(&mut self, alloc: Global) -> Vec<Read>
         ensures taken { result.items ≡ self.old.tokens }
@@ -86,23 +86,23 @@ pub enum Taken {
     /// A token.
     Token(Read),
     /// A call.
-    Call(Call),
+    Call(MacroCall),
 }
 
 /// An expander: open macros, and a step that was taken too early and is held.
 #[derive(Drop)]
-pub struct Caller {
+pub struct Expander {
     alloc: Global,
     processor: MacroProcessor,
     held: Option<Step<Read>>,
 }
 
-impl Model for Caller {
+impl Model for Expander {
     ghost use Rattle.std.specs.Prelude.{IfSome, IfOk};
     ghost use Rattle.pp_macros.specs.Held.{HoldsOrdinary};
-    ghost use Rattle.pp_macros.specs.inner.Machine.{Machine};
+    ghost use Rattle.pp_macros.specs.inner.Expander as spec;
 
-    ghost Value = { Machine };
+    ghost Value = { spec.Expander };
 
     ghost view = { λ c. record { held = c.held; frames = c.processor } };
 
@@ -129,7 +129,7 @@ impl Model for Gathered {
 
 /// What follows the name of a function-like macro.
 #[derive(Drop)]
-pub enum Found {
+pub enum AfterName {
     /// No call.
     NoCall,
     /// A call, with the place of its `(`.
@@ -137,8 +137,8 @@ pub enum Found {
 }
 
 // Whether an allocation failed.
-fn is_refusal(step: &Step<Read>) -> bool
-    ensures { result ≡ is_refusal step.now }
+fn is_out_of_memory_step(step: &Step<Read>) -> bool
+    ensures { result ≡ is_out_of_memory_step step.now }
 {
     match step {
         Err(StepExit::Error(fault)) => is_out_of_memory(&fault.0),
@@ -178,7 +178,7 @@ fn is_pause(step: &Step<Read>) -> bool
 
 // The step `OutOfMemory`. It is a function of its own, so that a token is moved without it.
 #[inline(never)]
-fn refused() -> Step<Taken>
+fn out_of_memory_step() -> Step<Taken>
     ensures { result ≡ Err (Error out_of_memory) }
 {
     Err(StepExit::Error(out_of_memory()))
@@ -186,7 +186,7 @@ fn refused() -> Step<Taken>
 
 // Whether a token that a frame gives opens a macro when it is taken, painted or not.
 fn opens_macro(list: &ListLexer<'_>, ahead: &Ahead<'_>, painted: bool) -> bool
-    ensures { result ≡ is_some (opens (of_list list.now) (record {
+    ensures { result ≡ is_some (macro_of (of_list list.now) (record {
       token = ahead.now.token;
       painted = painted;
     })) }
@@ -200,12 +200,12 @@ fn opens_macro(list: &ListLexer<'_>, ahead: &Ahead<'_>, painted: bool) -> bool
     }
 }
 
-impl Caller {
+impl Expander {
     /// An expander in which nothing is open or held.
-    pub fn new(alloc: Global) -> Caller
+    pub fn new(alloc: Global) -> Expander
         ensures { result ≡ record { held = None; frames = [] } }
     {
-        Caller {
+        Expander {
             alloc,
             processor: MacroProcessor::new(alloc),
             held: None,
@@ -365,23 +365,23 @@ impl Caller {
     }
 
     // Looks for a call after the name of a function-like macro. Anything else is held.
-    fn seek(&mut self, lexer: &mut dyn MeLexer) -> Result<Found, Halt>
+    fn seek(&mut self, lexer: &mut dyn MeLexer) -> Result<AfterName, Halt>
         ensures finds { FindsBy self.old (reader lexer.old) result self.new (reader lexer.new) }
     {
         let next = self.take_next(lexer);
-        if is_refusal(&next) {
+        if is_out_of_memory_step(&next) {
             drop(next);
             return Err(Halt::OutOfMemory);
         }
         match paren_of(&next) {
             None => {
                 self.put_back(next);
-                Ok(Found::NoCall)
+                Ok(AfterName::NoCall)
             }
             Some(paren) => {
                 drop(next);
                 let gathered = self.gather(lexer, paren)?;
-                Ok(Found::Whole(paren, gathered))
+                Ok(AfterName::Whole(paren, gathered))
             }
         }
     }
@@ -389,7 +389,7 @@ impl Caller {
     // Opens the frame of an object-like macro.
     fn open_plain(&mut self, name: Text, line: u32, define: Rc<Define>) -> Step<Taken>
         ensures opens { ((result ≡ Err Continue) × (self.new
-            ≡ record self.old { frames = layer name line define.value [] ∷ self.old.frames }))
+            ≡ record self.old { frames = new_frame name line define.value [] ∷ self.old.frames }))
             ⊎ (result ≡ Err (Error out_of_memory)) }
         ensures holds { IfOk result TakenHoldsOrdinary }
     {
@@ -417,13 +417,13 @@ impl Caller {
         ensures holds { IfOk result TakenHoldsOrdinary }
     {
         match self.seek(lexer)? {
-            Found::NoCall => Ok(Taken::Token(Read::unpainted(Token {
+            AfterName::NoCall => Ok(Taken::Token(Read::unpainted(Token {
                 value: TokenValue::Ident(name),
                 location,
             }))),
-            Found::Whole(paren, gathered) => {
+            AfterName::Whole(paren, gathered) => {
                 let Gathered { tokens, closing } = gathered;
-                Ok(Taken::Call(Call {
+                Ok(Taken::Call(MacroCall {
                     name,
                     define,
                     paren,
@@ -437,7 +437,7 @@ impl Caller {
     // The macro that a taken token names, unless the token is painted.
     fn find_macro(&self, lexer: &dyn MeLexer, read: &Read) -> Result<Option<Rc<Define>>, AllocError>
         ensures { IfOk result (λ found. option_map (λ define. define.value) found
-            ≡ option_map (λ opening. opening.1) (opens (reader lexer.now) read.now)) }
+            ≡ option_map (λ opening. opening.1) (macro_of (reader lexer.now) read.now)) }
     {
         if read.painted {
             return Ok(None);
@@ -451,10 +451,10 @@ impl Caller {
     // Opens the macro of a name that is taken, or begins its call.
     #[inline(never)]
     fn enter(&mut self, lexer: &mut dyn MeLexer, read: Read, define: Rc<Define>) -> Step<Taken>
-        requires opens { option_map (λ opening. opening.1) (opens (reader lexer.old) read)
+        requires opens { option_map (λ opening. opening.1) (macro_of (reader lexer.old) read)
             ≡ Some define.value }
         requires holds { HoldsOrdinary read.token.value }
-        ensures follows { FollowsToken (opens (reader lexer.old) read) read
+        ensures follows { FollowsToken (macro_of (reader lexer.old) read) read
             self.old (reader lexer.old) result self.new (reader lexer.new)
             ⊎ (result ≡ Err (Error out_of_memory)) }
         ensures holds { IfOk result TakenHoldsOrdinary }
@@ -476,7 +476,7 @@ impl Caller {
     #[inline(always)]
     fn follow(&mut self, lexer: &mut dyn MeLexer, read: Read) -> Step<Taken>
         requires { HoldsOrdinary read.token.value }
-        ensures follows { FollowsToken (opens (reader lexer.old) read) read
+        ensures follows { FollowsToken (macro_of (reader lexer.old) read) read
             self.old (reader lexer.old) result self.new (reader lexer.new)
             ⊎ (result ≡ Err (Error out_of_memory)) }
         ensures holds { IfOk result TakenHoldsOrdinary }
@@ -484,7 +484,7 @@ impl Caller {
         match self.find_macro(&*lexer, &read) {
             Ok(None) => Ok(Taken::Token(read)),
             Ok(Some(define)) => self.enter(lexer, read, define),
-            Err(_) => refused(),
+            Err(_) => out_of_memory_step(),
         }
     }
 
@@ -517,7 +517,7 @@ impl Caller {
             return self.step_any(lexer);
         }
         let Ok(mut read) = ahead.copied(self.alloc) else {
-            return refused();
+            return out_of_memory_step();
         };
         self.processor.pass();
         self.processor.paint(&*lexer, &mut read);
@@ -617,14 +617,14 @@ impl Caller {
     }
 
     /// Opens the frame of a call.
-    pub fn open_call(&mut self, call: Call, arguments: ArgumentLists) -> Result<(), AllocError>
+    pub fn open_call(&mut self, call: MacroCall, arguments: ArgumentLists) -> Result<(), AllocError>
         ensures { OnOk result (self.new
             ≡ record self.old {
-              frames = layer call.name call.closing.line call.definition arguments
+              frames = new_frame call.name call.closing.line call.definition arguments
                   ∷ self.old.frames;
             }) }
     {
-        let Call {
+        let MacroCall {
             name,
             define,
             paren: _,

@@ -3,7 +3,7 @@
 
 ghost use Rattle.std.specs.Prelude.{◌≡◌, ◌⊎◌, ◌<◌, ◌^◌, IfOk, IfSome, Some, None, Ok, Err, option_map, slice_get, is_none};
 ghost use Rattle.pp_lexer.specs.PreprocessorError.{out_of_memory};
-ghost use Rattle.pp_macros.specs.inner.Frames.{layer, argument_at, advance};
+ghost use Rattle.pp_macros.specs.inner.Frames.{new_frame, argument_at, advance};
 ghost use Rattle.pp_macros.specs.Held.{HoldsOrdinary, AllHoldOrdinary};
 ghost use Rattle.pp_macros.specs.inner.Ahead.{given_by, frame_after};
 ghost use Rattle.pp_macros.specs.declared.step.StepExit.TheVariants.{Error};
@@ -79,9 +79,10 @@ pub struct Frame {
 
 impl Model for Frame {
     ghost use Rattle.std.specs.Prelude.{drop, option_map};
-    ghost use Rattle.pp_macros.specs.inner.Frames.{Layer, argument_at};
+    ghost use Rattle.pp_macros.specs.inner.Frames as spec;
+    ghost use Rattle.pp_macros.specs.inner.Frames.{argument_at};
 
-    ghost Value = { Layer };
+    ghost Value = { spec.Frame };
 
     ghost view = { λ f. record {
       name = f.name;
@@ -145,13 +146,13 @@ pub fn give(alloc: Global, ahead: Ahead<'_>) -> Step<Read>
 {
     match ahead.copied(alloc) {
         Ok(read) => Ok(read),
-        Err(_) => refused_token(),
+        Err(_) => out_of_memory_step(),
     }
 }
 
 // The step `OutOfMemory`. It is a function of its own, so that a token is moved without it.
 #[inline(never)]
-fn refused_token() -> Step<Read>
+fn out_of_memory_step() -> Step<Read>
     ensures { result ≡ Err (Error out_of_memory) }
 {
     Err(StepExit::Error(out_of_memory()))
@@ -160,7 +161,7 @@ fn refused_token() -> Step<Read>
 impl Frame {
     /// The frame of a macro that opens.
     pub fn new(name: Text, line: u32, define: Rc<Define>, arguments: ArgumentLists) -> Frame
-        ensures { result ≡ layer name line define.value arguments }
+        ensures { result ≡ new_frame name line define.value arguments }
     {
         Frame {
             name,

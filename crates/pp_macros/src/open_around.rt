@@ -7,7 +7,7 @@ ghost use Rattle.pp_model.specs.Names.{is_in};
 ghost use Rattle.pp_model.specs.Painting.{is_one_of};
 ghost use Rattle.pp_macros.specs.inner.Frames.{names_of};
 
-use crate::expander::MacroProcessor;
+use crate::macro_processor::MacroProcessor;
 use pp_lexer::token::TokenValue;
 use std::alloc::{AllocError, Global};
 use std::marker::Model;

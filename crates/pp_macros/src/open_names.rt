@@ -2,7 +2,7 @@
 
 ghost use Rattle.std.specs.Prelude.{◌≡◌, [], OnOk, OnErr};
 ghost use Rattle.std.specs.Str.{chars};
-ghost use Rattle.pp_macros.specs.inner.OpenNames.{is_open, opened, closed};
+ghost use Rattle.pp_macros.specs.inner.OpenNames.{is_open, after_opening, after_closing};
 
 use crate::names::Names;
 use pp_lexer::token::Text;
@@ -55,7 +55,7 @@ impl OpenNames {
     /// Adds the name of a frame that opens at the position. If an allocation fails, nothing
     /// changes.
     pub fn open(&mut self, name: &str, position: usize) -> Result<(), AllocError>
-        ensures ok { OnOk result (self.new ≡ opened (chars name.now) position self.old) }
+        ensures ok { OnOk result (self.new ≡ after_opening (chars name.now) position self.old) }
         ensures err { OnErr result (self.new ≡ self.old) }
     {
         if self.is_open(name) {
@@ -70,7 +70,7 @@ impl OpenNames {
 
     /// Removes the name of the innermost frame, at this position, when it closes.
     pub fn close(&mut self, position: usize)
-        ensures { self.new ≡ closed position self.old }
+        ensures { self.new ≡ after_closing position self.old }
     {
         let Some(last) = self.positions.last() else {
             return;

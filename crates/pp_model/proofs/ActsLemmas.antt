@@ -3,7 +3,7 @@ use Rattle.std.proofs.Common.{Bool, true, false, ℕ, ◌≤◌, List, Option, N
 use Rattle.pp_lexer.specs.declared.token.Location.{Location}
 use Rattle.pp_lexer.specs.declared.token.Token.{Token}
 use Rattle.pp_model.specs.Names.{Name}
-use Rattle.pp_model.specs.Definitions.{changed}
+use Rattle.pp_model.specs.Definitions.{with_change}
 use Rattle.pp_model.specs.Calls.{Fault}
 use Rattle.pp_model.specs.Sights.{sight_of}
 use Rattle.pp_model.specs.Blocks.{Block, is_live}
@@ -30,7 +30,7 @@ pub record HoldsOfLive (P : Acted → Type 0) (r : SourceReader) : Type 0 where
   pub dead : HoldsOfDead P r
   pub numbered : (word : Location) (tokens : List Token) → P (record { step = step.LineNumber word tokens; after = r })
   pub defined : (named : Named) → P (record { step = step.Defines named; after = after_line r })
-  pub changed : (name : Name) → P (pause_at (record (after_line r) { definitions = changed r.definitions name None }))
+  pub changed : (name : Name) → P (pause_at (record (after_line r) { definitions = with_change r.definitions name None }))
   pub decision : (holds : Bool) → P (pause_at (decided r holds))
   pub token : (shown : Token) (count : ℕ) → 1 ≤ count → P (item_at shown (advanced_by count r))
 

@@ -8,7 +8,7 @@ use Rattle.pp_model.specs.SpliceList.{after_marks, open_names}
 use Rattle.pp_model.specs.Reading.{Reading, Expander, Opening, opening}
 use Rattle.pp_model.specs.Taking.{Takes, Fetches, held, listed, read}
 use Rattle.pp_model.specs.Calls.{Gathered, Fault, Gathers, closed, inside, overfull, ended, failed, Answers, Called, Calls, alone, broken, whole}
-use Rattle.pp_model.specs.Emitting.{opened, Emits, itself, object, name_alone, call_refused, call}
+use Rattle.pp_model.specs.Emitting.{with_macro, Emits, itself, object, name_alone, call_refused, call}
 use Rattle.pp_model.specs.ApartMarks.{AreApart, HasApartMarks, IsRest, OnlyTakesEntries, OpensNew, KeepsMarksApart, StartsApart}
 use Rattle.pp_model.specs.declared.read.Taken.{Taken}
 use Rattle.pp_model.specs.declared.splice.Entry.TheVariants.{Plain}
@@ -49,7 +49,7 @@ module _ {R : Type 0} (I : Reading R) where
   opens_new o m d e rest t h r = rest_opens_nothing m.name e.list rest r (opening_not_open I o m d e t h)
 
   pub opened_is_apart : (o : Taken) (m : Opening) (line : ℕ) (arguments : List (List Read)) (d e f : Expander R) → Takes I d o e → opening I e o ≡ Some m
-      → IsRest e.list f.list → HasApartMarks f.list → HasApartMarks (opened m line arguments f).list
+      → IsRest e.list f.list → HasApartMarks f.list → HasApartMarks (with_macro m line arguments f).list
   opened_is_apart o m line arguments d e f t h r apart =
       let both : AreApart (m.name ∷ open_names f.list) = (opens_new o m d e f.list t h r, apart) in
       rw (open_spliced m.name m.definition line arguments f.list) both
@@ -58,7 +58,7 @@ module _ {R : Type 0} (I : Reading R) where
   item_keeps_apart A o e f (itself o1 e1 f1 t h) apart = rest_is_apart e.list f.list (taking_leaves_rest o e f t) apart
   item_keeps_apart A o e f (object x o1 m e1 g f1 t h k i) apart =
       let taken = rest_is_apart e.list g.list (taking_leaves_rest x e g t) apart in
-      item_keeps_apart A o (opened m m.token.location.line [] g) f i (opened_is_apart x m m.token.location.line [] e g g t h ([], refl) taken)
+      item_keeps_apart A o (with_macro m m.token.location.line [] g) f i (opened_is_apart x m m.token.location.line [] e g g t h ([], refl) taken)
   item_keeps_apart A o e f (name_alone x y o1 m e1 g g1 f1 t h k c p q) apart =
       let taken = rest_is_apart e.list g.list (taking_leaves_rest x e g t) apart in
       let called = rest_is_apart g.list g1.list (call_leaves_rest A m.definition _ g g1 c) taken in
@@ -71,7 +71,7 @@ module _ {R : Type 0} (I : Reading R) where
       let taken = rest_is_apart e.list g.list (taking_leaves_rest x e g t) apart in
       let left = call_leaves_rest A m.definition _ g g1 c in
       let called = rest_is_apart g.list g1.list left taken in
-      item_keeps_apart A o (opened m line arguments g1) f i (opened_is_apart x m line arguments e g g1 t h left called)
+      item_keeps_apart A o (with_macro m line arguments g1) f i (opened_is_apart x m line arguments e g g1 t h left called)
 
   pub keeps_marks_apart : (A : Answers) → KeepsMarksApart I A
   keeps_marks_apart A = record {

@@ -3,7 +3,7 @@ use Rattle.std.proofs.Common.{◌≡◌, ◌∙◌, true, false, [], sym, Option
 use Rattle.pp_model.specs.Reading.{Reading, Expander, Opening, opening}
 use Rattle.pp_model.specs.Taking.{Takes}
 use Rattle.pp_model.specs.Calls.{Answers, Called, no_call, refused, fits, Calls}
-use Rattle.pp_model.specs.Emitting.{opened, Emits, itself, object, name_alone, call_refused, call, Collects, done, failed, item}
+use Rattle.pp_model.specs.Emitting.{with_macro, Emits, itself, object, name_alone, call_refused, call, Collects, done, failed, item}
 use Rattle.pp_model.specs.ExpansionLaws.{OneReads, OneAnswer, OneItem, OneList}
 use Rattle.pp_model.specs.declared.read.Taken.{Taken}
 use Rattle.pp_model.specs.declared.read.Taken.TheVariants as taken
@@ -51,8 +51,8 @@ module _ {R : Type 0} (I : Reading R) (one : OneReads I) (A : Answers) (single :
   one_item x y e f g (object u x1 m e1 f1 f2 a h r i) (object w y1 n e2 g1 g2 b k t v) =
       let same = one_opening (Some m) (Some n) u w e f1 g1 a b h k in
       let macro : m ≡ n = (let z = same.2 in cc) in
-      let v1 : Emits I A (opened m m.token.location.line [] f1) y g = rw (macro, same.1) v in
-      one_item x y (opened m m.token.location.line [] f1) f g i v1
+      let v1 : Emits I A (with_macro m m.token.location.line [] f1) y g = rw (macro, same.1) v in
+      one_item x y (with_macro m m.token.location.line [] f1) f g i v1
   one_item x y e f g (object u x1 m e1 f1 f2 a h r i) (name_alone w z y1 n e2 g1 g2 g3 b k t c q s) = let bad = not_both_kinds m n u w e f1 g1 a b h k r t in cc
   one_item x y e f g (object u x1 m e1 f1 f2 a h r i) (call_refused w y1 d n e2 g1 g2 b k t c q) = let bad = not_both_kinds m n u w e f1 g1 a b h k r t in cc
   one_item x y e f g (object u x1 m e1 f1 f2 a h r i) (call w y1 arguments line n e2 g1 g2 g3 b k t c v) = let bad =
@@ -88,8 +88,8 @@ module _ {R : Type 0} (I : Reading R) (one : OneReads I) (A : Answers) (single :
       let same = one_called (fits arguments line) (fits others other) m n u w e f1 g1 f2 g2 a b h k i c in
       let lists : arguments ≡ others = (let j = same.2 in cc) in
       let lines : line ≡ other = (let j = same.2 in cc) in
-      let o1 : Emits I A (opened m line arguments f2) y g = rw (same.1, lines, lists, same.3) o in
-      one_item x y (opened m line arguments f2) f g v o1
+      let o1 : Emits I A (with_macro m line arguments f2) y g = rw (same.1, lines, lists, same.3) o in
+      one_item x y (with_macro m line arguments f2) f g v o1
 
   pub one_list : OneList I A
   one_list x y e (done e1 f x1 a p) (done e2 g y1 b q) = p ∙ sym q

@@ -7,10 +7,10 @@ use Rattle.pp_model.specs.Names.{Name, is_identifier, line_name}
 use Rattle.pp_model.specs.Definitions.{Definition}
 use Rattle.pp_model.specs.SpliceList.{after_marks}
 use Rattle.pp_model.specs.Painting.{taken_among}
-use Rattle.pp_model.specs.Reading.{Expander, masked, Opening, opening}
+use Rattle.pp_model.specs.Reading.{Expander, masked_names, Opening, opening}
 use Rattle.pp_model.specs.Taking.{line_number, shown_token, shown_outcome, Takes, Fetches, held, listed, read}
 use Rattle.pp_model.specs.Calls.{Gathered, Fault, Gathers, closed, inside, overfull, ended, failed, Answers, Called, no_call, called_by, Calls, alone, broken, whole}
-use Rattle.pp_model.specs.Emitting.{opened, Emits, itself, object, name_alone, call_refused, call}
+use Rattle.pp_model.specs.Emitting.{with_macro, Emits, itself, object, name_alone, call_refused, call}
 use Rattle.pp_model.specs.SourceReader.{SourceReader}
 use Rattle.pp_model.specs.Reads.{shown_line, source_reading}
 use Rattle.pp_model.specs.declared.read.Taken.{Taken}
@@ -77,7 +77,7 @@ module _ (A : Answers) where
       record { none_held = ap (λ g. g.held) p ∙ h; none_listed = ap (λ g. g.list) p; at_end = rw (ap (λ g. g.reader) p) there }
 
   taking_ends : (o : Taken) (e f : Expander SourceReader) → Takes (source_reading A) e o f → HoldsLastEnd e → o ≡ taken.End → IsOver f
-  taking_ends o e f t last end = fetching_ends t.first e f t.fetches last (painted_end (masked f) t.first (sym t.paints ∙ end))
+  taking_ends o e f t last end = fetching_ends t.first e f t.fetches last (painted_end (masked_names f) t.first (sym t.paints ∙ end))
 
   -- a taking leaves nothing held, and so does a call
   fetching_holds_none : (o : Taken) (e f : Expander SourceReader) → Fetches (source_reading A) e o f → f.held ≡ None
@@ -116,7 +116,7 @@ module _ (A : Answers) where
   item_ends o e f (itself o1 e1 f1 t h) last =
       (holds_nothing f (taking_holds_none o e f t), taking_ends o e f t last)
   item_ends o e f (object x o1 m e1 g f1 t h k i) last =
-      item_ends o (opened m m.token.location.line [] g) f i (holds_nothing (opened m m.token.location.line [] g) (taking_holds_none x e g t))
+      item_ends o (with_macro m m.token.location.line [] g) f i (holds_nothing (with_macro m m.token.location.line [] g) (taking_holds_none x e g t))
   item_ends o e f (name_alone x y o1 m e1 g g1 f1 t h k c p q) last =
       let found = call_ends m.definition (no_call y) y g g1 c (holds_nothing g (taking_holds_none x e g t)) refl in (
         λ is.
@@ -128,7 +128,7 @@ module _ (A : Answers) where
   item_ends o e f (call_refused x o1 fault m e1 g f1 t h k c p) last =
       (holds_nothing f (call_holds_none m.definition _ g f c), λ end. cc)
   item_ends o e f (call x o1 arguments line m e1 g g1 f1 t h k c i) last =
-      item_ends o (opened m line arguments g1) f i (holds_nothing (opened m line arguments g1) (call_holds_none m.definition _ g g1 c))
+      item_ends o (with_macro m line arguments g1) f i (holds_nothing (with_macro m line arguments g1) (call_holds_none m.definition _ g g1 c))
 
   -- where nothing is left, the end is taken, and nothing is left after it
   fetching_when_over : (o : Taken) (e f : Expander SourceReader) → Fetches (source_reading A) e o f → IsOver e → (o ≡ taken.End) × IsOver f
@@ -145,7 +145,7 @@ module _ (A : Answers) where
   taking_when_over : (o : Taken) (e f : Expander SourceReader) → Takes (source_reading A) e o f → IsOver e → (o ≡ taken.End) × IsOver f
   taking_when_over o e f t over =
       let there = fetching_when_over t.first e f t.fetches over in
-      (t.paints ∙ ap (λ x. taken_among (masked f) x) there.0, there.1)
+      (t.paints ∙ ap (λ x. taken_among (masked_names f) x) there.0, there.1)
 
   -- so the end is the next item, for good
   pub item_when_over : (o : Taken) (e f : Expander SourceReader) → Emits (source_reading A) A e o f → IsOver e → (o ≡ taken.End) × IsOver f

@@ -7,7 +7,7 @@ use Rattle.pp_lexer.specs.declared.token.Token.{Token}
 use Rattle.pp_lexer.specs.declared.token.TokenValue.TheVariants.{Integer}
 use Rattle.pp_model.specs.Names.{Name, is_identifier, line_name}
 use Rattle.pp_model.specs.Definitions.{Definition, Definitions}
-use Rattle.pp_model.specs.SpliceList.{after_marks, outermost_line, parameter_of, replacement, replaced, spliced}
+use Rattle.pp_model.specs.SpliceList.{after_marks, outermost_line, parameter_of, replacement, body_before, macro_before}
 use Rattle.pp_model.specs.inner.SpliceList.{followed_by}
 use Rattle.pp_model.specs.Painting.{taken_among}
 use Rattle.pp_model.specs.Taking.{line_number, shown_token, shown_outcome}
@@ -79,16 +79,16 @@ module _ (Q : Token → Type 0) (L : ℕ → Type 0) where
   replacement_holds arguments token (Some k) entries all q h = followed_hold (unwrap_or (slice_get arguments k) []) entries (argument_holds arguments k all) h
 
   replaced_holds : (parameters : List Name) (arguments : List (List Read)) (body : List Token) (entries : List Entry)
-      → Each (λ tokens. Each (HoldsOfRead Q) tokens) arguments → Each Q body → HoldInList entries → HoldInList (replaced parameters arguments body entries)
+      → Each (λ tokens. Each (HoldsOfRead Q) tokens) arguments → Each Q body → HoldInList entries → HoldInList (body_before parameters arguments body entries)
   replaced_holds parameters arguments [] entries all q h = h
   replaced_holds parameters arguments (token ∷ body) entries all q h =
-      replacement_holds arguments token (parameter_of parameters token.value) (replaced parameters arguments body entries) all q.0
+      replacement_holds arguments token (parameter_of parameters token.value) (body_before parameters arguments body entries) all q.0
       (replaced_holds parameters arguments body entries all q.1 h)
 
   -- a macro's replacement has it where its body, its arguments and its line have it
   pub spliced_holds : (name : Name) (definition : Definition) (line : ℕ) (arguments : List (List Read)) (entries : List Entry)
       → Each Q definition.body → L line → Each (λ tokens. Each (HoldsOfRead Q) tokens) arguments → HoldInList entries
-      → HoldInList (spliced name definition line arguments entries)
+      → HoldInList (macro_before name definition line arguments entries)
   spliced_holds name definition line arguments entries body l all h =
       replaced_holds definition.parameters arguments definition.body (End (record { name = name; line = line }) ∷ entries) all body (l, h)
 

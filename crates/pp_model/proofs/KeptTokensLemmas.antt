@@ -10,11 +10,11 @@ use Rattle.pp_lexer.specs.declared.token.TokenValue.{TokenValue}
 use Rattle.pp_lexer.specs.declared.token.TokenValue.TheVariants.{Ident, Integer, Float, Punct, Version, Extension, Pragma}
 use Rattle.pp_model.specs.Names.{Name}
 use Rattle.pp_model.specs.Definitions.{Definition, Definitions}
-use Rattle.pp_model.specs.Reading.{Reading, Expander, Opening, opening_of, opening, masked, Listed, argument_reading, reading_of}
+use Rattle.pp_model.specs.Reading.{Reading, Expander, Opening, opening_of, opening, masked_names, Listed, argument_reading, reading_of}
 use Rattle.pp_model.specs.inner.Reading.{first_listed, opening_by, after_listed}
 use Rattle.pp_model.specs.Taking.{Takes, Fetches, held, listed, read}
 use Rattle.pp_model.specs.Calls.{Gathered, before, Fault, Gathers, closed, inside, overfull, ended, failed, Answers, Site, misfit, Called, no_call, refused, fits, called_by, Calls, alone, broken, whole}
-use Rattle.pp_model.specs.Emitting.{opened, Emits, itself, object, name_alone, call_refused, call, Collects, done, failed as failing, item, Alones, Each as Expanded, none, first_failed, more, answers_by, ExpandsArguments, answers_at, Alone}
+use Rattle.pp_model.specs.Emitting.{with_macro, Emits, itself, object, name_alone, call_refused, call, Collects, done, failed as failing, item, Alones, Each as Expanded, none, first_failed, more, answers_by, ExpandsArguments, answers_at, Alone}
 use Rattle.pp_model.specs.inner.Emitting.{read_before, list_before}
 use Rattle.pp_model.specs.declared.read.Read.{Read}
 use Rattle.pp_model.specs.declared.read.Taken.{Taken}
@@ -120,7 +120,7 @@ module _ (Q : Token → Type 0) (L : ℕ → Type 0) (closed_under : AreClosed Q
     pub taking_keeps : (o : Taken) (e f : Expander R) → Takes I e o f → HoldsOf Q L K e → HoldsOfTaken Q o × HoldsOf Q L K f
     taking_keeps o e f t h =
         let there = fetching_keeps t.first e f t.fetches h in
-        (subst (HoldsOfTaken Q) (sym t.paints) (painted_holds Q L (masked f) t.first there.0), there.1)
+        (subst (HoldsOfTaken Q) (sym t.paints) (painted_holds Q L (masked_names f) t.first there.0), there.1)
 
     pub gathering_keeps : (n : ℕ) (last : Location) (x : Result Gathered Fault) (e f : Expander R) → Gathers I n last e x f → HoldsOf Q L K e
         → IfOk x (HoldsOfGathered Q L) × HoldsOf Q L K f
@@ -151,7 +151,7 @@ module _ (Q : Token → Type 0) (L : ℕ → Type 0) (closed_under : AreClosed Q
           (subst (HoldsOfCalled Q L) (sym p) (called_holds gathered.closing.line answer later.0.1 lists), later.1)
 
       opening_keeps : (m : Opening) (line : ℕ) (arguments : List (List Read)) (e : Expander R) → Each Q m.definition.body → L line
-          → Each (λ ts. Each (HoldsOfRead Q) ts) arguments → HoldsOf Q L K e → HoldsOf Q L K (opened m line arguments e)
+          → Each (λ ts. Each (HoldsOfRead Q) ts) arguments → HoldsOf Q L K e → HoldsOf Q L K (with_macro m line arguments e)
       opening_keeps m line arguments e body l all h = record {
         held = h.held;
         list = spliced_holds Q L m.name m.definition line arguments e.list body l all h.list;
@@ -164,7 +164,7 @@ module _ (Q : Token → Type 0) (L : ℕ → Type 0) (closed_under : AreClosed Q
       item_keeps o e f (object x o1 m e1 g f1 t is k i) h =
           let taken = taking_keeps x e g t h in
           let by = opened_holds g x m is taken.1 taken.0 in
-          item_keeps o (opened m m.token.location.line [] g) f i (opening_keeps m m.token.location.line [] g by.0 by.1 tt taken.1)
+          item_keeps o (with_macro m m.token.location.line [] g) f i (opening_keeps m m.token.location.line [] g by.0 by.1 tt taken.1)
       item_keeps o e f (name_alone x y o1 m e1 g g1 f1 t is k c p q) h =
           let taken = taking_keeps x e g t h in
           let called = call_keeps m.definition (no_call y) g g1 c taken.1 in (
@@ -178,7 +178,7 @@ module _ (Q : Token → Type 0) (L : ℕ → Type 0) (closed_under : AreClosed Q
           let taken = taking_keeps x e g t h in
           let by = opened_holds g x m is taken.1 taken.0 in
           let called = call_keeps m.definition (fits arguments line) g g1 c taken.1 in
-          item_keeps o (opened m line arguments g1) f i (opening_keeps m line arguments g1 by.0 called.0.1 called.0.0 called.1)
+          item_keeps o (with_macro m line arguments g1) f i (opening_keeps m line arguments g1 by.0 called.0.1 called.0.0 called.1)
 
       pub list_keeps : (x : Result (List Read) Fault) (e : Expander R) → Collects I A e x → HoldsOf Q L K e → IfOk x (Each (HoldsOfRead Q))
       list_keeps x e (done e1 f x1 i p) h = subst (λ (y : Result (List Read) Fault). IfOk y (Each (HoldsOfRead Q))) (sym p) tt

@@ -6,7 +6,7 @@ use Rattle.pp_model.specs.declared.read.Read.{Read}
 use Rattle.pp_model.specs.Reading.{Expander, Listed, line_reading}
 use Rattle.pp_model.specs.Calls.{Fault, Answers}
 use Rattle.pp_model.specs.Emitting.{Emits, answers_at}
-use Rattle.pp_model.specs.LineWords.{Reading, operator, word, fault, reading, Operand, LineWords, ended, failed, refused, plain, answered, faulty}
+use Rattle.pp_model.specs.LineWords.{WordReading, operator, word, fault, reading, Operand, LineWords, ended, failed, refused, plain, answered, faulty}
 use Rattle.pp_model.specs.ExpansionLaws.{OneAnswer, OneOperand, OneLine}
 use Rattle.pp_model.specs.declared.read.Taken.{Taken}
 use Rattle.pp_model.specs.declared.read.Taken.TheVariants as taken
@@ -22,7 +22,7 @@ module _ (A : Answers) (single : OneAnswer A) where
   one_next = one_item line_reading line_reads_one A single
 
   -- a token of a line is read in one way
-  one_way : (kind : LineKind) (v w : Reading) (t u : Read) (e f g : Expander Listed) → Emits line_reading A e (taken.Token t) f
+  one_way : (kind : LineKind) (v w : WordReading) (t u : Read) (e f g : Expander Listed) → Emits line_reading A e (taken.Token t) f
       → Emits line_reading A e (taken.Token u) g → reading kind t.token ≡ v → reading kind u.token ≡ w → (t ≡ u) × (f ≡ g) × (v ≡ w)
   one_way kind v w t u e f g a b h k =
       let same = one_next (taken.Token t) (taken.Token u) e f g a b in

@@ -7,10 +7,10 @@ use Rattle.pp_model.specs.declared.read.Read.{Read}
 use Rattle.pp_model.specs.Names.{Name, is_identifier, line_name}
 use Rattle.pp_model.specs.Definitions.{Definition}
 use Rattle.pp_model.specs.Painting.{taken_among}
-use Rattle.pp_model.specs.Reading.{Reading, Expander, masked, argument_reading, reading_of}
+use Rattle.pp_model.specs.Reading.{Reading, Expander, masked_names, argument_reading, reading_of}
 use Rattle.pp_model.specs.Taking.{line_number, shown_token, shown_outcome, Takes, Fetches, held, listed, read}
 use Rattle.pp_model.specs.Calls.{Gathered, before, Fault, Gathers, closed, inside, overfull, ended, failed, Answers, Called, no_call, refused, fits, called_by, Calls, alone, broken, whole}
-use Rattle.pp_model.specs.Emitting.{opened, Emits, itself, object, name_alone, call_refused, call, Collects, done, failed as failing, item, answers_at}
+use Rattle.pp_model.specs.Emitting.{with_macro, Emits, itself, object, name_alone, call_refused, call, Collects, done, failed as failing, item, answers_at}
 use Rattle.pp_model.specs.inner.Emitting.{read_before}
 use Rattle.pp_model.specs.NoLineName.{is_line_name, HoldsNoLineName, AreNoLineNames, ShowsNoLineName, AloneShowsNoLineName}
 use Rattle.pp_model.specs.declared.read.Taken.{Taken}
@@ -65,7 +65,7 @@ module _ {R : Type 0} (I : Reading R) where
   pub taking_shows_none : (o : Taken) (e f : Expander R) → Takes I e o f → HoldsNoLineName e → (is_line_name o ≡ false) × HoldsNoLineName f
   taking_shows_none o e f t none =
       let there = fetching_shows_none t.first e f t.fetches none in
-      (ap is_line_name t.paints ∙ painted_is_no_line (masked f) t.first ∙ there.0, there.1)
+      (ap is_line_name t.paints ∙ painted_is_no_line (masked_names f) t.first ∙ there.0, there.1)
 
   pub gathering_shows_none : (n : ℕ) (last : Location) (x : Result Gathered Fault) (e f : Expander R) → Gathers I n last e x f → HoldsNoLineName e
       → IfOk x (λ g. AreNoLineNames g.tokens) × HoldsNoLineName f
@@ -94,7 +94,7 @@ module _ {R : Type 0} (I : Reading R) where
   pub item_shows_none : (A : Answers) (o : Taken) (e f : Expander R) → Emits I A e o f → HoldsNoLineName e → (is_line_name o ≡ false) × HoldsNoLineName f
   item_shows_none A o e f (itself o1 e1 f1 t h) none = taking_shows_none o e f t none
   item_shows_none A o e f (object x o1 m e1 g f1 t h k i) none =
-      item_shows_none A o (opened m m.token.location.line [] g) f i (taking_shows_none x e g t none).1
+      item_shows_none A o (with_macro m m.token.location.line [] g) f i (taking_shows_none x e g t none).1
   item_shows_none A o e f (name_alone x y o1 m e1 g g1 f1 t h k c p q) none =
       let taken = taking_shows_none x e g t none in
       let called = call_shows_none A m.definition (no_call y) g g1 c taken.1 in
@@ -105,7 +105,7 @@ module _ {R : Type 0} (I : Reading R) where
   item_shows_none A o e f (call x o1 arguments line m e1 g g1 f1 t h k c i) none =
       let taken = taking_shows_none x e g t none in
       let called = call_shows_none A m.definition (fits arguments line) g g1 c taken.1 in
-      item_shows_none A o (opened m line arguments g1) f i called.1
+      item_shows_none A o (with_macro m line arguments g1) f i called.1
 
   pub list_shows_none : (A : Answers) (x : Result (List Read) Fault) (e : Expander R) → Collects I A e x → HoldsNoLineName e → IfOk x AreNoLineNames
   list_shows_none A x e (done e1 f x1 i p) none = rw p (All-nil (λ t. is_identifier line_name t.token.value ≡ false))

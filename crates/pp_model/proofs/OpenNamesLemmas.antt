@@ -8,11 +8,11 @@ use Rattle.pp_lexer.specs.declared.token.TokenValue.{TokenValue}
 use Rattle.pp_lexer.specs.declared.token.TokenValue.TheVariants.{Ident}
 use Rattle.pp_model.specs.Names.{Name, is_same_name, is_in}
 use Rattle.pp_model.specs.Definitions.{Definition}
-use Rattle.pp_model.specs.SpliceList.{after_marks, open_names, parameter_of, replacement, replaced, spliced}
+use Rattle.pp_model.specs.SpliceList.{after_marks, open_names, parameter_of, replacement, body_before, macro_before}
 use Rattle.pp_model.specs.inner.SpliceList.{followed_by}
 use Rattle.pp_model.specs.Painting.{is_one_of, painted_among, taken_among}
 use Rattle.pp_model.specs.Taking.{Takes}
-use Rattle.pp_model.specs.Reading.{Reading, Expander, masked, Opening, opening_of, opening}
+use Rattle.pp_model.specs.Reading.{Reading, Expander, masked_names, Opening, opening_of, opening}
 use Rattle.pp_model.specs.inner.Reading.{opening_by}
 use Rattle.pp_model.specs.ApartMarks.{HasApartMarks, IsRest}
 use Rattle.pp_model.specs.declared.read.Taken.{Taken}
@@ -76,14 +76,14 @@ open_replacement arguments token None entries = refl
 open_replacement arguments token (Some k) entries = open_followed_by (unwrap_or (slice_get arguments k) []) entries
 
 open_replaced : (parameters : List Name) (arguments : List (List Read)) (body : List Token) (entries : List Entry)
-    → open_names (replaced parameters arguments body entries) ≡ open_names entries
+    → open_names (body_before parameters arguments body entries) ≡ open_names entries
 open_replaced parameters arguments [] entries = refl
 open_replaced parameters arguments (token ∷ body) entries =
-    open_replacement arguments token (parameter_of parameters token.value) (replaced parameters arguments body entries)
+    open_replacement arguments token (parameter_of parameters token.value) (body_before parameters arguments body entries)
     ∙ open_replaced parameters arguments body entries
 
 pub open_spliced : (name : Name) (definition : Definition) (line : ℕ) (arguments : List (List Read)) (entries : List Entry)
-    → open_names (spliced name definition line arguments entries) ≡ name ∷ open_names entries
+    → open_names (macro_before name definition line arguments entries) ≡ name ∷ open_names entries
 open_spliced name definition line arguments entries = open_replaced definition.parameters arguments definition.body
     (End (record { name = name; line = line }) ∷ entries)
 
@@ -138,10 +138,10 @@ unpainted_is_none names taken.End read name e named bare = cc
 
 -- where it was taken, it is open neither here nor around
 pub opening_not_masked : {R : Type 0} (I : Reading R) (o : Taken) (m : Opening) (d e : Expander R) → Takes I d o e → opening I e o ≡ Some m
-    → is_in m.name (masked e) ≡ false
+    → is_in m.name (masked_names e) ≡ false
 opening_not_masked I o m d e t h =
     let k = opening_known I e o m h in
-    unpainted_is_none (masked e) t.first k.token m.name (sym k.taken ∙ t.paints) (ap (λ x. x.value) k.same ∙ k.named) k.unpainted
+    unpainted_is_none (masked_names e) t.first k.token m.name (sym k.taken ∙ t.paints) (ap (λ x. x.value) k.same ∙ k.named) k.unpainted
 
 -- it has no mark in the list
 pub opening_not_open : {R : Type 0} (I : Reading R) (o : Taken) (m : Opening) (d e : Expander R) → Takes I d o e → opening I e o ≡ Some m

@@ -5,10 +5,10 @@ use Rattle.pp_lexer.specs.declared.token.Location.{Location}
 use Rattle.pp_model.specs.Names.{Name, is_in}
 use Rattle.pp_model.specs.Definitions.{Definition}
 use Rattle.pp_model.specs.SpliceList.{open_names}
-use Rattle.pp_model.specs.Reading.{Reading, Expander, Listed, Opening, masked}
+use Rattle.pp_model.specs.Reading.{Reading, Expander, Listed, Opening, masked_names}
 use Rattle.pp_model.specs.Taking.{Takes, Fetches, held, listed, read}
 use Rattle.pp_model.specs.Calls.{Gathered, Fault, Gathers, closed, inside, overfull, ended, failed, Answers, Called, Calls, alone, broken, whole}
-use Rattle.pp_model.specs.Emitting.{opened, Emits}
+use Rattle.pp_model.specs.Emitting.{with_macro, Emits}
 use Rattle.pp_model.specs.Emitting as emits
 use Rattle.pp_model.specs.SourceReader.{SourceReader}
 use Rattle.pp_model.specs.Reads.{source_reading}
@@ -41,20 +41,20 @@ record IsLeft {R : Type 0} (e f : Expander R) : Type 0 where
   rest : IsRest e.list f.list
   around : f.hidden ≡ e.hidden
 
-masked_left : {R : Type 0} (e f : Expander R) (left : IsLeft e f) → masked e ≡ open_names (left.rest.0 ++ f.list) ++ f.hidden
+masked_left : {R : Type 0} (e f : Expander R) (left : IsLeft e f) → masked_names e ≡ open_names (left.rest.0 ++ f.list) ++ f.hidden
 masked_left e f left = ap (λ (es : List Entry). open_names es ++ e.hidden) left.rest.1
     ∙ ap (λ (hs : List Name). open_names (left.rest.0 ++ f.list) ++ hs) (sym left.around)
 
 once_left : {R : Type 0} (e f : Expander R) → IsLeft e f → IsOpenOnce e → IsOpenOnce f
 once_left e f left once = apart_left left.rest.0 f.list f.hidden (subst AreApart (masked_left e f left) once)
 
-not_masked_left : {R : Type 0} (name : Name) (e f : Expander R) → IsLeft e f → is_in name (masked e) ≡ false → is_in name (masked f) ≡ false
+not_masked_left : {R : Type 0} (name : Name) (e f : Expander R) → IsLeft e f → is_in name (masked_names e) ≡ false → is_in name (masked_names f) ≡ false
 not_masked_left name e f left h =
     not_in_left name left.rest.0 f.list f.hidden (subst (λ (names : List Name). is_in name names ≡ false) (masked_left e f left) h)
 
 -- a macro that is open neither here nor around opens once
-opened_once : {R : Type 0} (m : Opening) (line : ℕ) (arguments : List (List Read)) (f : Expander R) → is_in m.name (masked f) ≡ false → IsOpenOnce f
-    → IsOpenOnce (opened m line arguments f)
+opened_once : {R : Type 0} (m : Opening) (line : ℕ) (arguments : List (List Read)) (f : Expander R) → is_in m.name (masked_names f) ≡ false → IsOpenOnce f
+    → IsOpenOnce (with_macro m line arguments f)
 opened_once m line arguments f apart once =
     let both : AreApart (m.name ∷ (open_names f.list ++ f.hidden)) = (apart, once) in
     subst (λ (names : List Name). AreApart (names ++ f.hidden)) (sym (open_spliced m.name m.definition line arguments f.list)) both
@@ -93,7 +93,7 @@ module _ {R : Type 0} (I : Reading R) where
   passes_once A e f (taking o e1 g f1 t more) once = passes_once A g f more (once_left e g (taking_left o e g t) once)
   passes_once A e f (object x m e1 g f1 t h k more) once =
       let taken = once_left e g (taking_left x e g t) once in
-      passes_once A (opened m m.token.location.line [] g) f more (opened_once m m.token.location.line [] g (opening_not_masked I x m e g t h) taken)
+      passes_once A (with_macro m m.token.location.line [] g) f more (opened_once m m.token.location.line [] g (opening_not_masked I x m e g t h) taken)
   passes_once A e f (name_alone x y m e1 g g1 f1 t h k c more) once =
       let taken = once_left e g (taking_left x e g t) once in
       passes_once A (record g1 { held = Some y }) f more (once_left g g1 (call_left A m.definition _ g g1 c) taken)
@@ -101,7 +101,7 @@ module _ {R : Type 0} (I : Reading R) where
       let taken = once_left e g (taking_left x e g t) once in
       let left = call_left A m.definition _ g g1 c in
       let apart = not_masked_left m.name g g1 left (opening_not_masked I x m e g t h) in
-      passes_once A (opened m line arguments g1) f more (opened_once m line arguments g1 apart (once_left g g1 left taken))
+      passes_once A (with_macro m line arguments g1) f more (opened_once m line arguments g1 apart (once_left g g1 left taken))
 
   -- the state after an item is passed
   gathering_passes : (A : Answers) (n : ℕ) (last : Location) (x : Result Gathered Fault) (e f g : Expander R) → Gathers I n last e x f → Passes I A f g
@@ -121,13 +121,13 @@ module _ {R : Type 0} (I : Reading R) where
 
   item_passes : (A : Answers) (o : Taken) (e f : Expander R) → Emits I A e o f → Passes I A e f
   item_passes A o e f (emits.itself o1 e1 f1 t h) = taking o e f f t (here f f refl)
-  item_passes A o e f (emits.object x o1 m e1 g f1 t h k i) = object x m e g f t h k (item_passes A o (opened m m.token.location.line [] g) f i)
+  item_passes A o e f (emits.object x o1 m e1 g f1 t h k i) = object x m e g f t h k (item_passes A o (with_macro m m.token.location.line [] g) f i)
   item_passes A o e f (emits.name_alone x y o1 m e1 g g1 f1 t h k c p q) =
       name_alone x y m e g g1 f t h k c (here (record g1 { held = Some y }) f q)
   item_passes A o e f (emits.call_refused x o1 fault m e1 g f1 t h k c p) =
       taking x e g f t (call_passes A m.definition _ g f f c (here f f refl))
   item_passes A o e f (emits.call x o1 arguments line m e1 g g1 f1 t h k c i) =
-      call x arguments line m e g g1 f t h k c (item_passes A o (opened m line arguments g1) f i)
+      call x arguments line m e g g1 f t h k c (item_passes A o (with_macro m line arguments g1) f i)
 
 module _ (A : Answers) where
   leading_once : (e f : Expander SourceReader) → LeadsTo A e f → IsOpenOnce e → IsOpenOnce f

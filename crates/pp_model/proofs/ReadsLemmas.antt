@@ -9,7 +9,7 @@ use Rattle.pp_model.specs.LineValues.{IsCondition, IsLineNumber}
 use Rattle.pp_model.specs.SourceReader.{SourceReader}
 use Rattle.pp_model.specs.Acts.{act, decided}
 use Rattle.pp_model.specs.Reads.{Steps, passes, gives, defines, repeats, redefines, decides, undecided, renumbers, unnumbered, Reads, here, later, source_reading}
-use Rattle.pp_model.specs.inner.Reads.{renumbered, defining}
+use Rattle.pp_model.specs.inner.Reads.{after_line_number, after_define}
 use Rattle.pp_model.specs.ExpansionLaws.{OneReads, OneAnswer}
 use Rattle.pp_model.specs.RunLaws.{OneStep}
 use Rattle.pp_model.specs.declared.definition.Named.{Named}
@@ -22,7 +22,7 @@ use Rattle.pp_model.proofs.LineValueLemmas.{one_condition, one_line_number}
 
 -- The outcomes of a step, by what the act comes to: where its name was defined as this, or was not, a `#define` comes to this;
 abbrev pub DefineComesTo : Named → Option Definition → (after r : SourceReader) → Option Outcome → SourceReader → Type 0
-DefineComesTo named None after r o t = (o ≡ None) × (t ≡ defining named after)
+DefineComesTo named None after r o t = (o ≡ None) × (t ≡ after_define named after)
 DefineComesTo named (Some old) after r o t =
     (IsSameDefinition old named.definition × (o ≡ None) × (t ≡ after))
     ⊎ ((IsSameDefinition old named.definition → ⊥) × (o ≡ Some (outcome.Fault (DefineRedefined, named.location))) × (t ≡ after))
@@ -34,7 +34,7 @@ ConditionComesTo (Err fault) r o t = (o ≡ Some (outcome.Fault fault)) × (t �
 
 -- a `#line` of this number comes to this;
 abbrev LineNumberComesTo : Location → Result ℕ Fault → SourceReader → Option Outcome → SourceReader → Type 0
-LineNumberComesTo word (Ok n) r o t = (o ≡ None) × (t ≡ renumbered r word n)
+LineNumberComesTo word (Ok n) r o t = (o ≡ None) × (t ≡ after_line_number r word n)
 LineNumberComesTo word (Err fault) r o t = (o ≡ Some (outcome.Fault fault)) × (t ≡ r)
 
 -- and each act comes to one of these.

@@ -11,7 +11,7 @@ use Rattle.pp_lexer.specs.declared.token.Location.{Location}
 use Rattle.pp_lexer.specs.declared.token.Token.{Token}
 use Rattle.pp_model.specs.Names.{Name, is_same_name}
 use Rattle.pp_model.specs.Conversions.{identifier_of}
-use Rattle.pp_model.specs.Definitions.{Definition, Definitions, changed}
+use Rattle.pp_model.specs.Definitions.{Definition, Definitions, with_change}
 use Rattle.pp_model.specs.Calls.{Fault, Answers}
 use Rattle.pp_model.specs.Lines.{first_token}
 use Rattle.pp_model.specs.DefineLines.{defined_on}
@@ -114,7 +114,7 @@ module _ (Q : Token → Type 0) (L : ℕ → Type 0) (closed : AreClosed Q L) wh
   same_named : (said named : Named) → step.Defines said ≡ step.Defines named → said ≡ named
   same_named said named e = cc
 
-  undefined_holds : (definitions : Definitions) (name : Name) → HoldInBodies Q definitions → HoldInBodies Q (changed definitions name None)
+  undefined_holds : (definitions : Definitions) (name : Name) → HoldInBodies Q definitions → HoldInBodies Q (with_change definitions name None)
   undefined_holds definitions name all other definition e = go (is_same_name other name) e
     where
       go : (b : Bool) → (if b then None else definitions other) ≡ Some definition → Each Q definition.body
@@ -122,7 +122,7 @@ module _ (Q : Token → Type 0) (L : ℕ → Type 0) (closed : AreClosed Q L) wh
       go false e = all other definition e
 
   pub defined_now_holds : (definitions : Definitions) (name : Name) (new : Definition) → HoldInBodies Q definitions → Each Q new.body
-      → HoldInBodies Q (changed definitions name (Some new))
+      → HoldInBodies Q (with_change definitions name (Some new))
   defined_now_holds definitions name new all q other definition e = go (is_same_name other name) e
     where
       go : (b : Bool) → (if b then Some new else definitions other) ≡ Some definition → Each Q definition.body

@@ -1,7 +1,7 @@
 -- A taking has one outcome, where its reader has.
 use Rattle.std.proofs.Common.{◌≡◌, ◌∙◌, [], ◌∷◌, ap, sym}
 use Rattle.pp_model.specs.Painting.{taken_among}
-use Rattle.pp_model.specs.Reading.{Reading, Expander, masked, argument_reading, line_reading}
+use Rattle.pp_model.specs.Reading.{Reading, Expander, masked_names, argument_reading, line_reading}
 use Rattle.pp_model.specs.Taking.{Fetches, held, listed, read, Takes}
 use Rattle.pp_model.specs.ExpansionLaws.{OneReads, OneTaking}
 use Rattle.pp_model.specs.declared.read.Taken.{Taken}
@@ -37,4 +37,4 @@ one_fetching I one x y e f g (read w x1 r e1 f1 h b l o p) (read z y1 s e2 g1 k 
 pub one_taking : {R : Type 0} (I : Reading R) → OneReads I → OneTaking I
 one_taking I one x y e f g a b =
     let same = one_fetching I one a.first b.first e f g a.fetches b.fetches in
-    (a.paints ∙ ap (λ o. taken_among (masked f) o) same.0 ∙ ap (λ h. taken_among (masked h) b.first) same.1 ∙ sym b.paints, same.1)
+    (a.paints ∙ ap (λ o. taken_among (masked_names f) o) same.0 ∙ ap (λ h. taken_among (masked_names h) b.first) same.1 ∙ sym b.paints, same.1)

@@ -8,7 +8,7 @@ use Rattle.pp_model.specs.Taking.{Takes}
 use Rattle.pp_model.specs.Calls.{Fault, Answers}
 use Rattle.pp_model.specs.Emitting.{Emits}
 use Rattle.pp_model.specs.Names.{Name}
-use Rattle.pp_model.specs.LineWords.{Words, word_before, InParentheses, named, name_in, is_defined, unwanted_word}
+use Rattle.pp_model.specs.LineWords.{Words, word_before, InParentheses, named, name_in, is_defined, unwanted_closing}
 use Rattle.pp_model.specs.inner.LineWords.{is_close_paren}
 use Rattle.pp_model.specs.inner.WordsRead.{Closes}
 use Rattle.pp_model.specs.declared.read.Taken.{Taken}
@@ -29,13 +29,13 @@ after_words-end words ending = ap (λ (ws : List Word). let r : Words = record {
 -- the answer after a `)`, and the fault of what is none
 module _ (kind : LineKind) (directive : Location) (A : Answers) (n : Name) (found : Taken) (e f : Expander Listed) (emits : Emits line_reading A e found f)
   where
-    closes_by : (b : Bool) → is_close_paren found ≡ b → Closes kind directive A n e (if b then Ok (is_defined f n) else Err (unwanted_word kind directive found)) f
+    closes_by : (b : Bool) → is_close_paren found ≡ b → Closes kind directive A n e (if b then Ok (is_defined f n) else Err (unwanted_closing kind directive found)) f
     closes_by b is = record { found = found; emits = emits; answer = rw is refl }
 
     pub closes : (answer : Bool) → is_close_paren found ≡ true → answer ≡ is_defined f n → Closes kind directive A n e (Ok answer) f
     closes answer close is = rw is (closes_by true close)
 
-    pub does_not_close : (fault : Fault) → is_close_paren found ≡ false → fault ≡ unwanted_word kind directive found → Closes kind directive A n e (Err fault) f
+    pub does_not_close : (fault : Fault) → is_close_paren found ≡ false → fault ≡ unwanted_closing kind directive found → Closes kind directive A n e (Err fault) f
     does_not_close fault still is = rw is (closes_by false still)
 
 -- an operand in parentheses whose name was taken

@@ -2,7 +2,7 @@
 -- (GLSL ES 3.20, section 3.4, and docs/RULES.md, Directives 1 to 14).
 use Rattle.std.specs.Prelude.{ℕ, ◌+◌, ◌-◌, Bool, ◌∷◌, take, drop, length, Option, Some, None, option_map, is_some}
 use Rattle.pp_lexer.specs.declared.token.PreprocessorError.TheVariants.{UnfinishedBlock}
-use Rattle.pp_model.specs.Definitions.{changed}
+use Rattle.pp_model.specs.Definitions.{with_change}
 use Rattle.pp_model.specs.Lines.{line_length}
 use Rattle.pp_model.specs.Sights.{sight_of}
 use Rattle.pp_model.specs.Blocks.{Block, blocks_at, innermost, is_live, are_surroundings_live, has_taken_branch, has_else}
@@ -59,7 +59,7 @@ effect_on (fails fault) taken reader = outcome_at (outcome.Fault fault) reader
 effect_on ends taken reader = end_at reader
 effect_on (defines named) taken reader = record { step = step.Defines named; after = advanced_by taken reader }
 effect_on (undefines name) taken reader =
-    pause_at (record (advanced_by taken reader) { definitions = changed reader.definitions name None })
+    pause_at (record (advanced_by taken reader) { definitions = with_change reader.definitions name None })
 effect_on (opens_where holds word name) taken reader =
     pause_at (decided reader (holds (is_some (reader.definitions name))))
 effect_on (opens_if word tokens) taken reader = record { step = step.Condition word tokens; after = reader }

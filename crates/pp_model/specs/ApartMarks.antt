@@ -7,7 +7,7 @@ use Rattle.pp_model.specs.SpliceList.{open_names}
 use Rattle.pp_model.specs.Reading.{Reading, Expander, Opening, opening, reading_of}
 use Rattle.pp_model.specs.Taking.{Takes}
 use Rattle.pp_model.specs.Calls.{Gathered, Fault, Gathers, Answers, Called, Calls}
-use Rattle.pp_model.specs.Emitting.{opened, Emits}
+use Rattle.pp_model.specs.Emitting.{with_macro, Emits}
 use Rattle.pp_model.specs.declared.read.Read.{Read}
 use Rattle.pp_model.specs.declared.read.Taken.{Taken}
 use Rattle.pp_model.specs.declared.splice.Entry.{Entry}
@@ -58,7 +58,7 @@ pub record KeepsMarksApart {R : Type 0} (I : Reading R) (A : Answers) : Type 0 w
       → Takes I d o e → opening I e o ≡ Some m
       → IsRest e.list f.list
       → HasApartMarks f.list
-      → HasApartMarks (opened m line arguments f).list
+      → HasApartMarks (with_macro m line arguments f).list
   pub item : (o : Taken) (e f : Expander R) → Emits I A e o f → HasApartMarks e.list → HasApartMarks f.list
 
 -- A list of tokens is read from a list that holds no mark.

@@ -9,7 +9,7 @@ use Rattle.pp_lexer.specs.declared.token.TokenValue.TheVariants.{Punct}
 use Rattle.pp_expression.specs.Answers.{◌>>=◌}
 use Rattle.pp_model.specs.Names.{Name}
 use Rattle.pp_model.specs.Definitions.{Definition, Definitions}
-use Rattle.pp_model.specs.Reading.{Reading, Expander, masked}
+use Rattle.pp_model.specs.Reading.{Reading, Expander, masked_names}
 use Rattle.pp_model.specs.Taking.{Takes}
 use Rattle.pp_model.specs.declared.read.Read.{Read}
 use Rattle.pp_model.specs.declared.read.Taken.{Taken}
@@ -126,7 +126,7 @@ site_of I expander paren tokens =
       paren = paren;
       arguments = arguments_of tokens;
       visible = I.visible expander.reader;
-      open_around = masked expander;
+      open_around = masked_names expander;
     }
 
 -- what a call of a definition may come to: its arguments, each expanded alone, or a fault

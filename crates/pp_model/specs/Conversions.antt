@@ -47,10 +47,10 @@ conversion_at place NewLine = Err (UnexpectedNewLine, place)
 abbrev pub conversion : LexerToken → Result Token Fault
 conversion token = conversion_at token.location token.value
 
-abbrev pub refused : Result Token Fault → Fault
-refused (Ok token) = (UnexpectedToken token.value, token.location)
-refused (Err fault) = fault
+abbrev pub refusal_of : Result Token Fault → Fault
+refusal_of (Ok token) = (UnexpectedToken token.value, token.location)
+refusal_of (Err fault) = fault
 
 -- the fault of a token that stands where it is not wanted
 abbrev pub refused_token : LexerToken → Fault
-refused_token token = refused (conversion token)
+refused_token token = refusal_of (conversion token)

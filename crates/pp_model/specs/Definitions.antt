@@ -15,8 +15,8 @@ abbrev pub Definitions : Type 0
 Definitions = Name → Option Definition
 
 -- the name stands for this, or for nothing, and all other names stay
-abbrev pub changed : Definitions → Name → Option Definition → Definitions
-changed definitions name change = λ other. if is_same_name other name then change else definitions other
+abbrev pub with_change : Definitions → Name → Option Definition → Definitions
+with_change definitions name change = λ other. if is_same_name other name then change else definitions other
 
 -- a macro without parameters
 abbrev pub object_like : List Token → Definition

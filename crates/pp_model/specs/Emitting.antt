@@ -4,7 +4,7 @@ use Rattle.pp_lexer.specs.declared.token.PreprocessorError.TheVariants.{Recursio
 use Rattle.pp_expression.specs.Answers.{◌>>=◌}
 use Rattle.pp_model.specs.Names.{Name}
 use Rattle.pp_model.specs.Definitions.{Definitions}
-use Rattle.pp_model.specs.SpliceList.{spliced}
+use Rattle.pp_model.specs.SpliceList.{macro_before}
 use Rattle.pp_model.specs.Reading.{Reading, Expander, Opening, opening, argument_reading, reading_of}
 use Rattle.pp_model.specs.Taking.{Takes}
 use Rattle.pp_model.specs.Calls.{Fault, Answers, Site, misfit, no_call, refused, fits, Calls}
@@ -13,8 +13,9 @@ use Rattle.pp_model.specs.declared.read.Taken.{Taken}
 use Rattle.pp_model.specs.declared.read.Taken.TheVariants as taken
 
 -- the macro's replacement before the list
-abbrev pub opened : {R : Type 0} → Opening → ℕ → List (List Read) → Expander R → Expander R
-opened m line arguments expander = record expander { list = spliced m.name m.definition line arguments expander.list }
+abbrev pub with_macro : {R : Type 0} → Opening → ℕ → List (List Read) → Expander R → Expander R
+with_macro m line arguments expander =
+    record expander { list = macro_before m.name m.definition line arguments expander.list }
 
 -- The next item: a token that opens no macro, an error or the end. `A` says what calls come to.
 pub data Emits {R : Type 0} (I : Reading R) (A : Answers) : Expander R → Taken → Expander R → Type 0 where
@@ -24,7 +25,7 @@ pub data Emits {R : Type 0} (I : Reading R) (A : Answers) : Expander R → Taken
   object : (x o : Taken) (m : Opening) (e f h : Expander R)
       → Takes I e x f → opening I f x ≡ Some m
       → m.definition.function_like ≡ false
-      → Emits I A (opened m m.token.location.line [] f) o h
+      → Emits I A (with_macro m m.token.location.line [] f) o h
       → Emits I A e o h
   -- the name of a function-like macro without a call is the item; what was found after it comes next
   name_alone : (x y o : Taken) (m : Opening) (e f g h : Expander R)
@@ -45,7 +46,7 @@ pub data Emits {R : Type 0} (I : Reading R) (A : Answers) : Expander R → Taken
       → Takes I e x f → opening I f x ≡ Some m
       → m.definition.function_like ≡ true
       → Calls I A m.definition f (fits arguments line) g
-      → Emits I A (opened m line arguments g) o h
+      → Emits I A (with_macro m line arguments g) o h
       → Emits I A e o h
 
 -- a list with this before it, where there is one

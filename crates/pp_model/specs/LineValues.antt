@@ -60,22 +60,22 @@ abbrev pub ended_early : Location → Fault
 ended_early directive = (UnexpectedEndOfInput, directive)
 
 -- The first fault of an expression, with its place: faults of arithmetic and of the end stand at the directive's word.
-abbrev pub reported : Location → Words → ExpressionFault → ℕ → Fault
-reported directive words kind.IntegerOverflow left = (IntegerOverflow, directive)
-reported directive words kind.DivisionByZero left = (DivisionByZero, directive)
-reported directive words kind.RemainderByZero left = (RemainderByZero, directive)
-reported directive words kind.UnexpectedEndOfInput left = ended_early directive
-reported directive words kind.Unexpected left =
+abbrev pub placed_fault : Location → Words → ExpressionFault → ℕ → Fault
+placed_fault directive words kind.IntegerOverflow left = (IntegerOverflow, directive)
+placed_fault directive words kind.DivisionByZero left = (DivisionByZero, directive)
+placed_fault directive words kind.RemainderByZero left = (RemainderByZero, directive)
+placed_fault directive words kind.UnexpectedEndOfInput left = ended_early directive
+placed_fault directive words kind.Unexpected left =
     unwrap_or (option_map unwanted_word (word_from_end left words)) (ended_early directive)
-reported directive words kind.Unread left = unwrap_or words.ending (ended_early directive)
-reported directive words kind.Operand left =
+placed_fault directive words kind.Unread left = unwrap_or words.ending (ended_early directive)
+placed_fault directive words kind.Operand left =
     unwrap_or (option_and_then operand_fault (word_from_end left words)) (ended_early directive)
 
 -- an expression alone on its line, of whose value something is reported: nothing may stand after it
 abbrev pub alone_on_line : {A : Type 0} → Location → Words → (ℤ → A) → Result Value Found → Result A Fault
 alone_on_line directive words result (Ok v) =
     option_map_or (λ word. Err (unwanted_word word)) (word_from_end v.left words) (Ok (result v.value))
-alone_on_line directive words result (Err found) = Err (reported directive words found.kind found.left)
+alone_on_line directive words result (Err found) = Err (placed_fault directive words found.kind found.left)
 
 -- The same by the evaluation of the expression.
 pub record IsAlone {A : Type 0} (directive : Location) (words : Words) (report : ℤ → A)
@@ -106,7 +106,7 @@ words_after left words = record words { words = drop (length words.words - left)
 pub data Numbers (directive : Location) (words : Words) : Result ℕ Fault → Type 0 where
   faulty : (found : Found) (result : Result ℕ Fault)
       → Evaluates (line_of words) (Err found)
-      → result ≡ Err (reported directive words found.kind found.left)
+      → result ≡ Err (placed_fault directive words found.kind found.left)
       → Numbers directive words result
   out_of_range : (v : Value) (result : Result ℕ Fault)
       → Evaluates (line_of words) (Ok v)

@@ -19,42 +19,42 @@ use Rattle.pp_model.specs.declared.word.Word.{Word}
 use Rattle.pp_model.specs.declared.word.Word.TheVariants.{Plain, Defined}
 
 -- a token of the expanded line: the operator `defined`, a word, or the fault of an unknown name
-pub data Reading : Type 0 where
-  operator : Reading
-  word : Token → Reading
-  fault : Fault → Reading
+pub data WordReading : Type 0 where
+  operator : WordReading
+  word : Token → WordReading
+  fault : Fault → WordReading
 
 abbrev pub unexpected : Token → Fault
 unexpected token = (UnexpectedToken token.value, token.location)
 
 -- an unknown identifier is 0, signed and 64 bits wide; in a `#line` it is refused
-abbrev pub unknown_name : LineKind → Token → Reading
+abbrev pub unknown_name : LineKind → Token → WordReading
 unknown_name Condition token =
     word (record { value = Integer (record { value = 0; signed = true; width = pos 64 }); location = token.location })
 unknown_name LineNumber token = fault (unexpected token)
 
-abbrev pub reading_of_value : LineKind → Token → TokenValue → Reading
+abbrev pub reading_of_value : LineKind → Token → TokenValue → WordReading
 reading_of_value kind token (Ident name) = if is_same_name name defined_name then operator else unknown_name kind token
 reading_of_value kind token _ = word token
 
-abbrev pub reading : LineKind → Token → Reading
+abbrev pub reading : LineKind → Token → WordReading
 reading kind token = reading_of_value kind token token.value
 
 -- the fault of what stands where a part of `defined` is wanted; the end's is at the directive's word
-abbrev pub unwanted : Location → Taken → Fault
-unwanted directive (taken.Token read) = unexpected read.token
-unwanted directive (taken.Fault f) = f
-unwanted directive taken.End = (UnexpectedEndOfInput, directive)
+abbrev pub unwanted_part : Location → Taken → Fault
+unwanted_part directive (taken.Token read) = unexpected read.token
+unwanted_part directive (taken.Fault f) = f
+unwanted_part directive taken.End = (UnexpectedEndOfInput, directive)
 
 -- the same of a token that was read as a word
-abbrev pub unwanted_reading : Token → Reading → Fault
+abbrev pub unwanted_reading : Token → WordReading → Fault
 unwanted_reading token operator = unexpected token
 unwanted_reading token (word w) = unexpected w
 unwanted_reading token (fault f) = f
 
-abbrev pub unwanted_word : LineKind → Location → Taken → Fault
-unwanted_word kind directive (taken.Token read) = unwanted_reading read.token (reading kind read.token)
-unwanted_word kind directive o = unwanted directive o
+abbrev pub unwanted_closing : LineKind → Location → Taken → Fault
+unwanted_closing kind directive (taken.Token read) = unwanted_reading read.token (reading kind read.token)
+unwanted_closing kind directive o = unwanted_part directive o
 
 abbrev pub name_in_value : TokenValue → Option Name
 name_in_value (Ident name) = Some name
@@ -76,7 +76,7 @@ is_defined e name = is_some (e.reader.visible name)
 -- the answer, if what was read is a `)`, or else the fault of that
 abbrev pub closed_by : LineKind → Location → Bool → Taken → Result Bool Fault
 closed_by kind directive answer o =
-    if has_value is_right_paren o then Ok answer else Err (unwanted_word kind directive o)
+    if has_value is_right_paren o then Ok answer else Err (unwanted_closing kind directive o)
 
 -- what the operand of a `defined` comes to after its `(`: the name is taken and not looked up, the `)` is read expanded
 pub data InParentheses (kind : LineKind) (directive : Location) (A : Answers)
@@ -84,7 +84,7 @@ pub data InParentheses (kind : LineKind) (directive : Location) (A : Answers)
   no_name : (o : Taken) (e f : Expander Listed) (r : Result Bool Fault)
       → Takes line_reading e o f
       → name_in o ≡ None
-      → r ≡ Err (unwanted directive o)
+      → r ≡ Err (unwanted_part directive o)
       → InParentheses kind directive A e r f
   named : (o x : Taken) (n : Name) (e f g : Expander Listed) (r : Result Bool Fault)
       → Takes line_reading e o f
@@ -111,7 +111,7 @@ pub data Operand (kind : LineKind) (directive : Location) (A : Answers)
       → Takes line_reading e o f
       → name_in o ≡ None
       → has_value is_left_paren o ≡ false
-      → r ≡ Err (unwanted directive o)
+      → r ≡ Err (unwanted_part directive o)
       → Operand kind directive A e r f
 
 -- the words of a line, and the fault of reading that ends them, if one does

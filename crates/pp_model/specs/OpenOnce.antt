@@ -4,10 +4,10 @@ use Rattle.std.specs.Prelude.{◌≡◌, ℕ, true, false, List, [], Some}
 use Rattle.pp_lexer.specs.Lexed.{Seen}
 use Rattle.pp_model.specs.Names.{Name}
 use Rattle.pp_model.specs.Definitions.{Definitions}
-use Rattle.pp_model.specs.Reading.{Reading, Expander, Listed, Opening, opening, masked, reading_of}
+use Rattle.pp_model.specs.Reading.{Reading, Expander, Listed, Opening, opening, masked_names, reading_of}
 use Rattle.pp_model.specs.Taking.{Takes}
 use Rattle.pp_model.specs.Calls.{Answers, no_call, fits, Calls}
-use Rattle.pp_model.specs.Emitting.{opened}
+use Rattle.pp_model.specs.Emitting.{with_macro}
 use Rattle.pp_model.specs.SourceReader.{SourceReader}
 use Rattle.pp_model.specs.Reads.{source_reading}
 use Rattle.pp_model.specs.ApartMarks.{AreApart}
@@ -24,7 +24,7 @@ pub data Passes {R : Type 0} (I : Reading R) (A : Answers) : Expander R → Expa
   object : (x : Taken) (m : Opening) (e f g : Expander R)
       → Takes I e x f → opening I f x ≡ Some m
       → m.definition.function_like ≡ false
-      → Passes I A (opened m m.token.location.line [] f) g
+      → Passes I A (with_macro m m.token.location.line [] f) g
       → Passes I A e g
   -- a name has no call, and what was found after it is held
   name_alone : (x y : Taken) (m : Opening) (e f g h : Expander R)
@@ -38,12 +38,12 @@ pub data Passes {R : Type 0} (I : Reading R) (A : Answers) : Expander R → Expa
       → Takes I e x f → opening I f x ≡ Some m
       → m.definition.function_like ≡ true
       → Calls I A m.definition f (fits arguments line) g
-      → Passes I A (opened m line arguments g) h
+      → Passes I A (with_macro m line arguments g) h
       → Passes I A e h
 
 -- no name is open twice, here or around
 abbrev pub IsOpenOnce : {R : Type 0} → Expander R → Type 0
-IsOpenOnce e = AreApart (masked e)
+IsOpenOnce e = AreApart (masked_names e)
 
 -- In no state that a run passes a macro is open twice.
 abbrev pub RunOpensOnce : Answers → Type 0

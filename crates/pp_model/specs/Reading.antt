@@ -29,8 +29,8 @@ pub record Expander (R : Type 0) : Type 0 where
   pub hidden : List Name
 
 -- the names that are open here or in an expander around
-abbrev pub masked : {R : Type 0} → Expander R → List Name
-masked expander = open_names expander.list ++ expander.hidden
+abbrev pub masked_names : {R : Type 0} → Expander R → List Name
+masked_names expander = open_names expander.list ++ expander.hidden
 
 -- a token that opens a macro: its name, and what that stands for
 pub record Opening : Type 0 where

@@ -4,7 +4,7 @@ use Rattle.std.specs.Prelude.{◌≡◌, ℕ, pos, ◌+ℤ◌, ◌-ℤ◌, Bool,
 use Rattle.pp_lexer.specs.declared.token.Location.{Location}
 use Rattle.pp_lexer.specs.declared.token.PreprocessorError.TheVariants.{DefineRedefined}
 use Rattle.pp_lexer.specs.declared.token.Token.{Token}
-use Rattle.pp_model.specs.Definitions.{Definition, changed, IsSameDefinition}
+use Rattle.pp_model.specs.Definitions.{Definition, with_change, IsSameDefinition}
 use Rattle.pp_model.specs.Painting.{taken_of}
 use Rattle.pp_model.specs.Reading.{Reading}
 use Rattle.pp_model.specs.Calls.{Fault, Answers}
@@ -39,7 +39,8 @@ pub data Steps (A : Answers) : SourceReader → Option Outcome → SourceReader 
       → (act r).step ≡ step.Defines named
       → r.definitions named.name ≡ None
       → o ≡ None
-      → t ≡ record (act r).after { definitions = changed (act r).after.definitions named.name (Some named.definition) }
+      → t ≡ record (act r).after
+      { definitions = with_change (act r).after.definitions named.name (Some named.definition) }
       → Steps A r o t
   -- a `#define` that says what was said before: the old definition stays
   repeats : (named : Named) (old : Definition) (o : Option Outcome) (r t : SourceReader)

@@ -6,7 +6,7 @@ use Rattle.pp_lexer.specs.Lexed.{Seen, seen}
 use Rattle.pp_lexer.specs.Spots.{spots_of}
 use Rattle.pp_lexer.specs.declared.token.Token.{Token}
 use Rattle.pp_model.specs.Names.{Name}
-use Rattle.pp_model.specs.Definitions.{object_like, changed}
+use Rattle.pp_model.specs.Definitions.{object_like, with_change}
 use Rattle.pp_model.specs.Painting.{item_of}
 use Rattle.pp_model.specs.Reading.{Expander}
 use Rattle.pp_model.specs.Calls.{Fault, Answers}
@@ -14,7 +14,7 @@ use Rattle.pp_model.specs.Emitting.{first_before, Emits, answers_at, expansion_l
 use Rattle.pp_model.specs.Lines.{ends_line}
 use Rattle.pp_model.specs.Conversions.{conversion}
 use Rattle.pp_expression.specs.Answers.{◌>>=◌}
-use Rattle.pp_model.specs.SourceReader.{SourceReader, start_of}
+use Rattle.pp_model.specs.SourceReader.{SourceReader, reader_at_start}
 use Rattle.pp_model.specs.Reads.{source_reading}
 use Rattle.pp_model.specs.declared.call.Call.{Call as Called}
 use Rattle.pp_model.specs.declared.call.Call.TheVariants as called
@@ -52,13 +52,13 @@ content_tokens (s ∷ rest) =
 
 -- an expander over the start of a source
 abbrev pub start : List Seen → Expander SourceReader
-start source = record { held = None; list = []; reader = start_of source; hidden = [] }
+start source = record { held = None; list = []; reader = reader_at_start source; hidden = [] }
 
 -- the name stands for these tokens from now on
 abbrev pub with_added : Name → List Token → Expander SourceReader → Expander SourceReader
 with_added name tokens e =
     record e {
-      reader = record e.reader { definitions = changed e.reader.definitions name (Some (object_like tokens)) };
+      reader = record e.reader { definitions = with_change e.reader.definitions name (Some (object_like tokens)) };
     }
 
 abbrev pub is_fault : Outcome → Bool

@@ -17,8 +17,8 @@ pub record SourceReader : Type 0 where
   pub truths : Truths
   pub unfinished : ℕ
 
-abbrev pub start_of : List Seen → SourceReader
-start_of source = record {
+abbrev pub reader_at_start : List Seen → SourceReader
+reader_at_start source = record {
   items = source;
   position = 0;
   definitions = λ name. None;

@@ -41,12 +41,12 @@ replacement arguments token parameter entries =
     (Plain (unpainted token) ∷ entries)
 
 -- the body with each parameter replaced by its argument, and then the entries
-abbrev pub replaced : List Name → List (List Read) → List Token → List Entry → List Entry
-replaced parameters arguments [] entries = entries
-replaced parameters arguments (token ∷ body) entries =
-    replacement arguments token (parameter_of parameters token.value) (replaced parameters arguments body entries)
+abbrev pub body_before : List Name → List (List Read) → List Token → List Entry → List Entry
+body_before parameters arguments [] entries = entries
+body_before parameters arguments (token ∷ body) entries =
+    replacement arguments token (parameter_of parameters token.value) (body_before parameters arguments body entries)
 
 -- the macro's replacement with its end mark before the entries
-abbrev pub spliced : Name → Definition → ℕ → List (List Read) → List Entry → List Entry
-spliced name definition line arguments entries =
-    replaced definition.parameters arguments definition.body (End (record { name = name; line = line }) ∷ entries)
+abbrev pub macro_before : Name → Definition → ℕ → List (List Read) → List Entry → List Entry
+macro_before name definition line arguments entries =
+    body_before definition.parameters arguments definition.body (End (record { name = name; line = line }) ∷ entries)

@@ -6,7 +6,7 @@ use Rattle.pp_lexer.specs.declared.token.TokenValue.TheVariants.{Integer}
 use Rattle.pp_model.specs.Names.{is_identifier, line_name}
 use Rattle.pp_model.specs.SpliceList.{after_marks, outermost_line}
 use Rattle.pp_model.specs.Painting.{unpainted, taken_among}
-use Rattle.pp_model.specs.Reading.{Reading, Expander, masked}
+use Rattle.pp_model.specs.Reading.{Reading, Expander, masked_names}
 use Rattle.pp_model.specs.declared.read.Read.{Read}
 use Rattle.pp_model.specs.declared.read.Taken.{Taken}
 use Rattle.pp_model.specs.declared.read.Taken.TheVariants as taken
@@ -61,4 +61,4 @@ pub data Fetches {R : Type 0} (I : Reading R) : Expander R → Taken → Expande
 pub record Takes {R : Type 0} (I : Reading R) (e : Expander R) (o : Taken) (f : Expander R) : Type 0 where
   pub first : Taken
   pub fetches : Fetches I e first f
-  pub paints : o ≡ taken_among (masked f) first
+  pub paints : o ≡ taken_among (masked_names f) first

@@ -7,7 +7,7 @@ use Rattle.pp_model.specs.LineWords as line
 use Rattle.pp_model.specs.declared.word.WordReading.{WordReading}
 use Rattle.pp_model.specs.declared.word.WordReading.TheVariants.{Operator, Word, Refused}
 
-abbrev pub reading_named : WordReading → line.Reading
+abbrev pub reading_named : WordReading → line.WordReading
 reading_named (Operator token) = line.operator
 reading_named (Word token) = line.word token
 reading_named (Refused fault) = line.fault fault

@@ -9,7 +9,7 @@ use Rattle.pp_model.specs.Blocks.{Block}
 use Rattle.pp_model.specs.SourceReader.{SourceReader}
 use Rattle.pp_model.specs.Acts.{Acted, end_by, act}
 use Rattle.pp_model.specs.Reads.{Steps, passes, gives, defines, repeats, redefines, decides, undecided, renumbers, unnumbered}
-use Rattle.pp_model.specs.inner.Reads.{defining}
+use Rattle.pp_model.specs.inner.Reads.{after_define}
 use Rattle.pp_reference.specs.inner.Acting.{Defining, Deciding, DecidesBy, Renumbering, RenumbersBy}
 use Rattle.pp_model.specs.declared.definition.Named.{Named}
 use Rattle.pp_model.specs.declared.outcome.Outcome.{Outcome}
@@ -60,7 +60,7 @@ module _ (A : Answers) (r after : SourceReader) where
   defines_by : (named : Named) (o : Option Outcome) (t : SourceReader) (d : Option Definition) → act r ≡ comes (step.Defines named) after
       → r.definitions named.name ≡ d → Defining named d after o t → Steps A r o t
   defines_by named o t None e is (p, q) = defines named o r t (ap (λ (a : Acted). a.step) e) is p (q
-      ∙ ap (λ (x : SourceReader). defining named x) (sym (ap (λ (a : Acted). a.after) e)))
+      ∙ ap (λ (x : SourceReader). after_define named x) (sym (ap (λ (a : Acted). a.after) e)))
   defines_by named o t (Some old) e is (inl h) = repeats named old o r t (ap (λ (a : Acted). a.step) e) is h.0 h.1 (h.2 ∙ sym (ap (λ (a : Acted). a.after) e))
   defines_by named o t (Some old) e is (inr h) = redefines named old o r t (ap (λ (a : Acted). a.step) e) is h.0 h.1 (h.2 ∙ sym (ap (λ (a : Acted). a.after) e))
 

@@ -4,16 +4,16 @@ use Rattle.std.specs.Prelude.{Option, Some, None, Result, Ok, Err, true}
 use Rattle.pp_lexer.specs.declared.token.Location.{Location}
 use Rattle.pp_model.specs.Names.{Name}
 use Rattle.pp_model.specs.Definitions.{Definitions}
-use Rattle.pp_model.specs.Reading.{Reading, Expander, Opening, opening, masked}
+use Rattle.pp_model.specs.Reading.{Reading, Expander, Opening, opening, masked_names}
 use Rattle.pp_model.specs.Taking.{Takes}
 use Rattle.pp_model.specs.Calls.{Fault, Answers, Gathered, Gathers, arguments_of, paren_at, site_of, Calls}
 use Rattle.pp_model.specs.Calls as calls
-use Rattle.pp_model.specs.Emitting.{Emits, opened, Collects}
+use Rattle.pp_model.specs.Emitting.{Emits, with_macro, Collects}
 use Rattle.pp_model.specs.Emitting as emitting
-use Rattle.pp_reference.specs.inner.Seen.{TakesParen, none, some, Finds, nothing, broken, whole, turned, TurnsAt, object, function, Turns, itself, opens, Resolves}
-use Rattle.pp_reference.specs.declared.expander.Call.{Call}
+use Rattle.pp_reference.specs.inner.Seen.{TakesParen, none, some, Finds, nothing, broken, whole, turn_after_name, TurnsAt, object, function, Turns, itself, opens, Resolves}
+use Rattle.pp_reference.specs.declared.expander.MacroCall.{MacroCall}
 use Rattle.pp_reference.specs.declared.expander.Site.{Site}
-use Rattle.pp_reference.specs.declared.expander.Found.{Found}
+use Rattle.pp_reference.specs.declared.expander.AfterName.{AfterName}
 use Rattle.pp_reference.specs.declared.expander.Turn.{Turn}
 use Rattle.pp_reference.specs.declared.expander.Turn.TheVariants.{Item, Replaced, Called}
 use Rattle.pp_model.specs.declared.read.Read.{Read}
@@ -22,13 +22,13 @@ use Rattle.pp_model.specs.declared.read.Taken.TheVariants as taken
 
 -- a call as the definitions see it
 abbrev pub site_at : {S : Type 0} → Reading S → Expander S → Site → calls.Site
-site_at I e site = record { paren = site.paren; arguments = site.arguments; visible = I.visible e.reader; open_around = masked e }
+site_at I e site = record { paren = site.paren; arguments = site.arguments; visible = I.visible e.reader; open_around = masked_names e }
 
 -- what a call goes on to, for each answer to it
-pub record Goes {S : Type 0} (I : Reading S) (A : Answers) (e : Expander S) (call : Call) (f : Expander S) : Type 0 where
+pub record Goes {S : Type 0} (I : Reading S) (A : Answers) (e : Expander S) (call : MacroCall) (f : Expander S) : Type 0 where
   pub refused : (fault : Fault) → A call.opening.definition (site_at I f call.site) (Err fault) → Emits I A e (taken.Fault fault) f
   pub fits : (arguments : List (List Read)) → A call.opening.definition (site_at I f call.site) (Ok arguments) → (o : Taken) (q : Expander S)
-      → Emits I A (opened call.opening call.site.line arguments f) o q → Emits I A e o q
+      → Emits I A (with_macro call.opening call.site.line arguments f) o q → Emits I A e o q
 
 -- what a turn does for the next item
 abbrev pub Means : {S : Type 0} → Reading S → Answers → Expander S → Turn → Expander S → Type 0
@@ -71,7 +71,7 @@ whole_goes {S} I A x m site gathered e f g h t w k paren gathers line cut =
     → A m.definition (site_of I h site.paren gathered.tokens) answer =
     λ answer a.
     subst (λ (arguments : List (List Read)). A m.definition
-    (record { paren = site.paren; arguments = arguments; visible = I.visible h.reader; open_around = masked h }) answer) cut a
+    (record { paren = site.paren; arguments = arguments; visible = I.visible h.reader; open_around = masked_names h }) answer) cut a
     in
     record {
       refused = λ fault a. emitting.call_refused x (taken.Fault fault) fault m e f h t w k
@@ -79,17 +79,17 @@ whole_goes {S} I A x m site gathered e f g h t w k paren gathers line cut =
       fits = λ arguments a o q next.
           emitting.call x o arguments gathered.closing.line m e f h q t w k
           (whole_call I A m site.paren gathered (Ok arguments) f g h _ paren refl gathers (at (Ok arguments) a))
-          (subst (λ (n : ℕ). Emits I A (opened m n arguments h) o q) line next);
+          (subst (λ (n : ℕ). Emits I A (with_macro m n arguments h) o q) line next);
     }
 
-pub finds_mean : {S : Type 0} (I : Reading S) (A : Answers) (x : Taken) (m : Opening) (c : Found) (e f g : Expander S) → Takes I e x f
-    → opening I f x ≡ Some m → m.definition.function_like ≡ true → Finds I f c g → Means I A e (turned x m c) g
+pub finds_mean : {S : Type 0} (I : Reading S) (A : Answers) (x : Taken) (m : Opening) (c : AfterName) (e f g : Expander S) → Takes I e x f
+    → opening I f x ≡ Some m → m.definition.function_like ≡ true → Finds I f c g → Means I A e (turn_after_name x m c) g
 finds_mean I A x m c e f g t w k (nothing _ _ _ paren is) =
-    subst (λ (d : Found). Means I A e (turned x m d) g) (sym is) (no_call I A x m e f g None t w k paren refl)
+    subst (λ (d : AfterName). Means I A e (turn_after_name x m d) g) (sym is) (no_call I A x m e f g None t w k paren refl)
 finds_mean I A x m c e f h t w k (broken at fault _ _ g _ paren gathers is) =
-    subst (λ (d : Found). Means I A e (turned x m d) h) (sym is) (ended_call I A x m at fault e f g h (Some at) t w k paren refl gathers)
+    subst (λ (d : AfterName). Means I A e (turn_after_name x m d) h) (sym is) (ended_call I A x m at fault e f g h (Some at) t w k paren refl gathers)
 finds_mean I A x m c e f h t w k (whole gathered site _ _ g _ paren gathers line cut is) =
-    subst (λ (d : Found). Means I A e (turned x m d) h) (sym is) (whole_goes I A x m site gathered e f g h t w k paren gathers line cut)
+    subst (λ (d : AfterName). Means I A e (turn_after_name x m d) h) (sym is) (whole_goes I A x m site gathered e f g h t w k paren gathers line cut)
 
 pub turns_at_mean : {S : Type 0} (I : Reading S) (A : Answers) (x : Taken) (m : Opening) (t : Turn) (e f g : Expander S) → Takes I e x f
     → opening I f x ≡ Some m → TurnsAt I x m f t g → Means I A e t g
@@ -105,8 +105,8 @@ turns_mean I A t e f (itself o _ _ _ takes w is) =
 turns_mean I A t e g (opens x m _ _ f _ takes w at) = turns_at_mean I A x m t e f g takes w at
 
 -- the answer that is known for these names is the call's
-pub answer_known : {S : Type 0} (I : Reading S) (A : Answers) (e : Expander S) (call : Call) (visible : Definitions) (around : List Name)
-    (answer : Result (List (List Read)) Fault) → visible ≡ I.visible e.reader → around ≡ masked e
+pub answer_known : {S : Type 0} (I : Reading S) (A : Answers) (e : Expander S) (call : MacroCall) (visible : Definitions) (around : List Name)
+    (answer : Result (List (List Read)) Fault) → visible ≡ I.visible e.reader → around ≡ masked_names e
     → A call.opening.definition (record { paren = call.site.paren; arguments = call.site.arguments; visible = visible; open_around = around }) answer
     → A call.opening.definition (site_at I e call.site) answer
 answer_known I A e call visible around answer v h a =
@@ -116,7 +116,7 @@ answer_known I A e call visible around answer v h a =
     (record { paren = call.site.paren; arguments = call.site.arguments; visible = d; open_around = around }) answer) v a)
 
 -- a call whose answer is a fault
-pub resolves_fault : {S : Type 0} (I : Reading S) (A : Answers) (e f h : Expander S) (call : Call) (answer : Result (List (List Read)) Fault)
+pub resolves_fault : {S : Type 0} (I : Reading S) (A : Answers) (e f h : Expander S) (call : MacroCall) (answer : Result (List (List Read)) Fault)
     (fault : Fault) → Goes I A e call f → A call.opening.definition (site_at I f call.site) answer → Resolves call answer f (Some fault) h
     → Emits I A e (taken.Fault fault) h
 resolves_fault I A e f h call (Ok arguments) fault goes a r = let never : Some fault ≡ None = r.0 in cc
@@ -126,7 +126,7 @@ resolves_fault {S} I A e f h call (Err found) fault goes a r =
     (subst (λ (x : Fault). Emits I A e (taken.Fault x) f) (sym same) (goes.refused found a))
 
 -- a call that is replaced
-pub resolves_next : {S : Type 0} (I : Reading S) (A : Answers) (e f h : Expander S) (call : Call) (answer : Result (List (List Read)) Fault)
+pub resolves_next : {S : Type 0} (I : Reading S) (A : Answers) (e f h : Expander S) (call : MacroCall) (answer : Result (List (List Read)) Fault)
     → Goes I A e call f → A call.opening.definition (site_at I f call.site) answer → Resolves call answer f None h → (o : Taken) (q : Expander S)
     → Emits I A h o q → Emits I A e o q
 resolves_next {S} I A e f h call (Ok arguments) goes a r o q next =

@@ -2,7 +2,7 @@
 
 ghost use Rattle.std.specs.Prelude.{◌≡◌, OnOk, OnErr};
 ghost use Rattle.std.specs.Option.{option_copied};
-ghost use Rattle.pp_model.specs.Definitions.{changed};
+ghost use Rattle.pp_model.specs.Definitions.{with_change};
 ghost use Rattle.pp_model.specs.inner.Definitions.{nothing_defined};
 ghost use Rattle.pp_reference.specs.inner.Changes.{meaning_of};
 
@@ -60,7 +60,7 @@ impl Definitions {
     /// Replaces the definition of the name, or removes it.
     pub fn change(&mut self, name: Text, definition: Option<Definition>) -> Result<(), AllocError>
         ensures ok { OnOk result (meaning_of self.new
-            ≡ changed (meaning_of self.old) name definition) }
+            ≡ with_change (meaning_of self.old) name definition) }
         ensures err { OnErr result (self.new ≡ self.old) }
     {
         self.changes.insert(0, Change { name, definition })?;

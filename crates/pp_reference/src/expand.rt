@@ -3,14 +3,14 @@
 ghost use Rattle.std.specs.Prelude.{◌≡◌, ◌≤◌, IfOk};
 ghost use Rattle.pp_reference.specs.inner.Changes.{meaning_of};
 ghost use Rattle.pp_model.specs.Emitting.{Emits, Collects, Each, Alone, answers_at, expansion_limit};
-ghost use Rattle.pp_model.specs.Reading.{reading_of, argument_reading, masked};
+ghost use Rattle.pp_model.specs.Reading.{reading_of, argument_reading, masked_names};
 ghost use Rattle.pp_reference.specs.inner.Seen.{seen};
 ghost use Rattle.pp_reference.specs.inner.SeenList.{list_state};
 
 use crate::calls::misfit;
 use crate::copies::{copy_names, copy_reads};
 use crate::definitions::Definitions;
-use crate::expander::{Call, Expander, Turn};
+use crate::expander::{Expander, MacroCall, Turn};
 use crate::lists::{ReadList, ReadLists};
 use crate::reader::{ArgumentReader, Reader};
 use crate::stop::{Budget, Stop};
@@ -34,7 +34,7 @@ pub fn expansion_limit() -> u32
 #[cycle(answers)]
 pub fn answer(
     alloc: Global,
-    call: &Call,
+    call: &MacroCall,
     visible: &Definitions,
     hidden: &[Text],
     levels: u32,
@@ -155,7 +155,7 @@ fn argument_expander<'a>(
 #[cycle(answers)]
 fn answer_alone(
     expander: &Expander<ArgumentReader<'_>>,
-    call: &Call,
+    call: &MacroCall,
     levels: u32,
     budget: &mut Budget,
 ) -> Result<Result<ReadLists, Fault>, Stop>
@@ -164,7 +164,7 @@ fn answer_alone(
           paren = call.now.site.paren;
           arguments = call.now.site.arguments;
           visible = argument_reading.visible (list_state expander.now.reader);
-          open_around = masked (seen list_state expander.now);
+          open_around = masked_names (seen list_state expander.now);
         }) answer) }
     ensures budget { budget.new.steps ≤ budget.old.steps }
 {
@@ -207,7 +207,7 @@ fn emit_alone(
 /// The answer to a call in an expander.
 fn answer_in<R: Reader>(
     expander: &Expander<R>,
-    call: &Call,
+    call: &MacroCall,
     levels: u32,
     budget: &mut Budget,
 ) -> Result<Result<ReadLists, Fault>, Stop>
@@ -216,7 +216,7 @@ fn answer_in<R: Reader>(
           paren = call.now.site.paren;
           arguments = call.now.site.arguments;
           visible = R.reading.visible (R.state expander.now.reader);
-          open_around = masked (seen R.state expander.now);
+          open_around = masked_names (seen R.state expander.now);
         }) answer) }
     ensures budget { budget.new.steps ≤ budget.old.steps }
 {

@@ -1,12 +1,12 @@
 //! Expanders: the next item that is taken, the names that open a macro, and one turn of reading.
 
 ghost use Rattle.std.specs.Prelude.{◌≡◌, ◌≤◌, [], None, IfOk, OnOk};
-ghost use Rattle.pp_model.specs.Reading.{opening, masked};
+ghost use Rattle.pp_model.specs.Reading.{opening, masked_names};
 ghost use Rattle.pp_model.specs.Painting.{is_one_of, painted_among, taken_among};
 ghost use Rattle.pp_model.specs.Taking.{Fetches, Takes, shown_token, shown_outcome, line_number};
 ghost use Rattle.pp_model.specs.Calls.{Gathers};
-ghost use Rattle.pp_model.specs.Emitting.{opened};
-ghost use Rattle.pp_reference.specs.inner.Seen.{seen, turned, Resolves, TakesParen, Finds, TurnsAt, Turns};
+ghost use Rattle.pp_model.specs.Emitting.{with_macro};
+ghost use Rattle.pp_reference.specs.inner.Seen.{seen, turn_after_name, Resolves, TakesParen, Finds, TurnsAt, Turns};
 
 use crate::calls::{Gathered, arguments_of, paren_at};
 use crate::copies::{copy_definition, copy_names};
@@ -59,7 +59,7 @@ pub struct Site {
 
 /// What follows the name of a macro with parameters.
 #[derive(Drop)]
-pub enum Found {
+pub enum AfterName {
     /// No `(`.
     NoCall,
     /// A call that does not end.
@@ -70,7 +70,7 @@ pub enum Found {
 
 /// A call of a macro.
 #[derive(Drop)]
-pub struct Call {
+pub struct MacroCall {
     /// The macro.
     pub opening: Opening,
     /// Its parentheses.
@@ -85,7 +85,7 @@ pub enum Turn {
     /// A macro without parameters was replaced.
     Replaced,
     /// A call was gathered.
-    Called(Call),
+    Called(MacroCall),
 }
 
 /// An expander over a reader.
@@ -209,22 +209,22 @@ fn taken_among(names: &[Text], taken: Taken) -> Taken
 }
 
 /// The turn at the name of a macro with parameters. `found` is what follows the name.
-fn turned(taken: Taken, opening: Opening, found: Found) -> Turn
-    ensures { result ≡ turned taken opening found }
+fn turn_after_name(taken: Taken, opening: Opening, found: AfterName) -> Turn
+    ensures { result ≡ turn_after_name taken opening found }
 {
     match found {
-        Found::NoCall => {
+        AfterName::NoCall => {
             drop(opening);
             Turn::Item(taken)
         }
-        Found::Broken(fault) => {
+        AfterName::Broken(fault) => {
             drop(taken);
             drop(opening);
             Turn::Item(Taken::Fault(fault))
         }
-        Found::Whole(site) => {
+        AfterName::Whole(site) => {
             drop(taken);
-            Turn::Called(Call { opening, site })
+            Turn::Called(MacroCall { opening, site })
         }
     }
 }
@@ -282,7 +282,7 @@ impl<R: Reader> Expander<R> {
 
     /// The names that are open here or around.
     pub fn masked(&self) -> Result<Vec<Text>, AllocError>
-        ensures { IfOk result (λ names. names.items ≡ masked (seen R.state self.now)) }
+        ensures { IfOk result (λ names. names.items ≡ masked_names (seen R.state self.now)) }
     {
         let mut names = open_names(self.alloc, &self.list)?;
         let mut hidden = copy_names(self.alloc, &self.hidden)?;
@@ -318,7 +318,7 @@ impl<R: Reader> Expander<R> {
         arguments: &ReadLists,
     ) -> Result<(), AllocError>
         ensures { OnOk result (seen R.state self.new
-            ≡ opened opening line arguments.now (seen R.state self.old)) }
+            ≡ with_macro opening line arguments.now (seen R.state self.old)) }
     {
         let Opening {
             token: _token,
@@ -338,7 +338,7 @@ impl<R: Reader> Expander<R> {
     /// Replaces a call by its answer, or returns the fault of the answer.
     pub fn resolve(
         &mut self,
-        call: Call,
+        call: MacroCall,
         answer: Result<ReadLists, Fault>,
     ) -> Result<Option<Fault>, AllocError>
         ensures { IfOk result (λ fault. Resolves call answer (seen R.state self.old) fault
@@ -346,7 +346,7 @@ impl<R: Reader> Expander<R> {
     {
         match answer {
             Ok(arguments) => {
-                let Call { opening, site } = call;
+                let MacroCall { opening, site } = call;
                 let spliced = self.splice(opening, site.line, &arguments);
                 drop(site);
                 drop(arguments);
@@ -419,25 +419,25 @@ impl<R: Reader> Expander<R> {
     }
 
     /// Looks for a call after the name of a macro with parameters.
-    fn find_call(&mut self, budget: &mut Budget) -> Result<Found, Stop>
+    fn find_call(&mut self, budget: &mut Budget) -> Result<AfterName, Stop>
         ensures finds { IfOk result (λ found. Finds R.reading (seen R.state self.old) found
             (seen R.state self.new)) }
         ensures budget { budget.new.steps ≤ budget.old.steps }
     {
         let Some(paren) = self.take_paren(budget)? else {
-            return Ok(Found::NoCall);
+            return Ok(AfterName::NoCall);
         };
         match self.gather(paren, budget)? {
             Ok(gathered) => {
                 let Gathered { tokens, closing } = gathered;
                 let arguments = arguments_of(self.alloc, tokens)?;
-                Ok(Found::Whole(Site {
+                Ok(AfterName::Whole(Site {
                     paren,
                     line: closing.line,
                     arguments,
                 }))
             }
-            Err(fault) => Ok(Found::Broken(fault)),
+            Err(fault) => Ok(AfterName::Broken(fault)),
         }
     }
 
@@ -470,7 +470,7 @@ impl<R: Reader> Expander<R> {
             return Ok(Turn::Replaced);
         }
         match self.find_call(budget) {
-            Ok(found) => Ok(turned(taken, opening, found)),
+            Ok(found) => Ok(turn_after_name(taken, opening, found)),
             Err(stop) => {
                 drop(taken);
                 drop(opening);
@@ -482,7 +482,7 @@ impl<R: Reader> Expander<R> {
     /// Replaces a macro without parameters.
     fn replace(&mut self, opening: Opening) -> Result<(), AllocError>
         ensures { OnOk result (seen R.state self.new
-            ≡ opened opening opening.token.location.line [] (seen R.state self.old)) }
+            ≡ with_macro opening opening.token.location.line [] (seen R.state self.old)) }
     {
         let line = line_of(&opening);
         let none = ReadLists {

@@ -3,7 +3,7 @@
 ghost use Rattle.std.specs.Prelude.{◌≡◌, ◌≤◌, [], map, IfOk, MatchResult, Some, None};
 ghost use Rattle.pp_reference.specs.inner.Changes.{meaning_of};
 ghost use Rattle.pp_model.specs.Emitting.{answers_at};
-ghost use Rattle.pp_model.specs.LineWords.{LineWords, InParentheses, Operand, name_in, is_defined, unwanted, unwanted_word};
+ghost use Rattle.pp_model.specs.LineWords.{LineWords, InParentheses, Operand, name_in, is_defined, unwanted_part, unwanted_closing};
 ghost use Rattle.pp_model.specs.inner.LineWords.{is_open_paren, is_close_paren};
 ghost use Rattle.pp_model.specs.Painting.{unpainted};
 ghost use Rattle.pp_model.specs.Reading.{reading_of};
@@ -25,7 +25,7 @@ use std::alloc::{AllocError, Global};
 
 /// The fault of an item where `defined` needs its operand or a parenthesis.
 fn unwanted_word(kind: LineKind, directive: Location, taken: Taken) -> Fault
-    ensures { result ≡ unwanted_word kind directive taken }
+    ensures { result ≡ unwanted_closing kind directive taken }
 {
     match taken {
         Taken::Token(read) => unwanted_reading(reading_of(kind, read.token)),
@@ -37,7 +37,7 @@ fn unwanted_word(kind: LineKind, directive: Location, taken: Taken) -> Fault
 /// The name of an identifier, or the fault of anything else where `defined` needs a name.
 fn name_or_fault(directive: Location, taken: Taken) -> Result<Text, Fault>
     ensures { MatchResult result (λ name. name_in taken ≡ Some name)
-        (λ fault. (name_in taken ≡ None) × (fault ≡ unwanted directive taken)) }
+        (λ fault. (name_in taken ≡ None) × (fault ≡ unwanted_part directive taken)) }
 {
     match taken {
         Taken::Token(read) => {

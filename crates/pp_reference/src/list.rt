@@ -2,7 +2,7 @@
 
 ghost use Rattle.std.specs.Prelude.{◌≡◌, [], ◌∷◌, ◌++◌, List, IfOk, OnOk, MatchOption, position};
 ghost use Rattle.pp_model.specs.Names.{is_same_name};
-ghost use Rattle.pp_model.specs.SpliceList.{after_marks, open_names, outermost_line, parameter_of, replacement, replaced, spliced};
+ghost use Rattle.pp_model.specs.SpliceList.{after_marks, open_names, outermost_line, parameter_of, replacement, body_before, macro_before};
 ghost use Rattle.pp_model.specs.inner.SpliceList.{followed_by};
 ghost use Rattle.pp_model.specs.declared.splice.Entry.{Entry as Item};
 
@@ -124,7 +124,7 @@ fn push_replaced(
     body: &[Token],
 ) -> Result<(), AllocError>
     ensures { OnOk result ((rest : List Item) → list.new.items ++ rest
-        ≡ list.old.items ++ replaced parameters.now arguments.now body.now rest) }
+        ≡ list.old.items ++ body_before parameters.now arguments.now body.now rest) }
 {
     for token in body {
         let parameter = parameter_of(parameters, &token.value);
@@ -143,7 +143,7 @@ pub fn splice(
     arguments: &ReadLists,
 ) -> Result<(), AllocError>
     ensures { OnOk result (list.new.items
-        ≡ spliced name definition.now line arguments.now list.old.items) }
+        ≡ macro_before name definition.now line arguments.now list.old.items) }
 {
     let mut front = Vec::new(alloc);
     push_replaced(

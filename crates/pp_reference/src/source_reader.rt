@@ -11,8 +11,8 @@ ghost use Rattle.pp_model.specs.Moves as moves;
 ghost use Rattle.pp_model.specs.Blocks.{are_surroundings_live};
 ghost use Rattle.pp_reference.specs.inner.ReaderState.{reader_of};
 ghost use Rattle.pp_model.specs.Reads.{shown_line};
-ghost use Rattle.pp_model.specs.inner.Reads.{renumbered};
-ghost use Rattle.pp_model.specs.inner.Run.{adding};
+ghost use Rattle.pp_model.specs.inner.Reads.{after_line_number};
+ghost use Rattle.pp_model.specs.inner.Run.{after_addition};
 ghost use Rattle.pp_model.specs.Sights.{least_items};
 ghost use Rattle.pp_reference.specs.declared.stop.Halt.TheVariants as halt;
 
@@ -121,7 +121,7 @@ impl<'a> SourceReader<'a> {
     /// Acts on a `#line` of this number with this place of its word, and moves past the line.
     pub fn renumber(&mut self, word: Location, number: u32)
         requires { self.old.position + 2 ≤ length self.old.items }
-        ensures { reader_of self.new ≡ renumbered (reader_of self.old) word number }
+        ensures { reader_of self.new ≡ after_line_number (reader_of self.old) word number }
     {
         self.line_offset = i64::from(number) - i64::from(word.line);
         self.pass_line();
@@ -136,7 +136,7 @@ impl<'a> SourceReader<'a> {
 
     /// Defines the name as these tokens, replacing any definition of it.
     pub fn add(&mut self, alloc: Global, name: Text, body: TokenList) -> Result<(), Stop>
-        ensures { OnOk result (reader_of self.new ≡ adding name body (reader_of self.old)) }
+        ensures { OnOk result (reader_of self.new ≡ after_addition name body (reader_of self.old)) }
     {
         let definition = Definition {
             function_like: false,

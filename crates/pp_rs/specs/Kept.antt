@@ -9,7 +9,7 @@ use Rattle.pp_model.specs.Reading.{Expander}
 use Rattle.pp_model.specs.SourceReader.{SourceReader}
 use Rattle.pp_macros.specs.inner.Left.{work_of}
 use Rattle.pp_macros.specs.LexerErrors.{ErrorAt}
-use Rattle.pp_macros.specs.inner.Machine.{Machine}
+use Rattle.pp_macros.specs.inner.Expander as kept
 use Rattle.pp_macros.specs.inner.Reader.{of_source}
 use Rattle.pp_macros.specs.inner.Source.{Source, unreported_of}
 use Rattle.pp_rs.specs.inner.Stands.{StandsFor}
@@ -18,14 +18,14 @@ use Rattle.pp_macros.specs.inner.Unreported.{unreported_with}
 -- the macros that are open with what is held, the source after them, whether memory was refused,
 -- and where the last error stands
 pub record Preprocessing : Type 0 where
-  pub machine : Machine
+  pub expander : kept.Expander
   pub source : Source
   pub spent : Bool
   pub place : Location
 
 -- a state of a run that it stands for
 unfoldable pub Stands : Preprocessing → Expander SourceReader → Type 0
-Stands p state = StandsFor p.machine p.source state
+Stands p state = StandsFor p.expander p.source state
 
 -- memory for an item was refused
 unfoldable pub is_spent : Preprocessing → Bool
@@ -33,11 +33,11 @@ is_spent p = p.spent
 
 -- no more items come than this
 unfoldable pub most_items : Preprocessing → ℕ
-most_items p = if p.spent then 0 else work_of expansion_limit p.machine (of_source p.source)
+most_items p = if p.spent then 0 else work_of expansion_limit p.expander (of_source p.source)
 
 -- the errors of the lexer that were not reported yet, each with where it stands
 unfoldable pub errors_left : Preprocessing → List ErrorAt
-errors_left p = unreported_with p.machine.held (unreported_of p.source)
+errors_left p = unreported_with p.expander.held (unreported_of p.source)
 
 -- where the error stands that was given last
 unfoldable pub error_place : Preprocessing → Location

@@ -14,7 +14,7 @@ use Rattle.pp_model.specs.Painting.{unpainted}
 use Rattle.pp_model.specs.Reading.{Expander}
 use Rattle.pp_model.specs.Reads.{Steps, passes, gives, Reads, here, later, source_reading, shown_line}
 use Rattle.pp_model.specs.Run.{by_rules, start, next, Runs, done, given}
-use Rattle.pp_model.specs.SourceReader.{SourceReader, start_of}
+use Rattle.pp_model.specs.SourceReader.{SourceReader, reader_at_start}
 use Rattle.pp_model.specs.Taking.{read, line_number, shown_token}
 use Rattle.pp_model.specs.declared.call.Reply.{Reply}
 use Rattle.pp_model.specs.declared.call.Reply.TheVariants.{Given}
@@ -40,7 +40,7 @@ module _ (A : Answers) (name : Name) (place after : Location) (b f c g : Bool) (
   items = word_of name place b f s ∷ newline_of after c g n ∷ []
 
   abbrev reader_at : ℕ → SourceReader
-  reader_at position = record (start_of items) { position = position }
+  reader_at position = record (reader_at_start items) { position = position }
 
   abbrev state_at : ℕ → Expander SourceReader
   state_at position = record (start items) { reader = reader_at position }

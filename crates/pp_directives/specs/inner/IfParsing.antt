@@ -7,60 +7,60 @@ use Rattle.pp_model.specs.Painting.{unpainted}
 use Rattle.pp_model.specs.Names.{Name}
 use Rattle.pp_model.specs.Calls.{Fault}
 use Rattle.pp_model.specs.Emitting.{answers_at}
-use Rattle.pp_model.specs.LineWords.{Words, LineWords, name_in, unwanted}
+use Rattle.pp_model.specs.LineWords.{Words, LineWords, name_in, unwanted_part}
 use Rattle.pp_model.specs.Reading.{reading_of}
 use Rattle.pp_model.specs.declared.word.LineKind.{LineKind}
 use Rattle.pp_macros.specs.inner.Defined.{Defined, meaning_of}
-use Rattle.pp_directives.specs.inner.LineItems.{IsOnLine, IsWorkLess, ReadsItem, ReadsTaken, ReadsOperand, ReadsInParentheses, ReadsClosed, expander_of, outcome_of}
+use Rattle.pp_directives.specs.inner.LineItems.{IsOnLine, IsWorkLess, ReadsItem, ReadsTaken, ReadsOperand, ReadsInParentheses, ReadsClosed, expander_of, taken_of_read}
 use Rattle.pp_macros.specs.declared.halt.Halt.{Halt}
 use Rattle.pp_directives.specs.declared.if_parser.IfParser.{IfParser}
 use Rattle.pp_directives.specs.declared.if_parser.LineExpander.{LineExpander}
 
 -- the line is read
-abbrev pub Stands : IfParser → LineExpander → Type 0
-Stands parser line = IsOnLine parser.definitions.now line.caller line.lexer
+abbrev pub IsReading : IfParser → LineExpander → Type 0
+IsReading parser line = IsOnLine parser.definitions.now line.expander line.lexer
 
 -- the next item
 abbrev pub GivesItem : IfParser → LineExpander → Result (Option Read) Halt → LineExpander → Type 0
 GivesItem parser old result new =
-    ReadsItem parser.levels parser.definitions.now old.caller old.lexer result new.caller new.lexer
+    ReadsItem parser.levels parser.definitions.now old.expander old.lexer result new.expander new.lexer
 
 -- after a token less of the line is left
 abbrev pub TakesOff : IfParser → LineExpander → Result (Option Read) Halt → LineExpander → Type 0
 TakesOff parser old result new =
-    IfOk result (λ found. IfSome found (λ read. IsWorkLess parser.levels old.caller old.lexer new.caller new.lexer))
+    IfOk result (λ found. IfSome found (λ read. IsWorkLess parser.levels old.expander old.lexer new.expander new.lexer))
 
 -- what is taken next
 abbrev pub GivesTaken : IfParser → LineExpander → Result (Option Read) Halt → LineExpander → Type 0
 GivesTaken parser old result new =
-    ReadsTaken parser.levels parser.definitions.now old.caller old.lexer result new.caller new.lexer
+    ReadsTaken parser.levels parser.definitions.now old.expander old.lexer result new.expander new.lexer
 
 -- the name of an identifier, or the fault of anything else where a part of `defined` is wanted
 abbrev pub IsNameOrFault : Location → Option Read → Result Name Fault → Type 0
 IsNameOrFault directive found result =
-    MatchResult result (λ name. name_in (outcome_of found) ≡ Some name)
-    (λ fault. (name_in (outcome_of found) ≡ None) × (fault ≡ unwanted directive (outcome_of found)))
+    MatchResult result (λ name. name_in (taken_of_read found) ≡ Some name)
+    (λ fault. (name_in (taken_of_read found) ≡ None) × (fault ≡ unwanted_part directive (taken_of_read found)))
 
 -- what the operand of a `defined` comes to; the same after its `(`, and after that and the name
 abbrev pub GivesOperand : IfParser → LineExpander → Result Bool Halt → LineExpander → Type 0
 GivesOperand parser old result new =
-    ReadsOperand parser.kind parser.directive parser.levels parser.definitions.now old.caller old.lexer
-    result new.caller new.lexer
+    ReadsOperand parser.kind parser.directive parser.levels parser.definitions.now old.expander old.lexer
+    result new.expander new.lexer
 
 abbrev pub GivesInParentheses : IfParser → LineExpander → Result Bool Halt → LineExpander → Type 0
 GivesInParentheses parser old result new =
-    ReadsInParentheses parser.kind parser.directive parser.levels parser.definitions.now old.caller
-    old.lexer result new.caller new.lexer
+    ReadsInParentheses parser.kind parser.directive parser.levels parser.definitions.now old.expander
+    old.lexer result new.expander new.lexer
 
 abbrev pub GivesClosed : IfParser → Name → LineExpander → Result Bool Halt → LineExpander → Type 0
 GivesClosed parser name old result new =
-    ReadsClosed parser.kind parser.directive parser.levels parser.definitions.now name old.caller
-    old.lexer result new.caller new.lexer
+    ReadsClosed parser.kind parser.directive parser.levels parser.definitions.now name old.expander
+    old.lexer result new.expander new.lexer
 
 -- the words that the rest of the line comes to
 abbrev pub AreWordsOf : IfParser → LineExpander → Words → Type 0
 AreWordsOf parser line words =
-    LineWords parser.kind parser.directive (answers_at parser.levels) (expander_of line.caller line.lexer) words
+    LineWords parser.kind parser.directive (answers_at parser.levels) (expander_of line.expander line.lexer) words
 
 -- the words that the whole line comes to
 abbrev pub AreWordsOfLine : LineKind → Location → ℕ → List Token → List Defined → Words → Type 0

@@ -17,14 +17,15 @@ use Rattle.pp_macros.specs.inner.Defined.{Defined, meaning_of}
 use Rattle.pp_macros.specs.inner.Frames.{flat}
 use Rattle.pp_macros.specs.Item.{Step}
 use Rattle.pp_macros.specs.inner.Left.{work_of, IsSound}
-use Rattle.pp_macros.specs.inner.Machine.{Machine, outcome_of_step}
+use Rattle.pp_macros.specs.inner.Expander as kept
+use Rattle.pp_macros.specs.inner.Expander.{outcome_of_step}
 use Rattle.pp_macros.specs.inner.Reader.{of_list, Listing}
 use Rattle.pp_macros.specs.declared.halt.Halt.{Halt}
 use Rattle.pp_macros.specs.declared.halt.Halt.TheVariants as halt
 use Rattle.pp_macros.specs.declared.step.StepExit.TheVariants.{Error, Continue, Finished}
 
 -- the definitions' expander of a line that is read
-abbrev pub expander_of : Machine → Listing → Expander Listed
+abbrev pub expander_of : kept.Expander → Listing → Expander Listed
 expander_of m l = record {
   held = option_map outcome_of_step m.held;
   list = flat m.frames;
@@ -42,7 +43,7 @@ IsHeld (Some (Err Continue)) = ⊥
 IsHeld (Some (Err (Error fault))) = ⊥
 
 -- a line is read, with these definitions
-pub record IsOnLine (definitions : List Defined) (m : Machine) (l : Listing) : Type 0 where
+pub record IsOnLine (definitions : List Defined) (m : kept.Expander) (l : Listing) : Type 0 where
   pub sound : IsSound m (of_list l)
   pub holds : IsHeld m.held
   pub line : l.is_line ≡ true
@@ -50,56 +51,61 @@ pub record IsOnLine (definitions : List Defined) (m : Machine) (l : Listing) : T
   pub defined : l.definitions ≡ definitions
 
 -- the line is read on, and no more of it is left
-pub record ReadsOn (levels : ℕ) (definitions : List Defined) (m : Machine) (l : Listing) (n : Machine)
+pub record ReadsOn (levels : ℕ) (definitions : List Defined) (m : kept.Expander) (l : Listing) (n : kept.Expander)
     (k : Listing) : Type 0 where
   pub stands : IsOnLine definitions n k
   pub least : work_of levels n (of_list k) ≤ work_of levels m (of_list l)
 
 -- less of the line is left
-abbrev pub IsWorkLess : ℕ → Machine → Listing → Machine → Listing → Type 0
+abbrev pub IsWorkLess : ℕ → kept.Expander → Listing → kept.Expander → Listing → Type 0
 IsWorkLess levels m l n k = work_of levels n (of_list k) < work_of levels m (of_list l)
 
 -- What is read of a line: a value, after which the line is read on, or a fault, after which it isn't. Of a refusal of
 -- memory nothing is said.
-abbrev pub Reads : {T : Type 0} → ℕ → List Defined → Machine → Listing
+abbrev pub ReadsOfLine : {T : Type 0} → ℕ → List Defined → kept.Expander → Listing
     → (Result T Fault → Expander Listed → Type 0)
-    → Result T Halt → Machine → Listing → Type 0
-Reads levels definitions m l P (Ok value) n k = P (Ok value) (expander_of n k) × ReadsOn levels definitions m l n k
-Reads levels definitions m l P (Err (halt.Fault fault)) n k = (f : Expander Listed) × P (Err fault) f
-Reads levels definitions m l P (Err halt.OutOfMemory) n k = ⊤
+    → Result T Halt → kept.Expander → Listing → Type 0
+ReadsOfLine levels definitions m l P (Ok value) n k =
+    P (Ok value) (expander_of n k) × ReadsOn levels definitions m l n k
+ReadsOfLine levels definitions m l P (Err (halt.Fault fault)) n k = (f : Expander Listed) × P (Err fault) f
+ReadsOfLine levels definitions m l P (Err halt.OutOfMemory) n k = ⊤
 
 -- a token, or nothing at the end
-abbrev pub outcome_of : Option Read → Taken
-outcome_of (Some read) = given.Token read
-outcome_of None = given.End
+abbrev pub taken_of_read : Option Read → Taken
+taken_of_read (Some read) = given.Token read
+taken_of_read None = given.End
 
-abbrev pub outcome_of_item : Result (Option Read) Fault → Taken
-outcome_of_item (Ok found) = outcome_of found
-outcome_of_item (Err fault) = given.Fault fault
+abbrev pub taken_of_item : Result (Option Read) Fault → Taken
+taken_of_item (Ok found) = taken_of_read found
+taken_of_item (Err fault) = given.Fault fault
 
 -- the next item
-abbrev pub ReadsItem : ℕ → List Defined → Machine → Listing → Result (Option Read) Halt → Machine → Listing → Type 0
-ReadsItem levels definitions m l = Reads levels definitions m l (λ item f.
-    Emits line_reading (answers_at levels) (expander_of m l) (outcome_of_item item) f)
+abbrev pub ReadsItem : ℕ → List Defined → kept.Expander → Listing → Result (Option Read) Halt → kept.Expander
+    → Listing → Type 0
+ReadsItem levels definitions m l = ReadsOfLine levels definitions m l (λ item f.
+    Emits line_reading (answers_at levels) (expander_of m l) (taken_of_item item) f)
 
 -- what is taken next
-abbrev pub ReadsTaken : ℕ → List Defined → Machine → Listing → Result (Option Read) Halt → Machine → Listing → Type 0
+abbrev pub ReadsTaken : ℕ → List Defined → kept.Expander → Listing → Result (Option Read) Halt → kept.Expander
+    → Listing → Type 0
 ReadsTaken levels definitions m l =
-    Reads levels definitions m l (λ item f. Takes line_reading (expander_of m l) (outcome_of_item item) f)
+    ReadsOfLine levels definitions m l (λ item f. Takes line_reading (expander_of m l) (taken_of_item item) f)
 
 -- what the operand of a `defined` comes to; the same after its `(`, and after that and the name
-abbrev pub ReadsOperand : LineKind → Location → ℕ → List Defined → Machine → Listing
-    → Result Bool Halt → Machine → Listing → Type 0
+abbrev pub ReadsOperand : LineKind → Location → ℕ → List Defined → kept.Expander → Listing
+    → Result Bool Halt → kept.Expander → Listing → Type 0
 ReadsOperand kind directive levels definitions m l =
-    Reads levels definitions m l (λ answer f. Operand kind directive (answers_at levels) (expander_of m l) answer f)
+    ReadsOfLine levels definitions m l
+    (λ answer f. Operand kind directive (answers_at levels) (expander_of m l) answer f)
 
-abbrev pub ReadsInParentheses : LineKind → Location → ℕ → List Defined → Machine → Listing
-    → Result Bool Halt → Machine → Listing → Type 0
+abbrev pub ReadsInParentheses : LineKind → Location → ℕ → List Defined → kept.Expander → Listing
+    → Result Bool Halt → kept.Expander → Listing → Type 0
 ReadsInParentheses kind directive levels definitions m l =
-    Reads levels definitions m l
+    ReadsOfLine levels definitions m l
     (λ answer f. InParentheses kind directive (answers_at levels) (expander_of m l) answer f)
 
-abbrev pub ReadsClosed : LineKind → Location → ℕ → List Defined → Name → Machine → Listing
-    → Result Bool Halt → Machine → Listing → Type 0
+abbrev pub ReadsClosed : LineKind → Location → ℕ → List Defined → Name → kept.Expander → Listing
+    → Result Bool Halt → kept.Expander → Listing → Type 0
 ReadsClosed kind directive levels definitions name m l =
-    Reads levels definitions m l (λ answer f. Closes kind directive (answers_at levels) name (expander_of m l) answer f)
+    ReadsOfLine levels definitions m l
+    (λ answer f. Closes kind directive (answers_at levels) name (expander_of m l) answer f)

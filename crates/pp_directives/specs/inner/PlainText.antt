@@ -9,7 +9,7 @@ use Rattle.pp_macros.specs.inner.SourceLexed.{SourceLexed, unreported_at}
 use Rattle.pp_directives.specs.WordTokens.{word_value, word_token}
 use Rattle.pp_model.specs.Names.{is_same_name, line_name}
 use Rattle.pp_macros.specs.inner.Defined.{Defined, meaning_of}
-use Rattle.pp_macros.specs.inner.Idle.{gives_itself}
+use Rattle.pp_macros.specs.inner.Plain.{gives_itself}
 use Rattle.pp_macros.specs.declared.step.StepExit.TheVariants.{Continue}
 use Rattle.pp_macros.specs.inner.Source.{Source, StepsSource, unreported_of}
 use Rattle.pp_macros.specs.inner.Unreported.{StepReports}

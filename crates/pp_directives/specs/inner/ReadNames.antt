@@ -8,11 +8,11 @@ use Rattle.pp_model.specs.declared.definition.Placed.{Placed}
 use Rattle.pp_directives.specs.declared.lines.DefineLine.{DefineLine}
 use Rattle.pp_directives.specs.declared.lines.PlacedName.{PlacedName}
 
-abbrev pub placed : PlacedName → Placed
-placed first = record { name = first.name; location = first.location }
+abbrev pub as_placed : PlacedName → Placed
+as_placed first = record { name = first.name; location = first.location }
 
-abbrev pub named : DefineLine → Named
-named line = record { name = line.name; location = line.location; definition = line.define }
+abbrev pub as_named : DefineLine → Named
+as_named line = record { name = line.name; location = line.location; definition = line.define }
 
 -- these parameters, after which the lexer stands here
 abbrev pub parameters_to : List Name → SourceLexed → Parameters

@@ -92,5 +92,5 @@ word_move live block (Ok token) after = name_move live block token (identifier_o
 word_move live block (Err fault) after = failing fault
 
 -- a `#define`, once its line is read
-abbrev pub defining : Named → Move
-defining named = record { effect = defines named; taken = 0 }
+abbrev pub define_move : Named → Move
+define_move named = record { effect = defines named; taken = 0 }

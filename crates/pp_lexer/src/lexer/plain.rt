@@ -3,7 +3,7 @@
 ghost use Rattle.std.specs.Prelude.{⊤, ◌≡◌, ◌<◌, ◌≤◌, true, false, length, take, slice_index, IsTrue, MatchOption};
 ghost use Rattle.std.specs.List.{list_all};
 ghost use Rattle.std.specs.Str.{IsUtf8};
-ghost use Rattle.pp_lexer.specs.inner.PlainWords.{is_space, begins, continues, Stops, IsFirstWord, IsPlainNewline};
+ghost use Rattle.pp_lexer.specs.inner.PlainWords.{is_space, begins, continues, begins_comment, Stops, IsFirstWord, IsPlainNewline};
 
 use crate::token::Punct;
 use number::plain_number;
@@ -78,11 +78,13 @@ pub fn spaces_length(bytes: &[u8]) -> usize
 
 /// Whether a comment begins at the front, as far as these bytes say.
 #[inline(always)]
-pub fn begins_comment(bytes: &[u8]) -> bool {
+pub fn begins_comment(bytes: &[u8]) -> bool
+    ensures { result ≡ begins_comment (get_or bytes.now 0 0) (get_or bytes.now 1 0) }
+{
     bytes.len() > 1 && bytes[0] == 47 && (bytes[1] == 47 || bytes[1] == 42)
 }
 
-/// How many bytes the newline at the front takes, if these bytes alone say that one stands there.
+/// How many bytes the newline at the front takes, if these bytes alone say that there is one.
 #[inline(always)]
 pub fn newline_length(bytes: &[u8]) -> Option<usize>
     requires { IsUtf8 bytes.now }

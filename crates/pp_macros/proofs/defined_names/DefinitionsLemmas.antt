@@ -5,7 +5,7 @@ use Rattle.std.specs.Prelude.{option_map, sum_by, slice_get}
 use Rattle.std.specs.Option.{option_copied, option_flatten}
 use Rattle.std.proofs.lemmas.Option.{slice_get-map, slice_get_read}
 use Rattle.std.proofs.lemmas.List.Sums.{sum_by-append, sum_by-cons, sum_by-set}
-use Rattle.pp_model.specs.Definitions.{Definition, changed}
+use Rattle.pp_model.specs.Definitions.{Definition, with_change}
 use Rattle.pp_model.specs.Names.{Name, is_same_name, is_in}
 use Rattle.pp_model.specs.ApartMarks.{AreApart}
 use Rattle.pp_model.proofs.OpenNamesLemmas.{not_in_tail}
@@ -90,11 +90,11 @@ tokens_among (n ∷ names) (None ∷ ds) even = tokens_among names ds (omega ari
 module _ (names all : List Name) (ds es : List (Option Definition)) (name : Name) (change : Option Definition)
     (apart : AreApart names) (all_apart : AreApart all)
     (changes : (other : Name) → definition_among all es other ≡ (if is_same_name other name then change else definition_among names ds other)) where
-  changed_at : (other : Name) → meaning_of (defined_among all es) other ≡ changed (meaning_of (defined_among names ds)) name change other
+  changed_at : (other : Name) → meaning_of (defined_among all es) other ≡ with_change (meaning_of (defined_among names ds)) name change other
   changed_at other = meaning_among all es all_apart other ∙ changes other
       ∙ ap (λ o. if is_same_name other name then change else o) (sym (meaning_among names ds apart other))
 
-  meaning_changed : meaning_of (defined_among all es) ≡ changed (meaning_of (defined_among names ds)) name change
+  meaning_changed : meaning_of (defined_among all es) ≡ with_change (meaning_of (defined_among names ds)) name change
   meaning_changed = λ i other. changed_at other i
 
 -- of two names that differ either may be asked for first

@@ -6,11 +6,11 @@ use Rattle.pp_model.specs.Names.{Name, is_same_name}
 use Rattle.pp_model.specs.Definitions.{Definition}
 use Rattle.pp_model.specs.SpliceList.{parameter_of}
 use Rattle.pp_macros.specs.inner.Defined.{Defined, meaning_of, body_tokens}
-use Rattle.pp_macros.specs.inner.Frames.{Layer, Advance, advance, body_token, argument_at}
+use Rattle.pp_macros.specs.inner.Frames.{Frame, Advance, advance, body_token, argument_at}
 use Rattle.pp_macros.specs.inner.Work.{token_steps, body_steps, steps_left}
 
 -- a frame after a step: fewer steps are left, and its name stays
-pub record Advances (f : Layer) (a : Advance) : Type 0 where
+pub record Advances (f : Frame) (a : Advance) : Type 0 where
   pub lower : steps_left a.after < steps_left f
   pub name : a.after.name ≡ f.name
 
@@ -20,11 +20,11 @@ body_steps_some parameters arguments [] = omega arith
 body_steps_some parameters arguments (token ∷ rest) = omega (arith, body_steps_some parameters arguments rest)
 
 -- a frame has a step left
-pub some_steps_left : (f : Layer) → 0 < steps_left f
+pub some_steps_left : (f : Frame) → 0 < steps_left f
 some_steps_left f = omega (arith, body_steps_some f.parameters f.arguments f.body)
 
 -- a frame with these parts
-abbrev frame : Name → ℕ → List Name → List Token → List (List Read) → Option (List Read) → Layer
+abbrev frame : Name → ℕ → List Name → List Token → List (List Read) → Option (List Read) → Frame
 frame name line parameters body arguments reading = record {
   name = name;
   line = line;
@@ -53,7 +53,7 @@ frame_lowers name line parameters (token ∷ rest) arguments None =
     token_lowers name line parameters token rest arguments (parameter_of parameters token.value) refl
 
 -- each step of a frame is so
-pub advance_lowers : (f : Layer) → IfSome (advance f) (Advances f)
+pub advance_lowers : (f : Frame) → IfSome (advance f) (Advances f)
 advance_lowers f = frame_lowers f.name f.line f.parameters f.body f.arguments f.reading
 
 -- a token of a body takes two steps at most where no argument is given

@@ -5,12 +5,12 @@ use Rattle.pp_lexer.specs.declared.token.Token.{Token}
 use Rattle.pp_model.specs.declared.read.Read.{Read}
 use Rattle.pp_model.specs.Painting.{unpainted}
 use Rattle.pp_model.specs.Names.{Name}
-use Rattle.pp_model.specs.SpliceList.{after_marks, open_names, outermost_line, parameter_of, replacement, replaced}
+use Rattle.pp_model.specs.SpliceList.{after_marks, open_names, outermost_line, parameter_of, replacement, body_before}
 use Rattle.pp_model.specs.inner.SpliceList.{followed_by}
 use Rattle.pp_model.specs.declared.splice.Entry.{Entry}
 use Rattle.pp_model.specs.declared.splice.Entry.TheVariants.{Plain, End}
 use Rattle.pp_macros.specs.Item.{Step}
-use Rattle.pp_macros.specs.inner.Frames.{Layer, body_token, advance, argument_at, reading_before, layer_before, flat, names_of, outermost_frame_line}
+use Rattle.pp_macros.specs.inner.Frames.{Frame, body_token, advance, argument_at, reading_before, layer_before, flat, names_of, outermost_frame_line}
 use Rattle.pp_macros.specs.inner.Turns.{frame_move}
 use Rattle.pp_macros.specs.declared.step.StepExit.TheVariants.{Error, Continue, Finished}
 
@@ -26,28 +26,28 @@ module _ {X : Type 0} (fact : List Entry → X) (blind : (read : Read) (entries 
   blind_replacement arguments token (Some k) entries = blind_followed (argument_at arguments k) entries
 
   blind_replaced : (parameters : List Name) (arguments : List (List Read)) (body : List Token) (entries : List Entry)
-      → fact (replaced parameters arguments body entries) ≡ fact entries
+      → fact (body_before parameters arguments body entries) ≡ fact entries
   blind_replaced parameters arguments [] entries = refl
   blind_replaced parameters arguments (token ∷ body) entries =
-      blind_replacement arguments token (parameter_of parameters token.value) (replaced parameters arguments body entries)
+      blind_replacement arguments token (parameter_of parameters token.value) (body_before parameters arguments body entries)
       ∙ blind_replaced parameters arguments body entries
 
   blind_reading : (reading : Option (List Read)) (entries : List Entry) → fact (reading_before reading entries) ≡ fact entries
   blind_reading None entries = refl
   blind_reading (Some tokens) entries = blind_followed tokens entries
 
-  blind_layer : (f : Layer) (entries : List Entry) → fact (layer_before f entries) ≡ fact (End (record { name = f.name; line = f.line }) ∷ entries)
+  blind_layer : (f : Frame) (entries : List Entry) → fact (layer_before f entries) ≡ fact (End (record { name = f.name; line = f.line }) ∷ entries)
   blind_layer f entries =
-      blind_reading f.reading (replaced f.parameters f.arguments f.body (End (record { name = f.name; line = f.line }) ∷ entries))
+      blind_reading f.reading (body_before f.parameters f.arguments f.body (End (record { name = f.name; line = f.line }) ∷ entries))
       ∙ blind_replaced f.parameters f.arguments f.body (End (record { name = f.name; line = f.line }) ∷ entries)
 
 -- the names that are open in the list are those of the frames
-pub open_flat : (frames : List Layer) → open_names (flat frames) ≡ names_of frames
+pub open_flat : (frames : List Frame) → open_names (flat frames) ≡ names_of frames
 open_flat [] = refl
 open_flat (f ∷ fs) = blind_layer open_names (λ read entries. refl) f (flat fs) ∙ ap (λ names. f.name ∷ names) (open_flat fs)
 
 -- the line of the list's last mark is that of the outermost frame
-pub outermost_flat : (frames : List Layer) → outermost_line (flat frames) ≡ outermost_frame_line frames
+pub outermost_flat : (frames : List Frame) → outermost_line (flat frames) ≡ outermost_frame_line frames
 outermost_flat [] = refl
 outermost_flat (f ∷ fs) = blind_layer outermost_line (λ read entries. refl) f (flat fs) ∙ ap (λ line. Some (unwrap_or line f.line)) (outermost_flat fs)
 
@@ -58,15 +58,15 @@ StepsList (Err Continue) old new = after_marks old ≡ after_marks new
 StepsList (Err Finished) old new = ⊥
 StepsList (Err (Error fault)) old new = ⊥
 
-body_steps : (f : Layer) (token : Token) (rest : List Token) (k : Option ℕ) (fs : List Layer) → let a =
+body_steps : (f : Frame) (token : Token) (rest : List Token) (k : Option ℕ) (fs : List Frame) → let a =
     frame_move fs (Some (body_token (record f { reading = None }) token rest k)) in
-    StepsList a.gives (replacement f.arguments token k (replaced f.parameters f.arguments rest
+    StepsList a.gives (replacement f.arguments token k (body_before f.parameters f.arguments rest
     (End (record { name = f.name; line = f.line }) ∷ flat fs))) (flat a.after)
 body_steps f token rest None fs = refl
 body_steps f token rest (Some k) fs = refl
 
 layer_steps : (name : Name) (line : ℕ) (parameters : List Name) (body : List Token) (arguments : List (List Read)) (reading : Option (List Read))
-    (fs : List Layer) → let f : Layer = record {
+    (fs : List Frame) → let f : Frame = record {
       name = name;
       line = line;
       parameters = parameters;
@@ -82,5 +82,5 @@ layer_steps name line parameters (token ∷ rest) arguments None fs =
     (parameter_of parameters token.value) fs
 
 -- each step of the frames is one of the list
-pub frame_steps : (f : Layer) (fs : List Layer) → StepsList (frame_move fs (advance f)).gives (flat (f ∷ fs)) (flat (frame_move fs (advance f)).after)
+pub frame_steps : (f : Frame) (fs : List Frame) → StepsList (frame_move fs (advance f)).gives (flat (f ∷ fs)) (flat (frame_move fs (advance f)).after)
 frame_steps f fs = layer_steps f.name f.line f.parameters f.body f.arguments f.reading fs

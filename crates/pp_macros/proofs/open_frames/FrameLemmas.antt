@@ -7,7 +7,7 @@ use Rattle.std.proofs.lemmas.List.{drop_more, drop_all, length-drop}
 use Rattle.pp_lexer.specs.declared.token.Token.{Token}
 use Rattle.pp_model.specs.declared.read.Read.{Read}
 use Rattle.pp_macros.specs.inner.Ahead.{given_by, frame_after}
-use Rattle.pp_macros.specs.inner.Frames.{Layer, Advance, advance, body_token}
+use Rattle.pp_macros.specs.inner.Frames.{Frame, Advance, advance, body_token}
 use Rattle.pp_model.specs.SpliceList.{parameter_of}
 
 -- the item at a place, and what stands after it
@@ -22,7 +22,7 @@ pub drop-none : {X : Type 0} (xs : List X) (k : ℕ) → slice_get xs k ≡ None
 drop-none xs k e = elim (slice_get_cases xs k).1 [ inl w ↦ cc | inr w ↦ drop_all k xs w.0 ]
 
 -- a frame that reads an argument gives its token
-pub given_reading : (f : Layer) (xs : List Read) (k : ℕ) (o : Option Read) → f.reading ≡ Some (drop k xs) → o ≡ slice_get xs k → o ≡ given_by (advance f)
+pub given_reading : (f : Frame) (xs : List Read) (k : ℕ) (o : Option Read) → f.reading ≡ Some (drop k xs) → o ≡ slice_get xs k → o ≡ given_by (advance f)
 given_reading f xs k o reads is = is ∙ go (slice_get xs k) refl
   where
     go : (s : Option Read) → slice_get xs k ≡ s → s ≡ given_by (advance f)
@@ -30,27 +30,27 @@ given_reading f xs k o reads is = is ∙ go (slice_get xs k) refl
     go (Some x) e = rw (reads, drop-some xs k x e) refl
 
 -- one that reads none gives the next token of its body, unless that is a parameter
-pub given_body : (f : Layer) (body : List Token) (k : ℕ) (x : Token) (p : Option ℕ) → f.reading ≡ None → f.body ≡ drop k body → slice_get body k ≡ Some x
+pub given_body : (f : Frame) (body : List Token) (k : ℕ) (x : Token) (p : Option ℕ) → f.reading ≡ None → f.body ≡ drop k body → slice_get body k ≡ Some x
     → parameter_of f.parameters x.value ≡ p → (body_token f x (drop (k + 1) body) p).gives ≡ given_by (advance f)
 given_body f body k x p reads is at parameter = rw (reads, is, drop-some body k x at, parameter) refl
 
-pub given_end : (f : Layer) (body : List Token) (k : ℕ) → f.reading ≡ None → f.body ≡ drop k body → slice_get body k ≡ None → None ≡ given_by (advance f)
+pub given_end : (f : Frame) (body : List Token) (k : ℕ) → f.reading ≡ None → f.body ≡ drop k body → slice_get body k ≡ None → None ≡ given_by (advance f)
 given_end f body k reads is at = rw (reads, is, drop-none body k at) refl
 
 -- a frame after its step
-pub passes_to : (f : Layer) (advanced : Option Advance) (given : Option Read) (new : Layer) → advanced ≡ Some (record { gives = given; after = new })
+pub passes_to : (f : Frame) (advanced : Option Advance) (given : Option Read) (new : Frame) → advanced ≡ Some (record { gives = given; after = new })
     → new ≡ frame_after f advanced
 passes_to f advanced given new e = rw e refl
 
-pub stays : (f : Layer) (advanced : Option Advance) → advanced ≡ None → f ≡ frame_after f advanced
+pub stays : (f : Frame) (advanced : Option Advance) → advanced ≡ None → f ≡ frame_after f advanced
 stays f advanced e = rw e refl
 
 -- a frame that reads no argument is at its end where its body has no token left
-body_ends : (f : Layer) (body : List Token) (position : ℕ) → f.reading ≡ None → f.body ≡ drop position body → length body ≤ position
+body_ends : (f : Frame) (body : List Token) (position : ℕ) → f.reading ≡ None → f.body ≡ drop position body → length body ≤ position
     → is_none (advance f) ≡ true
 body_ends f body position e is low = rw (e, is, drop_all position body low) refl
 
-body_goes : (f : Layer) (body : List Token) (position : ℕ) → f.reading ≡ None → f.body ≡ drop position body → position < length body
+body_goes : (f : Frame) (body : List Token) (position : ℕ) → f.reading ≡ None → f.body ≡ drop position body → position < length body
     → is_none (advance f) ≡ false
 body_goes f body position e is more = go body (drop position body) refl
   where
@@ -59,7 +59,7 @@ body_goes f body position e is more = go body (drop position body) refl
     go all (token ∷ rest) some = rw (e, is, some) refl
 
 -- which of the two
-pub body_spent : (f : Layer) (body : List Token) (position : ℕ) → f.reading ≡ None → f.body ≡ drop position body
+pub body_spent : (f : Frame) (body : List Token) (position : ℕ) → f.reading ≡ None → f.body ≡ drop position body
     → leb (length body) position ≡ is_none (advance f)
 body_spent f body position e is = go (leb_tells (length body) position)
   where

@@ -7,7 +7,7 @@ use Rattle.std.proofs.lemmas.List.{reverse-append, take_more, length-take-le}
 use Rattle.std.proofs.lemmas.Option.{slice_get_within, get_or_from_slice_get}
 use Rattle.std.proofs.lemmas.List.Folds.{list_any-append}
 use Rattle.pp_model.specs.Names.{Name, is_in, is_same_name}
-use Rattle.pp_macros.specs.inner.OpenNames.{Position, last_first, is_open, placed_at, opened, closed, outermost}
+use Rattle.pp_macros.specs.inner.OpenNames.{Position, last_first, is_open, placed_at, after_opening, after_closing, outermost_positions}
 use Rattle.pp_macros.proofs.defined_names.NameKeysLemmas.{names_same}
 
 -- a list that is not empty is what is before its last item, and that
@@ -81,53 +81,53 @@ last_first-open names positions name even =
     reversed-any (λ (p : Position). is_same_name name p.name) (in_order names positions) ∙ in_order-open names positions name even
 
 -- a name that is open stays as it is, and a new one is seen first
-pub opens_again : (name : Name) (position : ℕ) (positions : List Position) → is_open positions name ≡ true → positions ≡ opened name position positions
+pub opens_again : (name : Name) (position : ℕ) (positions : List Position) → is_open positions name ≡ true → positions ≡ after_opening name position positions
 opens_again name position positions was = rw was refl
 
 pub opens_new : (name : Name) (position : ℕ) (positions : List Position) → is_open positions name ≡ false
-    → record { name = name; position = position } ∷ positions ≡ opened name position positions
+    → record { name = name; position = position } ∷ positions ≡ after_opening name position positions
 opens_new name position positions new = rw new refl
 
 -- what is last is closed if it is at the position
-pub closed_there : (name : Name) (position : ℕ) (rest : List Position) → closed position (record { name = name; position = position } ∷ rest) ≡ rest
+pub closed_there : (name : Name) (position : ℕ) (rest : List Position) → after_closing position (record { name = name; position = position } ∷ rest) ≡ rest
 closed_there name position rest =
     ap (λ (b : Bool). if b then rest else record { name = name; position = position } ∷ rest) (eq-eqb position position refl)
 
 pub closed_elsewhere : (name : Name) (position other : ℕ) (rest : List Position) → eqb other position ≡ false
-    → closed position (record { name = name; position = other } ∷ rest) ≡ record { name = name; position = other } ∷ rest
+    → after_closing position (record { name = name; position = other } ∷ rest) ≡ record { name = name; position = other } ∷ rest
 closed_elsewhere name position other rest apart =
     ap (λ (b : Bool). if b then rest else record { name = name; position = other } ∷ rest) apart
 
 -- The frames' names. A name has an outermost frame if it is among them.
-pub outermost-open : (names : List Name) (name : Name) → is_open (outermost names) name ≡ is_in name names
+pub outermost-open : (names : List Name) (name : Name) → is_open (outermost_positions names) name ≡ is_in name names
 outermost-open [] name = refl
 outermost-open (x ∷ names) name = by (is_in x names) refl (is_same_name name x) refl (outermost-open names name)
   where
-    by : (b : Bool) → is_in x names ≡ b → (same : Bool) → is_same_name name x ≡ same → is_open (outermost names) name ≡ is_in name names
-        → is_open (placed_at b x (length names) (outermost names)) name ≡ (same || is_in name names)
+    by : (b : Bool) → is_in x names ≡ b → (same : Bool) → is_same_name name x ≡ same → is_open (outermost_positions names) name ≡ is_in name names
+        → is_open (placed_at b x (length names) (outermost_positions names)) name ≡ (same || is_in name names)
     by true e true s rest = rest ∙ rw (names_same name x s) e
     by true e false s rest = rest
     by false e same s rest = rw s (ap (λ b. same || b) rest)
 
 -- a frame opens
-pub outermost-opened : (name : Name) (names : List Name) → opened name (length names) (outermost names) ≡ outermost (name ∷ names)
+pub outermost-opened : (name : Name) (names : List Name) → after_opening name (length names) (outermost_positions names) ≡ outermost_positions (name ∷ names)
 outermost-opened name names =
-    ap (λ b. placed_at b name (length names) (outermost names)) (outermost-open names name)
+    ap (λ b. placed_at b name (length names) (outermost_positions names)) (outermost-open names name)
 
 -- no frame is at a position past them
-closed_past : (names : List Name) (position : ℕ) → length names ≤ position → closed position (outermost names) ≡ outermost names
+closed_past : (names : List Name) (position : ℕ) → length names ≤ position → after_closing position (outermost_positions names) ≡ outermost_positions names
 closed_past [] position past = refl
 closed_past (x ∷ names) position past = by (is_in x names) (closed_past names position (omega arith))
   where
-    by : (b : Bool) → closed position (outermost names) ≡ outermost names
-        → closed position (placed_at b x (length names) (outermost names)) ≡ placed_at b x (length names) (outermost names)
+    by : (b : Bool) → after_closing position (outermost_positions names) ≡ outermost_positions names
+        → after_closing position (placed_at b x (length names) (outermost_positions names)) ≡ placed_at b x (length names) (outermost_positions names)
     by true rest = rest
-    by false rest = closed_elsewhere x position (length names) (outermost names) (ne_eqb (length names) position (λ e. omega (arith, past, e)))
+    by false rest = closed_elsewhere x position (length names) (outermost_positions names) (ne_eqb (length names) position (λ e. omega (arith, past, e)))
 
 -- the innermost frame closes
-pub outermost-closed : (name : Name) (names : List Name) → closed (length names) (outermost (name ∷ names)) ≡ outermost names
+pub outermost-closed : (name : Name) (names : List Name) → after_closing (length names) (outermost_positions (name ∷ names)) ≡ outermost_positions names
 outermost-closed name names = by (is_in name names)
   where
-    by : (b : Bool) → closed (length names) (placed_at b name (length names) (outermost names)) ≡ outermost names
+    by : (b : Bool) → after_closing (length names) (placed_at b name (length names) (outermost_positions names)) ≡ outermost_positions names
     by true = closed_past names (length names) (omega arith)
-    by false = closed_there name (length names) (outermost names)
+    by false = closed_there name (length names) (outermost_positions names)

@@ -8,10 +8,10 @@ use Rattle.pp_model.specs.Calls.{Fault, Gathered}
 use Rattle.pp_model.specs.Names.{Name, is_in, is_same_name}
 use Rattle.pp_model.specs.ApartMarks.{AreApart}
 use Rattle.pp_macros.specs.inner.Defined.{Defined, meaning_of}
-use Rattle.pp_macros.specs.inner.Frames.{Layer, Advance, advance, names_of}
+use Rattle.pp_macros.specs.inner.Frames.{Frame, Advance, advance, names_of}
 use Rattle.pp_macros.specs.Item.{Step, wants_memory}
 use Rattle.pp_macros.specs.inner.Left.{AreDefinedAbove, AreOpenSoundly}
-use Rattle.pp_macros.specs.inner.Machine.{Machine, StepsFetching, StepsTaking, held, moved, TakesNext, now, later, GathersNext, closed, inside, overfull, ended, failed}
+use Rattle.pp_macros.specs.inner.Expander.{Expander, StepsFetching, StepsTaking, held, moved, TakesNext, now, later, GathersNext, closed, inside, overfull, ended, failed}
 use Rattle.pp_macros.specs.inner.Reader.{Reader, definitions_of}
 use Rattle.pp_macros.specs.inner.Turns.{frame_move, Moves, masks}
 use Rattle.pp_macros.specs.declared.step.StepExit.TheVariants.{Error, Continue, Finished}
@@ -95,40 +95,40 @@ pop_sound : (definitions : List Defined) (pending : Option Name) (x : Name) (nam
 pop_sound definitions None x names sound = sound_rest definitions x names sound
 pop_sound definitions (Some y) x names sound = sound_below definitions y x names sound
 
-abbrev pub IsSoundWith : Option Name → Machine → Reader → Type 0
+abbrev pub IsSoundWith : Option Name → Expander → Reader → Type 0
 IsSoundWith pending m r = AreOpenSoundly (definitions_of r) (with_pending pending (names_of m.frames))
 
-frame_sound : (pending : Option Name) (definitions : List Defined) (f : Layer) (fs : List Layer) (o : Option Advance) → IfSome o (Advances f)
+frame_sound : (pending : Option Name) (definitions : List Defined) (f : Frame) (fs : List Frame) (o : Option Advance) → IfSome o (Advances f)
     → AreOpenSoundly definitions (with_pending pending (names_of (f ∷ fs)))
     → AreOpenSoundly definitions (with_pending pending (names_of (frame_move fs o).after))
 frame_sound pending definitions f fs None h sound = pop_sound definitions pending f.name (names_of fs) sound
 frame_sound pending definitions f fs (Some a) h sound = rw h.name sound
 
-moves_sound : (pending : Option Name) (move : Step Read) (fs gs : List Layer) (r s : Reader) → Moves fs r move gs s → wants_memory move ≡ false
+moves_sound : (pending : Option Name) (move : Step Read) (fs gs : List Frame) (r s : Reader) → Moves fs r move gs s → wants_memory move ≡ false
     → AreOpenSoundly (definitions_of r) (with_pending pending (names_of fs)) → AreOpenSoundly (definitions_of s) (with_pending pending (names_of gs))
 moves_sound pending move [] gs r s h reported sound = rw h.0 (lone_sound (definitions_of s) pending)
 moves_sound pending move (f ∷ fs) gs r s (same, inl h) reported sound =
     rw (same, h.1) (frame_sound pending (definitions_of r) f fs (advance f) (advance_lowers f) sound)
 moves_sound pending move (f ∷ fs) gs r s (same, inr h) reported sound = absurd (let bad : true ≡ false = rw h at reported in cc)
 
-fetch_sound : (pending : Option Name) (step : Step Read) (m n : Machine) (r s : Reader) → StepsFetching m r step n s → wants_memory step ≡ false
+fetch_sound : (pending : Option Name) (step : Step Read) (m n : Expander) (r s : Reader) → StepsFetching m r step n s → wants_memory step ≡ false
     → IsSoundWith pending m r → IsSoundWith pending n s
 fetch_sound pending step m n r s (held step1 m1 n1 r1 s1 is at same) reported sound = rw (at, same) sound
 fetch_sound pending step m n r s (moved move step1 m1 n1 r1 s1 free moves is none) reported sound =
     moves_sound pending move m.frames n.frames r s moves (taken_reported move n.frames s (rw is at reported)) sound
 
-pub step_sound : (pending : Option Name) (step : Step Read) (m n : Machine) (r s : Reader) → StepsTaking m r step n s → wants_memory step ≡ false
+pub step_sound : (pending : Option Name) (step : Step Read) (m n : Expander) (r s : Reader) → StepsTaking m r step n s → wants_memory step ≡ false
     → IsSoundWith pending m r → IsSoundWith pending n s
 step_sound pending step m n r s steps reported sound =
     fetch_sound pending steps.first m n r s steps.fetches (painted_reported (masks n.frames s) steps.first (rw steps.paints at reported)) sound
 
-pub next_sound : (pending : Option Name) (step : Step Read) (m n : Machine) (r s : Reader) → TakesNext m r step n s → wants_memory step ≡ false
+pub next_sound : (pending : Option Name) (step : Step Read) (m n : Expander) (r s : Reader) → TakesNext m r step n s → wants_memory step ≡ false
     → IsSoundWith pending m r → IsSoundWith pending n s
 next_sound pending step m n r s (now step1 m1 n1 r1 s1 steps goes) reported sound = step_sound pending step m n r s steps reported sound
 next_sound pending step m n r s (later step1 m1 between n1 r1 s1 t1 steps next) reported sound =
     next_sound pending step between n s1 s next reported (step_sound pending (Err Continue) m between r s1 steps refl sound)
 
-pub gather_sound : (pending : Option Name) (k : ℕ) (last : Location) (m n : Machine) (r s : Reader) (g : Result Gathered Fault)
+pub gather_sound : (pending : Option Name) (k : ℕ) (last : Location) (m n : Expander) (r s : Reader) (g : Result Gathered Fault)
     → GathersNext k last m r g n s → IsSoundWith pending m r → IsSoundWith pending n s
 gather_sound pending k last m n r s g (closed k1 last1 read m1 n1 r1 s1 g1 next out is) sound = next_sound pending (Ok read) m n r s next refl sound
 gather_sound pending k last m n r s g (inside k1 l last1 read m1 between n1 r1 s1 t1 rest g1 next in_call more is) sound =

@@ -5,7 +5,7 @@ use Rattle.std.proofs.lemmas.List.Elements.{All-head, All-tail, All-cons}
 use Rattle.pp_model.specs.Names.{Name, is_same_name, is_in}
 use Rattle.pp_macros.specs.inner.Defined.{Defined, meaning_of}
 use Rattle.pp_model.specs.ApartMarks.{AreApart}
-use Rattle.pp_macros.specs.inner.Frames.{Layer, names_of}
+use Rattle.pp_macros.specs.inner.Frames.{Frame, names_of}
 
 -- the names that are not this one
 abbrev without : Name → List Name → List Name
@@ -91,6 +91,6 @@ apart_names_few (d ∷ ds) names h g =
     (defined_without d ds names g) in
     omega (arith, length_without d.name names h)
 
-pub length_names : (frames : List Layer) → length (names_of frames) ≡ length frames
+pub length_names : (frames : List Frame) → length (names_of frames) ≡ length frames
 length_names [] = refl
 length_names (f ∷ fs) = ap suc (length_names fs)

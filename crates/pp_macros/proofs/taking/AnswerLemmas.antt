@@ -9,12 +9,12 @@ use Rattle.pp_model.specs.Emitting.{Alone, Each, answers_at}
 use Rattle.pp_model.proofs.LevelLemmas as level
 use Rattle.pp_macros.specs.Halting.{halt_of}
 use Rattle.pp_macros.specs.Item.{is_out_of_memory}
-use Rattle.pp_macros.specs.inner.Calling.{PendingCall}
+use Rattle.pp_macros.specs.inner.Calling.{MacroCall}
 use Rattle.pp_macros.specs.inner.Defined.{Defined, meaning_of, body_tokens}
 use Rattle.pp_macros.specs.inner.Finishing.{site_at, Finishes, AreShort, AreOfCall}
 use Rattle.pp_macros.specs.inner.Frames.{names_of}
 use Rattle.pp_macros.specs.inner.Left.{most_alone}
-use Rattle.pp_macros.specs.inner.Machine.{Machine, Satisfies}
+use Rattle.pp_macros.specs.inner.Expander.{Expander, Satisfies}
 use Rattle.pp_macros.specs.declared.halt.Halt.{Halt}
 use Rattle.pp_macros.specs.declared.halt.Halt.TheVariants as halt
 use Rattle.pp_macros.specs.inner.Reach.{frame_steps}
@@ -38,7 +38,7 @@ satisfies_fault {A} h fault P is passes = subst (λ (x : Halt). Satisfies {A = A
 pub fault_of : {A : Type 0} (h : Halt) (fault : Fault) (P : Result A Fault → Type 0) → h ≡ halt.Fault fault → Satisfies {A = A} (Err h) P → P (Err fault)
 fault_of {A} h fault P e s = let k : Satisfies {A = A} (Err (halt.Fault fault)) P = subst (λ (x : Halt). Satisfies {A = A} (Err x) P) e s in k
 
-pub finish_fault : (levels : ℕ) (definitions : List Defined) (hidden : List Name) (call : PendingCall) (old new : Machine) (h : Halt) (fault : Fault)
+pub finish_fault : (levels : ℕ) (definitions : List Defined) (hidden : List Name) (call : MacroCall) (old new : Expander) (h : Halt) (fault : Fault)
     → h ≡ halt.Fault fault → Finishes levels definitions hidden call old (Err h) new
     → answers_at levels call.definition (site_at call definitions (names_of old.frames ++ hidden)) (Err fault)
 finish_fault levels definitions hidden call old new h fault e s =
@@ -63,14 +63,14 @@ pieces_short n (read ∷ tokens) = cut (is_comma read.token.value && (n == 0)) (
     cut false ps h = (let k = h.0 in omega arith, λ k d inside. let low = h.1 k d inside in omega arith)
 
 -- what the arguments come to is what the call comes to, where their number fits
-pub answers_each : (levels : ℕ) (definitions : List Defined) (around : List Name) (call : PendingCall) → levels ≢ 0
+pub answers_each : (levels : ℕ) (definitions : List Defined) (around : List Name) (call : MacroCall) → levels ≢ 0
     → misfit call.definition.parameters (arguments_of call.tokens) ≡ None → (out : Result (List (List Read)) Fault)
     → Each (Alone (levels - 1)) (meaning_of definitions) around (arguments_of call.tokens) out
     → answers_at levels call.definition (site_at call definitions around) out
 answers_each levels definitions around call some fits out each = level.answers_each levels call.definition (site_at call definitions around) out some fits each
 
 -- no argument of a call is longer than what all of its tokens may come to
-pub of_call : (levels : ℕ) (definitions : List Defined) (call : PendingCall) (arguments : List (List Read))
+pub of_call : (levels : ℕ) (definitions : List Defined) (call : MacroCall) (arguments : List (List Read))
     → AreShort (levels - 1) definitions (arguments_of call.tokens) arguments → AreOfCall levels definitions call arguments
 of_call levels definitions call arguments short = let here = pieces_short 0 call.tokens in
     short (length call.tokens) (All-cons (λ (a : List Read). length a ≤ length call.tokens) (pieces 0 call.tokens).first
@@ -84,7 +84,7 @@ satisfies_more (Err (halt.Fault fault)) P Q follows has = follows (Err fault) ha
 satisfies_more (Err halt.OutOfMemory) P Q follows has = tt
 
 -- a call that has no arguments ends with what they ended with
-pub finishes_without : (levels : ℕ) (definitions : List Defined) (hidden : List Name) (call : PendingCall) (old new : Machine)
+pub finishes_without : (levels : ℕ) (definitions : List Defined) (hidden : List Name) (call : MacroCall) (old new : Expander)
     (r : Result (Unit {0}) Halt) (h : Halt) → r ≡ Err h
     → Satisfies {A = List (List Read)} (Err h) (answers_at levels call.definition (site_at call definitions (names_of old.frames ++ hidden)))
     → new ≡ old → Finishes levels definitions hidden call old r new

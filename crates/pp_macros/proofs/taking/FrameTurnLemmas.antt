@@ -8,11 +8,11 @@ use Rattle.pp_model.specs.Names.{Name, is_identifier, line_name}
 use Rattle.pp_macros.specs.Item.{Step}
 use Rattle.pp_macros.specs.inner.Ahead.{given_by, given_next, frames_after}
 use Rattle.pp_macros.specs.inner.CallTurns.{TurnsOrRefuses}
-use Rattle.pp_macros.specs.inner.Frames.{Layer, Advance, advance, outermost_frame_line}
-use Rattle.pp_macros.specs.inner.Machine.{Machine, StepsFetching, StepsTaking, moved, taken_as}
+use Rattle.pp_macros.specs.inner.Frames.{Frame, Advance, advance, outermost_frame_line}
+use Rattle.pp_macros.specs.inner.Expander.{Expander, StepsFetching, StepsTaking, moved, taken_as}
 use Rattle.pp_macros.specs.inner.Reader.{Reader, hidden_of}
 use Rattle.pp_macros.specs.inner.Seeking.{FollowsToken}
-use Rattle.pp_macros.specs.inner.Turns.{Moves, as_pause, frame_move, masks, opens}
+use Rattle.pp_macros.specs.inner.Turns.{Moves, as_pause, frame_move, masks, macro_of}
 use Rattle.pp_macros.specs.inner.Reading.{painted_step}
 use Rattle.pp_model.specs.Painting.{painted_among}
 use Rattle.pp_macros.specs.declared.calls.Taken.{Taken}
@@ -22,29 +22,29 @@ use Rattle.pp_macros.specs.inner.Giving.{GivesOne, pause, token, is_at_pause}
 use Rattle.pp_macros.proofs.open_frames.AdvanceLemmas.{Advances, advance_lowers}
 use Rattle.pp_macros.proofs.taking.SeekLemmas.{turns_token, turns_exit}
 
-gives_alike : (fs : List Layer) (a : Option Advance) → as_pause (given_by a) ≡ (frame_move fs a).gives
+gives_alike : (fs : List Frame) (a : Option Advance) → as_pause (given_by a) ≡ (frame_move fs a).gives
 gives_alike fs (Some a) = refl
 gives_alike fs None = refl
 
 -- the innermost frame steps
-pub frames_move : (frames : List Layer) (r : Reader) → is_some (outermost_frame_line frames) ≡ true
+pub frames_move : (frames : List Frame) (r : Reader) → is_some (outermost_frame_line frames) ≡ true
     → Moves frames r (as_pause (given_next frames)) (frames_after frames) r
 frames_move [] r some = cc
 frames_move (f ∷ fs) r some = (refl, inl (gives_alike fs (advance f), refl))
 
 -- a frame that gives a token stays open
-given_names : (fs : List Layer) (f : Layer) (a : Option Advance) (read : Read) → IfSome a (Advances f) → given_by a ≡ Some read
+given_names : (fs : List Frame) (f : Frame) (a : Option Advance) (read : Read) → IfSome a (Advances f) → given_by a ≡ Some read
     → names_of (frame_move fs a).after ≡ names_of (f ∷ fs)
 given_names fs f (Some a) read lowers is = rw lowers.name refl
 given_names fs f None read lowers is = cc
 
-names_stay : (frames : List Layer) (read : Read) → given_next frames ≡ Some read → names_of (frames_after frames) ≡ names_of frames
+names_stay : (frames : List Frame) (read : Read) → given_next frames ≡ Some read → names_of (frames_after frames) ≡ names_of frames
 names_stay [] read is = cc
 names_stay (f ∷ fs) read is = given_names fs f (advance f) read (advance_lowers f) is
 
 -- nothing is held, and a macro is open
-module _ (m : Machine) (r : Reader) (free : m.held ≡ None) (some : is_some (outermost_frame_line m.frames) ≡ true) where
-  abbrev passed : Machine
+module _ (m : Expander) (r : Reader) (free : m.held ≡ None) (some : is_some (outermost_frame_line m.frames) ≡ true) where
+  abbrev passed : Expander
   passed = record m { frames = frames_after m.frames }
 
   frame_fetches : (given : Option Read) (step : Step Read) → given ≡ given_next m.frames → step ≡ taken_as (as_pause given) (frames_after m.frames) r
@@ -68,17 +68,17 @@ module _ (m : Machine) (r : Reader) (free : m.held ≡ None) (some : is_some (ou
     token_taken = frame_takes (Some read) (Ok read) is (rw apart refl)
 
     -- a token is followed
-    pub frame_follows : (copy : Read) (after : List Layer) (step : Step Taken) (n : Machine) (t : Reader)
+    pub frame_follows : (copy : Read) (after : List Frame) (step : Step Taken) (n : Expander) (t : Reader)
         → copy ≡ painted_among (masks after r) read → after ≡ frames_after m.frames
-        → FollowsToken (opens r copy) copy (record m { frames = after }) r step n t ⊎ (step ≡ Err (Error out_of_memory)) → TurnsOrRefuses m r step n t
+        → FollowsToken (macro_of r copy) copy (record m { frames = after }) r step n t ⊎ (step ≡ Err (Error out_of_memory)) → TurnsOrRefuses m r step n t
     frame_follows copy after step n t same passes follows =
-        let whole : copy ≡ painted = same ∙ ap (λ (fs : List Layer). painted_among (masks fs r) read) passes in
-        turns_token m passed n r r t painted step token_taken (opens r painted) refl
-        (subst (λ (fs : List Layer). FollowsToken (opens r painted) painted (record m { frames = fs }) r step n t ⊎ (step ≡ Err (Error out_of_memory))) passes
-        (subst (λ (x : Read). FollowsToken (opens r x) x (record m { frames = after }) r step n t ⊎ (step ≡ Err (Error out_of_memory))) whole follows))
+        let whole : copy ≡ painted = same ∙ ap (λ (fs : List Frame). painted_among (masks fs r) read) passes in
+        turns_token m passed n r r t painted step token_taken (macro_of r painted) refl
+        (subst (λ (fs : List Frame). FollowsToken (macro_of r painted) painted (record m { frames = fs }) r step n t ⊎ (step ≡ Err (Error out_of_memory))) passes
+        (subst (λ (x : Read). FollowsToken (macro_of r x) x (record m { frames = after }) r step n t ⊎ (step ≡ Err (Error out_of_memory))) whole follows))
 
     -- memory is refused
-    pub frame_refuses : (step : Step Taken) (n : Machine) → step ≡ Err (Error out_of_memory) → TurnsOrRefuses m r step n r
+    pub frame_refuses : (step : Step Taken) (n : Expander) → step ≡ Err (Error out_of_memory) → TurnsOrRefuses m r step n r
     frame_refuses step n refused = inr (record {
       some =
           record { step = Ok painted; after = passed; reader = r; takes = token_taken; goes = refl };
@@ -92,7 +92,7 @@ module _ (m : Machine) (r : Reader) (free : m.held ≡ None) (some : is_some (ou
   -- it gives a token that opens no macro
   pub frame_gives : (read : Read) (painted : Bool) (items more : List Read) → Some read ≡ given_next m.frames
       → is_identifier line_name read.token.value ≡ false → painted ≡ (painted_among (masks m.frames r) read).painted
-      → opens r (record { token = read.token; painted = painted }) ≡ None → more ≡ items ++ record { token = read.token; painted = painted } ∷ []
+      → macro_of r (record { token = read.token; painted = painted }) ≡ None → more ≡ items ++ record { token = read.token; painted = painted } ∷ []
       → GivesOne r m items passed more
   frame_gives read painted items more is apart same plain put =
       let names : masks (frames_after m.frames) r ≡ masks m.frames r =
@@ -106,7 +106,7 @@ none_of None e = refl
 none_of (Some value) e = cc
 
 -- a pause of the frames, whatever is read after them
-pub pause_passes : (m : Machine) (fs : List Layer) → is_at_pause m ≡ true → fs ≡ frames_after m.frames → (r : Reader)
+pub pause_passes : (m : Expander) (fs : List Frame) → is_at_pause m ≡ true → fs ≡ frames_after m.frames → (r : Reader)
     → StepsTaking m r (Err Continue) (record m { frames = fs }) r
 pause_passes m fs pauses is r =
     let parts = and_parts (is_none m.held) _ pauses in

@@ -6,18 +6,18 @@ use Rattle.pp_macros.specs.inner.CallTurns as turn
 use Rattle.pp_macros.specs.inner.Defined.{Defined}
 use Rattle.pp_macros.specs.inner.Giving.{GivesOne, pause, token, GivesEach, none, further}
 use Rattle.pp_macros.specs.inner.Left.{regions, work_of}
-use Rattle.pp_macros.specs.inner.Machine.{Machine}
+use Rattle.pp_macros.specs.inner.Expander.{Expander}
 use Rattle.pp_macros.specs.inner.Reach.{total}
 use Rattle.pp_macros.specs.inner.Reader.{Reader, of_list, Listing}
 use Rattle.pp_macros.specs.declared.calls.Taken.TheVariants as taken
 use Rattle.pp_macros.specs.declared.step.StepExit.TheVariants.{Continue}
 use Rattle.std.proofs.lemmas.List.{append_assoc}
 use Rattle.pp_macros.proofs.taking.PartLemmas.{added_is}
-use Rattle.pp_macros.specs.inner.Parts.{added}
+use Rattle.pp_macros.specs.inner.Parts.{addition}
 use Rattle.pp_macros.proofs.taking.ListLeadsLemmas.{Reached, reached_token, token_less, reached_pause, pause_less}
 use Rattle.pp_macros.proofs.work.SpendLemmas.{step_spends, total_one_more}
 
-pub giving_falls : (r : Reader) (m n : Machine) (items more : List Read) → GivesOne r m items n more → total (regions n r) < total (regions m r)
+pub giving_falls : (r : Reader) (m n : Expander) (items more : List Read) → GivesOne r m items n more → total (regions n r) < total (regions m r)
 giving_falls r m n items more (pause steps is) = (step_spends (λ c. c) 0 (λ a b low. low) (Err Continue) m n r r steps refl).spends.least
 giving_falls r m n items more (token read steps plain is) =
     let h = step_spends (λ c. c) 0 (λ a b low. low) (Ok read) m n r r steps refl in
@@ -25,12 +25,12 @@ giving_falls r m n items more (token read steps plain is) =
 
 -- what the loop over an argument has reached from here, and that no more work is left
 pub record ReachedOn (levels : ℕ) (definitions : List Defined) (hidden : List Name) (tokens : List Read)
-    (m : Machine) (l : Listing) (n : Machine) (more : List Read) : Type 0 where
+    (m : Expander) (l : Listing) (n : Expander) (more : List Read) : Type 0 where
   pub reached : Reached levels definitions hidden tokens n l more
   pub least : work_of levels n (of_list l) ≤ work_of levels m (of_list l)
 
-module _ (levels : ℕ) (definitions : List Defined) (hidden : List Name) (tokens : List Read) (m : Machine) (l : Listing) where
-  reached_one : (n : Machine) (items more : List Read) → Reached levels definitions hidden tokens m l items → GivesOne (of_list l) m items n more
+module _ (levels : ℕ) (definitions : List Defined) (hidden : List Name) (tokens : List Read) (m : Expander) (l : Listing) where
+  reached_one : (n : Expander) (items more : List Read) → Reached levels definitions hidden tokens m l items → GivesOne (of_list l) m items n more
       → ReachedOn levels definitions hidden tokens m l n more
   reached_one n items more r (pause steps is) =
       let turns = turn.passes Continue (Err Continue) m n (of_list l) (of_list l) steps refl in
@@ -45,8 +45,8 @@ module _ (levels : ℕ) (definitions : List Defined) (hidden : List Name) (token
         least = omega (arith, token_less levels definitions hidden tokens m l items r n l read turns);
       }
 
-pub reached_each : (levels : ℕ) (definitions : List Defined) (hidden : List Name) (tokens : List Read) (m : Machine) (l : Listing)
-    (items : List Read) (n : Machine) (more : List Read) → Reached levels definitions hidden tokens m l items → GivesEach (of_list l) m items n more
+pub reached_each : (levels : ℕ) (definitions : List Defined) (hidden : List Name) (tokens : List Read) (m : Expander) (l : Listing)
+    (items : List Read) (n : Expander) (more : List Read) → Reached levels definitions hidden tokens m l items → GivesEach (of_list l) m items n more
     → ReachedOn levels definitions hidden tokens m l n more
 reached_each levels definitions hidden tokens m l items n more r (none n1 more1 same is) =
     rw (same, is) (record { reached = r; least = omega arith })
@@ -56,12 +56,12 @@ reached_each levels definitions hidden tokens m l items n more r (further betwee
     record { reached = k.reached; least = omega (arith, h.least, k.least) }
 
 -- steps put what they give after the tokens before, so none of these matters
-record GivenAfter (r : Reader) (m : Machine) (before given : List Read) (n : Machine) (more : List Read) : Type 0 where
+record GivenAfter (r : Reader) (m : Expander) (before given : List Read) (n : Expander) (more : List Read) : Type 0 where
   out : List Read
   keeps : more ≡ before ++ out
   gives : GivesEach r m given n out
 
-given_after : (r : Reader) (m : Machine) (before given items : List Read) → items ≡ before ++ given → (n : Machine) (more : List Read)
+given_after : (r : Reader) (m : Expander) (before given items : List Read) → items ≡ before ++ given → (n : Expander) (more : List Read)
     → GivesEach r m items n more → GivenAfter r m before given n more
 given_after r m before given items start n more (none n1 more1 same is) = record { out = given; keeps = is ∙ start; gives = none n given same refl }
 given_after r m before given items start n more (further between p some more1 each (pause steps is)) =
@@ -77,19 +77,19 @@ given_after r m before given items start n more (further between p some more1 ea
 
 -- what the loop has reached of a list that had tokens before
 pub record ReachedAdded (levels : ℕ) (definitions : List Defined) (hidden : List Name) (tokens : List Read)
-    (m : Machine) (l : Listing) (before : List Read) (n : Machine) (more : List Read) : Type 0 where
-  pub keeps : more ≡ before ++ added before more
-  pub reached : Reached levels definitions hidden tokens n l (added before more)
+    (m : Expander) (l : Listing) (before : List Read) (n : Expander) (more : List Read) : Type 0 where
+  pub keeps : more ≡ before ++ addition before more
+  pub reached : Reached levels definitions hidden tokens n l (addition before more)
   pub least : work_of levels n (of_list l) ≤ work_of levels m (of_list l)
 
-pub reached_added : (levels : ℕ) (definitions : List Defined) (hidden : List Name) (tokens : List Read) (m : Machine) (l : Listing)
-    (before items : List Read) (n : Machine) (more : List Read) → items ≡ before ++ added before items
-    → Reached levels definitions hidden tokens m l (added before items) → GivesEach (of_list l) m items n more
+pub reached_added : (levels : ℕ) (definitions : List Defined) (hidden : List Name) (tokens : List Read) (m : Expander) (l : Listing)
+    (before items : List Read) (n : Expander) (more : List Read) → items ≡ before ++ addition before items
+    → Reached levels definitions hidden tokens m l (addition before items) → GivesEach (of_list l) m items n more
     → ReachedAdded levels definitions hidden tokens m l before n more
 reached_added levels definitions hidden tokens m l before items n more keeps r each =
-    let h = given_after (of_list l) m before (added before items) items keeps n more each in
-    let same : added before more ≡ h.out = added_is before more h.out h.keeps in
-    let on = reached_each levels definitions hidden tokens m l (added before items) n h.out r h.gives in
+    let h = given_after (of_list l) m before (addition before items) items keeps n more each in
+    let same : addition before more ≡ h.out = added_is before more h.out h.keeps in
+    let on = reached_each levels definitions hidden tokens m l (addition before items) n h.out r h.gives in
     record {
       keeps = h.keeps ∙ ap (λ (out : List Read). before ++ out) (sym same);
       reached = rw same on.reached;

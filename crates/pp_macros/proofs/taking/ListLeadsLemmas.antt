@@ -7,18 +7,18 @@ use Rattle.pp_model.specs.Reading.{Expander, Listed, argument_reading, reading_o
 use Rattle.pp_model.specs.Calls.{Fault, Site}
 use Rattle.pp_model.specs.Emitting.{Emits, Alone, Collects, done, failed, item, answers_at}
 use Rattle.pp_model.specs.inner.Emitting.{read_before}
-use Rattle.pp_model.specs.SpliceList.{spliced}
+use Rattle.pp_model.specs.SpliceList.{macro_before}
 use Rattle.pp_model.specs.declared.read.Taken.{Taken as Given}
 use Rattle.pp_model.specs.declared.read.Taken.TheVariants as given
 use Rattle.pp_model.proofs.CollectLemmas.{after_items, after_items-before, after_items-end}
-use Rattle.pp_macros.specs.inner.Calling.{PendingCall}
+use Rattle.pp_macros.specs.inner.Calling.{MacroCall}
 use Rattle.pp_macros.specs.inner.CallTurns.{TurnsTo}
 use Rattle.pp_macros.specs.inner.Defined.{Defined, meaning_of}
 use Rattle.pp_macros.specs.inner.Finishing.{site_at, IsOpened}
 use Rattle.pp_macros.specs.inner.Frames.{names_of}
 use Rattle.pp_macros.specs.Item.{is_out_of_memory}
 use Rattle.pp_macros.specs.inner.Left.{work_of, most_alone, IsSound}
-use Rattle.pp_macros.specs.inner.Machine.{Machine}
+use Rattle.pp_macros.specs.inner.Expander as kept
 use Rattle.pp_macros.specs.inner.Reader.{of_list, Listing}
 use Rattle.pp_macros.specs.declared.calls.Taken.TheVariants as taken
 use Rattle.pp_macros.specs.declared.step.StepExit.TheVariants.{Error, Continue, Finished}
@@ -29,7 +29,7 @@ use Rattle.pp_macros.proofs.taking.ListedLeadsLemmas.{IsListed, list_simulates, 
 
 -- What the loop over an argument has reached: the items so far, and a state from which the rest comes.
 pub record Reached (levels : ℕ) (definitions : List Defined) (hidden : List Name) (tokens : List Read)
-    (m : Machine) (l : Listing) (items : List Read) : Type 0 where
+    (m : kept.Expander) (l : Listing) (items : List Read) : Type 0 where
   pub state : Expander Listed
   pub stands : StandsListed false definitions hidden m l state
   pub sound : IsSound m (of_list l)
@@ -37,7 +37,7 @@ pub record Reached (levels : ℕ) (definitions : List Defined) (hidden : List Na
       → Alone levels tokens (meaning_of definitions) hidden (after_items items out)
   pub least : length items + work_of levels m (of_list l) ≤ most_alone levels definitions (length tokens)
 
-pub reached_start : (levels : ℕ) (definitions : List Defined) (hidden : List Name) (tokens items : List Read) (m : Machine) (l : Listing)
+pub reached_start : (levels : ℕ) (definitions : List Defined) (hidden : List Name) (tokens items : List Read) (m : kept.Expander) (l : Listing)
     → m ≡ record { held = None; frames = [] } → l ≡ record { tokens = tokens; definitions = definitions; hidden = hidden; is_line = false }
     → items ≡ [] → Reached levels definitions hidden tokens m l items
 reached_start levels definitions hidden tokens items m l e f g =
@@ -54,8 +54,8 @@ reached_start levels definitions hidden tokens items m l e f g =
     no_items (Ok rest) = refl
     no_items (Err fault) = refl
 
-module _ (levels : ℕ) (definitions : List Defined) (hidden : List Name) (tokens : List Read) (m : Machine) (l : Listing) (items : List Read)
-    (r : Reached levels definitions hidden tokens m l items) (n : Machine) (k : Listing) where
+module _ (levels : ℕ) (definitions : List Defined) (hidden : List Name) (tokens : List Read) (m : kept.Expander) (l : Listing) (items : List Read)
+    (r : Reached levels definitions hidden tokens m l items) (n : kept.Expander) (k : Listing) where
   -- a token is one more item
   pub reached_token : (read : Read) (more : List Read) → TurnsTo m (of_list l) (Ok (taken.Token read)) n (of_list k) → more ≡ items ++ read ∷ []
       → Reached levels definitions hidden tokens n k more
@@ -111,11 +111,11 @@ module _ (levels : ℕ) (definitions : List Defined) (hidden : List Name) (token
       let h = listed_leads false definitions hidden (answers_at levels) m n l k (Err (Error fault)) r.state r.stands turns reported in
       r.goes_on (Err fault) (failed fault r.state h.0 (Err fault) h.1 refl)
 
-  pending : (c : PendingCall) → TurnsTo m (of_list l) (Ok (taken.Call c)) n (of_list k) → IsPending levels m (of_list l) c n (of_list k)
+  pending : (c : MacroCall) → TurnsTo m (of_list l) (Ok (taken.Call c)) n (of_list k) → IsPending levels m (of_list l) c n (of_list k)
   pending c turns = turn_falls levels m (of_list l) r.sound (Ok (taken.Call c)) n (of_list k) turns refl
 
   -- a call that has a fault
-  pub reached_call_fault : (c : PendingCall) (fault : Fault) → TurnsTo m (of_list l) (Ok (taken.Call c)) n (of_list k)
+  pub reached_call_fault : (c : MacroCall) (fault : Fault) → TurnsTo m (of_list l) (Ok (taken.Call c)) n (of_list k)
       → answers_at levels c.definition (site_at c definitions (names_of n.frames ++ hidden)) (Err fault)
       → Alone levels tokens (meaning_of definitions) hidden (Err fault)
   reached_call_fault c fault turns answers =
@@ -125,8 +125,8 @@ module _ (levels : ℕ) (definitions : List Defined) (hidden : List Name) (token
       (sym (site_same false definitions hidden n k c h.0 h.1 (pending c turns).free)) answers)) refl)
 
   -- a call whose frame opened
-  module _ (c : PendingCall) (turns : TurnsTo m (of_list l) (Ok (taken.Call c)) n (of_list k))
-      (p : Machine) (opened : IsOpened levels definitions (names_of n.frames ++ hidden) c n p) where
+  module _ (c : MacroCall) (turns : TurnsTo m (of_list l) (Ok (taken.Call c)) n (of_list k))
+      (p : kept.Expander) (opened : IsOpened levels definitions (names_of n.frames ++ hidden) c n p) where
     led : LeadsTo argument_reading (IsListed false definitions hidden) hidden (list_simulates false definitions hidden)
         (list_shows false definitions hidden) (list_hides false definitions hidden) (list_sees false definitions hidden)
         (answers_at levels) (Ok (taken.Call c)) r.state n (of_list k)
@@ -141,14 +141,14 @@ module _ (levels : ℕ) (definitions : List Defined) (hidden : List Name) (token
 
     pub reached_call : Reached levels definitions hidden tokens p k items
     reached_call =
-        let f : Expander Listed = record led.0 { list = spliced c.name c.definition c.closing.line opened.arguments led.0.list } in
+        let f : Expander Listed = record led.0 { list = macro_before c.name c.definition c.closing.line opened.arguments led.0.list } in
         let stands : StandsListed false definitions hidden n k led.0 = led.1 in
         record {
           state = f;
-          stands = subst (λ (q : Machine). StandsListed false definitions hidden q k f) (sym opened.opens)
+          stands = subst (λ (q : kept.Expander). StandsListed false definitions hidden q k f) (sym opened.opens)
               (record {
                 holds = stands.holds;
-                list = ap (spliced c.name c.definition c.closing.line opened.arguments) stands.list;
+                list = ap (macro_before c.name c.definition c.closing.line opened.arguments) stands.list;
                 reader = stands.reader;
                 names = stands.names;
               });

@@ -3,19 +3,19 @@ use Rattle.std.proofs.Common.{◌≡◌, ◌∙◌, inl, inr, true, false, ℕ, 
 use Rattle.std.specs.Prelude.{if◌then◌else◌, ◌&&◌}
 use Rattle.pp_model.specs.declared.read.Read.{Read}
 use Rattle.pp_model.specs.Names.{Name, is_same_name, defined_name}
-use Rattle.pp_model.specs.Reading.{Reading, Expander, Listed, masked}
+use Rattle.pp_model.specs.Reading.{Reading, Expander, Listed, masked_names}
 use Rattle.pp_model.specs.inner.Reading.{first_listed, after_listed, ReadsListed}
 use Rattle.pp_model.specs.Calls.{Answers, arguments_of, site_of}
 use Rattle.pp_model.specs.Definitions.{Definitions}
 use Rattle.pp_model.proofs.LevelLemmas.{none_at_limit}
-use Rattle.pp_macros.specs.inner.Calling.{PendingCall}
+use Rattle.pp_macros.specs.inner.Calling.{MacroCall}
 use Rattle.pp_macros.specs.inner.CallTurns.{TurnsTo, TurnsOrRefuses}
 use Rattle.pp_macros.specs.inner.Defined.{Defined, meaning_of}
 use Rattle.pp_macros.specs.inner.Finishing.{site_at, IsOpened}
-use Rattle.pp_macros.specs.inner.Frames.{layer, names_of}
+use Rattle.pp_macros.specs.inner.Frames.{new_frame, names_of}
 use Rattle.pp_macros.specs.Item.{Step, wants_memory}
 use Rattle.pp_macros.specs.inner.Left.{most_alone}
-use Rattle.pp_macros.specs.inner.Machine.{Machine}
+use Rattle.pp_macros.specs.inner.Expander as kept
 use Rattle.pp_macros.specs.inner.Reader.{Reader, hidden_of, of_source, of_list, Listing, listed_step, Reads, shown_line, visible}
 use Rattle.pp_macros.specs.declared.calls.Taken.{Taken}
 use Rattle.pp_macros.proofs.work.CallFallsLemmas.{IsLess, IsPending, pending_opens}
@@ -81,42 +81,42 @@ module _ (is_line : Bool) (definitions : List Defined) (hidden : List Name) wher
   list_sees (of_source source) y name h = absurd h
   list_sees (of_list l) y name (is, names, plain, same) = rw (plain, is) refl
 
-  abbrev pub StandsListed : Machine → Listing → Expander Listed → Type 0
+  abbrev pub StandsListed : kept.Expander → Listing → Expander Listed → Type 0
   StandsListed m l e = StandsIn (listed_reading is_line) IsListed hidden m (of_list l) e
 
-  pub listed_leads : (A : Answers) (m n : Machine) (l k : Listing) (step : Step Taken) (e : Expander Listed) → StandsListed m l e
+  pub listed_leads : (A : Answers) (m n : kept.Expander) (l k : Listing) (step : Step Taken) (e : Expander Listed) → StandsListed m l e
       → TurnsTo m (of_list l) step n (of_list k) → wants_taken step ≡ false
       → LeadsTo (listed_reading is_line) IsListed hidden list_simulates list_shows list_hides list_sees A step e n (of_list k)
   listed_leads A m n l k step e stands turns reported = turn_leads (listed_reading is_line) IsListed hidden list_simulates list_shows list_hides list_sees A m n
       (of_list l) (of_list k) step e stands turns reported
 
-  pub stands_listed : (n : Machine) (k : Listing) (f : Expander Listed) → StandsListed n k f → n.held ≡ None → IsListed (of_list k) f.reader
+  pub stands_listed : (n : kept.Expander) (k : Listing) (f : Expander Listed) → StandsListed n k f → n.held ≡ None → IsListed (of_list k) f.reader
   stands_listed n k f stands free = subst (λ (o : Option (Step Read)). StandsHeld (listed_reading is_line) IsListed hidden o
       (of_list k) f.reader) free stands.reader
 
   -- where a call stands
-  pub site_same : (n : Machine) (k : Listing) (c : PendingCall) (f : Expander Listed) → StandsListed n k f → n.held ≡ None
+  pub site_same : (n : kept.Expander) (k : Listing) (c : MacroCall) (f : Expander Listed) → StandsListed n k f → n.held ≡ None
       → site_of (listed_reading is_line) f c.paren c.tokens ≡ site_at c definitions (names_of n.frames ++ hidden)
   site_same n k c f stands free =
       let listed = stands_listed n k f stands free in
       let seen : f.reader.visible ≡ meaning_of definitions = ap (λ (x : Listed). x.visible) listed.0 ∙ ap meaning_of listed.3 in
       let around = masked_flat (listed_reading is_line) IsListed hidden n (of_list k) f stands in
-      ap (λ (d : Definitions). record { paren = c.paren; arguments = arguments_of c.tokens; visible = d; open_around = masked f }) seen
+      ap (λ (d : Definitions). record { paren = c.paren; arguments = arguments_of c.tokens; visible = d; open_around = masked_names f }) seen
       ∙ ap (λ (ns : List Name). record { paren = c.paren; arguments = arguments_of c.tokens; visible = meaning_of definitions; open_around = ns }) around
 
   -- after a call whose frame opened less is left
-  pub opened_less : (levels : ℕ) (m n : Machine) (l k : Listing) → (c : PendingCall) (p : Machine) → IsPending levels m (of_list l) c n (of_list k)
+  pub opened_less : (levels : ℕ) (m n : kept.Expander) (l k : Listing) → (c : MacroCall) (p : kept.Expander) → IsPending levels m (of_list l) c n (of_list k)
       → k.definitions ≡ definitions → IsOpened levels definitions (names_of n.frames ++ hidden) c n p → IsLess levels m (of_list l) p (of_list k)
   opened_less zero m n l k c p pend same opened =
       absurd (none_at_limit c.definition (site_at c definitions (names_of n.frames ++ hidden)) opened.arguments opened.answers)
   opened_less (suc lower) m n l k c p pend same opened =
       let one : suc lower - 1 ≡ lower = omega arith in
       let least : All (λ (a : List Read). length a ≤ most_alone lower k.definitions (length c.tokens)) opened.arguments = rw (same, ← one) opened.least in
-      let at : p ≡ record { held = None; frames = layer c.name c.closing.line c.definition opened.arguments ∷ n.frames } = opened.opens
-      ∙ ap (λ (h : Option (Step Read)). record { held = h; frames = layer c.name c.closing.line c.definition opened.arguments ∷ n.frames }) pend.free in
+      let at : p ≡ record { held = None; frames = new_frame c.name c.closing.line c.definition opened.arguments ∷ n.frames } = opened.opens
+      ∙ ap (λ (h : Option (Step Read)). record { held = h; frames = new_frame c.name c.closing.line c.definition opened.arguments ∷ n.frames }) pend.free in
       rw at (pending_opens lower m (of_list l) c n (of_list k) opened.arguments pend least)
 
 -- a turn that was not refused memory
-pub turned : (m n : Machine) (r s : Reader) (step : Step Taken) → TurnsOrRefuses m r step n s → wants_taken step ≡ false → TurnsTo m r step n s
+pub turned : (m n : kept.Expander) (r s : Reader) (step : Step Taken) → TurnsOrRefuses m r step n s → wants_taken step ≡ false → TurnsTo m r step n s
 turned m n r s step (inl h) reported = h
 turned m n r s step (inr h) reported = absurd (let bad : true ≡ false = rw h.fault at reported in cc)

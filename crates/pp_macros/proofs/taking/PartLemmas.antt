@@ -11,7 +11,7 @@ use Rattle.pp_model.specs.Calls.{is_one_empty}
 use Rattle.pp_model.specs.declared.read.Read.{Read}
 use Rattle.pp_macros.specs.inner.Frames.{argument_at}
 use Rattle.pp_macros.specs.declared.argument_lists.Part.{Part}
-use Rattle.pp_macros.specs.inner.Parts.{list_of, lists_of, AreInOrder, added}
+use Rattle.pp_macros.specs.inner.Parts.{list_of, lists_of, AreInOrder, addition}
 
 in_order_apart : (from to : ℕ) (parts : List Part) → AreInOrder from parts to → from ≤ to
 in_order_apart from to [] h = h
@@ -80,24 +80,24 @@ lists_kept from tokens more (part ∷ parts) h =
     ap (λ (list : List Read). list ∷ lists_of (tokens ++ more) parts) here
     ∙ ap (λ (lists : List (List Read)). list_of tokens part ∷ lists) (lists_kept part.end tokens more parts h.2)
 
-pub added_is : (old new out : List Read) → new ≡ old ++ out → added old new ≡ out
+pub added_is : (old new out : List Read) → new ≡ old ++ out → addition old new ≡ out
 added_is old new out is = ap (drop (length old)) is ∙ drop_at old out (length old) refl
 
 -- what was added is the last part
-pub lists_more : (old new : List Read) (parts more : List Part) → AreInOrder 0 parts (length old) → new ≡ old ++ added old new
-    → more ≡ parts ++ record { start = length old; end = length new } ∷ [] → lists_of new more ≡ lists_of old parts ++ added old new ∷ []
+pub lists_more : (old new : List Read) (parts more : List Part) → AreInOrder 0 parts (length old) → new ≡ old ++ addition old new
+    → more ≡ parts ++ record { start = length old; end = length new } ∷ [] → lists_of new more ≡ lists_of old parts ++ addition old new ∷ []
 lists_more old new parts more order keeps is =
     let last : Part = record { start = length old; end = length new } in
     ap (lists_of new) is ∙ map-append (list_of new) parts (last ∷ [])
     ∙ ap (λ (lists : List (List Read)). lists ++ list_of new last ∷ [])
-    (ap (λ (tokens : List Read). lists_of tokens parts) keeps ∙ lists_kept 0 old (added old new) parts order)
+    (ap (λ (tokens : List Read). lists_of tokens parts) keeps ∙ lists_kept 0 old (addition old new) parts order)
     ∙ ap (λ (list : List Read). lists_of old parts ++ list ∷ []) (take_rest new (length old))
 
 -- what comes after the tokens and one more
-pub added_push : (old new more : List Read) (read : Read) → new ≡ old ++ added old new → more ≡ new ++ read ∷ []
-    → more ≡ old ++ (added old new ++ read ∷ [])
+pub added_push : (old new more : List Read) (read : Read) → new ≡ old ++ addition old new → more ≡ new ++ read ∷ []
+    → more ≡ old ++ (addition old new ++ read ∷ [])
 added_push old new more read keeps is =
-    is ∙ ap (λ (tokens : List Read). tokens ++ read ∷ []) keeps ∙ append_assoc old (added old new) (read ∷ [])
+    is ∙ ap (λ (tokens : List Read). tokens ++ read ∷ []) keeps ∙ append_assoc old (addition old new) (read ∷ [])
 
 -- the token at a place, where it and those after it are as they were
 same_at : (old new : List Read) (k : ℕ) (d : Read) → drop k new ≡ drop k old → get_or new k d ≡ get_or old k d

@@ -25,7 +25,7 @@ use Rattle.pp_macros.specs.declared.argument_lists.Part.{Part}
 use Rattle.pp_macros.specs.inner.Finishing.{AreShort}
 use Rattle.pp_macros.specs.inner.Left.{most_alone}
 use Rattle.pp_macros.specs.inner.Parts.{list_of, lists_of}
-use Rattle.pp_macros.specs.inner.Reach.{frame_steps, grown}
+use Rattle.pp_macros.specs.inner.Reach.{frame_steps, growth}
 use Rattle.pp_macros.specs.inner.Plain.{gives_itself, is_plain, is_plain_value}
 use Rattle.pp_macros.proofs.work.IterateLemmas.{iterate_up}
 use Rattle.pp_macros.proofs.work.ReachLemmas.{grown_up}
@@ -115,7 +115,7 @@ plain_alone levels definitions hidden tokens e =
 pub plain_short : (levels : ℕ) (definitions : List Defined) (n : ℕ) → n ≤ most_alone levels definitions n
 plain_short levels definitions n =
     let frame : ℕ → ℕ = frame_steps (body_tokens definitions) (length definitions + 1) levels in
-    iterate_up (grown frame (length definitions + 1)) n (grown_up frame (length definitions + 1)) n
+    iterate_up (growth frame (length definitions + 1)) n (grown_up frame (length definitions + 1)) n
 
 -- each part of such tokens has such tokens
 plain_part : (test : Read → Bool) (tokens : List Read) (part : Part) → list_all test tokens ≡ true → list_all test (list_of tokens part) ≡ true

@@ -5,7 +5,7 @@ use Rattle.pp_lexer.specs.declared.token.Location.{Location}
 use Rattle.pp_lexer.specs.declared.token.PreprocessorError.TheVariants.{IntegerOverflow, UnexpectedEndOfInput}
 use Rattle.pp_model.specs.declared.read.Read.{Read}
 use Rattle.pp_model.specs.Names.{Name, is_identifier, line_name}
-use Rattle.pp_model.specs.Reading.{Reading, Expander, masked}
+use Rattle.pp_model.specs.Reading.{Reading, Expander, masked_names}
 use Rattle.pp_model.specs.Taking as taking
 use Rattle.pp_model.specs.Taking.{Takes, line_number}
 use Rattle.pp_model.specs.Calls as calls
@@ -16,8 +16,9 @@ use Rattle.pp_model.specs.declared.splice.Entry.{Entry}
 use Rattle.pp_model.specs.declared.read.Taken.{Taken as Given}
 use Rattle.pp_model.specs.declared.read.Taken.TheVariants as given
 use Rattle.pp_macros.specs.Item.{Step, wants_memory}
-use Rattle.pp_macros.specs.inner.Frames.{Layer, flat, names_of, outermost_frame_line}
-use Rattle.pp_macros.specs.inner.Machine.{Machine, is_pause, outcome_of_step, step_of_outcome, taken_as, StepsFetching, StepsTaking, held, moved, TakesNext, now, later, GathersNext, closed, inside, overfull, ended, failed}
+use Rattle.pp_macros.specs.inner.Frames.{Frame, flat, names_of, outermost_frame_line}
+use Rattle.pp_macros.specs.inner.Expander as kept
+use Rattle.pp_macros.specs.inner.Expander.{is_pause, outcome_of_step, step_of_outcome, taken_as, StepsFetching, StepsTaking, held, moved, TakesNext, now, later, GathersNext, closed, inside, overfull, ended, failed}
 use Rattle.pp_macros.specs.inner.Reader.{Reader, Reads, hidden_of, shown_line}
 use Rattle.pp_macros.specs.inner.Reading.{painted_step}
 use Rattle.pp_macros.specs.inner.Turns.{Moves, masks, taken_in}
@@ -41,19 +42,19 @@ module _ {R : Type 0} (I : Reading R) (StandsR : Reader → R → Type 0) (hidde
   StandsHeld (Some (Err Continue)) r x = ⊥
   StandsHeld _ r x = StandsR r x
 
-  pub record StandsIn (m : Machine) (r : Reader) (e : Expander R) : Type 0 where
+  pub record StandsIn (m : kept.Expander) (r : Reader) (e : Expander R) : Type 0 where
     pub holds : e.held ≡ option_map outcome_of_step m.held
     pub list : e.list ≡ flat m.frames
     pub reader : StandsHeld m.held r e.reader
     pub names : e.hidden ≡ hidden
 
   -- the names that are open over frames are those that are open over their list
-  pub masked_flat : (n : Machine) (s : Reader) (f : Expander R) → StandsIn n s f → masked f ≡ names_of n.frames ++ hidden
+  pub masked_flat : (n : kept.Expander) (s : Reader) (f : Expander R) → StandsIn n s f → masked_names f ≡ names_of n.frames ++ hidden
   masked_flat n s f stands = ap (λ (es : List Entry). open_names es ++ f.hidden) stands.list
       ∙ ap (λ (hs : List Name). open_names (flat n.frames) ++ hs) stands.names ∙ ap (λ (ns : List Name). ns ++ hidden) (open_flat n.frames)
 
   -- what comes first is so for the expander
-  abbrev pub FetchesTo : Step Read → Expander R → Machine → Reader → Type 0
+  abbrev pub FetchesTo : Step Read → Expander R → kept.Expander → Reader → Type 0
   FetchesTo (Ok read) e n s = (f : Expander R) × taking.Fetches I e (given.Token read) f × StandsIn n s f
   FetchesTo (Err Continue) e n s = (f : Expander R) × StandsIn n s f × PausesTo I e f
   FetchesTo (Err Finished) e n s = (f : Expander R) × taking.Fetches I e given.End f × StandsIn n s f
@@ -61,7 +62,7 @@ module _ {R : Type 0} (I : Reading R) (StandsR : Reader → R → Type 0) (hidde
       × (f.list ≡ flat n.frames) × (f.held ≡ None) × (n.held ≡ None)
 
   -- what one step of taking is to the expander
-  abbrev pub StepsTo : Step Read → Expander R → Machine → Reader → Type 0
+  abbrev pub StepsTo : Step Read → Expander R → kept.Expander → Reader → Type 0
   StepsTo (Ok read) e n s = (f : Expander R) × Takes I e (given.Token read) f × StandsIn n s f
   StepsTo (Err Continue) e n s = (f : Expander R) × StandsIn n s f × PausesTo I e f
   StepsTo (Err Finished) e n s = (f : Expander R) × Takes I e given.End f × StandsIn n s f
@@ -72,7 +73,7 @@ module _ {R : Type 0} (I : Reading R) (StandsR : Reader → R → Type 0) (hidde
       (shows : (s : Reader) (y : R) (line : ℕ) → StandsR s y → I.shown_line y line ≡ shown_line s line)
       (hides : (s : Reader) (y : R) → StandsR s y → hidden_of s ≡ hidden) where
     -- what is held
-    held_steps : (step : Step Read) (n : Machine) (s : Reader) (e : Expander R) → e.held ≡ Some (outcome_of_step step) → e.list ≡ flat n.frames
+    held_steps : (step : Step Read) (n : kept.Expander) (s : Reader) (e : Expander R) → e.held ≡ Some (outcome_of_step step) → e.list ≡ flat n.frames
         → StandsHeld (Some step) s e.reader → e.hidden ≡ hidden → n.held ≡ None → FetchesTo step e n s
     held_steps (Ok read) n s e is list reader names free = (
       record e { held = None },
@@ -89,7 +90,7 @@ module _ {R : Type 0} (I : Reading R) (StandsR : Reader → R → Type 0) (hidde
         (record e { held = None }, taking.held (given.Fault fault) e (record e { held = None }) is refl, names, names, list, refl, free)
 
     -- a token that is taken from the list or the reader, as `__LINE__` or as itself
-    taken_steps : (o : Given) (e f : Expander R) (n : Machine) (s : Reader) → taking.Fetches I e o f → StandsIn n s f → e.hidden ≡ hidden → n.held ≡ None
+    taken_steps : (o : Given) (e f : Expander R) (n : kept.Expander) (s : Reader) → taking.Fetches I e o f → StandsIn n s f → e.hidden ≡ hidden → n.held ≡ None
         → (o ≡ given.End → ⊥) → FetchesTo (step_of_outcome o) e n s
     taken_steps (given.Token read) e f n s takes stands names free goes = (f, takes, stands)
     taken_steps (given.Fault fault) e f n s takes stands names free goes =
@@ -97,7 +98,7 @@ module _ {R : Type 0} (I : Reading R) (StandsR : Reader → R → Type 0) (hidde
     taken_steps given.End e f n s takes stands names free goes = absurd (goes refl)
 
     -- a taken token is never the end
-    taken_no_end : (frames : List Layer) (r : Reader) (read : Read) → taken_in frames r read ≡ given.End → ⊥
+    taken_no_end : (frames : List Frame) (r : Reader) (read : Read) → taken_in frames r read ≡ given.End → ⊥
     taken_no_end frames r read = go (is_identifier line_name read.token.value) (shown_line r (unwrap_or (outermost_frame_line frames) read.token.location.line))
       where
         go : (b : Bool) (o : Option ℕ) → (if b then line_number read.token.location o else given.Token read) ≡ given.End → ⊥
@@ -105,7 +106,7 @@ module _ {R : Type 0} (I : Reading R) (StandsR : Reader → R → Type 0) (hidde
         go true None e = cc
         go false o e = cc
 
-    list_steps : (m n : Machine) (r : Reader) (move : Step Read) (e : Expander R) → StandsIn m r e → m.held ≡ None → n.held ≡ None
+    list_steps : (m n : kept.Expander) (r : Reader) (move : Step Read) (e : Expander R) → StandsIn m r e → m.held ≡ None → n.held ≡ None
         → StandsR r e.reader → StepsList move (flat m.frames) (flat n.frames) → FetchesTo (taken_as move n.frames r) e n r
     list_steps m n r (Ok read) e stands free freed reader steps =
         let f : Expander R = record e { list = flat n.frames } in
@@ -150,7 +151,7 @@ module _ {R : Type 0} (I : Reading R) (StandsR : Reader → R → Type 0) (hidde
       paints = takes.paints;
     }
 
-    read_steps : (m n : Machine) (r s : Reader) (move : Step Read) (e : Expander R) → StandsIn m r e → m.held ≡ None → n.held ≡ None → m.frames ≡ []
+    read_steps : (m n : kept.Expander) (r s : Reader) (move : Step Read) (e : Expander R) → StandsIn m r e → m.held ≡ None → n.held ≡ None → m.frames ≡ []
         → n.frames ≡ [] → ReadsTo move e.reader s → FetchesTo (taken_as move n.frames s) e n s
     read_steps m n r s (Ok read) e stands free freed start end (y, reads, after) =
         let f : Expander R = record e { list = []; reader = y } in
@@ -200,7 +201,7 @@ module _ {R : Type 0} (I : Reading R) (StandsR : Reader → R → Type 0) (hidde
           freed,
         )
 
-    moved_simulates : (frames : List Layer) (m n : Machine) (r s : Reader) (move : Step Read) (e : Expander R) → StandsIn m r e → m.held ≡ None
+    moved_simulates : (frames : List Frame) (m n : kept.Expander) (r s : Reader) (move : Step Read) (e : Expander R) → StandsIn m r e → m.held ≡ None
         → n.held ≡ None → m.frames ≡ frames → StandsR r e.reader → Moves frames r move n.frames s → wants_memory move ≡ false
         → FetchesTo (taken_as move n.frames s) e n s
     moved_simulates [] m n r s move e stands free freed start reader moves reported =
@@ -211,24 +212,24 @@ module _ {R : Type 0} (I : Reading R) (StandsR : Reader → R → Type 0) (hidde
         let steps : StepsList move (flat m.frames) (flat n.frames) = rw (start, is, becomes) (frame_steps f fs) in
         rw same (list_steps m n r move e stands free freed reader steps)
 
-    fetch_simulates : (m n : Machine) (r s : Reader) (step : Step Read) (e : Expander R) → StandsIn m r e → StepsFetching m r step n s
+    fetch_simulates : (m n : kept.Expander) (r s : Reader) (step : Step Read) (e : Expander R) → StandsIn m r e → StepsFetching m r step n s
         → wants_memory step ≡ false → FetchesTo step e n s
     fetch_simulates m n r s step e stands (held step1 m1 n1 r1 s1 is at same) reported =
         let reader : StandsHeld (Some step) r e.reader = subst (λ (o : Option (Step Read)). StandsHeld o r e.reader) is stands.reader in
         let e_holds : e.held ≡ Some (outcome_of_step step) = stands.holds ∙ ap (option_map outcome_of_step) is in
-        let frames : n.frames ≡ m.frames = ap (λ (k : Machine). k.frames) at in
-        held_steps step n s e e_holds (stands.list ∙ sym (ap flat frames)) (rw same reader) stands.names (ap (λ (k : Machine). k.held) at)
+        let frames : n.frames ≡ m.frames = ap (λ (k : kept.Expander). k.frames) at in
+        held_steps step n s e e_holds (stands.list ∙ sym (ap flat frames)) (rw same reader) stands.names (ap (λ (k : kept.Expander). k.held) at)
     fetch_simulates m n r s step e stands (moved move step1 m1 n1 r1 s1 free moves is freed) reported =
         let reader : StandsR r e.reader = rw free at stands.reader in
         rw is (moved_simulates m.frames m n r s move e stands free freed refl reader moves (taken_reported move n.frames s (rw is at reported)))
 
-    masked_same : (n : Machine) (s : Reader) (f : Expander R) → StandsIn n s f → n.held ≡ None → masked f ≡ masks n.frames s
+    masked_same : (n : kept.Expander) (s : Reader) (f : Expander R) → StandsIn n s f → n.held ≡ None → masked_names f ≡ masks n.frames s
     masked_same n s f stands freed =
         let reader : StandsR s f.reader = rw freed at stands.reader in
         masked_flat n s f stands ∙ ap (λ (hs : List Name). names_of n.frames ++ hs) (sym (hides s f.reader reader))
 
     -- what comes first is painted over frames as it is over their list
-    painted_to : (first : Step Read) (e : Expander R) (n : Machine) (s : Reader) → n.held ≡ None → FetchesTo first e n s
+    painted_to : (first : Step Read) (e : Expander R) (n : kept.Expander) (s : Reader) → n.held ≡ None → FetchesTo first e n s
         → StepsTo (painted_step (masks n.frames s) first) e n s
     painted_to (Ok read) e n s freed (f, fetches, stands) = (
       f,
@@ -244,26 +245,26 @@ module _ {R : Type 0} (I : Reading R) (StandsR : Reader → R → Type 0) (hidde
     painted_to (Err (Error fault)) e n s freed (f, fetches, h1, h2, h3, h4, h5) =
         (f, record { first = given.Fault fault; fetches = fetches; paints = refl }, h1, h2, h3, h4, h5)
 
-    fetch_frees : (m n : Machine) (r s : Reader) (step : Step Read) → StepsFetching m r step n s → n.held ≡ None
-    fetch_frees m n r s step (held step1 m1 n1 r1 s1 is at same) = ap (λ (k : Machine). k.held) at
+    fetch_frees : (m n : kept.Expander) (r s : Reader) (step : Step Read) → StepsFetching m r step n s → n.held ≡ None
+    fetch_frees m n r s step (held step1 m1 n1 r1 s1 is at same) = ap (λ (k : kept.Expander). k.held) at
     fetch_frees m n r s step (moved move step1 m1 n1 r1 s1 free moves is freed) = freed
 
-    pub step_frees : (m n : Machine) (r s : Reader) (step : Step Read) → StepsTaking m r step n s → n.held ≡ None
+    pub step_frees : (m n : kept.Expander) (r s : Reader) (step : Step Read) → StepsTaking m r step n s → n.held ≡ None
     step_frees m n r s step steps = fetch_frees m n r s steps.first steps.fetches
 
-    pub step_simulates : (m n : Machine) (r s : Reader) (step : Step Read) (e : Expander R) → StandsIn m r e → StepsTaking m r step n s
+    pub step_simulates : (m n : kept.Expander) (r s : Reader) (step : Step Read) (e : Expander R) → StandsIn m r e → StepsTaking m r step n s
         → wants_memory step ≡ false → StepsTo step e n s
     step_simulates m n r s step e stands steps reported =
         rw steps.paints (painted_to steps.first e n s (step_frees m n r s step steps) (fetch_simulates m n r s steps.first e stands steps.fetches
         (painted_reported (masks n.frames s) steps.first (rw steps.paints at reported))))
 
     -- what is taken next is taken by the definitions
-    abbrev pub NextTo : Step Read → Expander R → Machine → Reader → Type 0
+    abbrev pub NextTo : Step Read → Expander R → kept.Expander → Reader → Type 0
     NextTo step e n s = (f : Expander R) × Takes I e (outcome_of_step step) f
         × StandsIn (record n { held = Some step }) s (record f { held = Some (outcome_of_step step) }) × (f.held ≡ None)
 
     -- the step itself may be held
-    held_back : (step : Step Read) (e : Expander R) (n : Machine) (s : Reader) → is_pause step ≡ false → n.held ≡ None → StepsTo step e n s → NextTo step e n s
+    held_back : (step : Step Read) (e : Expander R) (n : kept.Expander) (s : Reader) → is_pause step ≡ false → n.held ≡ None → StepsTo step e n s → NextTo step e n s
     held_back (Ok read) e n s goes free (f, takes, stands) = (
       f,
       takes,
@@ -282,7 +283,7 @@ module _ {R : Type 0} (I : Reading R) (StandsR : Reader → R → Type 0) (hidde
     held_back (Err (Error fault)) e n s goes free (f, takes, names, names_then, list, none, freed) =
         (f, takes, record { holds = refl; list = list; reader = tt; names = names_then }, none)
 
-    pub next_simulates : (m n : Machine) (r s : Reader) (step : Step Read) (e : Expander R) → StandsIn m r e → TakesNext m r step n s
+    pub next_simulates : (m n : kept.Expander) (r s : Reader) (step : Step Read) (e : Expander R) → StandsIn m r e → TakesNext m r step n s
         → wants_memory step ≡ false → NextTo step e n s
     next_simulates m n r s step e stands (now step1 m1 n1 r1 s1 steps goes) reported =
         held_back step e n s goes (step_frees m n r s step steps) (step_simulates m n r s step e stands steps reported)
@@ -291,12 +292,12 @@ module _ {R : Type 0} (I : Reading R) (StandsR : Reader → R → Type 0) (hidde
         let freed = next_simulates between n s1 s step first.0 first.1 next reported in
         (freed.0, first.2 (outcome_of_step step) freed.0 freed.1, freed.2, freed.3)
 
-    next_frees : (m n : Machine) (r s : Reader) (step : Step Read) → TakesNext m r step n s → n.held ≡ None
+    next_frees : (m n : kept.Expander) (r s : Reader) (step : Step Read) → TakesNext m r step n s → n.held ≡ None
     next_frees m n r s step (now step1 m1 n1 r1 s1 steps goes) = step_frees m n r s step steps
     next_frees m n r s step (later step1 m1 between n1 r1 s1 t1 steps next) = next_frees between n s1 s step next
 
-    -- after a token the machine stands for the state after it
-    pub token_stands : (read : Read) (m n : Machine) (r s : Reader) (e : Expander R) → StandsIn m r e → TakesNext m r (Ok read) n s
+    -- after a token the expander stands for the state after it
+    pub token_stands : (read : Read) (m n : kept.Expander) (r s : Reader) (e : Expander R) → StandsIn m r e → TakesNext m r (Ok read) n s
         → (f : Expander R) × Takes I e (given.Token read) f × StandsIn n s f
     token_stands read m n r s e stands next =
         let h = next_simulates m n r s (Ok read) e stands next refl in
@@ -312,11 +313,11 @@ module _ {R : Type 0} (I : Reading R) (StandsR : Reader → R → Type 0) (hidde
         )
 
     -- the search for the end of a call is that of the definitions
-    abbrev pub GathersTo : ℕ → Location → Expander R → Result Gathered Fault → Machine → Reader → Type 0
+    abbrev pub GathersTo : ℕ → Location → Expander R → Result Gathered Fault → kept.Expander → Reader → Type 0
     GathersTo k last e (Ok g) n s = (f : Expander R) × Gathers I k last e (Ok g) f × StandsIn n s f
     GathersTo k last e (Err fault) n s = (f : Expander R) × Gathers I k last e (Err fault) f
 
-    inside_to : (k l : ℕ) (last : Location) (read : Read) (e f : Expander R) (rest : Result Gathered Fault) (n : Machine) (s : Reader)
+    inside_to : (k l : ℕ) (last : Location) (read : Read) (e f : Expander R) (rest : Result Gathered Fault) (n : kept.Expander) (s : Reader)
         → Takes I e (given.Token read) f → calls.nesting k read.token.value ≡ calls.within l → GathersTo l read.token.location f rest n s
         → GathersTo k last e (before read rest) n s
     inside_to k l last read e f (Ok g) n s takes is (h, gathers, stands) =
@@ -324,7 +325,7 @@ module _ {R : Type 0} (I : Reading R) (StandsR : Reader → R → Type 0) (hidde
     inside_to k l last read e f (Err fault) n s takes is (h, gathers) =
         (h, calls.inside k l last read e f h (Err fault) (before read (Err fault)) takes is gathers refl)
 
-    pub gather_simulates : (k : ℕ) (last : Location) (m n : Machine) (r s : Reader) (g : Result Gathered Fault) (e : Expander R) → StandsIn m r e
+    pub gather_simulates : (k : ℕ) (last : Location) (m n : kept.Expander) (r s : Reader) (g : Result Gathered Fault) (e : Expander R) → StandsIn m r e
         → GathersNext k last m r g n s → GathersTo k last e g n s
     gather_simulates k last m n r s g e stands (closed k1 last1 read m1 n1 r1 s1 g1 next out is) =
         let h = token_stands read m n r s e stands next in

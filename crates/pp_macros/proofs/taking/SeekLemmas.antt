@@ -5,18 +5,18 @@ use Rattle.pp_lexer.specs.declared.token.Location.{Location}
 use Rattle.pp_model.specs.declared.read.Read.{Read}
 use Rattle.pp_model.specs.Painting.{unpainted}
 use Rattle.pp_model.specs.Calls.{Gathered}
-use Rattle.pp_macros.specs.inner.CallTurns.{Seeks, alone, called, no_call, refused, gathered, paren_of, is_refusal}
+use Rattle.pp_macros.specs.inner.CallTurns.{Seeks, alone, called, no_call, refused, gathered, paren_of, is_out_of_memory_step}
 use Rattle.pp_macros.specs.Item.{Step}
-use Rattle.pp_macros.specs.inner.Calling.{PendingCall}
+use Rattle.pp_macros.specs.inner.Calling.{MacroCall}
 use Rattle.pp_macros.specs.inner.CallTurns as turn
 use Rattle.pp_macros.specs.inner.CallTurns.{TurnsOrRefuses}
 use Rattle.pp_macros.specs.inner.Seeking as e
 use Rattle.pp_macros.specs.inner.Seeking.{Enters, FollowsToken}
-use Rattle.pp_macros.specs.inner.Turns.{opens, opens_value, opened_by}
+use Rattle.pp_macros.specs.inner.Turns.{macro_of, macro_of_value, opened_by}
 use Rattle.pp_macros.specs.Halting.{exit_of}
 use Rattle.pp_lexer.specs.declared.token.TokenValue.{TokenValue}
 use Rattle.pp_lexer.specs.declared.token.TokenValue.TheVariants.{Ident}
-use Rattle.pp_macros.specs.inner.Frames.{layer}
+use Rattle.pp_macros.specs.inner.Frames.{new_frame}
 use Rattle.pp_model.specs.Names.{Name}
 use Rattle.pp_model.specs.Definitions.{Definition}
 use Rattle.pp_lexer.specs.PreprocessorError.{out_of_memory}
@@ -24,14 +24,14 @@ use Rattle.pp_macros.specs.declared.calls.Taken.{Taken}
 use Rattle.pp_macros.specs.declared.calls.Taken.TheVariants as taken
 use Rattle.pp_macros.specs.declared.step.StepExit.{StepExit}
 use Rattle.pp_macros.specs.declared.step.StepExit.TheVariants.{Error, Continue}
-use Rattle.pp_macros.specs.inner.Machine.{Machine, StepsTaking, TakesNext, GathersNext, Satisfies}
+use Rattle.pp_macros.specs.inner.Expander.{Expander, StepsTaking, TakesNext, GathersNext, Satisfies}
 use Rattle.pp_macros.specs.inner.Reader.{Reader, visible}
 use Rattle.pp_macros.specs.inner.Seeking.{FindsNothing, FindsBy}
-use Rattle.pp_macros.specs.declared.calls.Found.{Found}
+use Rattle.pp_macros.specs.declared.calls.AfterName.{AfterName}
 use Rattle.pp_macros.specs.declared.halt.Halt.{Halt}
 use Rattle.pp_macros.specs.declared.halt.Halt.TheVariants as halt
 
-pub finds_nothing : (m n p : Machine) (r s : Reader) (next : Step Read) → TakesNext m r next n s → is_refusal next ≡ false → paren_of next ≡ None
+pub finds_nothing : (m n p : Expander) (r s : Reader) (next : Step Read) → TakesNext m r next n s → is_out_of_memory_step next ≡ false → paren_of next ≡ None
     → p ≡ record n { held = Some next } → FindsNothing m r p s
 finds_nothing m n p r s next takes reported none is = record {
   next = next;
@@ -40,52 +40,52 @@ finds_nothing m n p r s next takes reported none is = record {
   holds = is;
 }
 
-pub finds_whole : (m n p : Machine) (r s t : Reader) (next : Step Read) (paren : Location) (g : Gathered) → TakesNext m r next n s
+pub finds_whole : (m n p : Expander) (r s t : Reader) (next : Step Read) (paren : Location) (g : Gathered) → TakesNext m r next n s
     → paren_of next ≡ Some paren → GathersNext 0 paren n s (Ok g) p t → Seeks m r (gathered paren g) p t
 finds_whole m n p r s t next paren g takes at gathers = called next paren m n p r s t (Ok g) (gathered paren g) takes at gathers refl
 
-pub finds_fault : (m n p : Machine) (r s t : Reader) (next : Step Read) (paren : Location) (h : Halt) (result : Result Found Halt)
+pub finds_fault : (m n p : Expander) (r s t : Reader) (next : Step Read) (paren : Location) (h : Halt) (result : Result AfterName Halt)
     → TakesNext m r next n s → paren_of next ≡ Some paren → Satisfies {A = Gathered} (Err h) (λ g. GathersNext 0 paren n s g p t) → result ≡ Err h
     → FindsBy m r result p t
 finds_fault m n p r s t next paren (halt.Fault fault) result takes at gathers is =
-    subst (λ (x : Result Found Halt). FindsBy m r x p t) (sym is) (called next paren m n p r s t (Err fault) (refused fault) takes at gathers refl)
-finds_fault m n p r s t next paren halt.OutOfMemory result takes at gathers is = subst (λ (x : Result Found Halt). FindsBy m r x p t) (sym is) tt
+    subst (λ (x : Result AfterName Halt). FindsBy m r x p t) (sym is) (called next paren m n p r s t (Err fault) (refused fault) takes at gathers refl)
+finds_fault m n p r s t next paren halt.OutOfMemory result takes at gathers is = subst (λ (x : Result AfterName Halt). FindsBy m r x p t) (sym is) tt
 
 abbrev Refused : Step Taken → Type 0
 Refused step = step ≡ Err (Error out_of_memory)
 
 -- after a name: no call, a call, or its fault
-module _ (read : Read) (name : Name) (definition : Definition) (m n : Machine) (r s : Reader) (function : definition.function_like ≡ true) where
+module _ (read : Read) (name : Name) (definition : Definition) (m n : Expander) (r s : Reader) (function : definition.function_like ≡ true) where
   pub enters_nothing : FindsNothing m r n s → Enters read name definition m r (Ok (taken.Token read)) n s
   enters_nothing h = e.called (no_call h.next) (Ok (taken.Token read)) m h.before n r s function h.seeks (refl, h.holds)
 
-  pub enters_whole : (paren : Location) (g : Gathered) (c : PendingCall) → Seeks m r (gathered paren g) n s
+  pub enters_whole : (paren : Location) (g : Gathered) (c : MacroCall) → Seeks m r (gathered paren g) n s
       → c ≡ record { name = name; definition = definition; paren = paren; closing = g.closing; tokens = g.tokens }
       → Enters read name definition m r (Ok (taken.Call c)) n s
-  enters_whole paren g c h is = e.called (gathered paren g) (Ok (taken.Call c)) m n n r s function h (ap (λ (x : PendingCall). Ok (taken.Call x)) is, refl)
+  enters_whole paren g c h is = e.called (gathered paren g) (Ok (taken.Call c)) m n n r s function h (ap (λ (x : MacroCall). Ok (taken.Call x)) is, refl)
 
   pub enters_halt : (h : Halt) (step : Step Taken) → FindsBy m r (Err h) n s → step ≡ Err (exit_of h) → Enters read name definition m r step n s ⊎ Refused step
   enters_halt (halt.Fault fault) step h is = inl (e.called (refused fault) step m n n r s function h (is, refl))
   enters_halt halt.OutOfMemory step h is = inr is
 
 pub follows_plain : (o : Option (Name
-    × Definition)) (read : Read) (name : Name) (definition : Definition) (m n : Machine) (r : Reader) (step : Step Taken)
+    × Definition)) (read : Read) (name : Name) (definition : Definition) (m n : Expander) (r : Reader) (step : Step Taken)
     → o ≡ Some (name, definition) → definition.function_like ≡ false
-    → ((step ≡ Err Continue) × (n ≡ record m { frames = layer name read.token.location.line definition [] ∷ m.frames })) ⊎ Refused step
+    → ((step ≡ Err Continue) × (n ≡ record m { frames = new_frame name read.token.location.line definition [] ∷ m.frames })) ⊎ Refused step
     → FollowsToken o read m r step n r ⊎ Refused step
 follows_plain o read name definition m n r step is plain (inl h) = inl (rw is (e.plain step m n r r plain h.0 h.1 refl))
 follows_plain o read name definition m n r step is plain (inr h) = inr h
 
 -- an unpainted token whose value is a name
-pub follows_named : (m n : Machine) (r s : Reader) (read : Read) (given name : Name) (step : Step Taken) → read.painted ≡ false
+pub follows_named : (m n : Expander) (r s : Reader) (read : Read) (given name : Name) (step : Step Taken) → read.painted ≡ false
     → read.token.value ≡ Ident name → given ≡ name
-    → FollowsToken (opens_value r (Ident given)) (unpainted (record { value = Ident given; location = read.token.location })) m r step n s ⊎ Refused step
-    → FollowsToken (opens r read) read m r step n s ⊎ Refused step
+    → FollowsToken (macro_of_value r (Ident given)) (unpainted (record { value = Ident given; location = read.token.location })) m r step n s ⊎ Refused step
+    → FollowsToken (macro_of r read) read m r step n s ⊎ Refused step
 follows_named m n r s read given name step bare is same h =
     let whole : ◌≡◌ {A = Read} (unpainted (record { value = Ident given; location = read.token.location })) read =
     ap (λ (v : TokenValue). unpainted (record { value = v; location = read.token.location })) (ap (λ (x : Name). Ident x) same ∙ sym is)
     ∙ ap (λ (b : Bool). record { token = read.token; painted = b }) (sym bare) in
-    subst (λ (x : Read). FollowsToken (opens r x) x m r step n s ⊎ Refused step) whole h
+    subst (λ (x : Read). FollowsToken (macro_of r x) x m r step n s ⊎ Refused step) whole h
 
 -- what a value stands for as a name
 abbrev pub meant : Option (Name × Definition) → Option Definition
@@ -102,7 +102,7 @@ meant_none (Some x) e = cc
 
 -- what opens is the name itself
 pub opens_named : (r : Reader) (name : Name) (definition : Definition)
-    → meant (opens_value r (Ident name)) ≡ Some definition → opens_value r (Ident name) ≡ Some (name, definition)
+    → meant (macro_of_value r (Ident name)) ≡ Some definition → macro_of_value r (Ident name) ≡ Some (name, definition)
 opens_named r name definition = go (visible r name)
   where
     go : (found : Option Definition) → meant (opened_by name found) ≡ Some definition → opened_by name found ≡ Some (name, definition)
@@ -116,27 +116,27 @@ opening_bare true o definition e = cc
 opening_bare false o definition e = refl
 
 -- the name of an object-like macro that opens
-module _ (m n : Machine) (r : Reader) (read : Read) (given name : Name) (definition : Definition) (step : Step Taken)
-    (is : read.token.value ≡ Ident name) (same : given ≡ name) (opening : meant (opens r read) ≡ Some definition) where
+module _ (m n : Expander) (r : Reader) (read : Read) (given name : Name) (definition : Definition) (step : Step Taken)
+    (is : read.token.value ≡ Ident name) (same : given ≡ name) (opening : meant (macro_of r read) ≡ Some definition) where
   bare : read.painted ≡ false
-  bare = opening_bare read.painted (opens_value r read.token.value) definition opening
+  bare = opening_bare read.painted (macro_of_value r read.token.value) definition opening
 
-  opening_value : meant (opens_value r read.token.value) ≡ Some definition
-  opening_value = subst (λ (b : Bool). meant (if b then None else opens_value r read.token.value) ≡ Some definition) bare opening
+  opening_value : meant (macro_of_value r read.token.value) ≡ Some definition
+  opening_value = subst (λ (b : Bool). meant (if b then None else macro_of_value r read.token.value) ≡ Some definition) bare opening
 
-  named : opens_value r (Ident given) ≡ Some (given, definition)
-  named = opens_named r given definition (subst (λ (v : TokenValue). meant (opens_value r v) ≡ Some definition)
+  named : macro_of_value r (Ident given) ≡ Some (given, definition)
+  named = opens_named r given definition (subst (λ (v : TokenValue). meant (macro_of_value r v) ≡ Some definition)
       (is ∙ ap (λ (x : Name). Ident x) (sym same)) opening_value)
 
   pub follows_object : definition.function_like ≡ false → ((step ≡ Err Continue)
-      × (n ≡ record m { frames = layer given read.token.location.line definition [] ∷ m.frames })) ⊎ Refused step
-      → FollowsToken (opens r read) read m r step n r ⊎ Refused step
-  follows_object plain h = follows_named m n r r read given name step bare is same (follows_plain (opens_value r (Ident given))
+      × (n ≡ record m { frames = new_frame given read.token.location.line definition [] ∷ m.frames })) ⊎ Refused step
+      → FollowsToken (macro_of r read) read m r step n r ⊎ Refused step
+  follows_object plain h = follows_named m n r r read given name step bare is same (follows_plain (macro_of_value r (Ident given))
       (unpainted (record { value = Ident given; location = read.token.location })) given definition m n r step named plain h)
 
 -- a turn, by what is taken
-pub turns_token : (m n p : Machine) (r s t : Reader) (read : Read) (step : Step Taken) → StepsTaking m r (Ok read) n s
-    → (o : Option (Name × Definition)) → opens s read ≡ o → FollowsToken o read n s step p t ⊎ Refused step → TurnsOrRefuses m r step p t
+pub turns_token : (m n p : Expander) (r s t : Reader) (read : Read) (step : Step Taken) → StepsTaking m r (Ok read) n s
+    → (o : Option (Name × Definition)) → macro_of s read ≡ o → FollowsToken o read n s step p t ⊎ Refused step → TurnsOrRefuses m r step p t
 turns_token m n p r s t read step steps o is (inr h) =
     inr (record { some = record { step = Ok read; after = n; reader = s; takes = steps; goes = refl }; fault = h })
 turns_token m n p r s t read step steps None is (inl (gives, same, stays)) = inl (rw (same, stays) (turn.gives read step m n r s steps is gives))
@@ -145,5 +145,5 @@ turns_token m n p r s t read step steps (Some (name, definition)) is (inl (e.pla
 turns_token m n p r s t read step steps (Some (name, definition)) is (inl (e.called c step1 m1 q n1 r1 s1 function seeks finds)) =
     inl (turn.seeks read name definition c step m n q p r s t steps is function seeks finds)
 
-pub turns_exit : (m n : Machine) (r s : Reader) (exit : StepExit) → StepsTaking m r (Err exit) n s → TurnsOrRefuses m r (Err exit) n s
+pub turns_exit : (m n : Expander) (r s : Reader) (exit : StepExit) → StepsTaking m r (Err exit) n s → TurnsOrRefuses m r (Err exit) n s
 turns_exit m n r s exit steps = inl (turn.passes exit (Err exit) m n r s steps refl)

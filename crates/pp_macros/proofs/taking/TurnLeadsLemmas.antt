@@ -13,17 +13,18 @@ use Rattle.pp_model.specs.Taking.{Takes}
 use Rattle.pp_model.specs.Calls as calls
 use Rattle.pp_model.specs.Calls.{Fault, Gathered, Answers, paren_at, is_left_paren, site_of}
 use Rattle.pp_model.specs.Emitting as emitting
-use Rattle.pp_model.specs.Emitting.{Emits, opened}
+use Rattle.pp_model.specs.Emitting.{Emits, with_macro}
 use Rattle.pp_model.specs.inner.Emitting.{holding}
-use Rattle.pp_model.specs.SpliceList.{spliced}
+use Rattle.pp_model.specs.SpliceList.{macro_before}
 use Rattle.pp_model.specs.declared.read.Taken.{Taken as Given}
 use Rattle.pp_model.specs.declared.read.Taken.TheVariants as given
 use Rattle.pp_macros.specs.inner.CallTurns.{Sought, no_call, Seeks, alone, called, Finds, TurnsTo, passes, gives, object, seeks, paren_of, sought_by}
 use Rattle.pp_macros.specs.Item.{Step, wants_memory}
-use Rattle.pp_macros.specs.inner.Frames.{layer}
-use Rattle.pp_macros.specs.inner.Machine.{Machine, outcome_of_step, StepsTaking, TakesNext}
+use Rattle.pp_macros.specs.inner.Frames.{new_frame}
+use Rattle.pp_macros.specs.inner.Expander as kept
+use Rattle.pp_macros.specs.inner.Expander.{outcome_of_step, StepsTaking, TakesNext}
 use Rattle.pp_macros.specs.inner.Reader.{Reader, Reads, hidden_of, shown_line, visible}
-use Rattle.pp_macros.specs.inner.Turns.{opens, opens_value, opened_by}
+use Rattle.pp_macros.specs.inner.Turns.{macro_of, macro_of_value, opened_by}
 use Rattle.pp_macros.specs.declared.calls.Taken.{Taken}
 use Rattle.pp_macros.specs.declared.calls.Taken.TheVariants as taken
 use Rattle.pp_macros.specs.declared.step.StepExit.{StepExit}
@@ -42,20 +43,20 @@ module _ {R : Type 0} (I : Reading R) (StandsR : Reader → R → Type 0) (hidde
     (sees : (s : Reader) (y : R) (name : Name) → StandsR s y → visible s name ≡ (if I.is_reserved name then None else I.visible y name))
     (A : Answers) where
   -- what one turn is to the expander
-  abbrev pub LeadsTo : Step Taken → Expander R → Machine → Reader → Type 0
+  abbrev pub LeadsTo : Step Taken → Expander R → kept.Expander → Reader → Type 0
   LeadsTo (Ok (taken.Token read)) e n s = (f : Expander R) × Emits I A e (given.Token read) f × StandsIn I StandsR hidden n s f
   LeadsTo (Ok (taken.Call c)) e n s =
       (f : Expander R) × StandsIn I StandsR hidden n s f
       × ((fault : Fault) → A c.definition (site_of I f c.paren c.tokens) (Err fault) → Emits I A e (given.Fault fault) f)
       × ((arguments : List (List Read)) → A c.definition (site_of I f c.paren c.tokens) (Ok arguments) → (o : Given) (g : Expander R)
-      → Emits I A (record f { list = spliced c.name c.definition c.closing.line arguments f.list }) o g → Emits I A e o g)
+      → Emits I A (record f { list = macro_before c.name c.definition c.closing.line arguments f.list }) o g → Emits I A e o g)
   LeadsTo (Err Continue) e n s = (f : Expander R) × StandsIn I StandsR hidden n s f × ((o : Given) (g : Expander R) → Emits I A f o g → Emits I A e o g)
   LeadsTo (Err Finished) e n s = (f : Expander R) × Emits I A e given.End f × StandsIn I StandsR hidden n s f
   LeadsTo (Err (Error fault)) e n s = (f : Expander R) × Emits I A e (given.Fault fault) f
 
   -- the macro that a token opens over frames is the one that it opens over their list
   opens_same : (s : Reader) (f : Expander R) (read : Read) → StandsR s f.reader
-      → opening I f (given.Token read) ≡ as_opening read.token (opens s read)
+      → opening I f (given.Token read) ≡ as_opening read.token (macro_of s read)
   opens_same s f read reader = go read.token.value
     where
       paint : (reserved painted : Bool) (name : Name) (d : Option Definition) → (if reserved || painted then None else opening_by read.token name d)
@@ -70,13 +71,13 @@ module _ {R : Type 0} (I : Reading R) (StandsR : Reader → R → Type 0) (hidde
       unopened true = refl
       unopened false = refl
 
-      go : (value : TokenValue) → opening_of I f read value ≡ as_opening read.token (if read.painted then None else opens_value s value)
+      go : (value : TokenValue) → opening_of I f read value ≡ as_opening read.token (if read.painted then None else macro_of_value s value)
       go (Ident name) = paint (I.is_reserved name) read.painted name (I.visible f.reader name)
           ∙ ap (λ d. as_opening read.token (if read.painted then None else opened_by name d)) (sym (sees s f.reader name reader))
       go _ = unopened read.painted
 
   -- after a token the reader stands
-  token_stands : (m n : Machine) (r s : Reader) (read : Read) (e : Expander R) → StandsIn I StandsR hidden m r e → StepsTaking m r (Ok read) n s
+  token_stands : (m n : kept.Expander) (r s : Reader) (read : Read) (e : Expander R) → StandsIn I StandsR hidden m r e → StepsTaking m r (Ok read) n s
       → (f : Expander R) × Takes I e (given.Token read) f × StandsIn I StandsR hidden n s f × StandsR s f.reader
   token_stands m n r s read e stands steps =
       let h = step_simulates I StandsR hidden simulates shows hides m n r s (Ok read) e stands steps refl in (
@@ -87,7 +88,7 @@ module _ {R : Type 0} (I : Reading R) (StandsR : Reader → R → Type 0) (hidde
             (step_frees I StandsR hidden simulates shows hides m n r s (Ok read) steps) h.2.reader,
       )
 
-  exit_leads : (exit : StepExit) (m n : Machine) (r s : Reader) (e : Expander R) → StandsIn I StandsR hidden m r e → StepsTaking m r (Err exit) n s
+  exit_leads : (exit : StepExit) (m n : kept.Expander) (r s : Reader) (e : Expander R) → StandsIn I StandsR hidden m r e → StepsTaking m r (Err exit) n s
       → wants_memory {T = Read} (Err exit) ≡ false → LeadsTo (Err exit) e n s
   exit_leads Continue m n r s e stands steps reported =
       let h = step_simulates I StandsR hidden simulates shows hides m n r s (Err Continue) e stands steps refl in
@@ -112,76 +113,76 @@ module _ {R : Type 0} (I : Reading R) (StandsR : Reader → R → Type 0) (hidde
 
   -- a call that was gathered, or its fault
   call_leads : (read : Read) (name : Name) (definition : Definition) (first : Read) (paren : Location) (step : Step Taken)
-      (p q : Machine) (t : Reader) (e f h : Expander R) (g : Result Gathered Fault) → Takes I e (given.Token read) f
+      (p q : kept.Expander) (t : Reader) (e f h : Expander R) (g : Result Gathered Fault) → Takes I e (given.Token read) f
       → opening I f (given.Token read) ≡ Some (record { token = read.token; name = name; definition = definition }) → definition.function_like ≡ true
       → Takes I f (given.Token first) h → paren_at (given.Token first) ≡ Some paren
       → GathersTo I StandsR hidden simulates shows hides 0 paren h g p t → Finds read name definition (sought_by paren g) step p q → LeadsTo step e q t
-  call_leads read name definition first paren step p q t e f h (Err fault) takes opens function takes_paren at (k, gathers) (is, becomes) =
+  call_leads read name definition first paren step p q t e f h (Err fault) takes macro_of function takes_paren at (k, gathers) (is, becomes) =
       let m : Opening = record { token = read.token; name = name; definition = definition } in
       rw is (
         k,
-        emitting.call_refused (given.Token read) (given.Fault fault) fault m e f k takes opens function
+        emitting.call_refused (given.Token read) (given.Fault fault) fault m e f k takes macro_of function
             (calls.broken (given.Token first) paren fault f h k (calls.refused fault) takes_paren at gathers refl) refl,
       )
-  call_leads read name definition first paren step p q t e f h (Ok g) takes opens function takes_paren at (k, gathers, stands) (is, becomes) =
+  call_leads read name definition first paren step p q t e f h (Ok g) takes macro_of function takes_paren at (k, gathers, stands) (is, becomes) =
       let m : Opening = record { token = read.token; name = name; definition = definition } in
       rw (is, becomes) (
         k,
         stands,
-        (λ fault answers. emitting.call_refused (given.Token read) (given.Fault fault) fault m e f k takes opens function
+        (λ fault answers. emitting.call_refused (given.Token read) (given.Fault fault) fault m e f k takes macro_of function
             (calls.whole (given.Token first) paren g (Err fault) f h k (calls.refused fault) takes_paren at gathers answers refl) refl),
-        (λ arguments answers o l emits. emitting.call (given.Token read) o arguments g.closing.line m e f k l takes opens function
+        (λ arguments answers o l emits. emitting.call (given.Token read) o arguments g.closing.line m e f k l takes macro_of function
             (calls.whole (given.Token first) paren g (Ok arguments) f h k (calls.fits arguments g.closing.line) takes_paren at gathers answers refl) emits),
       )
 
   -- what is sought after a name
   seek_leads : (read : Read) (name : Name) (definition : Definition) (c : Sought) (step : Step Taken)
-      (n p q : Machine) (s t : Reader) (e f : Expander R) → Takes I e (given.Token read) f → StandsIn I StandsR hidden n s f
+      (n p q : kept.Expander) (s t : Reader) (e f : Expander R) → Takes I e (given.Token read) f → StandsIn I StandsR hidden n s f
       → opening I f (given.Token read) ≡ Some (record { token = read.token; name = name; definition = definition }) → definition.function_like ≡ true
       → Seeks n s c p t → Finds read name definition c step p q → LeadsTo step e q t
-  seek_leads read name definition c step n p q s t e f takes stands opens function (alone next n1 p1 s1 t1 c1 taken_next none reported is) found =
+  seek_leads read name definition c step n p q s t e f takes stands macro_of function (alone next n1 p1 s1 t1 c1 taken_next none reported is) found =
       let m : Opening = record { token = read.token; name = name; definition = definition } in
       let h = next_simulates I StandsR hidden simulates shows hides n p s t next f stands taken_next (not_refused next reported) in
       let found' : Finds read name definition (no_call next) step p q = subst (λ (x : Sought). Finds read name definition x step p q) is found in
       rw (found'.0, found'.1) (
         holding (outcome_of_step next) h.0,
         emitting.name_alone (given.Token read) (outcome_of_step next) (given.Token read) m e f h.0
-            (holding (outcome_of_step next) h.0) takes opens function
+            (holding (outcome_of_step next) h.0) takes macro_of function
             (calls.alone (outcome_of_step next) f h.0 (calls.no_call (outcome_of_step next)) h.1 (no_paren next none) refl) refl refl,
         h.2,
       )
-  seek_leads read name definition c step n p q s t e f takes stands opens function
+  seek_leads read name definition c step n p q s t e f takes stands macro_of function
       (called next paren n1 between p1 s1 u t1 g c1 taken_next at gathers is) found =
       let first = some_paren next paren at in
       let h = SearchSimulates.token_stands I StandsR hidden simulates shows hides first.0 n between s u f stands
       (subst (λ (x : Step Read). TakesNext n s x between u) first.1 taken_next) in
-      call_leads read name definition first.0 paren step p q t e f h.0 g takes opens function h.1 first.2
+      call_leads read name definition first.0 paren step p q t e f h.0 g takes macro_of function h.1 first.2
       (gather_simulates I StandsR hidden simulates shows hides 0 paren between p u t g h.0 h.2 gathers)
       (subst (λ (x : Sought). Finds read name definition x step p q) is found)
 
-  object_leads : (read : Read) (name : Name) (definition : Definition) (n p : Machine) (s : Reader) (e f : Expander R)
+  object_leads : (read : Read) (name : Name) (definition : Definition) (n p : kept.Expander) (s : Reader) (e f : Expander R)
       → Takes I e (given.Token read) f → StandsIn I StandsR hidden n s f → n.held ≡ None
       → opening I f (given.Token read) ≡ Some (record { token = read.token; name = name; definition = definition }) → definition.function_like ≡ false
-      → p ≡ record n { frames = layer name read.token.location.line definition [] ∷ n.frames } → LeadsTo (Err Continue) e p s
-  object_leads read name definition n p s e f takes stands free opens plain is =
+      → p ≡ record n { frames = new_frame name read.token.location.line definition [] ∷ n.frames } → LeadsTo (Err Continue) e p s
+  object_leads read name definition n p s e f takes stands free macro_of plain is =
       let m : Opening = record { token = read.token; name = name; definition = definition } in
       rw is (
-        opened m read.token.location.line [] f,
+        with_macro m read.token.location.line [] f,
         record {
           holds = stands.holds;
-          list = ap (spliced name definition read.token.location.line []) stands.list;
+          list = ap (macro_before name definition read.token.location.line []) stands.list;
           reader = stands.reader;
           names = stands.names;
         },
-        λ o g emits. emitting.object (given.Token read) o m e f g takes opens plain emits,
+        λ o g emits. emitting.object (given.Token read) o m e f g takes macro_of plain emits,
       )
 
-  as_opens : (s : Reader) (f : Expander R) (read : Read) (m : Option (Name × Definition)) → StandsR s f.reader → opens s read ≡ m
+  as_opens : (s : Reader) (f : Expander R) (read : Read) (m : Option (Name × Definition)) → StandsR s f.reader → macro_of s read ≡ m
       → opening I f (given.Token read) ≡ as_opening read.token m
   as_opens s f read m reader is = opens_same s f read reader ∙ ap (as_opening read.token) is
 
   -- One turn: a token, a fault or the end is the next item, a pause keeps it, and a call goes on by its answer.
-  pub turn_leads : (m n : Machine) (r s : Reader) (step : Step Taken) (e : Expander R) → StandsIn I StandsR hidden m r e → TurnsTo m r step n s
+  pub turn_leads : (m n : kept.Expander) (r s : Reader) (step : Step Taken) (e : Expander R) → StandsIn I StandsR hidden m r e → TurnsTo m r step n s
       → wants_taken step ≡ false → LeadsTo step e n s
   turn_leads m n r s step e stands (passes exit step1 m1 n1 r1 s1 steps is) reported =
       rw is (exit_leads exit m n r s e stands steps (exit_reported exit (rw is at reported)))

@@ -7,16 +7,16 @@ use Rattle.pp_lexer.specs.declared.token.TokenValue.TheVariants.{Ident}
 use Rattle.pp_model.specs.Calls.{Fault, Gathered}
 use Rattle.pp_model.specs.Definitions.{Definition}
 use Rattle.pp_model.specs.Names.{Name, is_in}
-use Rattle.pp_macros.specs.inner.Calling.{PendingCall}
+use Rattle.pp_macros.specs.inner.Calling.{MacroCall}
 use Rattle.pp_macros.specs.inner.CallTurns.{Sought, no_call, sought_by, Seeks, alone, called, Finds, TurnsTo, passes, gives, object, seeks, paren_of}
 use Rattle.pp_macros.specs.inner.Defined.{meaning_of, body_tokens}
-use Rattle.pp_macros.specs.inner.Frames.{layer, names_of}
+use Rattle.pp_macros.specs.inner.Frames.{new_frame, names_of}
 use Rattle.pp_macros.specs.Item.{Step, wants_memory}
 use Rattle.pp_macros.specs.inner.Left.{reads_left, most_open, most_bodies, one_more, regions_of, regions, work_of, IsSound, most_alone}
-use Rattle.pp_macros.specs.inner.Machine.{Machine, StepsTaking, GathersNext}
+use Rattle.pp_macros.specs.inner.Expander.{Expander, StepsTaking, GathersNext}
 use Rattle.pp_macros.specs.inner.Reach.{total}
 use Rattle.pp_macros.specs.inner.Reader.{Reader, of_source, of_list, visible, definitions_of, is_reserved}
-use Rattle.pp_macros.specs.inner.Turns.{opens, opens_value, opened_by}
+use Rattle.pp_macros.specs.inner.Turns.{macro_of, macro_of_value, opened_by}
 use Rattle.pp_macros.specs.declared.calls.Taken.{Taken}
 use Rattle.pp_macros.specs.declared.calls.Taken.TheVariants as taken
 use Rattle.pp_macros.specs.declared.step.StepExit.{StepExit}
@@ -31,7 +31,7 @@ use Rattle.pp_macros.proofs.work.SpendLemmas.{IsNoMore, Falls, Tightens, tighten
 use Rattle.pp_macros.proofs.work.WorkFallsLemmas.{frame_of, falls_work, opened_work, object_steps, call_opens_falls, alone_under}
 
 -- a macro that may open, where it is found
-pub record IsFound (n : Machine) (s : Reader) (macro : Name × Definition) : Type 0 where
+pub record IsFound (n : Expander) (s : Reader) (macro : Name × Definition) : Type 0 where
   pub apart : is_in macro.0 (names_of n.frames) ≡ false
   pub defined : meaning_of (definitions_of s) macro.0 ≡ Some macro.1
 
@@ -43,7 +43,7 @@ visible_defined (of_list list) name definition e = go (is_reserved list name) e
     go true e = cc
     go false e = e
 
-found_named : (n : Machine) (s : Reader) (x name : Name) (definition : Definition) (d : Option Definition) → is_in name (names_of n.frames) ≡ false
+found_named : (n : Expander) (s : Reader) (x name : Name) (definition : Definition) (d : Option Definition) → is_in name (names_of n.frames) ≡ false
     → visible s x ≡ d → opened_by x d ≡ Some (name, definition) → IsFound n s (name, definition)
 found_named n s x name definition None apart f is = cc
 found_named n s x name definition (Some k) apart f is =
@@ -52,15 +52,15 @@ found_named n s x name definition (Some k) apart f is =
     let meaning : k ≡ definition = ap (λ (p : Name × Definition). p.1) pair in
     record { apart = apart; defined = visible_defined s name definition (rw (same, meaning) at f) }
 
-opens_found : (n : Machine) (s : Reader) (read : Read) (name : Name) (definition : Definition) → is_in name (names_of n.frames) ≡ false
-    → opens s read ≡ Some (name, definition) → IsFound n s (name, definition)
+opens_found : (n : Expander) (s : Reader) (read : Read) (name : Name) (definition : Definition) → is_in name (names_of n.frames) ≡ false
+    → macro_of s read ≡ Some (name, definition) → IsFound n s (name, definition)
 opens_found n s read name definition apart is = by_paint read.painted is
   where
-    go : (value : TokenValue) → opens_value s value ≡ Some (name, definition) → IsFound n s (name, definition)
+    go : (value : TokenValue) → macro_of_value s value ≡ Some (name, definition) → IsFound n s (name, definition)
     go (Ident x) e = found_named n s x name definition (visible s x) apart refl e
     go _ e = cc
 
-    by_paint : (painted : Bool) → (if painted then None else opens_value s read.token.value) ≡ Some (name, definition) → IsFound n s (name, definition)
+    by_paint : (painted : Bool) → (if painted then None else macro_of_value s read.token.value) ≡ Some (name, definition) → IsFound n s (name, definition)
     by_paint true e = cc
     by_paint false e = go read.token.value e
 
@@ -72,15 +72,15 @@ names_least : (s : Reader) → length (definitions_of s) + 1 ≤ most_open s
 names_least (of_source source) = omega arith
 names_least (of_list list) = omega arith
 
-pub found_body : (n : Machine) (s : Reader) (name : Name) (definition : Definition) → IsFound n s (name, definition) → length definition.body ≤ most_bodies s
+pub found_body : (n : Expander) (s : Reader) (name : Name) (definition : Definition) → IsFound n s (name, definition) → length definition.body ≤ most_bodies s
 found_body n s name definition found = omega (arith, body_within (definitions_of s) name definition found.defined, bodies_least s)
 
-pub found_sound : (n : Machine) (s : Reader) (name : Name) (definition : Definition) → IsFound n s (name, definition) → IsSound n s
+pub found_sound : (n : Expander) (s : Reader) (name : Name) (definition : Definition) → IsFound n s (name, definition) → IsSound n s
     → IsSoundWith (Some name) n s
 found_sound n s name definition found sound = opened_sound (definitions_of s) name (names_of n.frames) sound found.apart (rw found.defined refl)
 
-pub pending_few : (name : Name) (line : ℕ) (definition : Definition) (arguments : List (List Read)) (n : Machine) (s : Reader)
-    → IsSoundWith (Some name) n s → length (layer name line definition arguments ∷ n.frames) ≤ most_open s
+pub pending_few : (name : Name) (line : ℕ) (definition : Definition) (arguments : List (List Read)) (n : Expander) (s : Reader)
+    → IsSoundWith (Some name) n s → length (new_frame name line definition arguments ∷ n.frames) ≤ most_open s
 pending_few name line definition arguments n s sound = omega (
   arith,
   open_names_few (definitions_of s) (name ∷ names_of n.frames) sound,
@@ -89,7 +89,7 @@ pending_few name line definition arguments n s sound = omega (
 )
 
 -- What is known after a turn: less is left, and macros are open soundly; after a call there is room for its frame.
-pub record IsPending (levels : ℕ) (m : Machine) (r : Reader) (c : PendingCall) (n : Machine) (s : Reader) : Type 0 where
+pub record IsPending (levels : ℕ) (m : Expander) (r : Reader) (c : MacroCall) (n : Expander) (s : Reader) : Type 0 where
   pub free : n.held ≡ None
   pub room : IsNoMore (frame_of levels r) (most_open r) (regions m r) (one_more (regions_of n.frames (reads_left s)))
   pub tight : Tightens r s
@@ -97,25 +97,25 @@ pub record IsPending (levels : ℕ) (m : Machine) (r : Reader) (c : PendingCall)
   pub tokens : length c.tokens ≤ total (regions m r)
   pub sound : IsSoundWith (Some c.name) n s
 
-pub record IsLess (levels : ℕ) (m : Machine) (r : Reader) (n : Machine) (s : Reader) : Type 0 where
+pub record IsLess (levels : ℕ) (m : Expander) (r : Reader) (n : Expander) (s : Reader) : Type 0 where
   pub falls : work_of levels n s < work_of levels m r
   pub tight : Tightens r s
   pub sound : IsSound n s
 
-abbrev pub FallsBy : ℕ → Machine → Reader → Step Taken → Machine → Reader → Type 0
+abbrev pub FallsBy : ℕ → Expander → Reader → Step Taken → Expander → Reader → Type 0
 FallsBy levels m r (Ok (taken.Call c)) n s = IsPending levels m r c n s
 FallsBy levels m r (Err Finished) n s = IsSound n s
 FallsBy levels m r _ n s = IsLess levels m r n s
 
-module _ (levels : ℕ) (m : Machine) (r : Reader) (sound : IsSound m r) where
+module _ (levels : ℕ) (m : Expander) (r : Reader) (sound : IsSound m r) where
   rises : (a b : ℕ) → a ≤ b → frame_of levels r a ≤ frame_of levels r b
   rises = frame_steps_level (most_bodies r) (most_open r) levels
 
-  less_by : (n : Machine) (s : Reader) → Tightens r s → Falls (frame_of levels r) (most_open r) (regions m r) (regions n s) → IsSound n s
+  less_by : (n : Expander) (s : Reader) → Tightens r s → Falls (frame_of levels r) (most_open r) (regions m r) (regions n s) → IsSound n s
       → IsLess levels m r n s
   less_by n s tight falls kept = record { falls = falls_work levels m n r s tight falls; tight = tight; sound = kept }
 
-  exit_falls : (exit : StepExit) (n : Machine) (s : Reader) → StepsTaking m r (Err exit) n s → wants_memory {T = Read} (Err exit) ≡ false
+  exit_falls : (exit : StepExit) (n : Expander) (s : Reader) → StepsTaking m r (Err exit) n s → wants_memory {T = Read} (Err exit) ≡ false
       → FallsBy levels m r (Err exit) n s
   exit_falls Continue n s steps reported =
       let h = step_spends (frame_of levels r) (most_open r) rises (Err Continue) m n r s steps refl in
@@ -127,29 +127,29 @@ module _ (levels : ℕ) (m : Machine) (r : Reader) (sound : IsSound m r) where
       (one_more_falls (frame_of levels r) (most_open r) rises (regions n s))) (step_sound None (Err (Error fault)) m n r s steps reported sound)
 
   -- a token that is taken, with what may be done with it
-  record IsTokenTaken (n : Machine) (s : Reader) : Type 0 where
+  record IsTokenTaken (n : Expander) (s : Reader) : Type 0 where
     room : IsNoMore (frame_of levels r) (most_open r) (regions m r) (one_more (regions n s))
     tight : Tightens r s
     free : n.held ≡ None
     kept : IsSound n s
 
-  token_taken : (read : Read) (n : Machine) (s : Reader) → StepsTaking m r (Ok read) n s → IsTokenTaken n s
+  token_taken : (read : Read) (n : Expander) (s : Reader) → StepsTaking m r (Ok read) n s → IsTokenTaken n s
   token_taken read n s steps =
       let h = step_spends (frame_of levels r) (most_open r) rises (Ok read) m n r s steps refl in
       record { room = h.spends; tight = h.tightens; free = h.free; kept = step_sound None (Ok read) m n r s steps refl sound }
 
-  token_falls : (n : Machine) (s : Reader) → IsTokenTaken n s → Falls (frame_of levels r) (most_open r) (regions m r) (regions n s)
+  token_falls : (n : Expander) (s : Reader) → IsTokenTaken n s → Falls (frame_of levels r) (most_open r) (regions m r) (regions n s)
   token_falls n s h = no_more_falls (frame_of levels r) (most_open r) rises (regions m r) (one_more (regions n s)) (regions n s) h.room
       (one_more_falls (frame_of levels r) (most_open r) rises (regions n s))
 
-  object_falls : (name : Name) (line : ℕ) (definition : Definition) (n : Machine) (s : Reader) → IsTokenTaken n s → IsFound n s (name, definition)
-      → IsLess levels m r (record n { frames = layer name line definition [] ∷ n.frames }) s
+  object_falls : (name : Name) (line : ℕ) (definition : Definition) (n : Expander) (s : Reader) → IsTokenTaken n s → IsFound n s (name, definition)
+      → IsLess levels m r (record n { frames = new_frame name line definition [] ∷ n.frames }) s
   object_falls name line definition n s h found =
       let room : IsNoMore (frame_of levels r) (most_open r) (regions m r) (one_more (regions_of n.frames (reads_left s))) = rw h.free at h.room in
       let body : length definition.body ≤ most_bodies r = omega (arith, found_body n s name definition found, h.tight.bodies) in
       let with_it = found_sound n s name definition found h.kept in
       record {
-        falls = rw h.free (opened_work levels m (layer name line definition []) n.frames r s h.tight room
+        falls = rw h.free (opened_work levels m (new_frame name line definition []) n.frames r s h.tight room
             (object_steps levels (total (regions m r)) (most_bodies r) (most_open r) name line definition body)
             (pending_few name line definition [] n s with_it));
         tight = h.tight;
@@ -157,7 +157,7 @@ module _ (levels : ℕ) (m : Machine) (r : Reader) (sound : IsSound m r) where
       }
 
   -- what is sought after a name
-  seek_falls : (read : Read) (name : Name) (definition : Definition) (c : Sought) (step : Step Taken) (n p q : Machine) (s t : Reader)
+  seek_falls : (read : Read) (name : Name) (definition : Definition) (c : Sought) (step : Step Taken) (n p q : Expander) (s t : Reader)
       → IsTokenTaken n s → IsFound n s (name, definition) → Seeks n s c p t → Finds read name definition c step p q → FallsBy levels m r step q t
   seek_falls read name definition c step n p q s t h found (alone next n1 p1 s1 t1 c1 taken_next none reported is) finds =
       let quiet : wants_memory next ≡ false = not_refused next reported in
@@ -204,12 +204,12 @@ module _ (levels : ℕ) (m : Machine) (r : Reader) (sound : IsSound m r) where
                 (next_sound (Some name) next n between s u taken_next (first next at) (found_sound n s name definition found h.kept));
           })
 
-  taken_found : (read : Read) (name : Name) (definition : Definition) (n : Machine) (s : Reader) → StepsTaking m r (Ok read) n s
-      → opens s read ≡ Some (name, definition) → IsFound n s (name, definition)
+  taken_found : (read : Read) (name : Name) (definition : Definition) (n : Expander) (s : Reader) → StepsTaking m r (Ok read) n s
+      → macro_of s read ≡ Some (name, definition) → IsFound n s (name, definition)
   taken_found read name definition n s steps some = opens_found n s read name definition (opens_apart m n r s read name definition steps some) some
 
   -- each turn lowers what is left; after a call there is room for its frame
-  pub turn_falls : (step : Step Taken) (n : Machine) (s : Reader) → TurnsTo m r step n s → wants_taken step ≡ false → FallsBy levels m r step n s
+  pub turn_falls : (step : Step Taken) (n : Expander) (s : Reader) → TurnsTo m r step n s → wants_taken step ≡ false → FallsBy levels m r step n s
   turn_falls step n s (passes exit step1 m1 n1 r1 s1 steps is) reported = rw is (exit_falls exit n s steps (exit_reported exit (rw is at reported)))
   turn_falls step n s (gives read step1 m1 n1 r1 s1 steps none is) reported =
       let h = token_taken read n s steps in
@@ -222,10 +222,10 @@ module _ (levels : ℕ) (m : Machine) (r : Reader) (sound : IsSound m r) where
       sought found
 
 -- the frame of a call that is pending opens, and less is left than before the turn that began the call
-pub pending_opens : (levels : ℕ) (m : Machine) (r : Reader) (c : PendingCall) (n : Machine) (s : Reader) (arguments : List (List Read))
+pub pending_opens : (levels : ℕ) (m : Expander) (r : Reader) (c : MacroCall) (n : Expander) (s : Reader) (arguments : List (List Read))
     → IsPending (suc levels) m r c n s
     → All (λ argument. length argument ≤ most_alone levels (definitions_of s) (length c.tokens)) arguments
-    → IsLess (suc levels) m r (record { held = None; frames = layer c.name c.closing.line c.definition arguments ∷ n.frames }) s
+    → IsLess (suc levels) m r (record { held = None; frames = new_frame c.name c.closing.line c.definition arguments ∷ n.frames }) s
 pending_opens levels m r c n s arguments pending all =
     let few = pending_few c.name c.closing.line c.definition arguments n s pending.sound in
     record {

@@ -1,26 +1,26 @@
 -- The bound of what tokens make: how it compares, and that it falls.
 use Rattle.std.proofs.Common.{◌≡◌, ℕ, zero, suc, ◌+◌, ◌*◌, ◌-◌, ◌<◌, ◌≤◌, List, [], ◌∷◌, length, arith, le_trans, lt_of_le_of_lt, lt_of_lt_of_le, ap, sym, refl, mul-le-mul}
 use Rattle.std.specs.Fn.{iterate}
-use Rattle.pp_macros.specs.inner.Reach.{grown, through, total, most_tokens, frame_steps, HasRoom, OpenedFalls}
+use Rattle.pp_macros.specs.inner.Reach.{growth, through, total, most_tokens, frame_steps, HasRoom, OpenedFalls}
 use Rattle.pp_macros.proofs.work.IterateLemmas.{IsSteep, IsUp, IsLevel, IsUnder, steep_is_level, iterate_steep, iterate_up, iterate_more, iterate_least}
 
 -- each token makes more
-pub grown_up : (frame : ℕ → ℕ) (names : ℕ) → IsUp (grown frame names)
+pub grown_up : (frame : ℕ → ℕ) (names : ℕ) → IsUp (growth frame names)
 grown_up frame zero m = omega arith
 grown_up frame (suc names) m =
-    let h : m + frame m ≤ iterate (grown frame names) (frame m) (m + frame m) = iterate_up (grown frame names) (frame m) (grown_up frame names) (m + frame m) in
+    let h : m + frame m ≤ iterate (growth frame names) (frame m) (m + frame m) = iterate_up (growth frame names) (frame m) (grown_up frame names) (m + frame m) in
     omega arith
 
-pub grown_some : (frame : ℕ → ℕ) (names m : ℕ) → m < grown frame names m
+pub grown_some : (frame : ℕ → ℕ) (names m : ℕ) → m < growth frame names m
 grown_some frame zero m = omega arith
 grown_some frame (suc names) m =
-    let h : m + frame m ≤ iterate (grown frame names) (frame m) (m + frame m) = iterate_up (grown frame names) (frame m) (grown_up frame names) (m + frame m) in
+    let h : m + frame m ≤ iterate (growth frame names) (frame m) (m + frame m) = iterate_up (growth frame names) (frame m) (grown_up frame names) (m + frame m) in
     omega arith
 
-pub grown_steep : (frame : ℕ → ℕ) (names : ℕ) → IsLevel frame → IsSteep (grown frame names)
+pub grown_steep : (frame : ℕ → ℕ) (names : ℕ) → IsLevel frame → IsSteep (growth frame names)
 grown_steep frame zero level m n less = omega arith
 grown_steep frame (suc names) level m n less =
-    let g = grown frame names in
+    let g = growth frame names in
     let wide : frame m ≤ frame n = level m n (omega arith) in
     let first : iterate g (frame m) (m + frame m) < iterate g (frame m) (n + frame n) =
     iterate_steep g (frame m) (grown_steep frame names level) (m + frame m) (n + frame n) (omega arith) in
@@ -28,14 +28,14 @@ grown_steep frame (suc names) level m n less =
     iterate_more g (frame m) (frame n) (n + frame n) (grown_up frame names) wide in
     omega arith
 
-pub grown_under : (frame wider : ℕ → ℕ) (names more : ℕ) → IsLevel frame → IsUnder frame wider → names ≤ more → IsUnder (grown frame names) (grown wider more)
+pub grown_under : (frame wider : ℕ → ℕ) (names more : ℕ) → IsLevel frame → IsUnder frame wider → names ≤ more → IsUnder (growth frame names) (growth wider more)
 grown_under frame wider zero more level under few m = let h = grown_some wider more m in omega arith
 grown_under frame wider (suc names) zero level under few m = absurd (omega arith)
 grown_under frame wider (suc names) (suc more) level under few m =
     let low : frame m ≤ wider m = under m in
-    let h : iterate (grown frame names) (frame m) (m + frame m) ≤ iterate (grown wider more) (wider m) (m + wider m) =
-    iterate_least (grown frame names) (grown wider more) (frame m) (wider m) (m + frame m) (m + wider m)
-    (steep_is_level (grown frame names) (grown_steep frame names level)) (grown_up wider more)
+    let h : iterate (growth frame names) (frame m) (m + frame m) ≤ iterate (growth wider more) (wider m) (m + wider m) =
+    iterate_least (growth frame names) (growth wider more) (frame m) (wider m) (m + frame m) (m + wider m)
+    (steep_is_level (growth frame names) (grown_steep frame names level)) (grown_up wider more)
     (grown_under frame wider names more level under (omega arith)) low (omega arith) in
     omega arith
 
@@ -43,7 +43,7 @@ grown_under frame wider (suc names) (suc more) level under few m =
 pub through_steep : (frame : ℕ → ℕ) (names : ℕ) (regions : List ℕ) → IsLevel frame → IsSteep (through frame names regions)
 through_steep frame names [] level m n less = less
 through_steep frame names (s ∷ regions) level m n less =
-    through_steep frame names regions level _ _ (iterate_steep (grown frame (names - length regions)) s
+    through_steep frame names regions level _ _ (iterate_steep (growth frame (names - length regions)) s
     (grown_steep frame (names - length regions) level) m n less)
 
 pub through_under : (frame wider : ℕ → ℕ) (names more : ℕ) (regions : List ℕ) → IsLevel frame → IsLevel wider → IsUnder frame wider → names ≤ more
@@ -52,17 +52,17 @@ through_under frame wider names more [] level flat under few m = omega arith
 through_under frame wider names more (s ∷ regions) level flat under few m =
     let there = names - length regions in
     let here = more - length regions in
-    let h : iterate (grown frame there) s m ≤ iterate (grown wider here) s m =
-    iterate_least (grown frame there) (grown wider here) s s m m (steep_is_level (grown frame there) (grown_steep frame there level))
+    let h : iterate (growth frame there) s m ≤ iterate (growth wider here) s m =
+    iterate_least (growth frame there) (growth wider here) s s m m (steep_is_level (growth frame there) (grown_steep frame there level))
     (grown_up wider here) (grown_under frame wider there here level under (omega arith)) (omega arith) (omega arith) in
     le_trans (steep_is_level (through frame names regions) (through_steep frame names regions level) _ _ h)
-    (through_under frame wider names more regions level flat under few (iterate (grown wider here) s m))
+    (through_under frame wider names more regions level flat under few (iterate (growth wider here) s m))
 
 pub through_up : (frame : ℕ → ℕ) (names : ℕ) (regions : List ℕ) → IsUp (through frame names regions)
 through_up frame names [] m = omega arith
 through_up frame names (s ∷ regions) m =
-    le_trans (iterate_up (grown frame (names - length regions)) s (grown_up frame (names - length regions)) m)
-    (through_up frame names regions (iterate (grown frame (names - length regions)) s m))
+    le_trans (iterate_up (growth frame (names - length regions)) s (grown_up frame (names - length regions)) m)
+    (through_up frame names regions (iterate (growth frame (names - length regions)) s m))
 
 -- no less comes of a bound that is wider in every way
 pub through_least : (frame wider : ℕ → ℕ) (names more c d : ℕ) (regions : List ℕ) → IsLevel frame → IsLevel wider → IsUnder frame wider
@@ -74,7 +74,7 @@ through_least frame wider names more c d regions level flat under few low =
 -- frames of more have more steps
 pub most_level : (frame : ℕ → ℕ) (names : ℕ) → IsLevel frame → IsLevel (most_tokens frame names)
 most_level frame names level m n low =
-    iterate_least (grown frame names) (grown frame names) m n m n (steep_is_level (grown frame names) (grown_steep frame names level))
+    iterate_least (growth frame names) (growth frame names) m n m n (steep_is_level (growth frame names) (grown_steep frame names level))
     (grown_up frame names) (λ k. omega arith) low low
 
 pub frame_steps_level : (bodies names levels : ℕ) → IsLevel (frame_steps bodies names levels)
@@ -94,7 +94,7 @@ frame_steps_under bodies more_bodies names more_names (suc levels) low few m =
     let level = frame_steps_level bodies names levels in
     let under = frame_steps_under bodies more_bodies names more_names levels low few in
     let h : most_tokens frame names m ≤ most_tokens wider more_names m =
-    iterate_least (grown frame names) (grown wider more_names) m m m m (steep_is_level (grown frame names) (grown_steep frame names level))
+    iterate_least (growth frame names) (growth wider more_names) m m m m (steep_is_level (growth frame names) (grown_steep frame names level))
     (grown_up wider more_names) (grown_under frame wider names more_names level under few) (omega arith) (omega arith) in
     let g : bodies * (most_tokens frame names m + 2) ≤ more_bodies * (most_tokens wider more_names m + 2) = mul-le-mul low (omega arith) in
     omega arith
@@ -109,11 +109,11 @@ opened_below frame names c bound g s regions level room low few = go (names - le
     go j zero e f = absurd (omega arith)
     go j (suc k) e f =
         let same : j ≡ k = omega arith in
-        let there : grown frame (names - length regions) ≡ grown frame (suc k) = ap (λ n. grown frame n) (sym f) in
-        let inner : iterate (grown frame (names - length (s ∷ regions))) g (g + c) ≤ iterate (grown frame k) (frame c) (c + frame c) =
-        rw (← e, same) (iterate_least (grown frame k) (grown frame k) g (frame c) (g + c) (c + frame c)
-        (steep_is_level (grown frame k) (grown_steep frame k level)) (grown_up frame k) (λ n. omega arith) low (omega arith)) in
-        let less : iterate (grown frame (names - length (s ∷ regions))) g (g + c) < grown frame (names - length regions) c = rw there (omega arith) in
+        let there : growth frame (names - length regions) ≡ growth frame (suc k) = ap (λ n. growth frame n) (sym f) in
+        let inner : iterate (growth frame (names - length (s ∷ regions))) g (g + c) ≤ iterate (growth frame k) (frame c) (c + frame c) =
+        rw (← e, same) (iterate_least (growth frame k) (growth frame k) g (frame c) (g + c) (c + frame c)
+        (steep_is_level (growth frame k) (grown_steep frame k level)) (grown_up frame k) (λ n. omega arith) low (omega arith)) in
+        let less : iterate (growth frame (names - length (s ∷ regions))) g (g + c) < growth frame (names - length regions) c = rw there (omega arith) in
         lt_of_lt_of_le (through_steep frame names (s ∷ regions) level _ _ less) room.number
 
 pub opened_falls : OpenedFalls

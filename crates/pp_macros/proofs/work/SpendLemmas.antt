@@ -8,13 +8,13 @@ use Rattle.pp_model.specs.Calls.{Fault, Gathered, before, closes}
 use Rattle.pp_model.specs.Names.{Name, is_identifier, line_name}
 use Rattle.pp_model.specs.Taking.{line_number}
 use Rattle.pp_model.specs.declared.read.Taken.TheVariants as given
-use Rattle.pp_macros.specs.inner.Frames.{Layer, Advance, advance, outermost_frame_line}
+use Rattle.pp_macros.specs.inner.Frames.{Frame, Advance, advance, outermost_frame_line}
 use Rattle.pp_macros.specs.Item.{Step, wants_memory}
 use Rattle.pp_model.specs.inner.Reading.{after_listed}
 use Rattle.pp_macros.specs.inner.Defined.{body_tokens}
 use Rattle.pp_macros.specs.inner.Left.{reads_left, most_open, most_bodies, one_more, holding_step, regions_of, regions}
-use Rattle.pp_macros.specs.inner.Machine.{Machine, is_pause, step_of_outcome, taken_as, StepsFetching, StepsTaking, held, moved, TakesNext, now, later, GathersNext, closed, inside, overfull, ended, failed}
-use Rattle.pp_macros.specs.inner.Reach.{grown, through, total}
+use Rattle.pp_macros.specs.inner.Expander.{Expander, is_pause, step_of_outcome, taken_as, StepsFetching, StepsTaking, held, moved, TakesNext, now, later, GathersNext, closed, inside, overfull, ended, failed}
+use Rattle.pp_macros.specs.inner.Reach.{growth, through, total}
 use Rattle.pp_macros.specs.inner.Reader.{Reader, of_source, of_list, Listing, listed_step, Reads, shown_line}
 use Rattle.pp_macros.specs.inner.Source.{Source, StepsSource, IsRefusedStep, Ends, Makes, HasEffect}
 use Rattle.pp_model.specs.Moves.{Effect, gives, gives_item, fails, ends, passes, defines, undefines, opens_where, opens_if, opens_unread, parts, skips_branch, parts_if, closes, renumbers}
@@ -153,7 +153,7 @@ module _ (frame : ℕ → ℕ) (names : ℕ) (level : IsLevel frame) where
   one_more_falls [] = record { number = λ c. grown_some frame (names - 0) c; least = omega arith }
   one_more_falls (s ∷ regions) = record {
     number = λ c.
-        let f = grown frame (names - length regions) in
+        let f = growth frame (names - length regions) in
         through_steep frame names regions level (iterate f s c) (iterate f s (f c))
         (iterate_steep f s (grown_steep frame (names - length regions) level) c (f c) (grown_some frame (names - length regions) c));
     least = omega arith;
@@ -179,7 +179,7 @@ module _ (frame : ℕ → ℕ) (names : ℕ) (level : IsLevel frame) where
   pub less_here : (s t : ℕ) (regions : List ℕ) → t < s → IsNoMore frame names (s ∷ regions) (one_more (t ∷ regions))
   less_here s t regions less = record {
     number = λ c. steep_is_level (through frame names regions) (through_steep frame names regions level) _ _
-        (iterate_more (grown frame (names - length regions)) (suc t) s c (grown_up frame (names - length regions)) less);
+        (iterate_more (growth frame (names - length regions)) (suc t) s c (grown_up frame (names - length regions)) less);
     least = omega arith;
   }
 
@@ -187,7 +187,7 @@ module _ (frame : ℕ → ℕ) (names : ℕ) (level : IsLevel frame) where
   pub over_here : (s : ℕ) (regions : List ℕ) → 0 < s → Falls frame names (s ∷ regions) regions
   over_here s regions some = record {
     number = λ c.
-        let f = grown frame (names - length regions) in
+        let f = growth frame (names - length regions) in
         let once : iterate f 1 c ≤ iterate f s c = iterate_more f 1 s c (grown_up frame (names - length regions)) some in
         through_steep frame names regions level c (iterate f s c) (lt_of_lt_of_le (grown_some frame (names - length regions) c) once);
     least = omega arith;
@@ -201,7 +201,7 @@ module _ (frame : ℕ → ℕ) (names : ℕ) (level : IsLevel frame) where
   room_spends (Err (Error fault)) before after h goes = h
 
   -- a step of the frames
-  frame_spends : (f : Layer) (fs : List Layer) (reads : ℕ) (o : Option Advance) → IfSome o (Advances f)
+  frame_spends : (f : Frame) (fs : List Frame) (reads : ℕ) (o : Option Advance) → IfSome o (Advances f)
       → Spends frame names (frame_move fs o).gives (regions_of (f ∷ fs) reads) (regions_of (frame_move fs o).after reads)
   frame_spends f fs reads None h = over_here (steps_left f) (regions_of fs reads) (some_steps_left f)
   frame_spends f fs reads (Some a) h =
@@ -219,11 +219,11 @@ module _ (frame : ℕ → ℕ) (names : ℕ) (level : IsLevel frame) where
   read_spends (Err (Error fault)) r s h = less_here (reads_left r) (reads_left s) [] h
 
   -- a step of the frames or the reader
-  record IsMoved (move : Step Read) (fs gs : List Layer) (r s : Reader) : Type 0 where
+  record IsMoved (move : Step Read) (fs gs : List Frame) (r s : Reader) : Type 0 where
     spends : Spends frame names move (regions_of fs (reads_left r)) (regions_of gs (reads_left s))
     tightens : Tightens r s
 
-  moves_spend : (move : Step Read) (fs gs : List Layer) (r s : Reader) → Moves fs r move gs s → wants_memory move ≡ false → IsMoved move fs gs r s
+  moves_spend : (move : Step Read) (fs gs : List Frame) (r s : Reader) → Moves fs r move gs s → wants_memory move ≡ false → IsMoved move fs gs r s
   moves_spend move [] gs r s h reported =
       let read = reader_read move r s h.1 reported in
       rw h.0 (record { spends = read_spends move r s read.spends; tightens = read.tightens })
@@ -231,7 +231,7 @@ module _ (frame : ℕ → ℕ) (names : ℕ) (level : IsLevel frame) where
       rw (same, h.0, h.1) (record { spends = frame_spends f fs (reads_left r) (advance f) (advance_lowers f); tightens = tightens_not r })
   moves_spend move (f ∷ fs) gs r s (same, inr h) reported = absurd (let bad : true ≡ false = rw h at reported in cc)
 
-  taken_spends : (move : Step Read) (fs : List Layer) (r : Reader) (before after : List ℕ) → Spends frame names move before after
+  taken_spends : (move : Step Read) (fs : List Frame) (r : Reader) (before after : List ℕ) → Spends frame names move before after
       → Spends frame names (taken_as move fs r) before after
   taken_spends (Ok read) fs r before after h = go (is_identifier line_name read.token.value) (shown_line r
       (unwrap_or (outermost_frame_line fs) read.token.location.line))
@@ -248,12 +248,12 @@ module _ (frame : ℕ → ℕ) (names : ℕ) (level : IsLevel frame) where
   held_spends (Err Finished) before = refl
   held_spends (Err (Error fault)) before = no_more (one_more before)
 
-  pub record IsTaken (step : Step Read) (m n : Machine) (r s : Reader) : Type 0 where
+  pub record IsTaken (step : Step Read) (m n : Expander) (r s : Reader) : Type 0 where
     pub spends : Spends frame names step (regions m r) (regions n s)
     pub tightens : Tightens r s
     pub free : n.held ≡ None
 
-  fetch_spends : (step : Step Read) (m n : Machine) (r s : Reader) → StepsFetching m r step n s → wants_memory step ≡ false → IsTaken step m n r s
+  fetch_spends : (step : Step Read) (m n : Expander) (r s : Reader) → StepsFetching m r step n s → wants_memory step ≡ false → IsTaken step m n r s
   fetch_spends step m n r s (held step1 m1 n1 r1 s1 is at same) reported =
       rw (is, at, same) (record { spends = held_spends step (regions_of m.frames (reads_left r)); tightens = tightens_not r; free = refl })
   fetch_spends step m n r s (moved move step1 m1 n1 r1 s1 free moves is none) reported =
@@ -270,7 +270,7 @@ module _ (frame : ℕ → ℕ) (names : ℕ) (level : IsLevel frame) where
   painted_spends names_open (Err Finished) before after h = h
   painted_spends names_open (Err (Error fault)) before after h = h
 
-  pub step_spends : (step : Step Read) (m n : Machine) (r s : Reader) → StepsTaking m r step n s → wants_memory step ≡ false → IsTaken step m n r s
+  pub step_spends : (step : Step Read) (m n : Expander) (r s : Reader) → StepsTaking m r step n s → wants_memory step ≡ false → IsTaken step m n r s
   step_spends step m n r s steps reported =
       let h = fetch_spends steps.first m n r s steps.fetches (painted_reported (masks n.frames s) steps.first (rw steps.paints at reported)) in
       record {
@@ -280,7 +280,7 @@ module _ (frame : ℕ → ℕ) (names : ℕ) (level : IsLevel frame) where
       }
 
   -- what was taken may be held
-  pub record IsTakenOn (step : Step Read) (m n : Machine) (r s : Reader) : Type 0 where
+  pub record IsTakenOn (step : Step Read) (m n : Expander) (r s : Reader) : Type 0 where
     pub spends : IsNoMore frame names (regions m r) (regions (record n { held = Some step }) s)
     pub tightens : Tightens r s
     pub free : n.held ≡ None
@@ -292,7 +292,7 @@ module _ (frame : ℕ → ℕ) (names : ℕ) (level : IsLevel frame) where
   on_spends (Err Finished) before after h goes = rw h (no_more before)
   on_spends (Err (Error fault)) before after h goes = h
 
-  pub next_spends : (step : Step Read) (m n : Machine) (r s : Reader) → TakesNext m r step n s → wants_memory step ≡ false → IsTakenOn step m n r s
+  pub next_spends : (step : Step Read) (m n : Expander) (r s : Reader) → TakesNext m r step n s → wants_memory step ≡ false → IsTakenOn step m n r s
   next_spends step m n r s (now step1 m1 n1 r1 s1 steps goes) reported =
       let h = step_spends step m n r s steps reported in
       let same : regions n s ≡ regions_of n.frames (reads_left s) = ap (λ o. holding_step o (regions_of n.frames (reads_left s))) h.free in
@@ -308,13 +308,13 @@ module _ (frame : ℕ → ℕ) (names : ℕ) (level : IsLevel frame) where
       }
 
   -- after the `)` there is room for a frame, and each token that was gathered took a step
-  pub record IsGathered (g : Gathered) (m n : Machine) (r s : Reader) : Type 0 where
+  pub record IsGathered (g : Gathered) (m n : Expander) (r s : Reader) : Type 0 where
     pub spends : IsNoMore frame names (regions m r) (one_more (regions n s))
     pub least : length g.tokens + total (one_more (regions n s)) ≤ total (regions m r)
     pub tightens : Tightens r s
     pub free : n.held ≡ None
 
-  token_leaves : (read : Read) (m n : Machine) (r s : Reader) → TakesNext m r (Ok read) n s
+  token_leaves : (read : Read) (m n : Expander) (r s : Reader) → TakesNext m r (Ok read) n s
       → IsGathered (record { tokens = []; closing = read.token.location }) m n r s
   token_leaves read m n r s next =
       let h = next_spends (Ok read) m n r s next refl in
@@ -322,7 +322,7 @@ module _ (frame : ℕ → ℕ) (names : ℕ) (level : IsLevel frame) where
       let least : total (one_more (regions n s)) ≤ total (regions m r) = rw same (h.spends.least) in
       record { spends = rw same h.spends; least = omega (arith, least); tightens = h.tightens; free = h.free }
 
-  pub gather_leaves : (l : ℕ) (last : Location) (m n : Machine) (r s : Reader) (o : Result Gathered Fault) → GathersNext l last m r o n s
+  pub gather_leaves : (l : ℕ) (last : Location) (m n : Expander) (r s : Reader) (o : Result Gathered Fault) → GathersNext l last m r o n s
       → IfOk o (λ g. IsGathered g m n r s)
   gather_leaves l last m n r s o (closed l1 last1 read m1 n1 r1 s1 g next out is) = rw is (token_leaves read m n r s next)
   gather_leaves l last m n r s o (inside l1 k last1 read m1 between n1 r1 s1 t1 rest g next in_call more is) =
@@ -346,7 +346,7 @@ module _ (frame : ℕ → ℕ) (names : ℕ) (level : IsLevel frame) where
   gather_leaves l last m n r s o (failed l1 last1 fault m1 n1 r1 s1 g next reported is) = rw is tt
 
   -- no more is left after what comes next, and after a search, however it ends
-  pub record IsLeft (m n : Machine) (r s : Reader) : Type 0 where
+  pub record IsLeft (m n : Expander) (r s : Reader) : Type 0 where
     pub spends : IsNoMore frame names (regions m r) (regions n s)
     pub tightens : Tightens r s
 
@@ -356,14 +356,14 @@ module _ (frame : ℕ → ℕ) (names : ℕ) (level : IsLevel frame) where
   holding_no_more (Err Finished) xs = no_more xs
   holding_no_more (Err (Error fault)) xs = falls_at_most (one_more xs) xs (one_more_falls xs)
 
-  pub next_left : (step : Step Read) (m n : Machine) (r s : Reader) → TakesNext m r step n s → wants_memory step ≡ false → IsLeft m n r s
+  pub next_left : (step : Step Read) (m n : Expander) (r s : Reader) → TakesNext m r step n s → wants_memory step ≡ false → IsLeft m n r s
   next_left step m n r s next reported =
       let h = next_spends step m n r s next reported in
       let xs = regions_of n.frames (reads_left s) in
       let same : regions n s ≡ xs = ap (λ o. holding_step o xs) h.free in
       record { spends = rw same (no_more_then (regions m r) (holding_step (Some step) xs) xs h.spends (holding_no_more step xs)); tightens = h.tightens }
 
-  pub gather_left : (l : ℕ) (last : Location) (m n : Machine) (r s : Reader) (o : Result Gathered Fault) → GathersNext l last m r o n s → IsLeft m n r s
+  pub gather_left : (l : ℕ) (last : Location) (m n : Expander) (r s : Reader) (o : Result Gathered Fault) → GathersNext l last m r o n s → IsLeft m n r s
   gather_left l last m n r s o (closed l1 last1 read m1 n1 r1 s1 g next out is) = next_left (Ok read) m n r s next refl
   gather_left l last m n r s o (inside l1 k last1 read m1 between n1 r1 s1 t1 rest g next in_call more is) =
       let h = next_left (Ok read) m between r s1 next refl in

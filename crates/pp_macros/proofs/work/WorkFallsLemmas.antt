@@ -9,10 +9,10 @@ use Rattle.pp_model.specs.declared.read.Read.{Read}
 use Rattle.pp_model.specs.Names.{Name}
 use Rattle.pp_model.specs.Definitions.{Definition}
 use Rattle.pp_model.specs.SpliceList.{parameter_of}
-use Rattle.pp_macros.specs.inner.Frames.{Layer, layer, argument_at}
+use Rattle.pp_macros.specs.inner.Frames.{Frame, new_frame, argument_at}
 use Rattle.pp_macros.specs.inner.Left.{reads_left, most_open, most_bodies, one_more, regions_of, regions, work_of}
-use Rattle.pp_macros.specs.inner.Machine.{Machine}
-use Rattle.pp_macros.specs.inner.Reach.{grown, through, total, most_tokens, frame_steps}
+use Rattle.pp_macros.specs.inner.Expander.{Expander}
+use Rattle.pp_macros.specs.inner.Reach.{growth, through, total, most_tokens, frame_steps}
 use Rattle.pp_macros.specs.inner.Reader.{Reader, Listing, of_list}
 use Rattle.pp_macros.specs.inner.Work.{token_steps, body_steps, steps_left}
 use Rattle.pp_macros.proofs.work.IterateLemmas.{iterate_least, steep_is_level}
@@ -24,7 +24,7 @@ abbrev pub frame_of : ℕ → Reader → ℕ → ℕ
 frame_of levels r = frame_steps (most_bodies r) (most_open r) levels
 
 -- what is left falls where the regions fall
-pub falls_work : (levels : ℕ) (m n : Machine) (r s : Reader) → Tightens r s → Falls (frame_of levels r) (most_open r) (regions m r) (regions n s)
+pub falls_work : (levels : ℕ) (m n : Expander) (r s : Reader) → Tightens r s → Falls (frame_of levels r) (most_open r) (regions m r) (regions n s)
     → work_of levels n s < work_of levels m r
 falls_work levels m n r s tight falls =
     lt_of_le_of_lt
@@ -34,7 +34,7 @@ falls_work levels m n r s tight falls =
     (omega (arith, falls.least)))
     (falls.number (total (regions m r)))
 
-pub no_more_work : (levels : ℕ) (m n : Machine) (r s : Reader) → Tightens r s
+pub no_more_work : (levels : ℕ) (m n : Expander) (r s : Reader) → Tightens r s
     → IsNoMore (frame_of levels r) (most_open r) (regions m r) (regions n s) → work_of levels n s ≤ work_of levels m r
 no_more_work levels m n r s tight h =
     le_trans
@@ -44,7 +44,7 @@ no_more_work levels m n r s tight h =
     (h.number (total (regions m r)))
 
 -- a frame that opens where there is room lowers what is left
-pub opened_work : (levels : ℕ) (m : Machine) (f : Layer) (fs : List Layer) (r s : Reader) → Tightens r s
+pub opened_work : (levels : ℕ) (m : Expander) (f : Frame) (fs : List Frame) (r s : Reader) → Tightens r s
     → IsNoMore (frame_of levels r) (most_open r) (regions m r) (one_more (regions_of fs (reads_left s)))
     → steps_left f ≤ frame_of levels r (total (regions m r)) → length (f ∷ fs) ≤ most_open s
     → work_of levels (record { held = None; frames = f ∷ fs }) s < work_of levels m r
@@ -59,7 +59,7 @@ opened_work levels m f (g ∷ gs) r s tight room low few =
     (steps_left f) (steps_left g) (regions_of gs (reads_left s)) tight.bodies tight.names
     (record { least = omega (arith, room.least); number = room.number c }) low (omega (arith, few, tight.names, length_regions gs (reads_left s)))
   where
-    length_regions : (fs : List Layer) (reads : ℕ) → length (regions_of fs reads) ≡ suc (length fs)
+    length_regions : (fs : List Frame) (reads : ℕ) → length (regions_of fs reads) ≡ suc (length fs)
     length_regions [] reads = refl
     length_regions (f ∷ fs) reads = ap suc (length_regions fs reads)
 
@@ -91,7 +91,7 @@ argument_least arguments most all k = go (slice_get arguments k) refl
 
 -- the frame of an object-like macro
 pub object_steps : (levels c bodies names : ℕ) (name : Name) (line : ℕ) (definition : Definition) → length definition.body ≤ bodies
-    → steps_left (layer name line definition []) ≤ frame_steps bodies names levels c
+    → steps_left (new_frame name line definition []) ≤ frame_steps bodies names levels c
 object_steps zero c bodies names name line definition low =
     let h = body_least definition.parameters [] 0 definition.body (λ k. omega arith) in
     let g : length definition.body * 2 ≤ bodies * 2 = mul-le-mul low (omega arith) in
@@ -106,7 +106,7 @@ object_steps (suc levels) c bodies names name line definition low =
 pub call_steps : (levels c bodies names : ℕ) (name : Name) (line : ℕ) (definition : Definition) (arguments : List (List Read))
     → length definition.body ≤ bodies
     → All (λ argument. length argument ≤ most_tokens (frame_steps bodies names levels) names c) arguments
-    → steps_left (layer name line definition arguments) ≤ frame_steps bodies names (suc levels) c
+    → steps_left (new_frame name line definition arguments) ≤ frame_steps bodies names (suc levels) c
 call_steps levels c bodies names name line definition arguments low all =
     let most = most_tokens (frame_steps bodies names levels) names c in
     let h = body_least definition.parameters arguments most definition.body (argument_least arguments most all) in
@@ -123,8 +123,8 @@ alone_least levels n c r s tight low =
     let frame = frame_of levels s in
     let wider = frame_of levels r in
     let level = frame_steps_level (most_bodies s) (most_open s) levels in
-    iterate_least (grown frame (most_open s)) (grown wider (most_open r)) n c n c
-    (steep_is_level (grown frame (most_open s)) (grown_steep frame (most_open s) level)) (grown_up wider (most_open r))
+    iterate_least (growth frame (most_open s)) (growth wider (most_open r)) n c n c
+    (steep_is_level (growth frame (most_open s)) (grown_steep frame (most_open s) level)) (grown_up wider (most_open r))
     (grown_under frame wider (most_open s) (most_open r) level
     (frame_steps_under (most_bodies s) (most_bodies r) (most_open s) (most_open r) levels tight.bodies tight.names) tight.names) low low
 
@@ -136,20 +136,20 @@ start_work levels list =
     let f = frame_of levels (of_list list) in
     let e : n + 0 ≡ n = omega arith in
     let d : most_open (of_list list) - 0 ≡ most_open (of_list list) = omega arith in
-    ap (λ k. iterate (grown f (most_open (of_list list) - 0)) n k) e ∙ ap (λ k. iterate (grown f k) n n) d
+    ap (λ k. iterate (growth f (most_open (of_list list) - 0)) n k) e ∙ ap (λ k. iterate (growth f k) n n) d
 
 -- A call whose arguments were expanded opens its frame: less is left than before its name was taken.
-pub call_opens_falls : (levels n : ℕ) (m : Machine) (fs : List Layer)
+pub call_opens_falls : (levels n : ℕ) (m : Expander) (fs : List Frame)
     (r s : Reader) (name : Name) (line : ℕ) (definition : Definition) (arguments : List (List Read)) → Tightens r s
     → IsNoMore (frame_of (suc levels) r) (most_open r) (regions m r) (one_more (regions_of fs (reads_left s))) → length definition.body ≤ most_bodies r
     → n ≤ total (regions m r) → All (λ argument. length argument ≤ most_alone_at levels s n) arguments
-    → length (layer name line definition arguments ∷ fs) ≤ most_open s
-    → work_of (suc levels) (record { held = None; frames = layer name line definition arguments ∷ fs }) s < work_of (suc levels) m r
+    → length (new_frame name line definition arguments ∷ fs) ≤ most_open s
+    → work_of (suc levels) (record { held = None; frames = new_frame name line definition arguments ∷ fs }) s < work_of (suc levels) m r
 call_opens_falls levels n m fs r s name line definition arguments tight room body low all few =
     let c = total (regions m r) in
     let fits : All (λ (argument : List Read). length argument ≤ most_alone_at levels r c) arguments =
     (λ k d inside. le_trans (all k d inside) (alone_least levels n c r s tight low)) in
-    opened_work (suc levels) m (layer name line definition arguments) fs r s tight room
+    opened_work (suc levels) m (new_frame name line definition arguments) fs r s tight room
     (call_steps levels c (most_bodies r) (most_open r) name line definition arguments body fits) few
 
 -- what tokens come to where fewer names and bodies are defined
@@ -159,6 +159,6 @@ alone_under levels bodies more_bodies names more_names n low few =
     let frame = frame_steps bodies names levels in
     let wider = frame_steps more_bodies more_names levels in
     let level = frame_steps_level bodies names levels in
-    iterate_least (grown frame names) (grown wider more_names) n n n n (steep_is_level (grown frame names) (grown_steep frame names level))
+    iterate_least (growth frame names) (growth wider more_names) n n n n (steep_is_level (growth frame names) (grown_steep frame names level))
     (grown_up wider more_names)
     (grown_under frame wider names more_names level (frame_steps_under bodies more_bodies names more_names levels low few) few) (omega arith) (omega arith)

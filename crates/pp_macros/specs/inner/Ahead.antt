@@ -1,7 +1,7 @@
 -- What the innermost frame gives next, and the frames after its step.
 use Rattle.std.specs.Prelude.{List, [], ◌∷◌, Option, Some, None}
 use Rattle.pp_model.specs.declared.read.Read.{Read}
-use Rattle.pp_macros.specs.inner.Frames.{Layer, Advance, advance}
+use Rattle.pp_macros.specs.inner.Frames.{Frame, Advance, advance}
 use Rattle.pp_macros.specs.inner.Turns.{frame_move}
 
 -- what a frame gives in its step: nothing where it pauses or is at its end
@@ -10,16 +10,16 @@ given_by (Some a) = a.gives
 given_by None = None
 
 -- a frame after its step; one at its end stays
-abbrev pub frame_after : Layer → Option Advance → Layer
+abbrev pub frame_after : Frame → Option Advance → Frame
 frame_after f (Some a) = a.after
 frame_after f None = f
 
 -- what the innermost frame gives next
-abbrev pub given_next : List Layer → Option Read
+abbrev pub given_next : List Frame → Option Read
 given_next [] = None
 given_next (f ∷ fs) = given_by (advance f)
 
 -- the frames after a step of the innermost, which is closed at its end
-abbrev pub frames_after : List Layer → List Layer
+abbrev pub frames_after : List Frame → List Frame
 frames_after [] = []
 frames_after (f ∷ fs) = (frame_move fs (advance f)).after

@@ -8,11 +8,11 @@ use Rattle.pp_model.specs.Names.{Name}
 use Rattle.pp_model.specs.Definitions.{Definition}
 use Rattle.pp_model.specs.Calls.{Fault, Gathered, is_left_paren}
 use Rattle.pp_macros.specs.Item.{Step, is_out_of_memory}
-use Rattle.pp_macros.specs.inner.Frames.{layer}
+use Rattle.pp_macros.specs.inner.Frames.{new_frame}
 use Rattle.pp_macros.specs.Held.{HoldsOrdinary}
-use Rattle.pp_macros.specs.inner.Machine.{Machine, StepsTaking, TakesNext, GathersNext}
+use Rattle.pp_macros.specs.inner.Expander.{Expander, StepsTaking, TakesNext, GathersNext}
 use Rattle.pp_macros.specs.inner.Reader.{Reader}
-use Rattle.pp_macros.specs.inner.Turns.{opens}
+use Rattle.pp_macros.specs.inner.Turns.{macro_of}
 use Rattle.pp_macros.specs.inner.Work.{is_end}
 use Rattle.pp_macros.specs.declared.calls.Taken.{Taken}
 use Rattle.pp_macros.specs.declared.calls.Taken.TheVariants as taken
@@ -25,9 +25,9 @@ paren_of (Ok read) = if is_left_paren read.token.value then Some read.token.loca
 paren_of (Err exit) = None
 
 -- a step whose fault is that memory was refused
-abbrev pub is_refusal : Step Read → Bool
-is_refusal (Err (Error fault)) = is_out_of_memory fault.0
-is_refusal _ = false
+abbrev pub is_out_of_memory_step : Step Read → Bool
+is_out_of_memory_step (Err (Error fault)) = is_out_of_memory fault.0
+is_out_of_memory_step _ = false
 
 -- what is after the name of a function-like macro: no call, the fault of one, or one whose tokens are gathered
 pub data Sought : Type 0 where
@@ -39,14 +39,14 @@ abbrev pub sought_by : Location → Result Gathered Fault → Sought
 sought_by paren (Ok g) = gathered paren g
 sought_by paren (Err fault) = refused fault
 
-pub data Seeks : Machine → Reader → Sought → Machine → Reader → Type 0 where
-  alone : (next : Step Read) (m n : Machine) (r s : Reader) (c : Sought)
+pub data Seeks : Expander → Reader → Sought → Expander → Reader → Type 0 where
+  alone : (next : Step Read) (m n : Expander) (r s : Reader) (c : Sought)
       → TakesNext m r next n s
       → paren_of next ≡ None
-      → is_refusal next ≡ false
+      → is_out_of_memory_step next ≡ false
       → c ≡ no_call next
       → Seeks m r c n s
-  called : (next : Step Read) (paren : Location) (m n p : Machine) (r s t : Reader) (g : Result Gathered Fault)
+  called : (next : Step Read) (paren : Location) (m n p : Expander) (r s t : Reader) (g : Result Gathered Fault)
       (c : Sought)
       → TakesNext m r next n s
       → paren_of next ≡ Some paren
@@ -55,7 +55,7 @@ pub data Seeks : Machine → Reader → Sought → Machine → Reader → Type 0
       → Seeks m r c p t
 
 -- what is sought after a name that was taken
-abbrev pub Finds : Read → Name → Definition → Sought → Step Taken → Machine → Machine → Type 0
+abbrev pub Finds : Read → Name → Definition → Sought → Step Taken → Expander → Expander → Type 0
 Finds read name definition (no_call next) step n p =
     (step ≡ Ok (taken.Token read)) × (p ≡ record n { held = Some next })
 Finds read name definition (refused fault) step n p = (step ≡ Err (Error fault)) × (p ≡ n)
@@ -69,28 +69,28 @@ Finds read name definition (gathered paren g) step n p =
     })))
     × (p ≡ n)
 
-pub data TurnsTo : Machine → Reader → Step Taken → Machine → Reader → Type 0 where
+pub data TurnsTo : Expander → Reader → Step Taken → Expander → Reader → Type 0 where
   -- a pause, a fault or the end
-  passes : (exit : StepExit) (step : Step Taken) (m n : Machine) (r s : Reader)
+  passes : (exit : StepExit) (step : Step Taken) (m n : Expander) (r s : Reader)
       → StepsTaking m r (Err exit) n s
       → step ≡ Err exit
       → TurnsTo m r step n s
   -- a token that opens no macro
-  gives : (read : Read) (step : Step Taken) (m n : Machine) (r s : Reader)
-      → StepsTaking m r (Ok read) n s → opens s read ≡ None
+  gives : (read : Read) (step : Step Taken) (m n : Expander) (r s : Reader)
+      → StepsTaking m r (Ok read) n s → macro_of s read ≡ None
       → step ≡ Ok (taken.Token read)
       → TurnsTo m r step n s
   -- the name of an object-like macro
-  object : (read : Read) (name : Name) (definition : Definition) (step : Step Taken) (m n p : Machine) (r s : Reader)
-      → StepsTaking m r (Ok read) n s → opens s read ≡ Some (name, definition)
+  object : (read : Read) (name : Name) (definition : Definition) (step : Step Taken) (m n p : Expander) (r s : Reader)
+      → StepsTaking m r (Ok read) n s → macro_of s read ≡ Some (name, definition)
       → definition.function_like ≡ false
       → step ≡ Err Continue
-      → p ≡ record n { frames = layer name read.token.location.line definition [] ∷ n.frames }
+      → p ≡ record n { frames = new_frame name read.token.location.line definition [] ∷ n.frames }
       → TurnsTo m r step p s
   -- the name of a function-like macro
-  seeks : (read : Read) (name : Name) (definition : Definition) (c : Sought) (step : Step Taken) (m n p q : Machine)
+  seeks : (read : Read) (name : Name) (definition : Definition) (c : Sought) (step : Step Taken) (m n p q : Expander)
       (r s t : Reader)
-      → StepsTaking m r (Ok read) n s → opens s read ≡ Some (name, definition)
+      → StepsTaking m r (Ok read) n s → macro_of s read ≡ Some (name, definition)
       → definition.function_like ≡ true
       → Seeks n s c p t
       → Finds read name definition c step p q
@@ -102,18 +102,18 @@ TakenHoldsOrdinary (taken.Token read) = HoldsOrdinary read.token.value
 TakenHoldsOrdinary (taken.Call call) = ⊤
 
 -- something is taken, and not the end
-pub record TakesSomething (m : Machine) (r : Reader) : Type 0 where
+pub record TakesSomething (m : Expander) (r : Reader) : Type 0 where
   pub step : Step Read
-  pub after : Machine
+  pub after : Expander
   pub reader : Reader
   pub takes : StepsTaking m r step after reader
   pub goes : is_end step ≡ false
 
 -- a turn that was refused memory, where something was taken
-pub record IsRefusedTurn (m : Machine) (r : Reader) (step : Step Taken) : Type 0 where
+pub record IsRefusedTurn (m : Expander) (r : Reader) (step : Step Taken) : Type 0 where
   pub some : TakesSomething m r
   pub fault : step ≡ Err (Error out_of_memory)
 
 -- a turn, unless memory is refused
-abbrev pub TurnsOrRefuses : Machine → Reader → Step Taken → Machine → Reader → Type 0
+abbrev pub TurnsOrRefuses : Expander → Reader → Step Taken → Expander → Reader → Type 0
 TurnsOrRefuses m r step n s = TurnsTo m r step n s ⊎ IsRefusedTurn m r step

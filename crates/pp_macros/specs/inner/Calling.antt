@@ -6,7 +6,7 @@ use Rattle.pp_model.specs.Names.{Name}
 use Rattle.pp_model.specs.Definitions.{Definition}
 
 -- the macro's name and what it stood for, where its parentheses stand, and what stands between them
-pub record PendingCall : Type 0 where
+pub record MacroCall : Type 0 where
   pub name : Name
   pub definition : Definition
   pub paren : Location

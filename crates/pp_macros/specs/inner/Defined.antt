@@ -1,7 +1,7 @@
 -- What the preprocessor keeps of the names that are defined: a list of them, in which no name stands twice.
 use Rattle.std.specs.Prelude.{◌≡◌, ℕ, ◌+◌, ◌≤◌, List, [], ◌∷◌, ◌++◌, length, Option, Some, None}
 use Rattle.pp_model.specs.Names.{Name}
-use Rattle.pp_model.specs.Definitions.{Definition, Definitions, changed}
+use Rattle.pp_model.specs.Definitions.{Definition, Definitions, with_change}
 use Rattle.pp_model.specs.inner.Definitions.{nothing_defined}
 
 -- a name, and what it stands for
@@ -24,7 +24,7 @@ defined_among (name ∷ names) (definition ∷ definitions) =
 -- what each name stands for
 abbrev pub meaning_of : List Defined → Definitions
 meaning_of [] = nothing_defined
-meaning_of (d ∷ ds) = changed (meaning_of ds) d.name (Some d.definition)
+meaning_of (d ∷ ds) = with_change (meaning_of ds) d.name (Some d.definition)
 
 -- how many tokens all bodies have together
 abbrev pub body_tokens : List Defined → ℕ
@@ -42,6 +42,6 @@ more_tokens (Some definition) = length definition.body
 
 -- the name stands for this from now on, or for nothing, and all other names stay
 pub record IsChanged (name : Name) (change : Option Definition) (old new : List Defined) : Type 0 where
-  pub meaning : meaning_of new ≡ changed (meaning_of old) name change
+  pub meaning : meaning_of new ≡ with_change (meaning_of old) name change
   pub names : length new ≤ length old + more_names change
   pub tokens : body_tokens new ≤ body_tokens old + more_tokens change

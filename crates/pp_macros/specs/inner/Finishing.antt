@@ -5,17 +5,17 @@ use Rattle.pp_model.specs.declared.read.Read.{Read}
 use Rattle.pp_model.specs.Calls.{Fault, Site, arguments_of}
 use Rattle.pp_model.specs.Emitting.{answers_at}
 use Rattle.pp_model.specs.Names.{Name}
-use Rattle.pp_macros.specs.inner.Calling.{PendingCall}
+use Rattle.pp_macros.specs.inner.Calling.{MacroCall}
 use Rattle.pp_macros.specs.inner.Defined.{Defined, meaning_of}
-use Rattle.pp_macros.specs.inner.Frames.{layer, names_of}
+use Rattle.pp_macros.specs.inner.Frames.{new_frame, names_of}
 use Rattle.pp_macros.specs.inner.Left.{most_alone}
-use Rattle.pp_macros.specs.inner.Machine.{Machine}
+use Rattle.pp_macros.specs.inner.Expander.{Expander}
 use Rattle.pp_macros.specs.inner.Reader.{Listing}
 use Rattle.pp_macros.specs.declared.halt.Halt.{Halt}
 use Rattle.pp_macros.specs.declared.halt.Halt.TheVariants as halt
 
 -- where the call stands: what is defined there, and open
-abbrev pub site_at : PendingCall → List Defined → List Name → Site
+abbrev pub site_at : MacroCall → List Defined → List Name → Site
 site_at call definitions around =
     record {
       paren = call.paren;
@@ -25,20 +25,20 @@ site_at call definitions around =
     }
 
 -- no argument of the call is longer than it may be
-abbrev pub AreOfCall : ℕ → List Defined → PendingCall → List (List Read) → Type 0
+abbrev pub AreOfCall : ℕ → List Defined → MacroCall → List (List Read) → Type 0
 AreOfCall levels definitions call arguments =
     All (λ argument. length argument ≤ most_alone (levels - 1) definitions (length call.tokens)) arguments
 
 -- its frame is open, with arguments that it comes to, which are no longer than they may be
-pub record IsOpened (levels : ℕ) (definitions : List Defined) (around : List Name) (call : PendingCall)
-    (old new : Machine) : Type 0 where
+pub record IsOpened (levels : ℕ) (definitions : List Defined) (around : List Name) (call : MacroCall)
+    (old new : Expander) : Type 0 where
   pub arguments : List (List Read)
   pub answers : answers_at levels call.definition (site_at call definitions around) (Ok arguments)
   pub least : AreOfCall levels definitions call arguments
-  pub opens : new ≡ record old { frames = layer call.name call.closing.line call.definition arguments ∷ old.frames }
+  pub opens : new ≡ record old { frames = new_frame call.name call.closing.line call.definition arguments ∷ old.frames }
 
 -- the frame opens, or the call has a fault; of a refusal of memory nothing is said
-abbrev pub Finishes : ℕ → List Defined → List Name → PendingCall → Machine → Result (Unit {0}) Halt → Machine → Type 0
+abbrev pub Finishes : ℕ → List Defined → List Name → MacroCall → Expander → Result (Unit {0}) Halt → Expander → Type 0
 Finishes levels definitions hidden call old (Ok done) new =
     IsOpened levels definitions (names_of old.frames ++ hidden) call old new
 Finishes levels definitions hidden call old (Err (halt.Fault fault)) new =
@@ -56,7 +56,7 @@ AreShort levels definitions arguments outs = (n : ℕ) → All (λ argument. len
     → All (λ out. length out ≤ most_alone levels definitions n) outs
 
 -- nothing is open or held, and the list is an argument where these definitions and names stand
-pub record IsAtStart (definitions : List Defined) (hidden : List Name) (m : Machine) (l : Listing) : Type 0 where
+pub record IsAtStart (definitions : List Defined) (hidden : List Name) (m : Expander) (l : Listing) : Type 0 where
   pub idle : m ≡ record { held = None; frames = [] }
   pub argument : l ≡ record { tokens = l.tokens; definitions = definitions; hidden = hidden; is_line = false }
 

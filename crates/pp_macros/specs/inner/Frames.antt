@@ -6,14 +6,14 @@ use Rattle.pp_model.specs.declared.read.Read.{Read}
 use Rattle.pp_model.specs.Painting.{unpainted}
 use Rattle.pp_model.specs.Names.{Name}
 use Rattle.pp_model.specs.Definitions.{Definition}
-use Rattle.pp_model.specs.SpliceList.{replaced, parameter_of}
+use Rattle.pp_model.specs.SpliceList.{body_before, parameter_of}
 use Rattle.pp_model.specs.inner.SpliceList.{followed_by}
 use Rattle.pp_model.specs.declared.splice.Entry.{Entry}
 use Rattle.pp_model.specs.declared.splice.Entry.TheVariants.{End}
 
 -- A frame: the macro's name, the line that `__LINE__` shows in it, its parameters, what is left of its body, its
 -- arguments, and what is left of the argument that is being read.
-pub record Layer : Type 0 where
+pub record Frame : Type 0 where
   pub name : Name
   pub line : ℕ
   pub parameters : List Name
@@ -22,8 +22,8 @@ pub record Layer : Type 0 where
   pub reading : Option (List Read)
 
 -- the frame of a macro as it opens
-abbrev pub layer : Name → ℕ → Definition → List (List Read) → Layer
-layer name line definition arguments = record {
+abbrev pub new_frame : Name → ℕ → Definition → List (List Read) → Frame
+new_frame name line definition arguments = record {
   name = name;
   line = line;
   parameters = definition.parameters;
@@ -36,30 +36,30 @@ layer name line definition arguments = record {
 -- what a frame gives, or nothing where it pauses, and the frame after it
 pub record Advance : Type 0 where
   pub gives : Option Read
-  pub after : Layer
+  pub after : Frame
 
 abbrev pub argument_at : List (List Read) → ℕ → List Read
 argument_at arguments k = unwrap_or (slice_get arguments k) []
 
 -- a parameter in the body starts its argument, and pauses; another token of the body is given
-abbrev pub body_token : Layer → Token → List Token → Option ℕ → Advance
+abbrev pub body_token : Frame → Token → List Token → Option ℕ → Advance
 body_token f token rest None = record { gives = Some (unpainted token); after = record f { body = rest } }
 body_token f token rest (Some k) =
     record { gives = None; after = record f { body = rest; reading = Some (argument_at f.arguments k) } }
 
 -- nothing where the body is at its end
-abbrev pub advance_body : Layer → List Token → Option Advance
+abbrev pub advance_body : Frame → List Token → Option Advance
 advance_body f [] = None
 advance_body f (token ∷ rest) = Some (body_token f token rest (parameter_of f.parameters token.value))
 
 -- the next token of the argument that is being read is given; its end pauses
-abbrev pub advance_reading : Layer → Option (List Read) → Option Advance
+abbrev pub advance_reading : Frame → Option (List Read) → Option Advance
 advance_reading f (Some (read ∷ rest)) = Some (record { gives = Some read; after = record f { reading = Some rest } })
 advance_reading f (Some []) = Some (record { gives = None; after = record f { reading = None } })
 advance_reading f None = advance_body f f.body
 
 -- one step of a frame, or nothing where it is at its end
-abbrev pub advance : Layer → Option Advance
+abbrev pub advance : Frame → Option Advance
 advance f = advance_reading f f.reading
 
 abbrev pub reading_before : Option (List Read) → List Entry → List Entry
@@ -67,21 +67,21 @@ reading_before None entries = entries
 reading_before (Some tokens) entries = followed_by tokens entries
 
 -- what a frame stands for: the rest of its argument, the rest of its body, and its end mark
-abbrev pub layer_before : Layer → List Entry → List Entry
+abbrev pub layer_before : Frame → List Entry → List Entry
 layer_before f entries =
     reading_before f.reading
-    (replaced f.parameters f.arguments f.body (End (record { name = f.name; line = f.line }) ∷ entries))
+    (body_before f.parameters f.arguments f.body (End (record { name = f.name; line = f.line }) ∷ entries))
 
 -- the splice list that the frames stand for, the innermost frame first
-abbrev pub flat : List Layer → List Entry
+abbrev pub flat : List Frame → List Entry
 flat [] = []
 flat (f ∷ fs) = layer_before f (flat fs)
 
 -- the names of the frames: these macros are open
-abbrev pub names_of : List Layer → List Name
+abbrev pub names_of : List Frame → List Name
 names_of frames = map (λ f. f.name) frames
 
 -- the line of the outermost frame, which is the last
-abbrev pub outermost_frame_line : List Layer → Option ℕ
+abbrev pub outermost_frame_line : List Frame → Option ℕ
 outermost_frame_line [] = None
 outermost_frame_line (f ∷ fs) = Some (unwrap_or (outermost_frame_line fs) f.line)

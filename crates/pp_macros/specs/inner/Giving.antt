@@ -4,40 +4,40 @@ use Rattle.std.specs.Prelude.{◌≡◌, ◌&&◌, Bool, true, false, List, [], 
 use Rattle.pp_model.specs.declared.read.Read.{Read}
 use Rattle.pp_macros.specs.inner.Ahead.{given_next}
 use Rattle.pp_macros.specs.inner.Frames.{outermost_frame_line}
-use Rattle.pp_macros.specs.inner.Machine.{Machine, StepsTaking}
+use Rattle.pp_macros.specs.inner.Expander.{Expander, StepsTaking}
 use Rattle.pp_macros.specs.inner.Reader.{Reader}
-use Rattle.pp_macros.specs.inner.Turns.{opens}
+use Rattle.pp_macros.specs.inner.Turns.{macro_of}
 use Rattle.pp_macros.specs.declared.step.StepExit.TheVariants.{Continue}
 
 -- one step: a pause, or a token
-pub data GivesOne (r : Reader) (m : Machine) (items : List Read) (n : Machine) (more : List Read) : Type 0 where
+pub data GivesOne (r : Reader) (m : Expander) (items : List Read) (n : Expander) (more : List Read) : Type 0 where
   pause : StepsTaking m r (Err Continue) n r → more ≡ items → GivesOne r m items n more
   token : (read : Read)
-      → StepsTaking m r (Ok read) n r → opens r read ≡ None
+      → StepsTaking m r (Ok read) n r → macro_of r read ≡ None
       → more ≡ items ++ read ∷ []
       → GivesOne r m items n more
 
 -- one step, or none
-abbrev pub GivesNext : Reader → Machine → List Read → Bool → Machine → List Read → Type 0
+abbrev pub GivesNext : Reader → Expander → List Read → Bool → Expander → List Read → Type 0
 GivesNext r m items true n more = GivesOne r m items n more
 GivesNext r m items false n more = (n ≡ m) × (more ≡ items)
 
 -- any number of steps
-pub data GivesEach (r : Reader) (m : Machine) (items : List Read) : Machine → List Read → Type 0 where
-  none : (n : Machine) (more : List Read) → n ≡ m → more ≡ items → GivesEach r m items n more
-  further : (n p : Machine) (some more : List Read)
+pub data GivesEach (r : Reader) (m : Expander) (items : List Read) : Expander → List Read → Type 0 where
+  none : (n : Expander) (more : List Read) → n ≡ m → more ≡ items → GivesEach r m items n more
+  further : (n p : Expander) (some more : List Read)
       → GivesEach r m items n some
       → GivesOne r n some p more
       → GivesEach r m items p more
 
 -- nothing is held, and a macro is open whose next step is a pause
-abbrev pub is_at_pause : Machine → Bool
+abbrev pub is_at_pause : Expander → Bool
 is_at_pause m = is_none m.held && (is_some (outermost_frame_line m.frames) && is_none (given_next m.frames))
 
 -- any number of pauses of the frames, whatever is read after them
-pub data PausesEach (m : Machine) : Machine → Type 0 where
-  at_once : (n : Machine) → n ≡ m → PausesEach m n
-  after : (n p : Machine)
+pub data PausesEach (m : Expander) : Expander → Type 0 where
+  at_once : (n : Expander) → n ≡ m → PausesEach m n
+  after : (n p : Expander)
       → PausesEach m n
       → ((r : Reader) → StepsTaking n r (Err Continue) p r)
       → PausesEach m p

@@ -8,24 +8,24 @@ use Rattle.pp_model.specs.declared.read.Read.{Read}
 use Rattle.pp_model.specs.declared.read.Taken.TheVariants as given
 use Rattle.pp_macros.specs.inner.Frames.{outermost_frame_line}
 use Rattle.pp_macros.specs.Item.{Step}
-use Rattle.pp_macros.specs.inner.Machine.{Machine}
+use Rattle.pp_macros.specs.inner.Expander.{Expander}
 use Rattle.pp_macros.specs.inner.Reader.{of_source}
 use Rattle.pp_macros.specs.inner.Source.{Source}
 use Rattle.pp_macros.specs.inner.Turns.{taken_in}
 use Rattle.pp_macros.specs.declared.step.StepExit.TheVariants.{Error}
 
 -- nothing is held, and no macro is open
-abbrev pub is_idle : Machine → Bool
+abbrev pub is_idle : Expander → Bool
 is_idle m = not (is_some m.held) && not (is_some (outermost_frame_line m.frames))
 
 -- the word as it is taken is held
-pub record IsHeld (word : Token) (source : Source) (old new : Machine) : Type 0 where
+pub record IsHeld (word : Token) (source : Source) (old new : Expander) : Type 0 where
   pub token : Read
   pub taken : taken_in [] (of_source source) (unpainted word) ≡ given.Token token
   pub holds : new ≡ record old { held = Some (Ok token) }
 
 -- it is held, or `__LINE__` out of range
-abbrev pub HoldsWord : Token → Source → Machine → Step (Unit {0}) → Machine → Type 0
+abbrev pub HoldsWord : Token → Source → Expander → Step (Unit {0}) → Expander → Type 0
 HoldsWord word source old (Ok done) new = IsHeld word source old new
 HoldsWord word source old (Err exit) new =
     (exit ≡ Error (LineOverflow, word.location))

@@ -5,8 +5,8 @@ use Rattle.pp_model.specs.ApartMarks.{AreApart}
 use Rattle.pp_model.specs.Names.{Name}
 use Rattle.pp_macros.specs.inner.Defined.{Defined, meaning_of, body_tokens}
 use Rattle.pp_macros.specs.Item.{Step}
-use Rattle.pp_macros.specs.inner.Frames.{Layer, names_of}
-use Rattle.pp_macros.specs.inner.Machine.{Machine}
+use Rattle.pp_macros.specs.inner.Frames.{Frame, names_of}
+use Rattle.pp_macros.specs.inner.Expander.{Expander}
 use Rattle.pp_macros.specs.inner.Reader.{Reader, of_source, of_list, definitions_of}
 use Rattle.pp_macros.specs.inner.Reach.{work_in, frame_steps, most_tokens}
 use Rattle.pp_macros.specs.inner.Work.{most_reads, steps_left, is_end}
@@ -38,15 +38,15 @@ holding_step None regions = regions
 holding_step (Some step) regions = if is_end step then regions else one_more regions
 
 -- the steps that are left in each frame, the innermost first, and in the reader
-abbrev pub regions_of : List Layer → ℕ → List ℕ
+abbrev pub regions_of : List Frame → ℕ → List ℕ
 regions_of [] reads = reads ∷ []
 regions_of (f ∷ fs) reads = steps_left f ∷ regions_of fs reads
 
-abbrev pub regions : Machine → Reader → List ℕ
+abbrev pub regions : Expander → Reader → List ℕ
 regions m r = holding_step m.held (regions_of m.frames (reads_left r))
 
 -- how much is left, where arguments may be read inside each other so many levels deeper
-abbrev pub work_of : ℕ → Machine → Reader → ℕ
+abbrev pub work_of : ℕ → Expander → Reader → ℕ
 work_of levels m r = work_in (frame_steps (most_bodies r) (most_open r) levels) (most_open r) (regions m r)
 
 -- all names but the outermost are defined
@@ -62,7 +62,7 @@ pub record AreOpenSoundly (definitions : List Defined) (names : List Name) : Typ
   pub apart : AreApart names
   pub defined : AreDefinedAbove definitions names
 
-abbrev pub IsSound : Machine → Reader → Type 0
+abbrev pub IsSound : Expander → Reader → Type 0
 IsSound m r = AreOpenSoundly (definitions_of r) (names_of m.frames)
 
 -- tokens that are read alone come to at most so many, where arguments may be read inside

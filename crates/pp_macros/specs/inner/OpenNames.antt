@@ -22,19 +22,19 @@ placed_at was_open name position positions =
     if was_open then positions else record { name = name; position = position } ∷ positions
 
 -- a frame of this name opens at the position
-abbrev pub opened : Name → ℕ → List Position → List Position
-opened name position positions = placed_at (is_open positions name) name position positions
+abbrev pub after_opening : Name → ℕ → List Position → List Position
+after_opening name position positions = placed_at (is_open positions name) name position positions
 
 -- the innermost frame, at this position, closes: so does the name that opened last, if this was its outermost frame
-abbrev pub closed : ℕ → List Position → List Position
-closed position [] = []
-closed position (p ∷ positions) = if p.position == position then positions else p ∷ positions
+abbrev pub after_closing : ℕ → List Position → List Position
+after_closing position [] = []
+after_closing position (p ∷ positions) = if p.position == position then positions else p ∷ positions
 
 -- the outermost frame of each name, where the frames have these names, the innermost first
-abbrev pub outermost : List Name → List Position
-outermost [] = []
-outermost (name ∷ names) = placed_at (is_in name names) name (length names) (outermost names)
+abbrev pub outermost_positions : List Name → List Position
+outermost_positions [] = []
+outermost_positions (name ∷ names) = placed_at (is_in name names) name (length names) (outermost_positions names)
 
 -- the names of the frames inside the outermost eight, where the frames have these names, the innermost first
-abbrev pub deeper : List Name → List Name
-deeper names = take (length names - 8) names
+abbrev pub deeper_names : List Name → List Name
+deeper_names names = take (length names - 8) names

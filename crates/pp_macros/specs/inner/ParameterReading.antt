@@ -48,10 +48,10 @@ alone None = None
 alone (Some name) = Some (name ∷ [])
 
 -- how the lexer stands after a value or a fault
-abbrev pub GoesOn : {A : Type 0} → Result A Halt → SourceLexed → SourceLexed → Type 0
-GoesOn (Ok value) old new = HasGoneOn old new
-GoesOn (Err (halt.Fault fault)) old new = HasGoneOn old new
-GoesOn (Err halt.OutOfMemory) old new = ⊤
+abbrev pub GoesOnInLine : {A : Type 0} → Result A Halt → SourceLexed → SourceLexed → Type 0
+GoesOnInLine (Ok value) old new = HasGoneOn old new
+GoesOnInLine (Err (halt.Fault fault)) old new = HasGoneOn old new
+GoesOnInLine (Err halt.OutOfMemory) old new = ⊤
 
 -- a macro with parameters, after its `(`
 abbrev pub function_at : Location → List Seen → Result Definition Fault

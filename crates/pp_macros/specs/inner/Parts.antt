@@ -17,5 +17,5 @@ AreInOrder from [] to = from ≤ to
 AreInOrder from (part ∷ parts) to = (from ≤ part.start) × (part.start ≤ part.end) × AreInOrder part.end parts to
 
 -- what was put after these tokens
-abbrev pub added : List Read → List Read → List Read
-added old new = drop (length old) new
+abbrev pub addition : List Read → List Read → List Read
+addition old new = drop (length old) new

@@ -20,14 +20,14 @@ use Rattle.std.specs.Fn.{iterate}
 
 -- So much is at hand at most, where this much was, after one more token of a region over which so many names may open.
 -- The token may open a frame, of so many steps at most as `frame` says of what is at hand.
-abbrev pub grown : (ℕ → ℕ) → ℕ → ℕ → ℕ
-grown frame zero c = suc c
-grown frame (suc names) c = suc (iterate (grown frame names) (frame c) (c + frame c))
+abbrev pub growth : (ℕ → ℕ) → ℕ → ℕ → ℕ
+growth frame zero c = suc c
+growth frame (suc names) c = suc (iterate (growth frame names) (frame c) (c + frame c))
 
 -- the same after all regions, the innermost first, over the last of which so many names may open
 abbrev pub through : (ℕ → ℕ) → ℕ → List ℕ → ℕ → ℕ
 through frame names [] c = c
-through frame names (s ∷ regions) c = through frame names regions (iterate (grown frame (names - length regions)) s c)
+through frame names (s ∷ regions) c = through frame names regions (iterate (growth frame (names - length regions)) s c)
 
 abbrev pub total : List ℕ → ℕ
 total [] = 0
@@ -39,7 +39,7 @@ work_in frame names regions = through frame names regions (total regions)
 
 -- so many tokens come at most of so many that are read alone, where frames have so many steps
 abbrev pub most_tokens : (ℕ → ℕ) → ℕ → ℕ → ℕ
-most_tokens frame names c = iterate (grown frame names) c c
+most_tokens frame names c = iterate (growth frame names) c c
 
 -- so many steps a frame has at most that opens where so many tokens are at hand: all bodies have so many tokens
 -- together, and arguments may be read inside each other so many levels deeper

@@ -2,48 +2,50 @@
 use Rattle.std.specs.Prelude.{◌≡◌, true, false, [], ◌∷◌, Option, Some, None, Result, Ok, Err, ⊤}
 use Rattle.pp_model.specs.Names.{Name}
 use Rattle.pp_model.specs.Definitions.{Definition}
-use Rattle.pp_macros.specs.inner.Frames.{layer}
+use Rattle.pp_macros.specs.inner.Frames.{new_frame}
 use Rattle.pp_macros.specs.declared.calls.Taken.{Taken}
 use Rattle.pp_macros.specs.declared.calls.Taken.TheVariants as taken
 use Rattle.pp_macros.specs.declared.step.StepExit.TheVariants.{Continue}
 use Rattle.pp_model.specs.declared.read.Read.{Read}
 use Rattle.pp_macros.specs.inner.CallTurns.{Seeks, Sought, Finds, no_call, refused, gathered}
 use Rattle.pp_macros.specs.Item.{Step}
-use Rattle.pp_macros.specs.inner.Machine.{Machine}
+use Rattle.pp_macros.specs.inner.Expander.{Expander}
 use Rattle.pp_macros.specs.inner.Reader.{Reader}
-use Rattle.pp_macros.specs.declared.calls.Found.{Found}
-use Rattle.pp_macros.specs.declared.calls.Found.TheVariants.{NoCall, Whole}
+use Rattle.pp_macros.specs.declared.calls.AfterName.{AfterName}
+use Rattle.pp_macros.specs.declared.calls.AfterName.TheVariants.{NoCall, Whole}
 use Rattle.pp_macros.specs.declared.halt.Halt.{Halt}
 use Rattle.pp_macros.specs.declared.halt.Halt.TheVariants as halt
 
 -- no call: what was found is held
-pub record FindsNothing (m : Machine) (r : Reader) (n : Machine) (s : Reader) : Type 0 where
+pub record FindsNothing (m : Expander) (r : Reader) (n : Expander) (s : Reader) : Type 0 where
   pub next : Step Read
-  pub before : Machine
+  pub before : Expander
   pub seeks : Seeks m r (no_call next) before s
   pub holds : n ≡ record before { held = Some next }
 
-abbrev pub FindsBy : Machine → Reader → Result Found Halt → Machine → Reader → Type 0
+abbrev pub FindsBy : Expander → Reader → Result AfterName Halt → Expander → Reader → Type 0
 FindsBy m r (Ok NoCall) n s = FindsNothing m r n s
 FindsBy m r (Ok (Whole paren g)) n s = Seeks m r (gathered paren g) n s
 FindsBy m r (Err (halt.Fault fault)) n s = Seeks m r (refused fault) n s
 FindsBy m r (Err halt.OutOfMemory) n s = ⊤
 
 -- a token opens its macro or begins its call, or is given
-pub data Enters (read : Read) (name : Name) (definition : Definition) : Machine → Reader → Step Taken → Machine → Reader
+pub data Enters (read : Read) (name : Name) (definition : Definition) : Expander → Reader → Step Taken → Expander
+    → Reader
     → Type 0 where
-  plain : (step : Step Taken) (m n : Machine) (r s : Reader)
+  plain : (step : Step Taken) (m n : Expander) (r s : Reader)
       → definition.function_like ≡ false
       → step ≡ Err Continue
-      → n ≡ record m { frames = layer name read.token.location.line definition [] ∷ m.frames }
+      → n ≡ record m { frames = new_frame name read.token.location.line definition [] ∷ m.frames }
       → s ≡ r
       → Enters read name definition m r step n s
-  called : (c : Sought) (step : Step Taken) (m p n : Machine) (r s : Reader)
+  called : (c : Sought) (step : Step Taken) (m p n : Expander) (r s : Reader)
       → definition.function_like ≡ true
       → Seeks m r c p s
       → Finds read name definition c step p n
       → Enters read name definition m r step n s
 
-abbrev pub FollowsToken : Option (Name × Definition) → Read → Machine → Reader → Step Taken → Machine → Reader → Type 0
+abbrev pub FollowsToken : Option (Name × Definition) → Read → Expander → Reader → Step Taken → Expander → Reader
+    → Type 0
 FollowsToken None read m r step n s = (step ≡ Ok (taken.Token read)) × (n ≡ m) × (s ≡ r)
 FollowsToken (Some (name, definition)) read m r step n s = Enters read name definition m r step n s

@@ -40,7 +40,7 @@ HavePlaces (s ∷ rest) [] = ⊥
 HavePlaces (s ∷ rest) (place ∷ places) = HavePlaces rest places
 
 -- the end leaves the places as they are
-abbrev pub EndStays : Result (Option LexerToken) Halt → SourceLexed → SourceLexed → Type 0
-EndStays (Ok None) old new = (new.places ≡ old.places) × (new.error_place ≡ old.error_place)
-EndStays (Ok (Some token)) old new = ⊤
-EndStays (Err halt) old new = ⊤
+abbrev pub EndKeepsPlaces : Result (Option LexerToken) Halt → SourceLexed → SourceLexed → Type 0
+EndKeepsPlaces (Ok None) old new = (new.places ≡ old.places) × (new.error_place ≡ old.error_place)
+EndKeepsPlaces (Ok (Some token)) old new = ⊤
+EndKeepsPlaces (Err halt) old new = ⊤

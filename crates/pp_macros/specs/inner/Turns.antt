@@ -11,7 +11,7 @@ use Rattle.pp_model.specs.declared.read.Taken.{Taken as Given}
 use Rattle.pp_model.specs.declared.read.Taken.TheVariants as given
 use Rattle.pp_model.specs.declared.read.Read.{Read}
 use Rattle.pp_macros.specs.Item.{Step}
-use Rattle.pp_macros.specs.inner.Frames.{Layer, Advance, advance, names_of, outermost_frame_line}
+use Rattle.pp_macros.specs.inner.Frames.{Frame, Advance, advance, names_of, outermost_frame_line}
 use Rattle.pp_macros.specs.inner.Reader.{Reader, Reads, visible, hidden_of, shown_line}
 use Rattle.pp_macros.specs.declared.step.StepExit.TheVariants.{Error, Continue}
 
@@ -22,21 +22,21 @@ as_pause None = Err Continue
 -- the innermost frame steps; a frame at its end is closed, which frees its name, and pauses
 pub record FrameMove : Type 0 where
   pub gives : Step Read
-  pub after : List Layer
+  pub after : List Frame
 
-abbrev pub frame_move : List Layer → Option Advance → FrameMove
+abbrev pub frame_move : List Frame → Option Advance → FrameMove
 frame_move fs (Some a) = record { gives = as_pause a.gives; after = a.after ∷ fs }
 frame_move fs None = record { gives = Err Continue; after = fs }
 
 -- one step of the frames, or of the reader where there are none
-abbrev pub Moves : List Layer → Reader → Step Read → List Layer → Reader → Type 0
+abbrev pub Moves : List Frame → Reader → Step Read → List Frame → Reader → Type 0
 Moves [] old step after new = (after ≡ []) × Reads old step new
 Moves (f ∷ fs) old step after new = (new ≡ old)
     × ((step ≡ (frame_move fs (advance f)).gives) × (after ≡ (frame_move fs (advance f)).after)
     ⊎ (step ≡ Err (Error out_of_memory)))
 
 -- a token that is taken: `__LINE__` becomes a number at once
-abbrev pub taken_in : List Layer → Reader → Read → Given
+abbrev pub taken_in : List Frame → Reader → Read → Given
 taken_in frames reader read =
     if is_identifier line_name read.token.value
     then line_number read.token.location
@@ -44,7 +44,7 @@ taken_in frames reader read =
     else given.Token read
 
 -- the names that are open here or around
-abbrev pub masks : List Layer → Reader → List Name
+abbrev pub masks : List Frame → Reader → List Name
 masks frames reader = names_of frames ++ hidden_of reader
 
 -- the step gives `__LINE__`
@@ -56,10 +56,10 @@ abbrev pub opened_by : Name → Option Definition → Option (Name × Definition
 opened_by name None = None
 opened_by name (Some definition) = Some (name, definition)
 
-abbrev pub opens_value : Reader → TokenValue → Option (Name × Definition)
-opens_value reader (Ident name) = opened_by name (visible reader name)
-opens_value reader _ = None
+abbrev pub macro_of_value : Reader → TokenValue → Option (Name × Definition)
+macro_of_value reader (Ident name) = opened_by name (visible reader name)
+macro_of_value reader _ = None
 
 -- the macro that a token opens: its name is defined, and it isn't painted
-abbrev pub opens : Reader → Read → Option (Name × Definition)
-opens reader read = if read.painted then None else opens_value reader read.token.value
+abbrev pub macro_of : Reader → Read → Option (Name × Definition)
+macro_of reader read = if read.painted then None else macro_of_value reader read.token.value

@@ -5,7 +5,7 @@ use Rattle.pp_model.specs.declared.read.Read.{Read}
 use Rattle.pp_model.specs.Names.{Name}
 use Rattle.pp_model.specs.SpliceList.{parameter_of}
 use Rattle.pp_macros.specs.inner.Defined.{body_tokens}
-use Rattle.pp_macros.specs.inner.Frames.{Layer, argument_at}
+use Rattle.pp_macros.specs.inner.Frames.{Frame, argument_at}
 use Rattle.pp_macros.specs.Item.{Step, wants_memory}
 use Rattle.pp_macros.specs.inner.Source.{Source}
 use Rattle.pp_macros.specs.declared.step.StepExit.TheVariants.{Finished}
@@ -26,7 +26,7 @@ reading_steps None = 0
 reading_steps (Some tokens) = length tokens + 1
 
 -- the steps that are left in a frame
-abbrev pub steps_left : Layer → ℕ
+abbrev pub steps_left : Frame → ℕ
 steps_left f = reading_steps f.reading + body_steps f.parameters f.arguments f.body
 
 -- no more items and open blocks come of the source

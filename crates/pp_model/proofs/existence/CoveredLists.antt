@@ -2,7 +2,7 @@
 -- or such a list before it.
 use Rattle.std.proofs.Common.{◌≡◌, ℕ, ◌+◌, ◌<◌, Bool, true, false, List, [], ◌∷◌, ◌++◌, length, refl, ap, Some, None}
 use Rattle.pp_model.specs.Names.{Name, is_same_name, is_in}
-use Rattle.pp_model.specs.SpliceList.{after_marks, open_names, spliced}
+use Rattle.pp_model.specs.SpliceList.{after_marks, open_names, macro_before}
 use Rattle.pp_model.specs.Reading.{Reading, Expander, Opening}
 use Rattle.pp_model.specs.Calls.{Answers}
 use Rattle.pp_model.specs.ApartMarks.{IsRest}
@@ -49,7 +49,7 @@ module _ {R : Type 0} {I : Reading R} {A : Answers} {Fine : R → Type 0} {left 
   -- the property holds where a macro that is defined and not open opens before these entries
   abbrev pub Opens : List Entry → Type 0
   Opens S = (m : Opening) (line : ℕ) (arguments : List (List Read)) → I.visible c.reader m.name ≡ Some m.definition
-      → is_in m.name (open_names S ++ c.hidden) ≡ false → G (over (spliced m.name m.definition line arguments S))
+      → is_in m.name (open_names S ++ c.hidden) ≡ false → G (over (macro_before m.name m.definition line arguments S))
 
   -- the property holds where these entries are left after the marks at the front
   abbrev pub Goes : List Entry → Type 0

@@ -5,24 +5,24 @@ use Rattle.std.specs.Cmp.Lexicographic.{pointwise_decides, bytes_decides}
 use Rattle.pp_lexer.specs.Spelling.{values_of}
 use Rattle.pp_lexer.proofs.values.EqualityLemmas.{value_decides}
 use Rattle.pp_model.specs.Names.{Name, is_same_name, is_in}
-use Rattle.pp_model.specs.Definitions.{Definition, Definitions, changed, IsSameDefinition}
+use Rattle.pp_model.specs.Definitions.{Definition, Definitions, with_change, IsSameDefinition}
 use Rattle.pp_model.specs.ExistenceLaws.{IsFinite}
 
 -- ---- finitely many
 
 module _ (definitions : Definitions) (name : Name) (finite : IsFinite definitions) where
-  pub with_one : (definition : Definition) → IsFinite (changed definitions name (Some definition))
+  pub with_one : (definition : Definition) → IsFinite (with_change definitions name (Some definition))
   with_one definition = record { names = name ∷ finite.names; among = λ other found h. go other found (is_same_name other name) refl h }
     where
-      go : (other : Name) (found : Definition) (b : Bool) → is_same_name other name ≡ b → changed definitions name (Some definition) other ≡ Some found
+      go : (other : Name) (found : Definition) (b : Bool) → is_same_name other name ≡ b → with_change definitions name (Some definition) other ≡ Some found
           → is_in other (name ∷ finite.names) ≡ true
       go other found true p h = rw p refl
       go other found false p h = rw p (finite.among other found (rw p at h))
 
-  pub without_one : IsFinite (changed definitions name None)
+  pub without_one : IsFinite (with_change definitions name None)
   without_one = record { names = finite.names; among = λ other found h. go other found (is_same_name other name) refl h }
     where
-      go : (other : Name) (found : Definition) (b : Bool) → is_same_name other name ≡ b → changed definitions name None other ≡ Some found
+      go : (other : Name) (found : Definition) (b : Bool) → is_same_name other name ≡ b → with_change definitions name None other ≡ Some found
           → is_in other finite.names ≡ true
       go other found true p h = let bad : None ≡ Some found = rw p at h in cc
       go other found false p h = finite.among other found (rw p at h)

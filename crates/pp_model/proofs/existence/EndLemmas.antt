@@ -5,7 +5,7 @@ use Rattle.pp_model.specs.Painting.{item_of}
 use Rattle.pp_model.specs.Reading.{Expander}
 use Rattle.pp_model.specs.Taking.{Takes}
 use Rattle.pp_model.specs.Calls.{Answers}
-use Rattle.pp_model.specs.Emitting.{opened, Emits, itself, object, name_alone, call_refused, call}
+use Rattle.pp_model.specs.Emitting.{with_macro, Emits, itself, object, name_alone, call_refused, call}
 use Rattle.pp_model.specs.SourceReader.{SourceReader}
 use Rattle.pp_model.specs.Reads.{source_reading}
 use Rattle.pp_model.specs.Run.{Gives}
@@ -50,14 +50,14 @@ module _ (A : Answers) where
       → Leads (source_reading A) A HasFinite Ending x f → Ending e
   ending_by e f x t goes (turn.stays p) = given_first e f x (itself x e f t p) goes
   ending_by e f x t goes (turn.object m p q a) =
-      ending_through e (opened m m.token.location.line [] f) (λ o h i. object x o m e f h t p q i) a
+      ending_through e (with_macro m m.token.location.line [] f) (λ o h i. object x o m e f h t p q i) a
   ending_by e f x t goes (turn.name_alone m y g p q c a) =
       let after : Expander SourceReader = record g { held = Some y } in
       given_first e after x (name_alone x y x m e f g after t p q c refl refl) (λ k. a)
   ending_by e f x t goes (turn.call_refused m fault g p q c fine) =
       given_first e g (taken.Fault fault) (call_refused x (taken.Fault fault) fault m e f g t p q c refl) (λ k. cc)
   ending_by e f x t goes (turn.call m arguments line g p q c a) =
-      ending_through e (opened m line arguments g) (λ o h i. call x o arguments line m e f g h t p q c i) a
+      ending_through e (with_macro m line arguments g) (λ o h i. call x o arguments line m e f g h t p q c i) a
 
   ending : (e : Expander SourceReader) → Turn (source_reading A) A HasFinite Ending e → Ending e
   ending e t = ending_by e t.after t.given t.takes t.goes t.leads

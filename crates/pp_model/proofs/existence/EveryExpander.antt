@@ -5,9 +5,9 @@ use Rattle.std.proofs.Common.{ℕ, zero, suc, ◌≤◌, ◌<◌, List, [], ◌�
 use Rattle.std.specs.Prelude.{slice_get, unwrap_or}
 use Rattle.pp_lexer.specs.declared.token.Token.{Token}
 use Rattle.pp_model.specs.Names.{Name}
-use Rattle.pp_model.specs.SpliceList.{open_names, parameter_of, replacement, replaced, spliced}
+use Rattle.pp_model.specs.SpliceList.{open_names, parameter_of, replacement, body_before, macro_before}
 use Rattle.pp_model.specs.Painting.{unpainted, taken_among}
-use Rattle.pp_model.specs.Reading.{Reading, Expander, masked}
+use Rattle.pp_model.specs.Reading.{Reading, Expander, masked_names}
 use Rattle.pp_model.specs.Taking.{held, listed, shown_token}
 use Rattle.pp_model.specs.Calls.{Answers}
 use Rattle.pp_model.specs.declared.read.Read.{Read}
@@ -37,7 +37,7 @@ module _ {R : Type 0} {I : Reading R} {A : Answers} {Fine : R → Type 0} {left 
   covered_token : (k : ℕ) → Grows k → (S : List Entry) → room_over S ≤ k → Covered c S → (read : Read) → Covered c (Plain read ∷ S)
   covered_token k grow S le a read =
       let first = shown_token (I.shown_line c.reader) S read in (
-        (λ T p. turned c (suc (size c (over c S))) (taken_among (masked (over c S)) first) (over c T) (over c S)
+        (λ T p. turned c (suc (size c (over c S))) (taken_among (masked_names (over c S)) first) (over c T) (over c S)
             (taking I (over c T) (over c S) first (listed first read S (over c T) (over c S) refl p refl refl)) c.ready
             (λ t. here S (over c S) refl (grow S le a) a) (λ t. omega arith)),
         grow S le a,
@@ -57,11 +57,11 @@ module _ {R : Type 0} {I : Reading R} {A : Answers} {Fine : R → Type 0} {left 
   covered_replacement k grow arguments token (Some n) S le a = covered_tokens k grow (unwrap_or (slice_get arguments n) []) S le a
 
   covered_body : (k : ℕ) → Grows k → (parameters : List Name) (arguments : List (List Read)) (body : List Token) (S : List Entry) → room_over S ≤ k
-      → Covered c S → Covered c (replaced parameters arguments body S) × (room_over (replaced parameters arguments body S) ≤ k)
+      → Covered c S → Covered c (body_before parameters arguments body S) × (room_over (body_before parameters arguments body S) ≤ k)
   covered_body k grow parameters arguments [] S le a = (a, le)
   covered_body k grow parameters arguments (token ∷ body) S le a =
       let rest = covered_body k grow parameters arguments body S le a in
-      covered_replacement k grow arguments token (parameter_of parameters token.value) (replaced parameters arguments body S) rest.1 rest.0
+      covered_replacement k grow arguments token (parameter_of parameters token.value) (body_before parameters arguments body S) rest.1 rest.0
 
   -- ---- by how many names may still open
 
@@ -74,7 +74,7 @@ module _ {R : Type 0} {I : Reading R} {A : Answers} {Fine : R → Type 0} {left 
       let marked = End (record { name = m.name; line = line }) ∷ S in
       let fewer : room_over marked ≤ k = omega (arith, falls, le) in
       let covered = covered_body k (grows k) m.definition.parameters arguments m.definition.body marked fewer a in
-      let all = spliced m.name m.definition line arguments S in
+      let all = macro_before m.name m.definition line arguments S in
       covered_goes c all all covered.0 refl
 
   every_list : (S : List Entry) → Covered c S
@@ -87,7 +87,7 @@ module _ {R : Type 0} {I : Reading R} {A : Answers} {Fine : R → Type 0} {left 
   held_goes : (y : Taken) (S : List Entry) → G (record (over c S) { held = Some y })
   held_goes y S =
       let before : Expander R = record (over c S) { held = Some y } in
-      turned c (suc (size c (over c S))) (taken_among (masked (over c S)) y) before (over c S)
+      turned c (suc (size c (over c S))) (taken_among (masked_names (over c S)) y) before (over c S)
       (taking I before (over c S) y (held y before (over c S) refl refl)) c.ready
       (λ t. here S (over c S) refl (grows (room_over S) S (omega arith) (every_list S)) (every_list S)) (λ t. omega arith)
 

@@ -3,7 +3,7 @@ use Rattle.std.proofs.Common.{◌≡◌, ℕ, [], refl, Some}
 use Rattle.pp_model.specs.Reading.{Reading, Expander}
 use Rattle.pp_model.specs.Taking.{Takes, Fetches, held, listed, read}
 use Rattle.pp_model.specs.Calls.{Answers}
-use Rattle.pp_model.specs.Emitting.{opened, Emits, itself, object, name_alone, call_refused, call}
+use Rattle.pp_model.specs.Emitting.{with_macro, Emits, itself, object, name_alone, call_refused, call}
 use Rattle.pp_model.specs.ExistenceLaws.{IsFinite, AnAnswer}
 use Rattle.pp_model.specs.declared.read.Taken.{Taken}
 use Rattle.pp_model.specs.declared.read.Taken.TheVariants as taken
@@ -30,14 +30,14 @@ module _ {R : Type 0} (I : Reading R) (A : Answers) (Fine : R → Type 0) where
   item_by : (e f : Expander R) (x : Taken) → Takes I e x f → Fine f.reader → Leads I A Fine HasItem x f → Item I A Fine e
   item_by e f x t fine (turn.stays p) = record { item = x; after = f; emits = itself x e f t p; fine = fine }
   item_by e f x t fine (turn.object m p q a) =
-      item_through e (opened m m.token.location.line [] f) (λ o h i. object x o m e f h t p q i) a.next
+      item_through e (with_macro m m.token.location.line [] f) (λ o h i. object x o m e f h t p q i) a.next
   item_by e f x t fine (turn.name_alone m y g p q c a) =
       let after : Expander R = record g { held = Some y } in
       record { item = x; after = after; emits = name_alone x y x m e f g after t p q c refl refl; fine = a.holding y refl }
   item_by e f x t fine (turn.call_refused m fault g p q c fine_after) =
       record { item = taken.Fault fault; after = g; emits = call_refused x (taken.Fault fault) fault m e f g t p q c refl; fine = fine_after }
   item_by e f x t fine (turn.call m arguments line g p q c a) =
-      item_through e (opened m line arguments g) (λ o h i. call x o arguments line m e f g h t p q c i) a.next
+      item_through e (with_macro m line arguments g) (λ o h i. call x o arguments line m e f g h t p q c i) a.next
 
   held_fine : (e f : Expander R) (x y : Taken) → Fetches I e x f → Fine f.reader → e.held ≡ Some y → Fine e.reader
   held_fine e f x y (held o e1 f1 h p) fine k = rw p at fine

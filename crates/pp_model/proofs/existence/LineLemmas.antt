@@ -7,8 +7,8 @@ use Rattle.pp_model.specs.Names.{Name, is_same_name, defined_name}
 use Rattle.pp_model.specs.Reading.{Expander, Listed, line_reading}
 use Rattle.pp_model.specs.Taking.{Takes}
 use Rattle.pp_model.specs.Calls.{Fault, Answers, is_left_paren, is_right_paren}
-use Rattle.pp_model.specs.Emitting.{opened, Emits, itself, object, name_alone, call_refused, call}
-use Rattle.pp_model.specs.LineWords.{Reading, operator, word, fault, reading, unwanted, name_in, has_value, is_defined, closed_by, InParentheses, no_name, named, Operand, name, in_parentheses, neither, Words, word_before, LineWords, ended, failed, refused, plain, answered, faulty}
+use Rattle.pp_model.specs.Emitting.{with_macro, Emits, itself, object, name_alone, call_refused, call}
+use Rattle.pp_model.specs.LineWords.{WordReading, operator, word, fault, reading, unwanted_part, name_in, has_value, is_defined, closed_by, InParentheses, no_name, named, Operand, name, in_parentheses, neither, Words, word_before, LineWords, ended, failed, refused, plain, answered, faulty}
 use Rattle.pp_model.specs.ExistenceLaws.{AnAnswer, AnOperand, ALine}
 use Rattle.pp_model.specs.declared.read.Read.{Read}
 use Rattle.pp_model.specs.declared.read.Taken.{Taken}
@@ -88,9 +88,9 @@ module _ (kind : LineKind) (directive : Location) (A : Answers) where
 
   named_by : (e : Expander Listed) → (a : Naming e) → (m : Option Name) → name_in a.given ≡ m → Enclosing e
   named_by e a None q = record {
-    result = Err (unwanted directive a.given);
+    result = Err (unwanted_part directive a.given);
     after = a.after;
-    inside = no_name a.given e a.after (Err (unwanted directive a.given)) a.takes q refl;
+    inside = no_name a.given e a.after (Err (unwanted_part directive a.given)) a.takes q refl;
     goes = λ k. cc;
   }
   named_by e a (Some n) q =
@@ -114,9 +114,9 @@ module _ (kind : LineKind) (directive : Location) (A : Answers) where
         goes = inside.goes;
       }
   parenthesized e a q false p = record {
-    result = Err (unwanted directive a.given);
+    result = Err (unwanted_part directive a.given);
     after = a.after;
-    operand = neither a.given e a.after (Err (unwanted directive a.given)) a.takes q p refl;
+    operand = neither a.given e a.after (Err (unwanted_part directive a.given)) a.takes q p refl;
     goes = λ k. cc;
   }
 
@@ -141,7 +141,7 @@ module _ (kind : LineKind) (directive : Location) (A : Answers) where
       let words : Words = record { words = Defined read.token.location (Err f) ∷ []; ending = None } in
       (words, faulty read f e g o.after words i p (rw q at o.operand) refl)
 
-  read_token : (e g : Expander Listed) (read : Read) → Emits line_reading A e (taken.Token read) g → Lined g → (r : Reading) → reading kind read.token ≡ r
+  read_token : (e g : Expander Listed) (read : Read) → Emits line_reading A e (taken.Token read) g → Lined g → (r : WordReading) → reading kind read.token ≡ r
       → Worded e
   read_token e g read i l operator p =
       let o = asked g l.asking (name_in l.asking.given) refl in
@@ -180,14 +180,14 @@ module _ (kind : LineKind) (directive : Location) (A : Answers) where
       → Worded e
   words_by e f x t goes (turn.stays p) = first_word e f x (itself x e f t p) goes
   words_by e f x t goes (turn.object m p q a) =
-      worded_through e (opened m m.token.location.line [] f) (λ o h i. object x o m e f h t p q i) a.worded
+      worded_through e (with_macro m m.token.location.line [] f) (λ o h i. object x o m e f h t p q i) a.worded
   words_by e f x t goes (turn.name_alone m y g p q c a) =
       let after : Expander Listed = record g { held = Some y } in
       first_word e after x (name_alone x y x m e f g after t p q c refl refl) (λ k. a)
   words_by e f x t goes (turn.call_refused m d g p q c fine) =
       refused_word e g d (call_refused x (taken.Fault d) d m e f g t p q c refl)
   words_by e f x t goes (turn.call m arguments line g p q c a) =
-      worded_through e (opened m line arguments g) (λ o h i. call x o arguments line m e f g h t p q c i) a.worded
+      worded_through e (with_macro m line arguments g) (λ o h i. call x o arguments line m e f g h t p q c i) a.worded
 
   closing_through : (e f : Expander Listed) → ((o : Taken) (h : Expander Listed) → Emits line_reading A f o h → Emits line_reading A e o h)
       → Closing f → Closing e
@@ -198,14 +198,14 @@ module _ (kind : LineKind) (directive : Location) (A : Answers) where
   closing_by e f x t goes (turn.stays p) =
       record { given = x; after = f; emits = itself x e f t p; goes = λ k. (goes (value_is_token is_right_paren x k)).worded }
   closing_by e f x t goes (turn.object m p q a) =
-      closing_through e (opened m m.token.location.line [] f) (λ o h i. object x o m e f h t p q i) a.closing
+      closing_through e (with_macro m m.token.location.line [] f) (λ o h i. object x o m e f h t p q i) a.closing
   closing_by e f x t goes (turn.name_alone m y g p q c a) =
       let after : Expander Listed = record g { held = Some y } in
       record { given = x; after = after; emits = name_alone x y x m e f g after t p q c refl refl; goes = λ k. a.worded }
   closing_by e f x t goes (turn.call_refused m d g p q c fine) =
       record { given = taken.Fault d; after = g; emits = call_refused x (taken.Fault d) d m e f g t p q c refl; goes = λ k. cc }
   closing_by e f x t goes (turn.call m arguments line g p q c a) =
-      closing_through e (opened m line arguments g) (λ o h i. call x o arguments line m e f g h t p q c i) a.closing
+      closing_through e (with_macro m line arguments g) (λ o h i. call x o arguments line m e f g h t p q c i) a.closing
 
   lined : (e : Expander Listed) → Turn line_reading A HasFinite Lined e → Lined e
   lined e t = record {

@@ -12,7 +12,7 @@ use Rattle.pp_model.specs.Painting.{unpainted}
 use Rattle.pp_model.specs.Reading.{reading_of}
 use Rattle.pp_model.specs.Calls.{Fault, Answers}
 use Rattle.pp_model.specs.LineWords.{Words}
-use Rattle.pp_model.specs.LineValues.{line_of, reported, alone_on_line, as_line_number, words_after, Numbers, faulty, out_of_range, alone, with_source}
+use Rattle.pp_model.specs.LineValues.{line_of, placed_fault, alone_on_line, as_line_number, words_after, Numbers, faulty, out_of_range, alone, with_source}
 use Rattle.pp_model.specs.ExistenceLaws.{AnAnswer, ACondition, ALineNumber}
 use Rattle.pp_model.specs.declared.word.LineKind.TheVariants.{Condition, LineNumber}
 use Rattle.pp_model.proofs.existence.LineLemmas.{a_line}
@@ -37,7 +37,7 @@ module _ (directive : Location) (words : Words) where
   numbers : (r : Result Value Found) → Evaluates (line_of words) r → Numbered
   numbers (Ok v) e = numbered v e (as_line_number v.value) refl
   numbers (Err found) e =
-      let out : Result ℕ Fault = Err (reported directive words found.kind found.left) in (out, faulty found out e refl)
+      let out : Result ℕ Fault = Err (placed_fault directive words found.kind found.left) in (out, faulty found out e refl)
 
 module _ (A : Answers) (answered : AnAnswer A) where
   -- A condition holds or not, or has a fault.

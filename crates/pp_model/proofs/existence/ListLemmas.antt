@@ -6,7 +6,7 @@ use Rattle.pp_model.specs.Names.{Name}
 use Rattle.pp_model.specs.Reading.{Reading, Expander, Listed, listed_reading}
 use Rattle.pp_model.specs.Taking.{Takes}
 use Rattle.pp_model.specs.Calls.{Fault, Answers}
-use Rattle.pp_model.specs.Emitting.{opened, first_before, Emits, itself, object, name_alone, call_refused, call, Collects, done, failed, item}
+use Rattle.pp_model.specs.Emitting.{with_macro, first_before, Emits, itself, object, name_alone, call_refused, call, Collects, done, failed, item}
 use Rattle.pp_model.specs.ExistenceLaws.{IsFinite, AnAnswer, AReading, ATaking, AGathering, ACall, AnItem, AList}
 use Rattle.pp_model.specs.declared.read.Read.{Read}
 use Rattle.pp_model.specs.declared.read.Taken.{Taken}
@@ -71,14 +71,14 @@ module _ {R : Type 0} (I : Reading R) (A : Answers) (Fine : R → Type 0) where
   listing_by : (e f : Expander R) (x : Taken) → Takes I e x f → (is_token x ≡ true → Listing f) → Leads I A Fine Listing x f → Listing e
   listing_by e f x t goes (turn.stays p) = given_first e f x (itself x e f t p) goes
   listing_by e f x t goes (turn.object m p q a) =
-      listing_through e (opened m m.token.location.line [] f) (λ o h i. object x o m e f h t p q i) a
+      listing_through e (with_macro m m.token.location.line [] f) (λ o h i. object x o m e f h t p q i) a
   listing_by e f x t goes (turn.name_alone m y g p q c a) =
       let after : Expander R = record g { held = Some y } in
       given_first e after x (name_alone x y x m e f g after t p q c refl refl) (λ k. a)
   listing_by e f x t goes (turn.call_refused m fault g p q c fine) =
       (Err fault, failed fault e g (Err fault) (call_refused x (taken.Fault fault) fault m e f g t p q c refl) refl)
   listing_by e f x t goes (turn.call m arguments line g p q c a) =
-      listing_through e (opened m line arguments g) (λ o h i. call x o arguments line m e f g h t p q c i) a
+      listing_through e (with_macro m line arguments g) (λ o h i. call x o arguments line m e f g h t p q c i) a
 
   listing : (e : Expander R) → Turn I A Fine Listing e → Listing e
   listing e t = listing_by e t.after t.given t.takes t.goes t.leads

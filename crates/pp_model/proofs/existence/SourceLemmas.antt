@@ -4,7 +4,7 @@ use Rattle.std.specs.Prelude.{Result, Ok, Err, pos, ◌-ℤ◌}
 use Rattle.pp_lexer.specs.declared.token.Location.{Location}
 use Rattle.pp_lexer.specs.declared.token.PreprocessorError.TheVariants.{DefineRedefined}
 use Rattle.pp_lexer.specs.declared.token.Token.{Token}
-use Rattle.pp_model.specs.Definitions.{Definition, changed, IsSameDefinition}
+use Rattle.pp_model.specs.Definitions.{Definition, with_change, IsSameDefinition}
 use Rattle.pp_model.specs.Painting.{taken_of}
 use Rattle.pp_model.specs.Calls.{Fault, Answers}
 use Rattle.pp_model.specs.LineValues.{IsCondition, IsLineNumber}
@@ -48,7 +48,7 @@ module _ (A : Answers) (answered : AnAnswer A) where
   module _ (r : SourceReader) (f : HasFinite r) where
     defined_by : (named : Named) → (act r).step ≡ step.Defines named → (old : Option Definition) → r.definitions named.name ≡ old → Stepped r
     defined_by named p None q =
-        let t : SourceReader = record (act r).after { definitions = changed (act r).after.definitions named.name (Some named.definition) } in
+        let t : SourceReader = record (act r).after { definitions = with_change (act r).after.definitions named.name (Some named.definition) } in
         record {
           outcome = None;
           after = t;

@@ -2,7 +2,7 @@
 use Rattle.std.proofs.Common.{◌≡◌, ℕ, ◌≤◌, ◌<◌, Bool, true, false, List, [], ◌∷◌, length, refl, ap, arith, None}
 use Rattle.pp_model.specs.SpliceList.{after_marks}
 use Rattle.pp_model.specs.Painting.{taken_among}
-use Rattle.pp_model.specs.Reading.{Reading, Expander, masked}
+use Rattle.pp_model.specs.Reading.{Reading, Expander, masked_names}
 use Rattle.pp_model.specs.Taking.{Takes, Fetches, listed, read, shown_token, shown_outcome}
 use Rattle.pp_model.specs.Calls.{Answers}
 use Rattle.pp_model.specs.declared.read.Read.{Read}
@@ -30,7 +30,7 @@ marks_shorten (End mark ∷ entries) = omega (arith, marks_shorten entries)
 marks_shorten (Plain token ∷ entries) = omega arith
 
 -- what was fetched is taken, with its paint
-pub taking : {R : Type 0} (I : Reading R) (e f : Expander R) (first : Taken) → Fetches I e first f → Takes I e (taken_among (masked f) first) f
+pub taking : {R : Type 0} (I : Reading R) (e f : Expander R) (first : Taken) → Fetches I e first f → Takes I e (taken_among (masked_names f) first) f
 taking I e f first fetches = record { first = first; fetches = fetches; paints = refl }
 
 module _ {R : Type 0} {I : Reading R} {A : Answers} {Fine : R → Type 0} {left : R → ℕ} {G : Expander R → Type 0} (c : Here I A Fine left G) where
@@ -49,10 +49,10 @@ module _ {R : Type 0} {I : Reading R} {A : Answers} {Fine : R → Type 0} {left 
       let g = c.premises.gives e.reader f in
       let after : Expander R = record e { list = []; reader = g.after } in
       let first = shown_outcome (I.shown_line g.after) g.given in
-      let fewer : is_token (taken_among (masked after) first) ≡ true → left g.after < left e.reader =
-      λ t. g.falls (token_shown (I.shown_line g.after) g.given (token_painted (masked after) first t)) in
+      let fewer : is_token (taken_among (masked_names after) first) ≡ true → left g.after < left e.reader =
+      λ t. g.falls (token_shown (I.shown_line g.after) g.given (token_painted (masked_names after) first t)) in
       record {
-        given = taken_among (masked after) first;
+        given = taken_among (masked_names after) first;
         after = after;
         takes = taking I e after first (read g.given first g.after e after none empty g.reads refl refl);
         fine = g.fine;
@@ -69,7 +69,7 @@ module _ {R : Type 0} {I : Reading R} {A : Answers} {Fine : R → Type 0} {left 
       let after : Expander R = record e { list = rest } in
       let first = shown_token (I.shown_line e.reader) rest token in
       record {
-        given = taken_among (masked after) first;
+        given = taken_among (masked_names after) first;
         after = after;
         takes = taking I e after first (listed first token rest e after none p refl refl);
         fine = f;

@@ -2,10 +2,10 @@
 use Rattle.std.proofs.Common.{◌≡◌, ℕ, zero, suc, ◌≤◌, ◌<◌, Bool, true, false, List, [], refl, arith, Option, Some, None}
 use Rattle.pp_model.specs.Names.{is_in}
 use Rattle.pp_model.specs.Painting.{taken_among}
-use Rattle.pp_model.specs.Reading.{Reading, Expander, masked, Opening, opening}
+use Rattle.pp_model.specs.Reading.{Reading, Expander, masked_names, Opening, opening}
 use Rattle.pp_model.specs.Taking.{Takes, held}
 use Rattle.pp_model.specs.Calls.{Answers, Called, no_call, refused, fits, Calls}
-use Rattle.pp_model.specs.Emitting.{opened}
+use Rattle.pp_model.specs.Emitting.{with_macro}
 use Rattle.pp_model.specs.ApartMarks.{IsRest}
 use Rattle.pp_model.specs.declared.read.Read.{Read}
 use Rattle.pp_model.specs.declared.read.Taken.{Taken}
@@ -19,14 +19,14 @@ use Rattle.pp_model.proofs.existence.SearchLemmas.{Comes, Found, searched}
 module _ {R : Type 0} {I : Reading R} {A : Answers} {Fine : R → Type 0} {left : R → ℕ} {G : Expander R → Type 0} (c : Here I A Fine left G) where
   -- a macro opens right after its name, or after its call
   opened_goes : (e f g : Expander R) (x : Taken) (m : Opening) (line : ℕ) (arguments : List (List Read)) → Takes I e x f → Front c f
-      → opening I f x ≡ Some m → IsRest f.list g.list → left g.reader ≤ left f.reader → Front c g → G (opened m line arguments g)
-  opened_goes e f g x m line arguments t front p rest kept (moved g1 none fine less) = c.below (opened m line arguments g) fine less
+      → opening I f x ≡ Some m → IsRest f.list g.list → left g.reader ≤ left f.reader → Front c g → G (with_macro m line arguments g)
+  opened_goes e f g x m line arguments t front p rest kept (moved g1 none fine less) = c.below (with_macro m line arguments g) fine less
   opened_goes e f g x m line arguments t (moved f1 none fine less) p rest kept (here T g1 q o a) =
       let same : left g.reader ≡ left c.reader = rw q refl in
       absurd (omega (arith, less, kept, same))
   opened_goes e f g x m line arguments t (here S f1 q o a) p rest kept (here T g1 u v b) =
       let defined : I.visible c.reader m.name ≡ Some m.definition = rw q at (opening_known I f x m p).defined in
-      let free : is_in m.name (masked f) ≡ false = opening_not_masked I x m e f t p in
+      let free : is_in m.name (masked_names f) ≡ false = opening_not_masked I x m e f t p in
       let free_here = rw q at free in
       let left_over : IsRest S T = rw (q, u) at rest in
       rw u (v m line arguments defined (still_closed m.name S T c.hidden left_over free_here))
@@ -45,9 +45,9 @@ module _ {R : Type 0} {I : Reading R} {A : Answers} {Fine : R → Type 0} {left 
   held_goes fuel again y f g room fine comes =
       let before : Expander R = record g { held = Some y } in
       let after : Expander R = record g { held = None } in
-      again (taken_among (masked after) y) before after (taking I before after y (held y before after refl refl)) fine
-      (λ k. front_unheld c g (comes (token_painted (masked after) y k)).front)
-      (λ k. omega (arith, (comes (token_painted (masked after) y k)).less, room))
+      again (taken_among (masked_names after) y) before after (taking I before after y (held y before after refl refl)) fine
+      (λ k. front_unheld c g (comes (token_painted (masked_names after) y k)).front)
+      (λ k. omega (arith, (comes (token_painted (masked_names after) y k)).less, room))
 
   leads_called : (fuel : ℕ) → Turned fuel → (x : Taken) (e f : Expander R) → Takes I e x f → size c f < suc fuel → (m : Opening)
       → opening I f x ≡ Some m → m.definition.function_like ≡ true → Front c f → (called : Called) (g : Expander R)

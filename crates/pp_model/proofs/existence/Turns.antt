@@ -6,7 +6,7 @@ use Rattle.pp_model.specs.Painting.{taken_among}
 use Rattle.pp_model.specs.Reading.{Reading, Expander, Opening, opening}
 use Rattle.pp_model.specs.Taking.{Takes, shown_outcome}
 use Rattle.pp_model.specs.Calls.{Fault, Answers, no_call, refused, fits, Calls}
-use Rattle.pp_model.specs.Emitting.{opened}
+use Rattle.pp_model.specs.Emitting.{with_macro}
 use Rattle.pp_model.specs.ExistenceLaws.{IsFinite, AnAnswer}
 use Rattle.pp_model.specs.declared.read.Read.{Read}
 use Rattle.pp_model.specs.declared.read.Taken.{Taken}
@@ -28,13 +28,13 @@ pub record Given {R : Type 0} (I : Reading R) (Fine : R → Type 0) (left : R �
 -- What was taken opens no macro, or its call is refused, or it leads to an expander with the property.
 pub data Leads {R : Type 0} (I : Reading R) (A : Answers) (Fine : R → Type 0) (G : Expander R → Type 0) (x : Taken) (f : Expander R) : Type 0 where
   stays : opening I f x ≡ None → Leads I A Fine G x f
-  object : (m : Opening) → opening I f x ≡ Some m → m.definition.function_like ≡ false → G (opened m m.token.location.line [] f) → Leads I A Fine G x f
+  object : (m : Opening) → opening I f x ≡ Some m → m.definition.function_like ≡ false → G (with_macro m m.token.location.line [] f) → Leads I A Fine G x f
   name_alone : (m : Opening) (y : Taken) (g : Expander R) → opening I f x ≡ Some m → m.definition.function_like ≡ true
       → Calls I A m.definition f (no_call y) g → G (record g { held = Some y }) → Leads I A Fine G x f
   call_refused : (m : Opening) (fault : Fault) (g : Expander R) → opening I f x ≡ Some m → m.definition.function_like ≡ true
       → Calls I A m.definition f (refused fault) g → Fine g.reader → Leads I A Fine G x f
   call : (m : Opening) (arguments : List (List Read)) (line : ℕ) (g : Expander R) → opening I f x ≡ Some m → m.definition.function_like ≡ true
-      → Calls I A m.definition f (fits arguments line) g → G (opened m line arguments g) → Leads I A Fine G x f
+      → Calls I A m.definition f (fits arguments line) g → G (with_macro m line arguments g) → Leads I A Fine G x f
 
 -- Something is taken. The property holds after a token, and where it leads.
 pub record Turn {R : Type 0} (I : Reading R) (A : Answers) (Fine : R → Type 0) (G : Expander R → Type 0) (e : Expander R) : Type 0 where

@@ -4,11 +4,11 @@ use Rattle.pp_lexer.specs.declared.token.Location.{Location}
 use Rattle.pp_expression.specs.declared.symbol.Found.{Found}
 use Rattle.pp_model.specs.Calls.{Fault}
 use Rattle.pp_model.specs.LineWords.{Words}
-use Rattle.pp_model.specs.LineValues.{reported, operand_fault}
+use Rattle.pp_model.specs.LineValues.{placed_fault, operand_fault}
 use Rattle.pp_model.specs.declared.word.Word.{Word}
 
 abbrev pub reported_fault : Location → Words → Found → Fault
-reported_fault directive words found = reported directive words found.kind found.left
+reported_fault directive words found = placed_fault directive words found.kind found.left
 
 abbrev pub fault_of_operand : Fault → Word → Fault
 fault_of_operand fallback word = unwrap_or (operand_fault word) fallback

@@ -7,7 +7,7 @@ use Rattle.pp_model.specs.Calls.{Fault}
 use Rattle.pp_model.specs.Conversions.{is_newline, conversion}
 use Rattle.pp_model.specs.Emitting.{first_before}
 use Rattle.pp_model.specs.Names.{Name}
-use Rattle.pp_model.specs.Definitions.{object_like, changed}
+use Rattle.pp_model.specs.Definitions.{object_like, with_change}
 use Rattle.pp_model.specs.SourceReader.{SourceReader}
 
 abbrev pub content_from : Lexeme → Result (List Token) Fault → Result (List Token) Fault
@@ -15,5 +15,6 @@ content_from (Err fault) later = Err fault
 content_from (Ok token) later =
     if is_newline token.value then later else (conversion token >>= λ first. first_before first later)
 
-abbrev pub adding : Name → List Token → SourceReader → SourceReader
-adding name tokens reader = record reader { definitions = changed reader.definitions name (Some (object_like tokens)) }
+abbrev pub after_addition : Name → List Token → SourceReader → SourceReader
+after_addition name tokens reader =
+    record reader { definitions = with_change reader.definitions name (Some (object_like tokens)) }

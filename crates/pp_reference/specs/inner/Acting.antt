@@ -10,7 +10,7 @@ use Rattle.pp_model.specs.SourceReader.{SourceReader}
 use Rattle.pp_reference.specs.inner.ReaderState.{ReaderState}
 use Rattle.pp_model.specs.Acts.{Acted, decided}
 use Rattle.pp_model.specs.inner.Acts.{fault_at}
-use Rattle.pp_model.specs.inner.Reads.{defining, renumbered}
+use Rattle.pp_model.specs.inner.Reads.{after_define, after_line_number}
 use Rattle.pp_model.specs.declared.definition.Named.{Named}
 use Rattle.pp_model.specs.declared.outcome.Outcome.{Outcome}
 use Rattle.pp_model.specs.declared.outcome.Outcome.TheVariants as outcome
@@ -37,7 +37,7 @@ HasLineIfOk (Err h) state = ⊤
 
 -- what a `#define` of a name comes to after its line, where the name stood for this
 abbrev pub Defining : Named → Option Definition → SourceReader → Option Outcome → SourceReader → Type 0
-Defining named None r o t = (o ≡ None) × (t ≡ defining named r)
+Defining named None r o t = (o ≡ None) × (t ≡ after_define named r)
 Defining named (Some old) r o t =
     (IsSameDefinition old named.definition × (o ≡ None) × (t ≡ r)) ⊎
     ((IsSameDefinition old named.definition → ⊥)
@@ -56,7 +56,7 @@ pub record Deciding (A : Answers) (word : Location) (tokens : List Token) (r : S
   pub comes : DecidesBy result r o t
 
 abbrev pub RenumbersBy : Location → Result ℕ Fault → SourceReader → Option Outcome → SourceReader → Type 0
-RenumbersBy word (Ok n) r o t = (o ≡ None) × (t ≡ renumbered r word n)
+RenumbersBy word (Ok n) r o t = (o ≡ None) × (t ≡ after_line_number r word n)
 RenumbersBy word (Err fault) r o t = (o ≡ Some (outcome.Fault fault)) × (t ≡ r)
 
 -- what a `#line` comes to

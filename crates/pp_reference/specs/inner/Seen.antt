@@ -4,13 +4,13 @@ use Rattle.pp_lexer.specs.declared.token.Location.{Location}
 use Rattle.pp_model.specs.Reading.{Reading, Expander, Opening, opening}
 use Rattle.pp_model.specs.Taking.{Takes}
 use Rattle.pp_model.specs.Calls.{Fault, Gathered, Gathers, arguments_of, paren_at}
-use Rattle.pp_model.specs.Emitting.{opened}
+use Rattle.pp_model.specs.Emitting.{with_macro}
 use Rattle.pp_model.specs.inner.Emitting.{holding}
-use Rattle.pp_reference.specs.declared.expander.Call.{Call}
+use Rattle.pp_reference.specs.declared.expander.MacroCall.{MacroCall}
 use Rattle.pp_reference.specs.declared.expander.Site.{Site}
 use Rattle.pp_reference.specs.declared.expander.Expander as declared
-use Rattle.pp_reference.specs.declared.expander.Found.{Found}
-use Rattle.pp_reference.specs.declared.expander.Found.TheVariants.{NoCall, Broken, Whole}
+use Rattle.pp_reference.specs.declared.expander.AfterName.{AfterName}
+use Rattle.pp_reference.specs.declared.expander.AfterName.TheVariants.{NoCall, Broken, Whole}
 use Rattle.pp_reference.specs.declared.expander.Turn.{Turn}
 use Rattle.pp_reference.specs.declared.expander.Turn.TheVariants.{Item, Replaced, Called}
 use Rattle.pp_model.specs.declared.read.Read.{Read}
@@ -34,14 +34,14 @@ pub data TakesParen {S : Type 0} (I : Reading S) : Expander S → Option Locatio
       → TakesParen I e p f
 
 -- what stands after the name of a macro with parameters, before its arguments are expanded
-pub data Finds {S : Type 0} (I : Reading S) : Expander S → Found → Expander S → Type 0 where
-  nothing : (c : Found) (e f : Expander S) → TakesParen I e None f → c ≡ NoCall → Finds I e c f
-  broken : (paren : Location) (fault : Fault) (c : Found) (e f g : Expander S)
+pub data Finds {S : Type 0} (I : Reading S) : Expander S → AfterName → Expander S → Type 0 where
+  nothing : (c : AfterName) (e f : Expander S) → TakesParen I e None f → c ≡ NoCall → Finds I e c f
+  broken : (paren : Location) (fault : Fault) (c : AfterName) (e f g : Expander S)
       → TakesParen I e (Some paren) f
       → Gathers I 0 paren f (Err fault) g
       → c ≡ Broken fault
       → Finds I e c g
-  whole : (gathered : Gathered) (site : Site) (c : Found) (e f g : Expander S)
+  whole : (gathered : Gathered) (site : Site) (c : AfterName) (e f g : Expander S)
       → TakesParen I e (Some site.paren) f
       → Gathers I 0 site.paren f (Ok gathered) g
       → site.line ≡ gathered.closing.line
@@ -50,10 +50,10 @@ pub data Finds {S : Type 0} (I : Reading S) : Expander S → Found → Expander 
       → Finds I e c g
 
 -- the turn at the name of a macro with parameters, where this stands after it
-abbrev pub turned : Taken → Opening → Found → Turn
-turned given m NoCall = Item given
-turned given m (Broken fault) = Item (taken.Fault fault)
-turned given m (Whole site) = Called (record { opening = m; site = site })
+abbrev pub turn_after_name : Taken → Opening → AfterName → Turn
+turn_after_name given m NoCall = Item given
+turn_after_name given m (Broken fault) = Item (taken.Fault fault)
+turn_after_name given m (Whole site) = Called (record { opening = m; site = site })
 
 -- the turn at a token that opens a macro
 pub data TurnsAt {S : Type 0} (I : Reading S) (given : Taken) (m : Opening)
@@ -61,12 +61,12 @@ pub data TurnsAt {S : Type 0} (I : Reading S) (given : Taken) (m : Opening)
   object : (t : Turn) (e f : Expander S)
       → m.definition.function_like ≡ false
       → t ≡ Replaced
-      → f ≡ opened m m.token.location.line [] e
+      → f ≡ with_macro m m.token.location.line [] e
       → TurnsAt I given m e t f
-  function : (c : Found) (t : Turn) (e f : Expander S)
+  function : (c : AfterName) (t : Turn) (e f : Expander S)
       → m.definition.function_like ≡ true
       → Finds I e c f
-      → t ≡ turned given m c
+      → t ≡ turn_after_name given m c
       → TurnsAt I given m e t f
 
 -- One turn: an item, a macro without parameters that was replaced, or a call that was
@@ -82,7 +82,8 @@ pub data Turns {S : Type 0} (I : Reading S) : Expander S → Turn → Expander S
       → Turns I e t g
 
 -- a call is replaced by its answer, or the answer's fault is given
-abbrev pub Resolves : {S : Type 0} → Call → Result (List (List Read)) Fault → Expander S → Option Fault → Expander S
+abbrev pub Resolves : {S : Type 0} → MacroCall → Result (List (List Read)) Fault → Expander S → Option Fault
+    → Expander S
     → Type 0
-Resolves call (Ok arguments) e fault f = (fault ≡ None) × (f ≡ opened call.opening call.site.line arguments e)
+Resolves call (Ok arguments) e fault f = (fault ≡ None) × (f ≡ with_macro call.opening call.site.line arguments e)
 Resolves call (Err found) e fault f = (fault ≡ Some found) × (f ≡ e)

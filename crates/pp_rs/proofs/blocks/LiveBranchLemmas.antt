@@ -6,7 +6,7 @@ use Rattle.pp_lexer.specs.Lexed.{Seen}
 use Rattle.pp_model.specs.Blocks.{Truths, Block, blocks_at, has_taken_branch}
 use Rattle.pp_model.specs.Calls.{Answers}
 use Rattle.pp_model.specs.Run.{items_of}
-use Rattle.pp_model.specs.SourceReader.{SourceReader, start_of}
+use Rattle.pp_model.specs.SourceReader.{SourceReader, reader_at_start}
 use Rattle.pp_model.proofs.BlockLemmas.{one_branch}
 use Rattle.pp_rs.specs.LiveBranch.{AtMostOneIsChosen, HasLiveBranches, RunHasLiveBranches}
 use Rattle.pp_rs.proofs.blocks.BlockPositionLemmas.{each_weaker, each_after}
@@ -35,7 +35,7 @@ live_branches r known = record {
       );
 }
 
-known_at_start : (text : List ℕ) → HasRead (start_of (items_of text))
+known_at_start : (text : List ℕ) → HasRead (reader_at_start (items_of text))
 known_at_start text = record {
   lined = items_lined text;
   lines = no_lines_before (items_of text);

@@ -5,20 +5,20 @@ use Rattle.pp_lexer.specs.PreprocessorError.{out_of_memory}
 use Rattle.pp_lexer.specs.declared.token.Token.{Token}
 use Rattle.pp_model.specs.declared.read.Read.{Read}
 use Rattle.pp_model.specs.Names.{Name, is_same_name}
-use Rattle.pp_model.specs.Definitions.{Definitions, object_like, changed}
+use Rattle.pp_model.specs.Definitions.{Definitions, object_like, with_change}
 use Rattle.pp_model.specs.Reading.{Expander}
 use Rattle.pp_model.specs.Run.{items_of, content_tokens, with_added}
-use Rattle.pp_model.specs.inner.Run.{adding}
+use Rattle.pp_model.specs.inner.Run.{after_addition}
 use Rattle.pp_model.specs.SourceReader.{SourceReader}
 use Rattle.pp_model.specs.Emitting.{expansion_limit}
 use Rattle.pp_rs.specs.Adding.{IsAdded, refused, faulty, added}
 use Rattle.pp_macros.specs.inner.Defined.{Defined, IsChanged, meaning_of}
 use Rattle.pp_rs.specs.inner.Fit.{EndIsLast, IsFit, IsReported}
-use Rattle.pp_macros.specs.inner.Frames.{Layer, names_of}
+use Rattle.pp_macros.specs.inner.Frames.{Frame, names_of}
 use Rattle.pp_macros.specs.Item.{Fault, Step}
 use Rattle.pp_rs.specs.Kept.{Preprocessing, Stands, is_spent, most_items, errors_left, error_place}
 use Rattle.pp_macros.specs.inner.Left.{AreDefinedAbove, work_of}
-use Rattle.pp_macros.specs.inner.Machine.{Machine}
+use Rattle.pp_macros.specs.inner.Expander as kept
 use Rattle.pp_macros.specs.inner.Reader.{of_source}
 use Rattle.pp_directives.specs.inner.SettingContent.{IsSetIn}
 use Rattle.pp_macros.specs.inner.Source.{Source, unreported_of}
@@ -29,11 +29,11 @@ use Rattle.pp_rs.proofs.runs.LeftLemmas.{no_more_work}
 
 module _ (name : Name) (tokens : List Token) (old new : Source) (h : IsSetIn name tokens old new) where
   reader_added : (definitions : List Defined) → IsChanged name (Some (object_like tokens)) old.definitions definitions → (r : SourceReader)
-      → StandsForReader old r → StandsForReader (record old { definitions = definitions }) (adding name tokens r)
+      → StandsForReader old r → StandsForReader (record old { definitions = definitions }) (after_addition name tokens r)
   reader_added definitions c r s = record {
     rest = s.rest;
     within = s.within;
-    definitions = ap (λ (m : Definitions). changed m name (Some (object_like tokens))) s.definitions ∙ sym c.meaning;
+    definitions = ap (λ (m : Definitions). with_change m name (Some (object_like tokens))) s.definitions ∙ sym c.meaning;
     line_offset = s.line_offset;
     lined = s.lined;
     lines = s.lines;
@@ -48,18 +48,18 @@ module _ (name : Name) (tokens : List Token) (old new : Source) (h : IsSetIn nam
     off_line = s.off_line;
   }
 
-  held_added : (o : Option (Step Read)) (r : SourceReader) → StandsForHeld o old r → StandsForHeld o new (adding name tokens r)
-  held_added None r s = subst (λ (source : Source). StandsForReader source (adding name tokens r)) (sym h.others)
+  held_added : (o : Option (Step Read)) (r : SourceReader) → StandsForHeld o old r → StandsForHeld o new (after_addition name tokens r)
+  held_added None r s = subst (λ (source : Source). StandsForReader source (after_addition name tokens r)) (sym h.others)
       (reader_added new.definitions h.definitions r s)
-  held_added (Some (Ok read)) r s = subst (λ (source : Source). StandsForReader source (adding name tokens r)) (sym h.others)
+  held_added (Some (Ok read)) r s = subst (λ (source : Source). StandsForReader source (after_addition name tokens r)) (sym h.others)
       (reader_added new.definitions h.definitions r s)
-  held_added (Some (Err Finished)) r s = subst (λ (source : Source). StandsForReader source (adding name tokens r)) (sym h.others)
+  held_added (Some (Err Finished)) r s = subst (λ (source : Source). StandsForReader source (after_addition name tokens r)) (sym h.others)
       (reader_added new.definitions h.definitions r s)
   held_added (Some (Err Continue)) r s = s
   held_added (Some (Err (Error fault))) r s = tt
 
   -- each state is now one in which the definition was added
-  pub stands_added : (m : Machine) (e : Expander SourceReader) → StandsFor m old e → StandsFor m new (with_added name tokens e)
+  pub stands_added : (m : kept.Expander) (e : Expander SourceReader) → StandsFor m old e → StandsFor m new (with_added name tokens e)
   stands_added m e s = record {
     held = s.held;
     list = s.list;
@@ -81,7 +81,7 @@ module _ (name : Name) (tokens : List Token) (old new : Source) (h : IsSetIn nam
   above_added (x ∷ y ∷ names) d = (defined_added x d.0, above_added (y ∷ names) d.1)
 
   -- the expander may go on
-  last_added : (o : Option (Step Read)) (frames : List Layer) → EndIsLast o frames (of_source old) → EndIsLast o frames (of_source new)
+  last_added : (o : Option (Step Read)) (frames : List Frame) → EndIsLast o frames (of_source old) → EndIsLast o frames (of_source new)
   last_added o frames last = subst (λ (source : Source). EndIsLast o frames (of_source source)) (sym h.others) (same o last)
     where
       same : (o : Option (Step Read)) → EndIsLast o frames (of_source old) → EndIsLast o frames (of_source (record old { definitions = new.definitions }))
@@ -91,18 +91,18 @@ module _ (name : Name) (tokens : List Token) (old new : Source) (h : IsSetIn nam
       same (Some (Err Finished)) last = last
       same (Some (Err (Error fault))) last = tt
 
-  pub fit_added : (m : Machine) → IsFit m old → IsFit m new
+  pub fit_added : (m : kept.Expander) → IsFit m old → IsFit m new
   fit_added m fit = record {
     unspent = ap (λ (source : Source). source.spent) h.others ∙ fit.unspent;
     sound = record { apart = fit.sound.apart; defined = above_added (names_of m.frames) fit.sound.defined };
     last = last_added m.held m.frames fit.last;
   }
 
-  pub reported_added : (m : Machine) → IsReported m old → IsReported m new
+  pub reported_added : (m : kept.Expander) → IsReported m old → IsReported m new
   reported_added m reported = subst (λ (source : Source). IsReported m source) (sym h.others) reported
 
   -- where nothing was left, nothing is
-  pub none_left_added : (m : Machine) (spent : Bool) → (if spent then 0 else work_of expansion_limit m (of_source old)) ≡ 0
+  pub none_left_added : (m : kept.Expander) (spent : Bool) → (if spent then 0 else work_of expansion_limit m (of_source old)) ≡ 0
       → (if spent then 0 else work_of expansion_limit m (of_source new)) ≡ 0
   none_left_added m true e = refl
   none_left_added m false e = no_more_work expansion_limit m old new (ap (λ (s : Source). length s.rest + length s.blocks) h.others) e
@@ -113,10 +113,10 @@ module _ (old : Preprocessing) (name content : List ℕ) (new : Source) where
       → IsAdded old name content (Ok tt) (record old { source = new })
   unfolding Stands is_spent most_items errors_left error_place
   added_now tokens e h = added tokens e refl (record {
-    stands = λ state stands. stands_added (chars name) tokens old.source new h old.machine state stands;
+    stands = λ state stands. stands_added (chars name) tokens old.source new h old.expander state stands;
     spent = refl;
-    ended = λ none. none_left_added (chars name) tokens old.source new h old.machine old.spent none;
-    errors = ap (λ (s : Source). unreported_with old.machine.held (unreported_of s)) h.others;
+    ended = λ none. none_left_added (chars name) tokens old.source new h old.expander old.spent none;
+    errors = ap (λ (s : Source). unreported_with old.expander.held (unreported_of s)) h.others;
     place = refl;
   })
 

@@ -12,33 +12,33 @@ use Rattle.pp_model.specs.Painting.{unpainted}
 use Rattle.pp_model.proofs.SpelledRunLemmas.{or_none}
 use Rattle.pp_macros.specs.inner.CallTurns.{TurnsTo, passes, gives, object, seeks}
 use Rattle.pp_macros.specs.inner.Defined.{meaning_of}
-use Rattle.pp_macros.specs.inner.Frames.{Layer}
+use Rattle.pp_macros.specs.inner.Frames.{Frame}
 use Rattle.pp_macros.specs.inner.Idle.{is_idle, IsHeld, HoldsWord}
 use Rattle.pp_macros.specs.Item.{Step}
-use Rattle.pp_macros.specs.inner.Machine.{Machine, taken_as, StepsFetching, StepsTaking, held, moved}
+use Rattle.pp_macros.specs.inner.Expander.{Expander, taken_as, StepsFetching, StepsTaking, held, moved}
 use Rattle.pp_macros.specs.inner.Plain.{gives_itself}
 use Rattle.pp_macros.specs.inner.Reader.{Reader, of_source}
 use Rattle.pp_macros.specs.inner.Reading.{painted_step}
 use Rattle.pp_macros.specs.inner.Source.{Source}
 use Rattle.pp_rs.specs.inner.SourceTurns.{StepsOver}
-use Rattle.pp_macros.specs.inner.Turns.{masks, opened_by, opens_value}
+use Rattle.pp_macros.specs.inner.Turns.{masks, opened_by, macro_of_value}
 use Rattle.pp_macros.specs.declared.calls.Taken.{Taken}
 use Rattle.pp_macros.specs.declared.calls.Taken.TheVariants as taken
 use Rattle.pp_macros.specs.declared.step.StepExit.{StepExit}
 use Rattle.pp_macros.proofs.taking.PlainLemmas.{itself_apart}
-use Rattle.pp_macros.proofs.taking.MachineLemmas.{fetches_shown, fetches_step, shows_token}
+use Rattle.pp_macros.proofs.taking.ExpanderLemmas.{fetches_shown, fetches_step, shows_token}
 use Rattle.pp_rs.proofs.source.UnpaintedLemmas.{StepsReporting, reads_step}
 
-abbrev pub idle : Machine
+abbrev pub idle : Expander
 idle = record { held = None; frames = [] }
 
-idle_at : (h : Option (Step Read)) (fs : List Layer) → is_idle (record { held = h; frames = fs }) ≡ true
-    → ◌≡◌ {A = Machine} (record { held = h; frames = fs }) idle
+idle_at : (h : Option (Step Read)) (fs : List Frame) → is_idle (record { held = h; frames = fs }) ≡ true
+    → ◌≡◌ {A = Expander} (record { held = h; frames = fs }) idle
 idle_at None [] e = refl
 idle_at None (f ∷ fs) e = cc
 idle_at (Some step) fs e = cc
 
-pub is_idle-idle : (m : Machine) → is_idle m ≡ true → m ≡ idle
+pub is_idle-idle : (m : Expander) → is_idle m ≡ true → m ≡ idle
 is_idle-idle m e = idle_at m.held m.frames e
 
 unopened : (name : Name) (o : Option Definition) → is_none o ≡ true → opened_by name o ≡ None
@@ -46,7 +46,7 @@ unopened name None e = refl
 unopened name (Some definition) e = cc
 
 -- a value that gives itself opens no macro
-opens_none : (source : Source) (value : TokenValue) → gives_itself source.definitions value ≡ true → opens_value (of_source source) value ≡ None
+opens_none : (source : Source) (value : TokenValue) → gives_itself source.definitions value ≡ true → macro_of_value (of_source source) value ≡ None
 opens_none source (Ident name) e = unopened name (meaning_of source.definitions name)
     (and_parts (not (is_same_name name line_name)) (is_none (meaning_of source.definitions name)) e).1
 opens_none source _ e = refl
@@ -57,23 +57,23 @@ painted_nothing (Ok read) = ap (λ (b : Bool). Ok (record read { painted = b }))
 painted_nothing (Err exit) = refl
 
 -- what a step that is held goes on to, the step by which it came goes on to
-module _ (m h : Machine) (r : Reader) (s : Source) (read : Read) (takes : StepsTaking m r (Ok read) (record h { held = None }) (of_source s))
+module _ (m h : Expander) (r : Reader) (s : Source) (read : Read) (takes : StepsTaking m r (Ok read) (record h { held = None }) (of_source s))
     (holds : h.held ≡ Some (Ok read)) (closed : h.frames ≡ []) where
-  refetched : (step : Step Read) (n : Machine) (t : Reader) → StepsFetching h (of_source s) step n t
+  refetched : (step : Step Read) (n : Expander) (t : Reader) → StepsFetching h (of_source s) step n t
       → (step ≡ Ok read) × (n ≡ record h { held = None }) × (t ≡ of_source s)
   refetched step n t (held step1 m1 n1 r1 s1 a b c) = let same : step ≡ Ok read = cc in (same, b, c)
   refetched step n t (moved move step1 m1 n1 r1 s1 a moves b c) = cc
 
-  retaken : (step : Step Read) (n : Machine) (t : Reader) → StepsTaking h (of_source s) step n t → StepsTaking m r step n t
+  retaken : (step : Step Read) (n : Expander) (t : Reader) → StepsTaking h (of_source s) step n t → StepsTaking m r step n t
   retaken step n t steps =
       let back = refetched steps.first n t steps.fetches in
-      let none : masks n.frames t ≡ [] = ap (λ (k : Machine). masks k.frames t) back.1 ∙ ap (masks h.frames) back.2
-      ∙ ap (λ (fs : List Layer). masks fs (of_source s)) closed in
+      let none : masks n.frames t ≡ [] = ap (λ (k : Expander). masks k.frames t) back.1 ∙ ap (masks h.frames) back.2
+      ∙ ap (λ (fs : List Frame). masks fs (of_source s)) closed in
       let same : step ≡ Ok read = steps.paints ∙ ap (painted_step (masks n.frames t)) back.0
       ∙ ap (λ (names : List Name). painted_step names (Ok read)) none ∙ painted_nothing (Ok read) in
       rw (same, back.1, back.2) takes
 
-  returned : (step : Step Taken) (n : Machine) (t : Reader) → TurnsTo h (of_source s) step n t → TurnsTo m r step n t
+  returned : (step : Step Taken) (n : Expander) (t : Reader) → TurnsTo h (of_source s) step n t → TurnsTo m r step n t
   returned step n t (passes exit step1 m1 n1 r1 s1 steps is) = passes exit step m n r t (retaken (Err exit) n t steps) is
   returned step n t (gives other step1 m1 n1 r1 s1 steps none is) = gives other step m n r t (retaken (Ok other) n t steps) none is
   returned step p t (object other name definition step1 m1 n p1 r1 s1 steps some plain is opened) =
@@ -93,7 +93,7 @@ module _ (levels : ℕ) (r s : Source) where
       inl (record { taken = Err exit; between = idle; turns = turns; follows = (is, refl) })
 
   -- a pause, a fault or the end of the source
-  pub idle_exit : (m : Machine) (exit : StepExit) (step : Step Token) → m ≡ idle → StepsReporting r (Err exit) s
+  pub idle_exit : (m : Expander) (exit : StepExit) (step : Step Token) → m ≡ idle → StepsReporting r (Err exit) s
       → step ≡ Err exit → StepsOver levels m r step m s
   idle_exit m exit step e reads is =
       let fetches = fetches_shown idle None None [] [] (Err exit) (Err exit) (of_source r) (of_source s) refl refl refl
@@ -101,7 +101,7 @@ module _ (levels : ℕ) (r s : Source) where
       rw e (exits exit step (takes_first (Err exit) fetches) is)
 
   -- a token that is given as it stands there
-  pub idle_token : (m : Machine) (token : Token) → m ≡ idle → StepsReporting r (Ok token) s
+  pub idle_token : (m : Expander) (token : Token) → m ≡ idle → StepsReporting r (Ok token) s
       → gives_itself s.definitions token.value ≡ true → StepsOver levels m r (Ok token) m s
   idle_token m token e reads itself =
       let read = unpainted token in
@@ -119,17 +119,17 @@ module _ (levels : ℕ) (r s : Source) where
       refl refl refl (refl, reads_step r s (Ok word) reads) is)
 
   -- `__LINE__` out of range
-  pub idle_fault : (m n : Machine) (word : Token) (exit : StepExit) (step : Step Token) → m ≡ idle
+  pub idle_fault : (m n : Expander) (word : Token) (exit : StepExit) (step : Step Token) → m ≡ idle
       → StepsReporting r (Ok word) s → HoldsWord word s m (Err exit) n → step ≡ Err exit → StepsOver levels m r step n s
   idle_fault m n word exit step e reads fault is =
       rw (fault.2, e) (exits exit step (shown word (Err exit) reads (shows_token [] (of_source s) (unpainted word) (Err exit) (fault.0, fault.1))) is)
 
   -- a word that is held goes on to what it goes on to as it is read
-  pub idle_word : (m h n : Machine) (t : Source) (word : Token) (step : Step Token) → m ≡ idle
+  pub idle_word : (m h n : Expander) (t : Source) (word : Token) (step : Step Token) → m ≡ idle
       → StepsReporting r (Ok word) s → IsHeld word s m h → StepsOver levels h s step n t → StepsOver levels m r step n t
   idle_word m h n t word step e reads w steps = rw e (goes (rw (w.holds, e) at steps))
     where
-      kept : Machine
+      kept : Expander
       kept = record { held = Some (Ok w.token); frames = [] }
 
       takes : StepsTaking idle (of_source r) (Ok w.token) idle (of_source s)

@@ -13,7 +13,7 @@ use Rattle.pp_model.specs.declared.read.Taken.{Taken}
 use Rattle.pp_macros.specs.Item.{Step}
 use Rattle.pp_rs.specs.Comes.{source_rules}
 use Rattle.pp_macros.specs.inner.Source.{Source}
-use Rattle.pp_macros.specs.inner.Machine.{Machine}
+use Rattle.pp_macros.specs.inner.Expander as kept
 use Rattle.pp_rs.specs.inner.Stands.{StandsFor}
 use Rattle.pp_macros.specs.declared.step.StepExit.TheVariants.{Error, Continue, Finished}
 
@@ -24,35 +24,35 @@ pub record GivesItem (A : Answers) (e : Expander SourceReader) (o : Outcome) (f 
   pub is : o ≡ item_of taken
 
 -- What a step of an expander is to the state that it stands for: it gives the next item, or pauses and keeps that.
-abbrev pub LeadsFrom : Answers → Expander SourceReader → Step Token → Machine → Source → Type 0
-LeadsFrom A e (Ok token) machine source = (f : Expander SourceReader) × GivesItem A e (outcome.Token token) f × StandsFor machine source f
-LeadsFrom A e (Err Continue) machine source = (f : Expander SourceReader) × StandsFor machine source f
+abbrev pub LeadsFrom : Answers → Expander SourceReader → Step Token → kept.Expander → Source → Type 0
+LeadsFrom A e (Ok token) expander source = (f : Expander SourceReader) × GivesItem A e (outcome.Token token) f × StandsFor expander source f
+LeadsFrom A e (Err Continue) expander source = (f : Expander SourceReader) × StandsFor expander source f
     × ((x : Taken) (g : Expander SourceReader) → Emits source_rules A f x g → Emits source_rules A e x g)
-LeadsFrom A e (Err Finished) machine source = (f : Expander SourceReader) × GivesItem A e outcome.End f × StandsFor machine source f
-LeadsFrom A e (Err (Error fault)) machine source = (f : Expander SourceReader) × GivesItem A e (outcome.Fault fault) f
+LeadsFrom A e (Err Finished) expander source = (f : Expander SourceReader) × GivesItem A e outcome.End f × StandsFor expander source f
+LeadsFrom A e (Err (Error fault)) expander source = (f : Expander SourceReader) × GivesItem A e (outcome.Fault fault) f
 
 -- the same of each state that the machine and the source stand for; one step, or many that pause before it
-pub record Leads (A : Answers) (machine : Machine) (source : Source) (step : Step Token) (machine_then : Machine) (source_then : Source) : Type 0 where
-  pub from : (e : Expander SourceReader) → StandsFor machine source e → LeadsFrom A e step machine_then source_then
+pub record Leads (A : Answers) (expander : kept.Expander) (source : Source) (step : Step Token) (machine_then : kept.Expander) (source_then : Source) : Type 0 where
+  pub from : (e : Expander SourceReader) → StandsFor expander source e → LeadsFrom A e step machine_then source_then
 
 -- what comes from the state after a pause comes from the one before it
 item_kept : (A : Answers) (e f g : Expander SourceReader) (o : Outcome)
     → ((x : Taken) (g : Expander SourceReader) → Emits source_rules A f x g → Emits source_rules A e x g) → GivesItem A f o g → GivesItem A e o g
 item_kept A e f g o keeps item = record { taken = item.taken; emits = keeps item.taken g item.emits; is = item.is }
 
-leads_on : (A : Answers) (e f : Expander SourceReader) (step : Step Token) (machine : Machine) (source : Source)
-    → ((x : Taken) (g : Expander SourceReader) → Emits source_rules A f x g → Emits source_rules A e x g) → LeadsFrom A f step machine source
-    → LeadsFrom A e step machine source
-leads_on A e f (Ok token) machine source keeps leads = (leads.0, item_kept A e f leads.0 (outcome.Token token) keeps leads.1, leads.2)
-leads_on A e f (Err Continue) machine source keeps leads = (leads.0, leads.1, λ x g emits. keeps x g (leads.2 x g emits))
-leads_on A e f (Err Finished) machine source keeps leads = (leads.0, item_kept A e f leads.0 outcome.End keeps leads.1, leads.2)
-leads_on A e f (Err (Error fault)) machine source keeps leads = (leads.0, item_kept A e f leads.0 (outcome.Fault fault) keeps leads.1)
+leads_on : (A : Answers) (e f : Expander SourceReader) (step : Step Token) (expander : kept.Expander) (source : Source)
+    → ((x : Taken) (g : Expander SourceReader) → Emits source_rules A f x g → Emits source_rules A e x g) → LeadsFrom A f step expander source
+    → LeadsFrom A e step expander source
+leads_on A e f (Ok token) expander source keeps leads = (leads.0, item_kept A e f leads.0 (outcome.Token token) keeps leads.1, leads.2)
+leads_on A e f (Err Continue) expander source keeps leads = (leads.0, leads.1, λ x g emits. keeps x g (leads.2 x g emits))
+leads_on A e f (Err Finished) expander source keeps leads = (leads.0, item_kept A e f leads.0 outcome.End keeps leads.1, leads.2)
+leads_on A e f (Err (Error fault)) expander source keeps leads = (leads.0, item_kept A e f leads.0 (outcome.Fault fault) keeps leads.1)
 
 -- a pause, and then a step
-pub leads_then : (A : Answers) (machine machine_then machine_last : Machine) (source source_then source_last : Source) (step : Step Token)
-    → Leads A machine source (Err Continue) machine_then source_then → Leads A machine_then source_then step machine_last source_last
-    → Leads A machine source step machine_last source_last
-leads_then A machine machine_then machine_last source source_then source_last step pauses leads =
+pub leads_then : (A : Answers) (expander machine_then machine_last : kept.Expander) (source source_then source_last : Source) (step : Step Token)
+    → Leads A expander source (Err Continue) machine_then source_then → Leads A machine_then source_then step machine_last source_last
+    → Leads A expander source step machine_last source_last
+leads_then A expander machine_then machine_last source source_then source_last step pauses leads =
     record {
       from = λ e stands.
           let after : LeadsFrom A e (Err Continue) machine_then source_then = pauses.from e stands in

@@ -9,12 +9,12 @@ use Rattle.pp_model.specs.Names.{Name}
 use Rattle.pp_model.specs.declared.read.Read.{Read}
 use Rattle.pp_macros.specs.inner.CallTurns.{TakesSomething}
 use Rattle.pp_macros.specs.inner.Defined.{Defined}
-use Rattle.pp_macros.specs.inner.Frames.{Layer}
+use Rattle.pp_macros.specs.inner.Frames.{Frame}
 use Rattle.pp_macros.specs.Item.{Step}
 use Rattle.pp_macros.specs.inner.Left.{work_of, regions, regions_of, most_open, most_bodies, holding_step}
-use Rattle.pp_macros.specs.inner.Machine.{Machine, StepsFetching, held, moved, taken_as}
+use Rattle.pp_macros.specs.inner.Expander.{Expander, StepsFetching, held, moved, taken_as}
 use Rattle.pp_macros.specs.declared.blocks.OpenBlock.{OpenBlock}
-use Rattle.pp_macros.specs.inner.Reach.{grown, through, total, work_in, frame_steps}
+use Rattle.pp_macros.specs.inner.Reach.{growth, through, total, work_in, frame_steps}
 use Rattle.pp_macros.specs.inner.Reader.{Reader, of_source, of_list, Reads}
 use Rattle.pp_macros.specs.inner.Source.{Source, StepsSource}
 use Rattle.pp_macros.specs.inner.Reading.{unpainted_step, painted_step}
@@ -31,8 +31,8 @@ HoldsMore None = ⊥
 HoldsMore (Some step) = is_end step ≡ false
 
 -- something is held, or a macro is open, or an item is left to read, or an open block to be reported
-abbrev pub SomethingLeft : Machine → Source → Type 0
-SomethingLeft machine source = HoldsMore machine.held ⊎ (machine.frames ≢ []) ⊎ (source.rest ≢ []) ⊎ (source.blocks ≢ [])
+abbrev pub SomethingLeft : Expander → Source → Type 0
+SomethingLeft expander source = HoldsMore expander.held ⊎ (expander.frames ≢ []) ⊎ (source.rest ≢ []) ⊎ (source.blocks ≢ [])
 
 -- a source with nothing left is at its end
 empty_source : (places : List Location) (error_place : Option Location) (definitions : List Defined)
@@ -91,16 +91,16 @@ left_in_source old s step unspent h goes =
       dead_for_good = old.dead_for_good;
     })) step s) unspent h) goes
 
-reads_more : (frames : List Layer) (old : Source) → (old.rest ≢ []) ⊎ (old.blocks ≢ []) → (frames ≢ []) ⊎ (old.rest ≢ []) ⊎ (old.blocks ≢ [])
+reads_more : (frames : List Frame) (old : Source) → (old.rest ≢ []) ⊎ (old.blocks ≢ []) → (frames ≢ []) ⊎ (old.rest ≢ []) ⊎ (old.blocks ≢ [])
 reads_more frames old (inl h) = inr (inl h)
 reads_more frames old (inr h) = inr (inr h)
 
-moved_left : (frames after : List Layer) (old : Source) (s : Reader) (step : Step Read) → old.spent ≡ false
+moved_left : (frames after : List Frame) (old : Source) (s : Reader) (step : Step Read) → old.spent ≡ false
     → Moves frames (of_source old) step after s → (step ≡ Err Finished → ⊥) → (frames ≢ []) ⊎ (old.rest ≢ []) ⊎ (old.blocks ≢ [])
 moved_left (f ∷ fs) after old s step unspent moves goes = inl (λ e. cc)
 moved_left [] after old s step unspent moves goes = reads_more [] old (left_in_source old s step unspent moves.1 goes)
 
-fetching_left : (m n : Machine) (old : Source) (s : Reader) (step : Step Read) → old.spent ≡ false → StepsFetching m (of_source old) step n s
+fetching_left : (m n : Expander) (old : Source) (s : Reader) (step : Step Read) → old.spent ≡ false → StepsFetching m (of_source old) step n s
     → is_end step ≡ false → SomethingLeft m old
 fetching_left m n old s step unspent (held step1 m1 n1 r1 s1 is at same) goes = inl (subst HoldsMore (sym is) goes)
 fetching_left m n old s step unspent (moved move step1 m1 n1 r1 s1 free moves is none) goes =
@@ -119,7 +119,7 @@ painted_goes names (Ok read) = refl
 painted_goes names (Err exit) = refl
 
 -- where something was taken, something was left
-pub some_left : (m : Machine) (old : Source) → old.spent ≡ false → TakesSomething m (of_source old) → SomethingLeft m old
+pub some_left : (m : Expander) (old : Source) → old.spent ≡ false → TakesSomething m (of_source old) → SomethingLeft m old
 some_left m old unspent h =
     let first = h.takes.first in
     fetching_left m h.after old h.reader first unspent h.takes.fetches
@@ -129,7 +129,7 @@ some_there : {A : Type 0} (items : List A) → items ≢ [] → 0 < length items
 some_there [] left = absurd (left refl)
 some_there (x ∷ items) left = omega arith
 
-frames_some : (frames : List Layer) (reads : ℕ) → (frames ≢ []) ⊎ (0 < reads) → 0 < total (regions_of frames reads)
+frames_some : (frames : List Frame) (reads : ℕ) → (frames ≢ []) ⊎ (0 < reads) → 0 < total (regions_of frames reads)
 frames_some [] reads (inl left) = absurd (left refl)
 frames_some [] reads (inr left) = omega arith
 frames_some (f ∷ fs) reads left = omega (arith, some_steps_left f)
@@ -146,7 +146,7 @@ holding_more (Some step) xs h = go (is_end step) refl
     go true e = rw e h
     go false e = rw e (omega (arith, total_one_more xs))
 
-regions_some : (m : Machine) (source : Source) → SomethingLeft m source → 0 < total (regions m (of_source source))
+regions_some : (m : Expander) (source : Source) → SomethingLeft m source → 0 < total (regions m (of_source source))
 regions_some m source (inl h) = holding_some m.held (regions_of m.frames (most_reads source)) h
 regions_some m source (inr (inl h)) = holding_more m.held (regions_of m.frames (most_reads source)) (frames_some m.frames (most_reads source) (inl h))
 regions_some m source (inr (inr (inl h))) = holding_more m.held (regions_of m.frames (most_reads source)) (frames_some m.frames (most_reads source)
@@ -155,7 +155,7 @@ regions_some m source (inr (inr (inr h))) = holding_more m.held (regions_of m.fr
     (inr (omega (arith, some_there source.blocks h))))
 
 -- where something is left, there is something to do
-pub left_is_work : (levels : ℕ) (m : Machine) (source : Source) → SomethingLeft m source → 0 < work_of levels m (of_source source)
+pub left_is_work : (levels : ℕ) (m : Expander) (source : Source) → SomethingLeft m source → 0 < work_of levels m (of_source source)
 left_is_work levels m source left =
     let r = of_source source in
     let xs = regions m r in
@@ -163,13 +163,13 @@ left_is_work levels m source left =
     omega (arith, up, regions_some m source left)
 
 -- where nothing is left, there is nothing to do
-pub no_work : (levels : ℕ) (m : Machine) (source : Source) → m.held ≡ None → m.frames ≡ [] → source.rest ≡ [] → source.blocks ≡ []
+pub no_work : (levels : ℕ) (m : Expander) (source : Source) → m.held ≡ None → m.frames ≡ [] → source.rest ≡ [] → source.blocks ≡ []
     → work_of levels m (of_source source) ≡ 0
 no_work levels m source free closed e f =
     let r = of_source source in
     let reads : most_reads source ≡ 0 = omega (arith, ap length e, ap length f) in
     let xs : regions m r ≡ 0 ∷ [] = ap (λ (o : Option (Step Read)). holding_step o (regions_of m.frames (most_reads source))) free
-    ∙ ap (λ (fs : List Layer). regions_of fs (most_reads source)) closed ∙ ap (λ (k : ℕ). k ∷ []) reads in
+    ∙ ap (λ (fs : List Frame). regions_of fs (most_reads source)) closed ∙ ap (λ (k : ℕ). k ∷ []) reads in
     ap (work_in (frame_steps (most_bodies r) (most_open r) levels) (most_open r)) xs
 
 -- no step is more work
@@ -178,13 +178,13 @@ through_none frame names [] e = refl
 through_none frame names (s ∷ rest) e =
     let none : s ≡ 0 = omega arith in
     let none_after : total rest ≡ 0 = omega arith in
-    subst (λ (k : ℕ). through frame names rest (iterate (grown frame (names - length rest)) k 0) ≡ 0) (sym none) (through_none frame names rest none_after)
+    subst (λ (k : ℕ). through frame names rest (iterate (growth frame (names - length rest)) k 0) ≡ 0) (sym none) (through_none frame names rest none_after)
 
 no_steps : (frame : ℕ → ℕ) (names : ℕ) (xs : List ℕ) → total xs ≡ 0 → work_in frame names xs ≡ 0
 no_steps frame names xs e = subst (λ (k : ℕ). through frame names xs k ≡ 0) (sym e) (through_none frame names xs e)
 
 -- where there is nothing to do, there is nothing to do either in a source of which as much is left
-pub no_more_work : (levels : ℕ) (m : Machine) (old new : Source) → most_reads new ≡ most_reads old → work_of levels m (of_source old) ≡ 0
+pub no_more_work : (levels : ℕ) (m : Expander) (old new : Source) → most_reads new ≡ most_reads old → work_of levels m (of_source old) ≡ 0
     → work_of levels m (of_source new) ≡ 0
 no_more_work levels m old new same e =
     let r = of_source old in

@@ -16,7 +16,7 @@ use Rattle.pp_macros.specs.Held.{HoldsOrdinary}
 use Rattle.pp_macros.specs.Item.{Item, Step, is_out_of_memory, wants_memory}
 use Rattle.pp_macros.specs.inner.Left.{work_of}
 use Rattle.pp_macros.specs.LexerErrors.{ErrorAt}
-use Rattle.pp_macros.specs.inner.Machine.{Machine}
+use Rattle.pp_macros.specs.inner.Expander as kept
 use Rattle.pp_macros.specs.inner.Reader.{of_source}
 use Rattle.pp_macros.specs.inner.Source.{Source, unreported_of}
 use Rattle.pp_rs.specs.inner.SourceTurns.{TurnsSource, StepsOver}
@@ -35,18 +35,18 @@ comes : (e f : Expander SourceReader) (o : Outcome) → GivesItem (answers_at ex
 comes e f o item = record { taken = item.taken; emits = item.emits; is = item.is }
 
 -- a state from which the same comes next as from the first
-pub record Reached (machine : Machine) (source : Source) (machine_now : Machine) (source_now : Source) : Type 0 where
+pub record Reached (expander : kept.Expander) (source : Source) (machine_now : kept.Expander) (source_now : Source) : Type 0 where
   pub fit : IsFit machine_now source_now
-  pub leads : Leads (answers_at expansion_limit) machine source (Err Continue) machine_now source_now
-  pub left : SomethingLeft machine_now source_now → SomethingLeft machine source
-  pub less : work_of expansion_limit machine_now (of_source source_now) ≤ work_of expansion_limit machine (of_source source)
+  pub leads : Leads (answers_at expansion_limit) expander source (Err Continue) machine_now source_now
+  pub left : SomethingLeft machine_now source_now → SomethingLeft expander source
+  pub less : work_of expansion_limit machine_now (of_source source_now) ≤ work_of expansion_limit expander (of_source source)
   pub reported : IsReported machine_now source_now
-  pub errors : errors_of machine_now source_now ≡ errors_of machine source
+  pub errors : errors_of machine_now source_now ≡ errors_of expander source
 
 -- the state that it begins in
-pub reached_first : (machine now : Machine) (source source_now : Source) → now ≡ machine → source_now ≡ source → IsFit now source_now
-    × IsReported now source_now → Reached machine source now source_now
-reached_first machine now source source_now e f fit = rw (e, f) (record {
+pub reached_first : (expander now : kept.Expander) (source source_now : Source) → now ≡ expander → source_now ≡ source → IsFit now source_now
+    × IsReported now source_now → Reached expander source now source_now
+reached_first expander now source source_now e f fit = rw (e, f) (record {
   fit = rw (e, f) at fit.0;
   leads = record { from = λ s stands. (s, stands, λ x g emits. emits) };
   left = λ left. left;
@@ -55,7 +55,7 @@ reached_first machine now source source_now e f fit = rw (e, f) (record {
   errors = refl;
 })
 
-module _ (machine now after : Machine) (source source_now source_after : Source) (r : Reached machine source now source_now) where
+module _ (expander now after : kept.Expander) (source source_now source_after : Source) (r : Reached expander source now source_now) where
   abbrev pub Over : Step Token → Type 0
   Over step = StepsOver expansion_limit now source_now step after source_after
 
@@ -70,23 +70,23 @@ module _ (machine now after : Machine) (source source_now source_after : Source)
   fits step h reported = source_fits expansion_limit now source_now source_after r.fit step after (turned step h reported) reported
 
   -- where a turn isn't the end, something was left at first
-  left_now : (step : Step Token) → Over step → (step ≡ Err Finished → ⊥) → SomethingLeft machine source
+  left_now : (step : Step Token) → Over step → (step ≡ Err Finished → ⊥) → SomethingLeft expander source
   left_now step (inl h) goes = r.left (some_left now source_now r.fit.unspent (source_some expansion_limit now after source_now source_after step h goes))
   left_now step (inr h) goes = r.left (some_left now source_now r.fit.unspent h.some)
 
-  leads_last : (step : Step Token) → Over step → wants_memory step ≡ false → Leads (answers_at expansion_limit) machine source step after source_after
+  leads_last : (step : Step Token) → Over step → wants_memory step ≡ false → Leads (answers_at expansion_limit) expander source step after source_after
   leads_last step h reported =
-      leads_then (answers_at expansion_limit) machine now after source source_now source_after step r.leads
+      leads_then (answers_at expansion_limit) expander now after source source_now source_after step r.leads
       (source_turn_leads expansion_limit now after source_now source_after step r.fit (turned step h reported) reported)
 
   -- what a turn leaves of the errors of the lexer
-  errors_last : (step : Step Token) → Over step → wants_memory step ≡ false → ErrorsLeft step (errors_of machine source) after source_after
+  errors_last : (step : Step Token) → Over step → wants_memory step ≡ false → ErrorsLeft step (errors_of expander source) after source_after
   errors_last step h reported =
       subst (λ (es : List ErrorAt). ErrorsLeft step es after source_after) r.errors
       (turn_errors expansion_limit now after source_now source_after step (turned step h reported) reported r.reported)
 
   -- a pause
-  pub reached_more : Over (Err Continue) → Reached machine source after source_after
+  pub reached_more : Over (Err Continue) → Reached expander source after source_after
   reached_more h =
       let less = falls (Err Continue) h refl (λ e. cc) in
       record {
@@ -124,12 +124,12 @@ module _ (machine now after : Machine) (source source_now source_after : Source)
       )
 
   -- the answers from a state that isn't spent
-  module _ (old : Preprocessing) (fresh : old.spent ≡ false) (starts : old.machine ≡ machine) (begins : old.source ≡ source) where
-    stands_first : (e : Expander SourceReader) → Stands old e → StandsFor machine source e
+  module _ (old : Preprocessing) (fresh : old.spent ≡ false) (starts : old.expander ≡ expander) (begins : old.source ≡ source) where
+    stands_first : (e : Expander SourceReader) → Stands old e → StandsFor expander source e
     unfolding Stands
-    stands_first e stands = subst (λ (s : Source). StandsFor machine s e) begins (subst (λ (m : Machine). StandsFor m old.source e) starts stands)
+    stands_first e stands = subst (λ (s : Source). StandsFor expander s e) begins (subst (λ (m : kept.Expander). StandsFor m old.source e) starts stands)
 
-    most_first : most_items old ≡ work_of expansion_limit machine (of_source source)
+    most_first : most_items old ≡ work_of expansion_limit expander (of_source source)
     unfolding most_items
     most_first = rw (fresh, starts, begins) refl
 
@@ -143,22 +143,22 @@ module _ (machine now after : Machine) (source source_now source_after : Source)
 
     -- less is left after a token or a fault
     less_last : (step : Step Token) (place : Location) → Over step → wants_memory step ≡ false → (step ≡ Err Finished → ⊥)
-        → most_items (record { machine = after; source = source_after; spent = false; place = place }) < most_items old
+        → most_items (record { expander = after; source = source_after; spent = false; place = place }) < most_items old
     unfolding most_items
     less_last step place turn reported goes =
         let lower = falls step turn reported goes in
         omega (arith, lower, r.less, most_first)
 
-    errors_first : errors_left old ≡ errors_of machine source
+    errors_first : errors_left old ≡ errors_of expander source
     unfolding errors_left
     errors_first = rw (starts, begins) refl
 
     pub next_token : (token : Token) (spent : Bool) (place : Location) → spent ≡ false → place ≡ old.place → Over (Ok token) → HoldsOrdinary token.value
-        → IsNextItem old (Some (Ok token)) (record { machine = after; source = source_after; spent = spent; place = place })
+        → IsNextItem old (Some (Ok token)) (record { expander = after; source = source_after; spent = spent; place = place })
     unfolding Stands is_spent errors_left error_place
     next_token token true place fresh_now same turn holds = cc
     next_token token false place fresh_now same turn holds =
-        as_next (Some (Ok token)) (record { machine = after; source = source_after; spent = false; place = place }) (inr (record {
+        as_next (Some (Ok token)) (record { expander = after; source = source_after; spent = false; place = place }) (inr (record {
           item = λ e stands.
               let leads : LeadsFrom (answers_at expansion_limit) e (Ok token) after source_after =
               (leads_last (Ok token) turn refl).from e (stands_first e stands) in
@@ -169,7 +169,7 @@ module _ (machine now after : Machine) (source source_now source_after : Source)
           spent = refl;
         })) (less_last (Ok token) place turn refl (λ e. cc))
 
-    end_last : (place : Location) → Over (Err Finished) → most_items (record { machine = after; source = source_after; spent = false; place = place }) ≡ 0
+    end_last : (place : Location) → Over (Err Finished) → most_items (record { expander = after; source = source_after; spent = false; place = place }) ≡ 0
     unfolding most_items
     end_last place turn =
         let e = source_ends expansion_limit now source_now source_after r.fit after (turned (Err Finished) turn refl) in
@@ -182,11 +182,11 @@ module _ (machine now after : Machine) (source source_now source_after : Source)
         rw (e.0, e.2) refl
 
     pub next_end : (spent : Bool) (place : Location) → spent ≡ false → place ≡ old.place → Over (Err Finished)
-        → IsNextItem old None (record { machine = after; source = source_after; spent = spent; place = place })
+        → IsNextItem old None (record { expander = after; source = source_after; spent = spent; place = place })
     unfolding Stands is_spent errors_left error_place
     next_end true place fresh_now same turn = cc
     next_end false place fresh_now same turn =
-        as_next None (record { machine = after; source = source_after; spent = false; place = place }) (inr (record {
+        as_next None (record { expander = after; source = source_after; spent = false; place = place }) (inr (record {
           item = λ e stands.
               let leads : LeadsFrom (answers_at expansion_limit) e (Err Finished) after source_after =
               (leads_last (Err Finished) turn refl).from e (stands_first e stands) in
@@ -199,31 +199,31 @@ module _ (machine now after : Machine) (source source_now source_after : Source)
 
     -- a fault is reported where it stands: the place that was taken is that of an error of the lexer
     module _ (fault : Fault) (reported_source : Source) (place : Location) (is : reported_source ≡ record source_after { error_place = None }) where
-      error_reported : (taken : Option Location) (left : List ErrorAt) → errors_of machine source ≡ with_read fault taken left
-          → place ≡ unwrap_or taken fault.1 → errors_left (record { machine = after; source = reported_source; spent = false; place = place }) ≡ left
-          → IsErrorAt fault old (record { machine = after; source = reported_source; spent = false; place = place })
+      error_reported : (taken : Option Location) (left : List ErrorAt) → errors_of expander source ≡ with_read fault taken left
+          → place ≡ unwrap_or taken fault.1 → errors_left (record { expander = after; source = reported_source; spent = false; place = place }) ≡ left
+          → IsErrorAt fault old (record { expander = after; source = reported_source; spent = false; place = place })
       unfolding error_place
       error_reported (Some there) left e at same = of_lexer (errors_first ∙ e
           ∙ ap (λ (es : List ErrorAt). record { item = fault; place = there } ∷ es) (sym same)
           ∙ ap (λ (p : Location). record { item = fault; place = p } ∷ errors_left
-          (record { machine = after; source = reported_source; spent = false; place = place })) (sym at))
+          (record { expander = after; source = reported_source; spent = false; place = place })) (sym at))
       error_reported None left e at same = of_its_own at (same ∙ sym e ∙ sym errors_first)
 
       errors_now : Over (Err (Error fault)) → is_out_of_memory fault.0 ≡ false
-          → errors_left (record { machine = after; source = reported_source; spent = false; place = place }) ≡ (unreported_of source_after).later
+          → errors_left (record { expander = after; source = reported_source; spent = false; place = place }) ≡ (unreported_of source_after).later
       unfolding errors_left
       errors_now turn reported = rw (is, (errors_last (Err (Error fault)) turn reported).0) refl
 
       less_now : Over (Err (Error fault)) → is_out_of_memory fault.0 ≡ false
-          → most_items (record { machine = after; source = reported_source; spent = false; place = place }) < most_items old
+          → most_items (record { expander = after; source = reported_source; spent = false; place = place }) < most_items old
       unfolding most_items
       less_now turn reported = rw is (less_last (Err (Error fault)) place turn reported (λ e. cc))
 
       next_fault : Over (Err (Error fault)) → is_out_of_memory fault.0 ≡ false → place ≡ unwrap_or source_after.error_place fault.1
-          → IsNextItem old (Some (Err fault)) (record { machine = after; source = reported_source; spent = false; place = place })
+          → IsNextItem old (Some (Err fault)) (record { expander = after; source = reported_source; spent = false; place = place })
       unfolding is_spent
       next_fault turn reported at =
-          as_next (Some (Err fault)) (record { machine = after; source = reported_source; spent = false; place = place }) (inr (record {
+          as_next (Some (Err fault)) (record { expander = after; source = reported_source; spent = false; place = place }) (inr (record {
             item = λ e stands.
                 let leads : LeadsFrom (answers_at expansion_limit) e (Err (Error fault)) after source_after =
                 (leads_last (Err (Error fault)) turn reported).from e (stands_first e stands) in
@@ -236,17 +236,17 @@ module _ (machine now after : Machine) (source source_now source_after : Source)
           })) (less_now turn reported)
 
       next_refusal : Over (Err (Error fault)) → IsNextItem old (Some (Err out_of_memory))
-          (record { machine = after; source = reported_source; spent = true; place = place })
+          (record { expander = after; source = reported_source; spent = true; place = place })
       unfolding is_spent most_items
       next_refusal turn =
-          let left : SomethingLeft machine source = left_now (Err (Error fault)) turn (λ e. cc) in
-          as_next (Some (Err out_of_memory)) (record { machine = after; source = reported_source; spent = true; place = place })
-          (inl (record { item = refl; spent = refl })) (omega (arith, left_is_work expansion_limit machine source left, most_first))
+          let left : SomethingLeft expander source = left_now (Err (Error fault)) turn (λ e. cc) in
+          as_next (Some (Err out_of_memory)) (record { expander = after; source = reported_source; spent = true; place = place })
+          (inl (record { item = refl; spent = refl })) (omega (arith, left_is_work expansion_limit expander source left, most_first))
 
       pub next_error : (want : Bool) → is_out_of_memory fault.0 ≡ want → Over (Err (Error fault))
           → place ≡ unwrap_or source_after.error_place (if want then out_of_memory else fault).1
           → IsNextItem old (Some (Err (if want then out_of_memory else fault)))
-          (record { machine = after; source = reported_source; spent = want; place = place })
+          (record { expander = after; source = reported_source; spent = want; place = place })
       next_error true e turn at = next_refusal turn
       next_error false e turn at = next_fault turn e at
 

@@ -3,8 +3,9 @@ use Rattle.std.proofs.Common.{◌≡◌, ◌∙◌, Bool, true, false, refl, sym
 use Rattle.pp_lexer.specs.declared.token.Location.{Location}
 use Rattle.pp_lexer.specs.declared.token.Token.{Token}
 use Rattle.pp_model.specs.Emitting.{answers_at, expansion_limit}
-use Rattle.pp_macros.specs.inner.Idle.{is_idle, gives_itself}
-use Rattle.pp_macros.specs.inner.Machine.{Machine}
+use Rattle.pp_macros.specs.inner.Idle.{is_idle}
+use Rattle.pp_macros.specs.inner.Plain.{gives_itself}
+use Rattle.pp_macros.specs.inner.Expander.{Expander}
 use Rattle.pp_macros.specs.inner.Source.{Source}
 use Rattle.pp_macros.specs.declared.step.StepExit.TheVariants.{Continue}
 use Rattle.pp_directives.specs.inner.PlainText.{IsStep}
@@ -16,11 +17,11 @@ use Rattle.pp_rs.proofs.runs.Leads.{LeadsFrom}
 use Rattle.pp_rs.proofs.runs.NextLemmas.{Reached}
 
 -- a newline is a turn
-pub newline_over : (m : Machine) (r s : Source) → is_idle m ≡ true → IsStep r (Err Continue) s → StepsOver expansion_limit m r (Err Continue) m s
+pub newline_over : (m : Expander) (r s : Source) → is_idle m ≡ true → IsStep r (Err Continue) s → StepsOver expansion_limit m r (Err Continue) m s
 newline_over m r s idle step = idle_exit expansion_limit r s m Continue (Err Continue) (is_idle-idle m idle) (step.reads, step.errors) refl
 
 -- so is a word
-pub word_over : (m : Machine) (r s : Source) (token : Token) → is_idle m ≡ true → IsStep r (Ok token) s → gives_itself s token.value ≡ true
+pub word_over : (m : Expander) (r s : Source) (token : Token) → is_idle m ≡ true → IsStep r (Ok token) s → gives_itself s token.value ≡ true
     → StepsOver expansion_limit m r (Ok token) m s
 word_over m r s token idle step itself = idle_token expansion_limit r s m token (is_idle-idle m idle) (step.reads, step.errors) itself
 
@@ -35,9 +36,9 @@ passed_nothing p = record {
 }
 
 -- only pauses were
-pub passed_pauses : (old : Preprocessing) (now : Machine) (source_now : Source) (spent : Bool) (place : Location)
-    → Reached old.machine old.source now source_now → old.spent ≡ false → spent ≡ false → place ≡ old.place
-    → IsPassed old (record { machine = now; source = source_now; spent = spent; place = place })
+pub passed_pauses : (old : Preprocessing) (now : Expander) (source_now : Source) (spent : Bool) (place : Location)
+    → Reached old.expander old.source now source_now → old.spent ≡ false → spent ≡ false → place ≡ old.place
+    → IsPassed old (record { expander = now; source = source_now; spent = spent; place = place })
 unfolding Stands is_spent errors_left error_place most_items
 passed_pauses old now source_now spent place r fresh same at = record {
   item = λ state stands.

@@ -4,7 +4,7 @@ use Rattle.pp_model.specs.Emitting.{expansion_limit}
 use Rattle.pp_macros.specs.inner.CallTurns.{passes}
 use Rattle.pp_macros.specs.inner.Giving.{PausesEach, at_once, after}
 use Rattle.pp_macros.specs.inner.Left.{work_of}
-use Rattle.pp_macros.specs.inner.Machine.{Machine, StepsTaking}
+use Rattle.pp_macros.specs.inner.Expander.{Expander, StepsTaking}
 use Rattle.pp_macros.specs.inner.Reader.{of_source}
 use Rattle.pp_macros.specs.inner.Source.{Source}
 use Rattle.pp_macros.specs.declared.step.StepExit.TheVariants.{Continue}
@@ -12,12 +12,12 @@ use Rattle.pp_rs.specs.inner.SourceTurns.{StepsOver}
 use Rattle.pp_rs.proofs.runs.NextLemmas.{Reached, reached_more, falls_more}
 
 -- what the loop has reached from here on, and that no more work is left
-pub record ReachedOn (machine : Machine) (source : Source) (now : Machine) (source_now : Source) (then : Machine) : Type 0 where
-  pub reached : Reached machine source then source_now
+pub record ReachedOn (expander : Expander) (source : Source) (now : Expander) (source_now : Source) (then : Expander) : Type 0 where
+  pub reached : Reached expander source then source_now
   pub least : work_of expansion_limit then (of_source source_now) ≤ work_of expansion_limit now (of_source source_now)
 
 -- a pause is a turn
-pause_over : (now then : Machine) (source : Source) → StepsTaking now (of_source source) (Err Continue) then (of_source source)
+pause_over : (now then : Expander) (source : Source) → StepsTaking now (of_source source) (Err Continue) then (of_source source)
     → StepsOver expansion_limit now source (Err Continue) then source
 pause_over now then source steps = inl (record {
   taken = Err Continue;
@@ -26,11 +26,11 @@ pause_over now then source steps = inl (record {
   follows = (refl, refl);
 })
 
-pub reached_on : (machine now : Machine) (source source_now : Source) → Reached machine source now source_now → (then : Machine)
-    → PausesEach now then → ReachedOn machine source now source_now then
-reached_on machine now source source_now r then (at_once n is) = rw is (record { reached = r; least = omega arith })
-reached_on machine now source source_now r then (after between p pauses steps) =
-    let h = reached_on machine now source source_now r between pauses in
+pub reached_on : (expander now : Expander) (source source_now : Source) → Reached expander source now source_now → (then : Expander)
+    → PausesEach now then → ReachedOn expander source now source_now then
+reached_on expander now source source_now r then (at_once n is) = rw is (record { reached = r; least = omega arith })
+reached_on expander now source source_now r then (after between p pauses steps) =
+    let h = reached_on expander now source source_now r between pauses in
     let over = pause_over between then source_now (steps (of_source source_now)) in
-    let lower = falls_more machine between then source source_now source_now h.reached over in
-    record { reached = reached_more machine between then source source_now source_now h.reached over; least = omega (arith, h.least, lower) }
+    let lower = falls_more expander between then source source_now source_now h.reached over in
+    record { reached = reached_more expander between then source source_now source_now h.reached over; least = omega (arith, h.least, lower) }

@@ -11,10 +11,10 @@ use Rattle.pp_model.specs.declared.read.Read.{Read}
 use Rattle.pp_model.specs.declared.read.Taken.TheVariants as given
 use Rattle.pp_macros.specs.inner.CallTurns.{Sought, no_call, refused, gathered, sought_by, Seeks, alone, called, Finds, TurnsTo, passes, gives, object, seeks, paren_of, TakesSomething}
 use Rattle.pp_rs.specs.inner.Fit.{NothingIn, IsReady, EndIsLast}
-use Rattle.pp_macros.specs.inner.Frames.{Layer, Advance, advance, outermost_frame_line}
+use Rattle.pp_macros.specs.inner.Frames.{Frame, Advance, advance, outermost_frame_line}
 use Rattle.pp_macros.specs.Item.{Step, wants_memory}
 use Rattle.pp_macros.specs.inner.Source.{StepsSource}
-use Rattle.pp_macros.specs.inner.Machine.{Machine, StepsFetching, StepsTaking, held, moved, TakesNext, now, later, GathersNext, closed, inside, overfull, ended, failed, step_of_outcome, taken_as}
+use Rattle.pp_macros.specs.inner.Expander.{Expander, StepsFetching, StepsTaking, held, moved, TakesNext, now, later, GathersNext, closed, inside, overfull, ended, failed, step_of_outcome, taken_as}
 use Rattle.pp_macros.specs.inner.Reader.{Reader, of_source, of_list, Reads, shown_line}
 use Rattle.pp_macros.specs.inner.Reading.{painted_step}
 use Rattle.pp_macros.specs.inner.Turns.{as_pause, frame_move, masks, Moves}
@@ -40,7 +40,7 @@ reads_end (of_list old) (of_list new) ready h = tt
 reads_end (of_source old) (of_list new) ready h = absurd h
 reads_end (of_list old) (of_source new) ready h = absurd h
 
-frames_pause : (fs : List Layer) (o : Option Advance) → (frame_move fs o).gives ≡ Err Finished → ⊥
+frames_pause : (fs : List Frame) (o : Option Advance) → (frame_move fs o).gives ≡ Err Finished → ⊥
 frames_pause fs (Some a) e = no_end a.gives e
   where
     no_end : (t : Option Read) → as_pause t ≡ Err Finished → ⊥
@@ -48,17 +48,17 @@ frames_pause fs (Some a) e = no_end a.gives e
     no_end None e = cc
 frames_pause fs None e = cc
 
-moves_ready : (fs gs : List Layer) (r s : Reader) (move : Step Read) → IsReady r → Moves fs r move gs s → wants_memory move ≡ false → IsReady s
+moves_ready : (fs gs : List Frame) (r s : Reader) (move : Step Read) → IsReady r → Moves fs r move gs s → wants_memory move ≡ false → IsReady s
 moves_ready [] gs r s move ready h reported = reads_ready r s move ready h.1 reported
 moves_ready (f ∷ fs) gs r s move ready h reported = subst IsReady (sym h.0) ready
 
-moves_end : (fs gs : List Layer) (r s : Reader) → IsReady r → Moves fs r (Err Finished) gs s → (gs ≡ []) × NothingIn s
+moves_end : (fs gs : List Frame) (r s : Reader) → IsReady r → Moves fs r (Err Finished) gs s → (gs ≡ []) × NothingIn s
 moves_end [] gs r s ready h = (h.0, reads_end r s ready h.1)
 moves_end (f ∷ fs) gs r s ready (stays, inl h) = absurd (frames_pause fs (advance f) (sym h.0))
 moves_end (f ∷ fs) gs r s ready (stays, inr h) = cc
 
 -- taking and painting make an end of no token
-taken_end : (move : Step Read) (fs : List Layer) (r : Reader) → taken_as move fs r ≡ Err Finished → move ≡ Err Finished
+taken_end : (move : Step Read) (fs : List Frame) (r : Reader) → taken_as move fs r ≡ Err Finished → move ≡ Err Finished
 taken_end (Ok read) fs r e = absurd (go (is_identifier line_name read.token.value)
     (shown_line r (unwrap_or (outermost_frame_line fs) read.token.location.line)) e)
   where
@@ -73,18 +73,18 @@ painted_end names (Ok read) e = cc
 painted_end names (Err exit) e = e
 
 -- nothing is held after what was taken
-fetch_free : (m n : Machine) (r s : Reader) (step : Step Read) → StepsFetching m r step n s → n.held ≡ None
+fetch_free : (m n : Expander) (r s : Reader) (step : Step Read) → StepsFetching m r step n s → n.held ≡ None
 fetch_free m n r s step (held step1 m1 n1 r1 s1 is at same) = rw at refl
 fetch_free m n r s step (moved move step1 m1 n1 r1 s1 free moves is none) = none
 
-pub step_free : (m n : Machine) (r s : Reader) (step : Step Read) → StepsTaking m r step n s → n.held ≡ None
+pub step_free : (m n : Expander) (r s : Reader) (step : Step Read) → StepsTaking m r step n s → n.held ≡ None
 step_free m n r s step steps = fetch_free m n r s steps.first steps.fetches
 
-pub next_free : (m n : Machine) (r s : Reader) (step : Step Read) → TakesNext m r step n s → n.held ≡ None
+pub next_free : (m n : Expander) (r s : Reader) (step : Step Read) → TakesNext m r step n s → n.held ≡ None
 next_free m n r s step (now step1 m1 n1 r1 s1 steps goes) = step_free m n r s step steps
 next_free m n r s step (later step1 m1 between n1 r1 s1 t1 steps next) = next_free between n s1 s step next
 
-pub gather_free : (k : ℕ) (last : Location) (m n : Machine) (r s : Reader) (g : Result Gathered Fault) → GathersNext k last m r g n s → n.held ≡ None
+pub gather_free : (k : ℕ) (last : Location) (m n : Expander) (r s : Reader) (g : Result Gathered Fault) → GathersNext k last m r g n s → n.held ≡ None
 gather_free k last m n r s g (closed k1 last1 read m1 n1 r1 s1 g1 next out is) = next_free m n r s (Ok read) next
 gather_free k last m n r s g (inside k1 l last1 read m1 between n1 r1 s1 t1 rest g1 next in_call more is) =
     gather_free l read.token.location between n s1 s rest more
@@ -93,21 +93,21 @@ gather_free k last m n r s g (ended k1 last1 m1 n1 r1 s1 g1 next is) = next_free
 gather_free k last m n r s g (failed k1 last1 fault m1 n1 r1 s1 g1 next reported is) = next_free m n r s (Err (Error fault)) next
 
 -- the reader stays ready
-fetch_ready : (m n : Machine) (r s : Reader) (step : Step Read) → IsReady r → StepsFetching m r step n s → wants_memory step ≡ false → IsReady s
+fetch_ready : (m n : Expander) (r s : Reader) (step : Step Read) → IsReady r → StepsFetching m r step n s → wants_memory step ≡ false → IsReady s
 fetch_ready m n r s step ready (held step1 m1 n1 r1 s1 is at same) reported = subst IsReady (sym same) ready
 fetch_ready m n r s step ready (moved move step1 m1 n1 r1 s1 free moves is none) reported =
     moves_ready m.frames n.frames r s move ready moves (taken_reported move n.frames s (rw is at reported))
 
-step_ready : (m n : Machine) (r s : Reader) (step : Step Read) → IsReady r → StepsTaking m r step n s → wants_memory step ≡ false → IsReady s
+step_ready : (m n : Expander) (r s : Reader) (step : Step Read) → IsReady r → StepsTaking m r step n s → wants_memory step ≡ false → IsReady s
 step_ready m n r s step ready steps reported =
     fetch_ready m n r s steps.first ready steps.fetches (painted_reported (masks n.frames s) steps.first (rw steps.paints at reported))
 
-next_ready : (m n : Machine) (r s : Reader) (step : Step Read) → IsReady r → TakesNext m r step n s → wants_memory step ≡ false → IsReady s
+next_ready : (m n : Expander) (r s : Reader) (step : Step Read) → IsReady r → TakesNext m r step n s → wants_memory step ≡ false → IsReady s
 next_ready m n r s step ready (now step1 m1 n1 r1 s1 steps goes) reported = step_ready m n r s step ready steps reported
 next_ready m n r s step ready (later step1 m1 between n1 r1 s1 t1 steps next) reported =
     next_ready between n s1 s step (step_ready m between r s1 (Err Continue) ready steps refl) next reported
 
-gather_ready : (k : ℕ) (last : Location) (m n : Machine) (r s : Reader) (g : Result Gathered Fault) → IsReady r → GathersNext k last m r g n s → IsReady s
+gather_ready : (k : ℕ) (last : Location) (m n : Expander) (r s : Reader) (g : Result Gathered Fault) → IsReady r → GathersNext k last m r g n s → IsReady s
 gather_ready k last m n r s g ready (closed k1 last1 read m1 n1 r1 s1 g1 next out is) = next_ready m n r s (Ok read) ready next refl
 gather_ready k last m n r s g ready (inside k1 l last1 read m1 between n1 r1 s1 t1 rest g1 next in_call more is) =
     gather_ready l read.token.location between n s1 s rest (next_ready m between r s1 (Ok read) ready next refl) more
@@ -116,23 +116,23 @@ gather_ready k last m n r s g ready (ended k1 last1 m1 n1 r1 s1 g1 next is) = ne
 gather_ready k last m n r s g ready (failed k1 last1 fault m1 n1 r1 s1 g1 next reported is) = next_ready m n r s (Err (Error fault)) ready next reported
 
 -- nothing is left where the end is taken
-fetch_end : (m n : Machine) (r s : Reader) (step : Step Read) → step ≡ Err Finished → IsReady r → EndIsLast m.held m.frames r
+fetch_end : (m n : Expander) (r s : Reader) (step : Step Read) → step ≡ Err Finished → IsReady r → EndIsLast m.held m.frames r
     → StepsFetching m r step n s → (n.frames ≡ []) × NothingIn s
 fetch_end m n r s step e ready last (held step1 m1 n1 r1 s1 is at same) =
     let all : (m.frames ≡ []) × NothingIn r = subst (λ (o : Option (Step Read)). EndIsLast o m.frames r) (is ∙ ap Some e) last in
-    (ap (λ (x : Machine). x.frames) at ∙ all.0, subst NothingIn (sym same) all.1)
+    (ap (λ (x : Expander). x.frames) at ∙ all.0, subst NothingIn (sym same) all.1)
 fetch_end m n r s step e ready last (moved move step1 m1 n1 r1 s1 free moves is none) =
     moves_end m.frames n.frames r s ready (subst (λ (x : Step Read). Moves m.frames r x n.frames s) (taken_end move n.frames s (sym is ∙ e)) moves)
 
-step_end : (m n : Machine) (r s : Reader) (step : Step Read) → step ≡ Err Finished → IsReady r → EndIsLast m.held m.frames r
+step_end : (m n : Expander) (r s : Reader) (step : Step Read) → step ≡ Err Finished → IsReady r → EndIsLast m.held m.frames r
     → StepsTaking m r step n s → (n.frames ≡ []) × NothingIn s
 step_end m n r s step e ready last steps =
     fetch_end m n r s steps.first (painted_end (masks n.frames s) steps.first (sym steps.paints ∙ e)) ready last steps.fetches
 
-free_last : (o : Option (Step Read)) (fs : List Layer) (r : Reader) → o ≡ None → EndIsLast o fs r
+free_last : (o : Option (Step Read)) (fs : List Frame) (r : Reader) → o ≡ None → EndIsLast o fs r
 free_last o fs r e = subst (λ (x : Option (Step Read)). EndIsLast x fs r) (sym e) tt
 
-next_end : (m n : Machine) (r s : Reader) (step : Step Read) → step ≡ Err Finished → IsReady r → EndIsLast m.held m.frames r
+next_end : (m n : Expander) (r s : Reader) (step : Step Read) → step ≡ Err Finished → IsReady r → EndIsLast m.held m.frames r
     → TakesNext m r step n s → (n.frames ≡ []) × NothingIn s
 next_end m n r s step e ready last (now step1 m1 n1 r1 s1 steps goes) = step_end m n r s step e ready last steps
 next_end m n r s step e ready last (later step1 m1 between n1 r1 s1 t1 steps next) =
@@ -143,19 +143,19 @@ paren_reported : (next : Step Read) (paren : Location) → paren_of next ≡ Som
 paren_reported (Ok read) paren e = refl
 paren_reported (Err exit) paren e = cc
 
-seeks_ready : (m n : Machine) (r s : Reader) (c : Sought) → IsReady r → Seeks m r c n s → IsReady s
+seeks_ready : (m n : Expander) (r s : Reader) (c : Sought) → IsReady r → Seeks m r c n s → IsReady s
 seeks_ready m n r s c ready (alone next m1 n1 r1 s1 c1 taken none reported is) = next_ready m n r s next ready taken (not_refused next reported)
 seeks_ready m n r s c ready (called next paren m1 between n1 r1 s1 t1 g c1 taken at gathers is) =
     gather_ready 0 paren between n s1 s g (next_ready m between r s1 next ready taken (paren_reported next paren at)) gathers
 
 -- what is held after a search is what was found, or nothing
-held_last : (next : Step Read) (m n : Machine) (r s : Reader) → IsReady r → m.held ≡ None → TakesNext m r next n s → EndIsLast (Some next) n.frames s
+held_last : (next : Step Read) (m n : Expander) (r s : Reader) → IsReady r → m.held ≡ None → TakesNext m r next n s → EndIsLast (Some next) n.frames s
 held_last (Ok read) m n r s ready free next = tt
 held_last (Err Continue) m n r s ready free next = tt
 held_last (Err Finished) m n r s ready free next = next_end m n r s (Err Finished) refl ready (free_last m.held m.frames r free) next
 held_last (Err (Error fault)) m n r s ready free next = tt
 
-finds_last : (read : Read) (name : Name) (definition : Definition) (c : Sought) (step : Step Taken) (m n p : Machine) (r s : Reader) → IsReady r
+finds_last : (read : Read) (name : Name) (definition : Definition) (c : Sought) (step : Step Taken) (m n p : Expander) (r s : Reader) → IsReady r
     → m.held ≡ None → Seeks m r c n s → Finds read name definition c step n p → EndIsLast p.held p.frames s
 finds_last read name definition c step m n p r s ready free (alone next m1 n1 r1 s1 c1 taken none reported is) found =
     let found' : Finds read name definition (no_call next) step n p = subst (λ (x : Sought). Finds read name definition x step n p) is found in
@@ -168,7 +168,7 @@ finds_last read name definition c step m n p r s ready free (called next paren m
     go (Err fault) free f = rw f.1 (free_last n.held n.frames s free)
 
 -- a turn
-pub turn_ready : (m n : Machine) (r s : Reader) (step : Step Taken) → IsReady r → TurnsTo m r step n s → wants_taken step ≡ false → IsReady s
+pub turn_ready : (m n : Expander) (r s : Reader) (step : Step Taken) → IsReady r → TurnsTo m r step n s → wants_taken step ≡ false → IsReady s
 turn_ready m n r s step ready (passes exit step1 m1 n1 r1 s1 steps is) reported =
     step_ready m n r s (Err exit) ready steps (exit_reported exit (rw is at reported))
 turn_ready m n r s step ready (gives read step1 m1 n1 r1 s1 steps none is) reported = step_ready m n r s (Ok read) ready steps refl
@@ -177,21 +177,21 @@ turn_ready m p r s step ready (object read name definition step1 m1 n p1 r1 s1 s
 turn_ready m q r t step ready (seeks read name definition c step1 m1 n p q1 r1 s t1 steps some function sought found) reported =
     seeks_ready n p s t c (step_ready m n r s (Ok read) ready steps refl) sought
 
-pub turn_last : (m n : Machine) (r s : Reader) (step : Step Taken) → IsReady r → TurnsTo m r step n s → EndIsLast n.held n.frames s
+pub turn_last : (m n : Expander) (r s : Reader) (step : Step Taken) → IsReady r → TurnsTo m r step n s → EndIsLast n.held n.frames s
 turn_last m n r s step ready (passes exit step1 m1 n1 r1 s1 steps is) = free_last n.held n.frames s (step_free m n r s (Err exit) steps)
 turn_last m n r s step ready (gives read step1 m1 n1 r1 s1 steps none is) = free_last n.held n.frames s (step_free m n r s (Ok read) steps)
 turn_last m p r s step ready (object read name definition step1 m1 n p1 r1 s1 steps some plain is at) =
-    free_last p.held p.frames s (ap (λ (x : Machine). x.held) at ∙ step_free m n r s (Ok read) steps)
+    free_last p.held p.frames s (ap (λ (x : Expander). x.held) at ∙ step_free m n r s (Ok read) steps)
 turn_last m q r t step ready (seeks read name definition c step1 m1 n p q1 r1 s t1 steps some function sought found) =
     finds_last read name definition c step n p q s t (step_ready m n r s (Ok read) ready steps refl) (step_free m n r s (Ok read) steps) sought found
 
-no_end : (read : Read) (name : Name) (definition : Definition) (c : Sought) (step : Step Taken) (n p : Machine)
+no_end : (read : Read) (name : Name) (definition : Definition) (c : Sought) (step : Step Taken) (n p : Expander)
     → Finds read name definition c step n p → step ≡ Err Finished → ⊥
 no_end read name definition (no_call next) step n p found e = let k = found.0 in cc
 no_end read name definition (refused fault) step n p found e = let k = found.0 in cc
 no_end read name definition (gathered paren g) step n p found e = let k = found.0 in cc
 
-pub turn_end : (m n : Machine) (r s : Reader) (step : Step Taken) → step ≡ Err Finished → IsReady r → EndIsLast m.held m.frames r
+pub turn_end : (m n : Expander) (r s : Reader) (step : Step Taken) → step ≡ Err Finished → IsReady r → EndIsLast m.held m.frames r
     → TurnsTo m r step n s → (n.held ≡ None) × (n.frames ≡ []) × NothingIn s
 turn_end m n r s step e ready last (passes exit step1 m1 n1 r1 s1 steps is) =
     let same : ◌≡◌ {A = Step Read} (Err exit) (Err Finished) = ap (λ (x : StepExit). Err x) (exit_same exit (sym is ∙ e)) in
@@ -206,7 +206,7 @@ turn_end m q r t step e ready last (seeks read name definition c step1 m1 n p q1
     absurd (no_end read name definition c step p q found e)
 
 -- but for the end, something is taken
-pub turn_some : (m n : Machine) (r s : Reader) (step : Step Taken) → TurnsTo m r step n s → (step ≡ Err Finished → ⊥) → TakesSomething m r
+pub turn_some : (m n : Expander) (r s : Reader) (step : Step Taken) → TurnsTo m r step n s → (step ≡ Err Finished → ⊥) → TakesSomething m r
 turn_some m n r s step (passes Continue step1 m1 n1 r1 s1 steps is) goes = record { step = Err Continue; after = n; reader = s; takes = steps; goes = refl }
 turn_some m n r s step (passes (Error fault) step1 m1 n1 r1 s1 steps is) goes =
     record { step = Err (Error fault); after = n; reader = s; takes = steps; goes = refl }

@@ -13,7 +13,7 @@ use Rattle.pp_model.specs.declared.read.Read.{Read}
 use Rattle.pp_model.specs.declared.read.Taken.TheVariants as given
 use Rattle.pp_macros.specs.inner.CallTurns.{TurnsTo}
 use Rattle.pp_macros.specs.Item.{Step, wants_memory}
-use Rattle.pp_macros.specs.inner.Machine.{Machine}
+use Rattle.pp_macros.specs.inner.Expander as kept
 use Rattle.pp_macros.specs.inner.Reader.{Reader, of_source, of_list, Reads, hidden_of, shown_line, visible}
 use Rattle.pp_macros.specs.inner.Reading.{unpainted_step}
 use Rattle.pp_model.specs.LineValues.{as_line_number}
@@ -62,7 +62,7 @@ source_sees (of_source source) y name stands = ap (λ (d : Definitions). d name)
 source_sees (of_list l) y name stands = absurd stands
 
 -- one turn over a source
-pub source_leads : (A : Answers) (m n : Machine) (r s : Reader) (step : Step Taken) (e : Expander SourceReader)
+pub source_leads : (A : Answers) (m n : kept.Expander) (r s : Reader) (step : Step Taken) (e : Expander SourceReader)
     → StandsIn source_rules IsSource [] m r e → TurnsTo m r step n s → wants_taken step ≡ false
     → LeadsTo source_rules IsSource [] sources_simulate source_shows source_hides source_sees A step e n s
 source_leads A m n r s step e stands turns reported = turn_leads source_rules IsSource

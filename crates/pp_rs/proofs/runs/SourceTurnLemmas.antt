@@ -8,23 +8,23 @@ use Rattle.pp_model.specs.Emitting.{Emits, answers_at}
 use Rattle.pp_model.proofs.LevelLemmas.{none_at_limit}
 use Rattle.pp_model.specs.Names.{Name}
 use Rattle.pp_model.specs.Painting.{item_of}
-use Rattle.pp_model.specs.Reading.{Expander, masked}
+use Rattle.pp_model.specs.Reading.{Expander, masked_names}
 use Rattle.pp_model.specs.SourceReader.{SourceReader}
-use Rattle.pp_model.specs.SpliceList.{open_names, spliced}
+use Rattle.pp_model.specs.SpliceList.{open_names, macro_before}
 use Rattle.pp_model.specs.declared.read.Read.{Read}
 use Rattle.pp_model.specs.declared.read.Taken.{Taken as Given}
 use Rattle.pp_model.specs.declared.read.Taken.TheVariants as given
 use Rattle.pp_model.specs.declared.splice.Entry.{Entry}
-use Rattle.pp_macros.specs.inner.Calling.{PendingCall}
+use Rattle.pp_macros.specs.inner.Calling.{MacroCall}
 use Rattle.pp_macros.specs.inner.CallTurns.{TurnsTo, TurnsOrRefuses, TakesSomething}
 use Rattle.pp_macros.specs.inner.Defined.{Defined, meaning_of}
 use Rattle.pp_macros.specs.inner.Finishing.{site_at, Finishes, IsOpened}
 use Rattle.pp_rs.specs.inner.Fit.{EndIsLast, IsFit}
-use Rattle.pp_macros.specs.inner.Frames.{layer, flat, names_of}
+use Rattle.pp_macros.specs.inner.Frames.{new_frame, flat, names_of}
 use Rattle.pp_macros.specs.Halting.{exit_of}
 use Rattle.pp_macros.specs.Item.{Step, wants_memory}
 use Rattle.pp_macros.specs.inner.Left.{work_of, most_alone, most_bodies, most_open, reads_left, regions, regions_of, one_more, holding_step, IsSound}
-use Rattle.pp_macros.specs.inner.Machine.{Machine}
+use Rattle.pp_macros.specs.inner.Expander as kept
 use Rattle.pp_macros.specs.inner.Reader.{of_source}
 use Rattle.pp_rs.specs.Comes.{source_rules}
 use Rattle.pp_macros.specs.inner.Source.{Source}
@@ -50,14 +50,14 @@ use Rattle.pp_macros.proofs.taking.TurnLeadsLemmas.{LeadsTo}
 use Rattle.pp_macros.proofs.work.WorkFallsLemmas.{frame_of, falls_work}
 
 -- what follows of a call that is not finished, unless memory is refused
-pub follows_halt : (levels l : ℕ) (ds es : List Defined) (hidden : List Name) (c : PendingCall) (m n : Machine) (h : Halt) (step : Step Token)
+pub follows_halt : (levels l : ℕ) (ds es : List Defined) (hidden : List Name) (c : MacroCall) (m n : kept.Expander) (h : Halt) (step : Step Token)
     → l ≡ levels → es ≡ ds → hidden ≡ [] → Finishes l es hidden c m (Err h) n → step ≡ Err (exit_of h)
     → FollowsCall levels ds c m step n ⊎ (step ≡ Err (Error out_of_memory))
 follows_halt levels l ds es hidden c m n (halt.Fault fault) step e d none f is = inl (refused fault is (rw (e, d, none) at f.0) f.1)
 follows_halt levels l ds es hidden c m n halt.OutOfMemory step e d none f is = inr is
 
 -- the turns of the code
-module _ (levels : ℕ) (m n : Machine) (r s : Source) where
+module _ (levels : ℕ) (m n : kept.Expander) (r s : Source) where
   pub goes_token : (read : Read) → TurnsOrRefuses m (of_source r) (Ok (taken.Token read)) n (of_source s) → StepsOver levels m r (Ok read.token) n s
   goes_token read (inl h) = inl (record { taken = Ok (taken.Token read); between = n; turns = h; follows = (refl, refl) })
   goes_token read (inr h) = let bad = h.fault in cc
@@ -72,7 +72,7 @@ module _ (levels : ℕ) (m n : Machine) (r s : Source) where
   goes_exit exit step (inr h) is = inr (record { some = h.some; fault = exit_as exit step h.fault is })
 
   -- a call that is finished at once, unless memory is refused
-  pub goes_follow : (c : PendingCall) (p : Machine) (step : Step Token) → TurnsOrRefuses m (of_source r) (Ok (taken.Call c)) n (of_source s)
+  pub goes_follow : (c : MacroCall) (p : kept.Expander) (step : Step Token) → TurnsOrRefuses m (of_source r) (Ok (taken.Call c)) n (of_source s)
       → FollowsCall levels s.definitions c n step p ⊎ (step ≡ Err (Error out_of_memory)) → StepsOver levels m r step p s
   goes_follow c p step (inr t) f = let bad = t.fault in cc
   goes_follow c p step (inl t) (inl f) = inl (record { taken = Ok (taken.Call c); between = n; turns = t; follows = f })
@@ -92,30 +92,30 @@ module _ (levels : ℕ) (m n : Machine) (r s : Source) where
   turned_source step (inr h) reported = absurd (let bad : true ≡ false = rw h.fault at reported in cc)
 
 -- what holds after a turn: less is left, but at the end
-record IsAfter (levels : ℕ) (m : Machine) (old : Source) (step : Step Token) (n : Machine) (new : Source) : Type 0 where
+record IsAfter (levels : ℕ) (m : kept.Expander) (old : Source) (step : Step Token) (n : kept.Expander) (new : Source) : Type 0 where
   less : (step ≡ Err Finished → ⊥) → work_of levels n (of_source new) < work_of levels m (of_source old)
   sound : IsSound n (of_source new)
   last : EndIsLast n.held n.frames (of_source new)
 
-module _ (levels : ℕ) (m : Machine) (old new : Source) (fit : IsFit m old) where
-  free_last : (o : Option (Step Read)) (n : Machine) → o ≡ None → EndIsLast o n.frames (of_source new)
+module _ (levels : ℕ) (m : kept.Expander) (old new : Source) (fit : IsFit m old) where
+  free_last : (o : Option (Step Read)) (n : kept.Expander) → o ≡ None → EndIsLast o n.frames (of_source new)
   free_last o n e = subst (λ (x : Option (Step Read)). EndIsLast x n.frames (of_source new)) (sym e) tt
 
-  opened_less : (levels' : ℕ) → levels' ≡ levels → (c : PendingCall) (n p : Machine) → IsPending levels' m (of_source old) c n (of_source new)
+  opened_less : (levels' : ℕ) → levels' ≡ levels → (c : MacroCall) (n p : kept.Expander) → IsPending levels' m (of_source old) c n (of_source new)
       → IsOpened levels' new.definitions (names_of n.frames ++ []) c n p → IsLess levels' m (of_source old) p (of_source new)
   opened_less zero e c n p pend o = absurd (none_at_limit c.definition (site_at c new.definitions (names_of n.frames ++ [])) o.arguments o.answers)
   opened_less (suc lower) e c n p pend o =
       let one : suc lower - 1 ≡ lower = omega arith in
       let least : All (λ (a : List Read). length a ≤ most_alone lower new.definitions (length c.tokens)) o.arguments = rw (← one) o.least in
-      let at : p ≡ record { held = None; frames = layer c.name c.closing.line c.definition o.arguments ∷ n.frames } = o.opens
-      ∙ ap (λ (h : Option (Step Read)). record { held = h; frames = layer c.name c.closing.line c.definition o.arguments ∷ n.frames }) pend.free in
+      let at : p ≡ record { held = None; frames = new_frame c.name c.closing.line c.definition o.arguments ∷ n.frames } = o.opens
+      ∙ ap (λ (h : Option (Step Read)). record { held = h; frames = new_frame c.name c.closing.line c.definition o.arguments ∷ n.frames }) pend.free in
       rw at (pending_opens lower m (of_source old) c n (of_source new) o.arguments pend least)
 
-  call_after : (c : PendingCall) (n p : Machine) (step : Step Token) → IsPending levels m (of_source old) c n (of_source new)
+  call_after : (c : MacroCall) (n p : kept.Expander) (step : Step Token) → IsPending levels m (of_source old) c n (of_source new)
       → FollowsCall levels new.definitions c n step p → IsAfter levels m old step p new
   call_after c n p step pend (opened is o) =
       let less = opened_less levels refl c n p pend o in
-      record { less = λ goes. less.falls; sound = less.sound; last = free_last p.held p (ap (λ (x : Machine). x.held) o.opens ∙ pend.free) }
+      record { less = λ goes. less.falls; sound = less.sound; last = free_last p.held p (ap (λ (x : kept.Expander). x.held) o.opens ∙ pend.free) }
   call_after c n p step pend (refused fault is answers same) =
       let r = of_source old in
       let s = of_source new in
@@ -130,11 +130,11 @@ module _ (levels : ℕ) (m : Machine) (old new : Source) (fit : IsFit m old) whe
         last = free_last n.held n pend.free;
       })
 
-  less_after : (step : Step Token) (n p : Machine) → p ≡ n → EndIsLast n.held n.frames (of_source new)
+  less_after : (step : Step Token) (n p : kept.Expander) → p ≡ n → EndIsLast n.held n.frames (of_source new)
       → IsLess levels m (of_source old) n (of_source new) → IsAfter levels m old step p new
   less_after step n p same last less = rw same (record { less = λ goes. less.falls; sound = less.sound; last = last })
 
-  follows_after : (step : Step Token) (n p : Machine) (t : Step Taken) → TurnsTo m (of_source old) t n (of_source new)
+  follows_after : (step : Step Token) (n p : kept.Expander) (t : Step Taken) → TurnsTo m (of_source old) t n (of_source new)
       → FollowsTurn levels new.definitions t n step p → wants_memory step ≡ false → IsAfter levels m old step p new
   follows_after step n p (Ok (taken.Token read)) turns follows reported =
       less_after step n p follows.1 (turn_last m n (of_source old) (of_source new) (Ok (taken.Token read)) fit.unspent turns)
@@ -155,7 +155,7 @@ module _ (levels : ℕ) (m : Machine) (old new : Source) (fit : IsFit m old) whe
         last = turn_last m n (of_source old) (of_source new) (Err Finished) fit.unspent turns;
       })
 
-  taken_reported : (step : Step Token) (n p : Machine) (t : Step Taken) → FollowsTurn levels new.definitions t n step p → wants_memory step ≡ false
+  taken_reported : (step : Step Token) (n p : kept.Expander) (t : Step Taken) → FollowsTurn levels new.definitions t n step p → wants_memory step ≡ false
       → wants_taken t ≡ false
   taken_reported step n p (Ok (taken.Token read)) follows reported = refl
   taken_reported step n p (Ok (taken.Call c)) follows reported = refl
@@ -163,7 +163,7 @@ module _ (levels : ℕ) (m : Machine) (old new : Source) (fit : IsFit m old) whe
   taken_reported step n p (Err Finished) follows reported = refl
   taken_reported step n p (Err (Error fault)) follows reported = rw follows.0 at reported
 
-  module _ (step : Step Token) (n : Machine) (h : TurnsSource levels m old step n new) (reported : wants_memory step ≡ false) where
+  module _ (step : Step Token) (n : kept.Expander) (h : TurnsSource levels m old step n new) (reported : wants_memory step ≡ false) where
     after : IsAfter levels m old step n new
     after = follows_after step h.between n h.taken h.turns h.follows reported
 
@@ -178,10 +178,10 @@ module _ (levels : ℕ) (m : Machine) (old new : Source) (fit : IsFit m old) whe
     source_lowers goes = after.less goes
 
   -- after the end nothing is left
-  pub source_ends : (n : Machine) → TurnsSource levels m old (Err Finished) n new → (n.held ≡ None) × (n.frames ≡ []) × (new.rest ≡ []) × (new.blocks ≡ [])
+  pub source_ends : (n : kept.Expander) → TurnsSource levels m old (Err Finished) n new → (n.held ≡ None) × (n.frames ≡ []) × (new.rest ≡ []) × (new.blocks ≡ [])
   source_ends n h = go h.taken h.between h.turns h.follows
     where
-      go : (t : Step Taken) (k : Machine) → TurnsTo m (of_source old) t k (of_source new) → FollowsTurn levels new.definitions t k (Err Finished) n
+      go : (t : Step Taken) (k : kept.Expander) → TurnsTo m (of_source old) t k (of_source new) → FollowsTurn levels new.definitions t k (Err Finished) n
           → (n.held ≡ None) × (n.frames ≡ []) × (new.rest ≡ []) × (new.blocks ≡ [])
       go (Ok (taken.Token read)) k turns follows = let bad = follows.0 in cc
       go (Ok (taken.Call c)) k turns (opened is o) = cc
@@ -210,43 +210,43 @@ held_for (Some (Err Continue)) source x h = h
 held_for (Some (Err Finished)) source x h = h
 held_for (Some (Err (Error fault))) source x h = tt
 
-stands_in : (m : Machine) (source : Source) (e : Expander SourceReader) → StandsFor m source e → StandsIn source_rules IsSource [] m (of_source source) e
+stands_in : (m : kept.Expander) (source : Source) (e : Expander SourceReader) → StandsFor m source e → StandsIn source_rules IsSource [] m (of_source source) e
 stands_in m source e h = record { holds = h.held; list = h.list; reader = held_in m.held source e.reader h.reader; names = h.hidden }
 
-stands_for : (m : Machine) (source : Source) (e : Expander SourceReader) → StandsIn source_rules IsSource [] m (of_source source) e → StandsFor m source e
+stands_for : (m : kept.Expander) (source : Source) (e : Expander SourceReader) → StandsIn source_rules IsSource [] m (of_source source) e → StandsFor m source e
 stands_for m source e h = record { held = h.holds; list = h.list; reader = held_for m.held source e.reader h.reader; hidden = h.names }
 
 -- where a call stands
-site_same : (c : PendingCall) (n : Machine) (source : Source) (f : Expander SourceReader) → StandsIn source_rules IsSource [] n (of_source source) f
+site_same : (c : MacroCall) (n : kept.Expander) (source : Source) (f : Expander SourceReader) → StandsIn source_rules IsSource [] n (of_source source) f
     → n.held ≡ None → site_of source_rules f c.paren c.tokens ≡ site_at c source.definitions (names_of n.frames ++ [])
 site_same c n source f stands free =
     let reader : StandsForReader source f.reader = subst (λ (o : Option (Step Read)). StandsHeld source_rules IsSource [] o
     (of_source source) f.reader) free stands.reader in
-    let around : masked f ≡ names_of n.frames ++ [] =
+    let around : masked_names f ≡ names_of n.frames ++ [] =
     ap (λ (es : List Entry). open_names es ++ f.hidden) stands.list ∙ ap (λ (hs : List Name). open_names (flat n.frames) ++ hs) stands.names
     ∙ ap (λ (ns : List Name). ns ++ []) (open_flat n.frames) in
-    ap (λ (d : Definitions). record { paren = c.paren; arguments = arguments_of c.tokens; visible = d; open_around = masked f }) reader.definitions
+    ap (λ (d : Definitions). record { paren = c.paren; arguments = arguments_of c.tokens; visible = d; open_around = masked_names f }) reader.definitions
     ∙ ap (λ (ns : List Name). record { paren = c.paren; arguments = arguments_of c.tokens; visible = meaning_of source.definitions; open_around = ns }) around
 
-module _ (levels : ℕ) (m : Machine) (old new : Source) (fit : IsFit m old) (e : Expander SourceReader) (stands : StandsFor m old e) where
-  abbrev LeadsBy : Step Taken → Machine → Type 0
+module _ (levels : ℕ) (m : kept.Expander) (old new : Source) (fit : IsFit m old) (e : Expander SourceReader) (stands : StandsFor m old e) where
+  abbrev LeadsBy : Step Taken → kept.Expander → Type 0
   LeadsBy t n = LeadsTo source_rules IsSource [] sources_simulate source_shows source_hides source_sees (answers_at levels) t e n (of_source new)
 
   -- an item without its paint
   item : (x : Given) (f : Expander SourceReader) → Emits source_rules (answers_at levels) e x f → GivesItem (answers_at levels) e (item_of x) f
   item x f emits = record { taken = x; emits = emits; is = refl }
 
-  call_leads : (c : PendingCall) (n p : Machine) (step : Step Token) → n.held ≡ None → LeadsBy (Ok (taken.Call c)) n
+  call_leads : (c : MacroCall) (n p : kept.Expander) (step : Step Token) → n.held ≡ None → LeadsBy (Ok (taken.Call c)) n
       → FollowsCall levels new.definitions c n step p → LeadsFrom (answers_at levels) e step p new
   call_leads c n p step free led (opened is o) =
-      let f : Expander SourceReader = record led.0 { list = spliced c.name c.definition c.closing.line o.arguments led.0.list } in
+      let f : Expander SourceReader = record led.0 { list = macro_before c.name c.definition c.closing.line o.arguments led.0.list } in
       let k = led.1 in
       rw is (
         f,
-        subst (λ (q : Machine). StandsFor q new f) (sym o.opens)
+        subst (λ (q : kept.Expander). StandsFor q new f) (sym o.opens)
             (record {
               held = k.holds;
-              list = ap (spliced c.name c.definition c.closing.line o.arguments) k.list;
+              list = ap (macro_before c.name c.definition c.closing.line o.arguments) k.list;
               reader = held_for n.held new led.0.reader k.reader;
               hidden = k.names;
             }),
@@ -259,7 +259,7 @@ module _ (levels : ℕ) (m : Machine) (old new : Source) (fit : IsFit m old) (e 
             (led.2 fault (subst (λ (x : Site). answers_at levels c.definition x (Err fault)) (sym (site_same c n new led.0 led.1 free)) answers)),
       )
 
-  follows_lead : (step : Step Token) (n p : Machine) (t : Step Taken) → TurnsTo m (of_source old) t n (of_source new) → LeadsBy t n
+  follows_lead : (step : Step Token) (n p : kept.Expander) (t : Step Taken) → TurnsTo m (of_source old) t n (of_source new) → LeadsBy t n
       → FollowsTurn levels new.definitions t n step p → LeadsFrom (answers_at levels) e step p new
   follows_lead step n p (Ok (taken.Token read)) turns led follows =
       rw (follows.0, follows.1) (led.0, item (given.Token read) led.0 led.1, stands_for n new led.0 led.2)
@@ -273,7 +273,7 @@ module _ (levels : ℕ) (m : Machine) (old new : Source) (fit : IsFit m old) (e 
   follows_lead step n p (Err (Error fault)) turns led follows = rw follows.0 (led.0, item (given.Fault fault) led.0 led.1)
 
 -- One turn: a token, a fault or the end is the next item, and a pause keeps it.
-pub source_turn_leads : (levels : ℕ) (m n : Machine) (old new : Source) (step : Step Token) → IsFit m old → TurnsSource levels m old step n new
+pub source_turn_leads : (levels : ℕ) (m n : kept.Expander) (old new : Source) (step : Step Token) → IsFit m old → TurnsSource levels m old step n new
     → wants_memory step ≡ false → Leads (answers_at levels) m old step n new
 source_turn_leads levels m n old new step fit h reported = record {
   from = λ e stands.

@@ -12,7 +12,7 @@ use Rattle.pp_directives.proofs.LinedLemmas.{items_lined}
 -- what it keeps
 abbrev pub start_of : List ℕ → Preprocessing
 start_of text = record {
-  machine = record { held = None; frames = [] };
+  expander = record { held = None; frames = [] };
   source = record {
     rest = items_of text;
     places = places_of (spots_of text);

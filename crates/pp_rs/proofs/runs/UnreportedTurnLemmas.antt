@@ -6,14 +6,14 @@ use Rattle.pp_model.specs.declared.read.Read.{Read}
 use Rattle.pp_model.specs.Calls.{Fault, Gathered, before}
 use Rattle.pp_model.specs.Definitions.{Definition}
 use Rattle.pp_model.specs.Names.{Name}
-use Rattle.pp_macros.specs.inner.Calling.{PendingCall}
-use Rattle.pp_macros.specs.inner.CallTurns.{Sought, no_call, sought_by, Seeks, alone, called, Finds, TurnsTo, passes, gives, object, seeks, paren_of, is_refusal}
+use Rattle.pp_macros.specs.inner.Calling.{MacroCall}
+use Rattle.pp_macros.specs.inner.CallTurns.{Sought, no_call, sought_by, Seeks, alone, called, Finds, TurnsTo, passes, gives, object, seeks, paren_of, is_out_of_memory_step}
 use Rattle.pp_macros.specs.inner.Defined.{Defined}
 use Rattle.pp_rs.specs.inner.Fit.{IsReported}
-use Rattle.pp_macros.specs.inner.Frames.{Layer}
+use Rattle.pp_macros.specs.inner.Frames.{Frame}
 use Rattle.pp_macros.specs.Item.{Step, is_out_of_memory, wants_memory}
 use Rattle.pp_macros.specs.LexerErrors.{ErrorAt}
-use Rattle.pp_macros.specs.inner.Machine.{Machine, StepsFetching, StepsTaking, held, moved, TakesNext, now, later, GathersNext, closed, inside, overfull, ended, failed, taken_as}
+use Rattle.pp_macros.specs.inner.Expander.{Expander, StepsFetching, StepsTaking, held, moved, TakesNext, now, later, GathersNext, closed, inside, overfull, ended, failed, taken_as}
 use Rattle.pp_macros.specs.inner.Reader.{Reader, of_source, of_list, Reads}
 use Rattle.pp_macros.specs.inner.Source.{Source, unreported_of}
 use Rattle.pp_rs.specs.inner.SourceTurns.{FollowsCall, opened, refused as call_refused, FollowsTurn, TurnsSource}
@@ -49,7 +49,7 @@ reads_tell (of_list old) (of_list new) step h = step_same step _ _ refl
 reads_tell (of_source old) (of_list new) step h = absurd h
 reads_tell (of_list old) (of_source new) step h = absurd h
 
-moves_tell : (fs gs : List Layer) (r s : Reader) (move : Step Read) → Moves fs r move gs s → StepReports move (unreported_in r) (unreported_in s)
+moves_tell : (fs gs : List Frame) (r s : Reader) (move : Step Read) → Moves fs r move gs s → StepReports move (unreported_in r) (unreported_in s)
 moves_tell [] gs r s move h = reads_tell r s move h.1
 moves_tell (f ∷ fs) gs r s move h = step_same move (unreported_in r) (unreported_in s) (ap unreported_in h.0)
 
@@ -87,7 +87,7 @@ exit_leaves Continue old new h none = quiet None old new h none
 exit_leaves Finished old new h none = quiet None old new h none
 exit_leaves (Error fault) old new h none = λ reported. h reported none
 
-taken_leaves : (move : Step Read) (fs : List Layer) (s : Reader) (old new : Unreported) → StepReports move old new → old.read ≡ None
+taken_leaves : (move : Step Read) (fs : List Frame) (s : Reader) (old new : Unreported) → StepReports move old new → old.read ≡ None
     → Leaves (fault_of (taken_as move fs s)) old.later new
 taken_leaves (Ok read) fs s old new h none = quiet (fault_of (taken_as (Ok read) fs s)) old new h none
 taken_leaves (Err exit) fs s old new h none = exit_leaves exit old new h none
@@ -99,13 +99,13 @@ held_leaves (Err Continue) u h = (refl, h)
 held_leaves (Err Finished) u h = (refl, h)
 held_leaves (Err (Error fault)) u h = λ reported. refl
 
-abbrev UnreportedFirst : Machine → Reader → List ErrorAt
+abbrev UnreportedFirst : Expander → Reader → List ErrorAt
 UnreportedFirst m r = unreported_with m.held (unreported_in r)
 
-abbrev IsReportedFirst : Machine → Reader → Type 0
+abbrev IsReportedFirst : Expander → Reader → Type 0
 IsReportedFirst m r = IsReportedBut m.held (unreported_in r)
 
-fetch_leaves : (m n : Machine) (r s : Reader) (step : Step Read) → StepsFetching m r step n s → IsReportedFirst m r
+fetch_leaves : (m n : Expander) (r s : Reader) (step : Step Read) → StepsFetching m r step n s → IsReportedFirst m r
     → Leaves (fault_of step) (UnreportedFirst m r) (unreported_in s)
 fetch_leaves m n r s step (held step1 m1 n1 r1 s1 is at same) reported =
     subst (λ (o : Option (Step Read)). Leaves (fault_of step) (unreported_with o (unreported_in r)) (unreported_in s)) (sym is)
@@ -121,28 +121,28 @@ painted_fault : (names : List Name) (first : Step Read) → fault_of (painted_st
 painted_fault names (Ok read) = refl
 painted_fault names (Err exit) = refl
 
-step_leaves : (m n : Machine) (r s : Reader) (step : Step Read) → StepsTaking m r step n s → IsReportedFirst m r
+step_leaves : (m n : Expander) (r s : Reader) (step : Step Read) → StepsTaking m r step n s → IsReportedFirst m r
     → Leaves (fault_of step) (UnreportedFirst m r) (unreported_in s)
 step_leaves m n r s step steps reported =
     rw (steps.paints, painted_fault (masks n.frames s) steps.first) (fetch_leaves m n r s steps.first steps.fetches reported)
 
 -- where nothing is held, and no error was read
-pub record IsClear (errors : List ErrorAt) (n : Machine) (s : Reader) : Type 0 where
+pub record IsClear (errors : List ErrorAt) (n : Expander) (s : Reader) : Type 0 where
   pub free : n.held ≡ None
   pub leaves : Leaves None errors (unreported_in s)
 
-clear_reported : (errors : List ErrorAt) (n : Machine) (s : Reader) → IsClear errors n s → IsReportedFirst n s
+clear_reported : (errors : List ErrorAt) (n : Expander) (s : Reader) → IsClear errors n s → IsReportedFirst n s
 clear_reported errors n s c = subst (λ (o : Option (Step Read)). IsReportedBut o (unreported_in s)) (sym c.free) c.leaves.1
 
-clear_same : (errors : List ErrorAt) (n : Machine) (s : Reader) → IsClear errors n s → UnreportedFirst n s ≡ errors
+clear_same : (errors : List ErrorAt) (n : Expander) (s : Reader) → IsClear errors n s → UnreportedFirst n s ≡ errors
 clear_same errors n s c = ap (λ (o : Option (Step Read)). unreported_with o (unreported_in s)) c.free ∙ c.leaves.0
 
 -- what is left after something that left the same
-goes_on : (o : Option Fault) (errors : List ErrorAt) (n : Machine) (s t : Reader) → IsClear errors n s
+goes_on : (o : Option Fault) (errors : List ErrorAt) (n : Expander) (s t : Reader) → IsClear errors n s
     → Leaves o (UnreportedFirst n s) (unreported_in t) → Leaves o errors (unreported_in t)
 goes_on o errors n s t c h = subst (λ (es : List ErrorAt). Leaves o es (unreported_in t)) (clear_same errors n s c) h
 
-next_leaves : (m n : Machine) (r s : Reader) (step : Step Read) → TakesNext m r step n s → IsReportedFirst m r
+next_leaves : (m n : Expander) (r s : Reader) (step : Step Read) → TakesNext m r step n s → IsReportedFirst m r
     → Leaves (fault_of step) (UnreportedFirst m r) (unreported_in s)
 next_leaves m n r s step (now step1 m1 n1 r1 s1 steps goes) reported = step_leaves m n r s step steps reported
 next_leaves m n r s step (later step1 m1 between n1 r1 s1 t1 steps next) reported =
@@ -157,7 +157,7 @@ before_leaves : (read : Read) (rest : Result Gathered Fault) (errors : List Erro
 before_leaves read (Ok rest) errors u h = h
 before_leaves read (Err fault) errors u h = h
 
-gather_leaves : (k : ℕ) (last : Location) (m n : Machine) (r s : Reader) (g : Result Gathered Fault) → GathersNext k last m r g n s
+gather_leaves : (k : ℕ) (last : Location) (m n : Expander) (r s : Reader) (g : Result Gathered Fault) → GathersNext k last m r g n s
     → IsReportedFirst m r → Leaves (fault_in g) (UnreportedFirst m r) (unreported_in s)
 gather_leaves k last m n r s g (closed k1 last1 read m1 n1 r1 s1 g1 next out is) reported =
     subst (λ (x : Result Gathered Fault). Leaves (fault_in x) (UnreportedFirst m r) (unreported_in s)) (sym is) (next_leaves m n r s (Ok read) next reported)
@@ -181,12 +181,12 @@ gather_leaves k last m n r s g (failed k1 last1 fault m1 n1 r1 s1 g1 next kept i
     (next_leaves m n r s (Err (Error fault)) next reported)
 
 -- what a turn leaves: the same, though an error may be held now, or what a fault leaves
-abbrev TakenLeaves : Step Taken → List ErrorAt → Machine → Reader → Type 0
+abbrev TakenLeaves : Step Taken → List ErrorAt → Expander → Reader → Type 0
 TakenLeaves (Ok (taken.Token read)) errors n s = IsReportedFirst n s × (UnreportedFirst n s ≡ errors)
 TakenLeaves (Ok (taken.Call call)) errors n s = IsClear errors n s
 TakenLeaves (Err exit) errors n s = (n.held ≡ None) × Leaves (fault_of_exit exit) errors (unreported_in s)
 
-holds_next : (next : Step Read) (errors : List ErrorAt) (u : Unreported) → is_refusal next ≡ false → Leaves (fault_of next) errors u
+holds_next : (next : Step Read) (errors : List ErrorAt) (u : Unreported) → is_out_of_memory_step next ≡ false → Leaves (fault_of next) errors u
     → IsReportedBut (Some next) u × (unreported_with (Some next) u ≡ errors)
 holds_next (Ok read) errors u reported h = (h.1, h.0)
 holds_next (Err Continue) errors u reported h = (h.1, h.0)
@@ -194,7 +194,7 @@ holds_next (Err Finished) errors u reported h = (h.1, h.0)
 holds_next (Err (Error fault)) errors u reported h = (tt, sym (h reported))
 
 find_leaves : (read : Read) (name : Name) (definition : Definition) (c : Sought) (step : Step Taken) (errors : List ErrorAt)
-    (m p q : Machine) (r t : Reader) → Seeks m r c p t → Finds read name definition c step p q → IsClear errors m r → TakenLeaves step errors q t
+    (m p q : Expander) (r t : Reader) → Seeks m r c p t → Finds read name definition c step p q → IsClear errors m r → TakenLeaves step errors q t
 find_leaves read name definition c step errors m p q r t (alone next m1 n1 r1 s1 c1 takes apart reported is) finds clear =
     let h : Leaves (fault_of next) errors (unreported_in t) =
     goes_on (fault_of next) errors m r t clear (next_leaves m p r t next takes (clear_reported errors m r clear)) in
@@ -221,7 +221,7 @@ find_leaves read name definition c step errors m p q r t (called next paren m1 b
         let h = goes_on (Some fault) errors between s1 t c (gather_leaves 0 paren between p s1 t (Err fault) gathers (clear_reported errors between s1 c)) in
         rw (f.0, f.1) (gather_free 0 paren between p s1 t (Err fault) gathers, h)
 
-turn_leaves : (m n : Machine) (r s : Reader) (step : Step Taken) → TurnsTo m r step n s → IsReportedFirst m r → TakenLeaves step (UnreportedFirst m r) n s
+turn_leaves : (m n : Expander) (r s : Reader) (step : Step Taken) → TurnsTo m r step n s → IsReportedFirst m r → TakenLeaves step (UnreportedFirst m r) n s
 turn_leaves m n r s step (passes exit step1 m1 n1 r1 s1 takes is) reported =
     rw is (step_free m n r s (Err exit) takes, step_leaves m n r s (Err exit) takes reported)
 turn_leaves m n r s step (gives read step1 m1 n1 r1 s1 takes apart is) reported =
@@ -234,41 +234,41 @@ turn_leaves m q r t step (seeks read name definition c step1 m1 n p q1 r1 s t1 t
     (record { free = step_free m n r s (Ok read) takes; leaves = step_leaves m n r s (Ok read) takes reported })
 
 -- the errors that are unreported of a source
-abbrev pub errors_of : Machine → Source → List ErrorAt
-errors_of machine source = unreported_with machine.held (unreported_of source)
+abbrev pub errors_of : Expander → Source → List ErrorAt
+errors_of expander source = unreported_with expander.held (unreported_of source)
 
 -- What a turn leaves of them: the same, but for the fault that it gives.
-abbrev pub ErrorsLeft : Step Token → List ErrorAt → Machine → Source → Type 0
+abbrev pub ErrorsLeft : Step Token → List ErrorAt → Expander → Source → Type 0
 ErrorsLeft (Err (Error fault)) errors n new = (n.held ≡ None) × (errors ≡ with_read fault new.error_place (unreported_of new).later)
 ErrorsLeft _ errors n new = IsReported n new × (errors_of n new ≡ errors)
 
-clear_left : (step : Step Token) (errors : List ErrorAt) (n : Machine) (new : Source) → IsClear errors n (of_source new) → ErrorsLeft step errors n new
+clear_left : (step : Step Token) (errors : List ErrorAt) (n : Expander) (new : Source) → IsClear errors n (of_source new) → ErrorsLeft step errors n new
 clear_left (Ok token) errors n new c = (clear_reported errors n (of_source new) c, clear_same errors n (of_source new) c)
 clear_left (Err Continue) errors n new c = (clear_reported errors n (of_source new) c, clear_same errors n (of_source new) c)
 clear_left (Err Finished) errors n new c = (clear_reported errors n (of_source new) c, clear_same errors n (of_source new) c)
 clear_left (Err (Error fault)) errors n new c = (c.free, rw c.leaves.1 (sym c.leaves.0))
 
-exit_left : (exit : StepExit) (errors : List ErrorAt) (n : Machine) (new : Source) → (n.held ≡ None)
+exit_left : (exit : StepExit) (errors : List ErrorAt) (n : Expander) (new : Source) → (n.held ≡ None)
     × Leaves (fault_of_exit exit) errors (unreported_of new) → wants_memory {T = Token} (Err exit) ≡ false → ErrorsLeft (Err exit) errors n new
 exit_left Continue errors n new h reported = clear_left (Err Continue) errors n new (record { free = h.0; leaves = h.1 })
 exit_left Finished errors n new h reported = clear_left (Err Finished) errors n new (record { free = h.0; leaves = h.1 })
 exit_left (Error fault) errors n new h reported = (h.0, h.1 reported)
 
-call_left : (levels : ℕ) (definitions : List Defined) (c : PendingCall) (errors : List ErrorAt) (k n : Machine) (new : Source) (step : Step Token)
+call_left : (levels : ℕ) (definitions : List Defined) (c : MacroCall) (errors : List ErrorAt) (k n : Expander) (new : Source) (step : Step Token)
     → FollowsCall levels definitions c k step n → IsClear errors k (of_source new) → ErrorsLeft step errors n new
 call_left levels definitions c errors k n new step (opened is o) clear =
-    rw is (clear_left (Err Continue) errors n new (record { free = ap (λ (x : Machine). x.held) o.opens ∙ clear.free; leaves = clear.leaves }))
+    rw is (clear_left (Err Continue) errors n new (record { free = ap (λ (x : Expander). x.held) o.opens ∙ clear.free; leaves = clear.leaves }))
 call_left levels definitions c errors k n new step (call_refused fault is answers same) clear =
     rw (is, same) (clear_left (Err (Error fault)) errors k new clear)
 
-follows_left : (levels : ℕ) (definitions : List Defined) (t : Step Taken) (errors : List ErrorAt) (k n : Machine) (new : Source) (step : Step Token)
+follows_left : (levels : ℕ) (definitions : List Defined) (t : Step Taken) (errors : List ErrorAt) (k n : Expander) (new : Source) (step : Step Token)
     → FollowsTurn levels definitions t k step n → TakenLeaves t errors k (of_source new) → wants_memory step ≡ false → ErrorsLeft step errors n new
 follows_left levels definitions (Ok (taken.Token read)) errors k n new step f h reported = rw (f.0, f.1) h
 follows_left levels definitions (Ok (taken.Call call)) errors k n new step f h reported = call_left levels definitions call errors k n new step f h
 follows_left levels definitions (Err exit) errors k n new step f h reported = rw (f.0, f.1) (exit_left exit errors k new h (rw f.0 at reported))
 
 -- one turn over a source
-pub turn_errors : (levels : ℕ) (m n : Machine) (old new : Source) (step : Step Token) → TurnsSource levels m old step n new
+pub turn_errors : (levels : ℕ) (m n : Expander) (old new : Source) (step : Step Token) → TurnsSource levels m old step n new
     → wants_memory step ≡ false → IsReported m old → ErrorsLeft step (errors_of m old) n new
 turn_errors levels m n old new step h wants reported =
     follows_left levels new.definitions h.taken (errors_of m old) h.between n new step h.follows

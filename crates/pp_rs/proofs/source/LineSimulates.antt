@@ -5,7 +5,7 @@ use Rattle.pp_lexer.specs.declared.token.Location.{Location}
 use Rattle.pp_lexer.specs.declared.token.Token.{Token}
 use Rattle.pp_lexer.specs.declared.token.TokenValue.{TokenValue}
 use Rattle.pp_model.specs.Names.{Name}
-use Rattle.pp_model.specs.Definitions.{Definition, Definitions, changed}
+use Rattle.pp_model.specs.Definitions.{Definition, Definitions, with_change}
 use Rattle.pp_model.specs.Emitting.{answers_at, expansion_limit}
 use Rattle.pp_model.specs.LineValues.{IsCondition, IsLineNumber}
 use Rattle.pp_model.specs.Sights.{sight_of}
@@ -15,7 +15,7 @@ use Rattle.pp_model.specs.Moves.{BlockFacts, Effect, gives_item, defines, undefi
 use Rattle.pp_model.specs.inner.Moves.{taking_more}
 use Rattle.pp_model.specs.Acts.{pause_at, outcome_at, advanced_by, after_line, decided, effect_on, perform, act}
 use Rattle.pp_model.specs.Reads.{defines as defines_new, repeats, redefines, decides, undecided, renumbers as numbers_anew, unnumbered}
-use Rattle.pp_model.specs.inner.Reads.{defining, renumbered}
+use Rattle.pp_model.specs.inner.Reads.{after_define, after_line_number}
 use Rattle.pp_model.specs.declared.block.Part.TheVariants as part
 use Rattle.pp_model.specs.declared.definition.Named.{Named}
 use Rattle.pp_model.specs.declared.directive.Directive.{Directive}
@@ -121,12 +121,12 @@ module _ {old : Source} {r : SourceReader} (s : StandsForReader old r) (move : S
       → (before : Option Definition) → meaning_of old.definitions named.name ≡ before
       → DefinesOver named before (whole_line old.rest) directive_line old move new → Simulates move r new
   define_over its named a None known h =
-      let t = record (after_line r) { definitions = changed r.definitions named.name (Some named.definition) } in
+      let t = record (after_line r) { definitions = with_change r.definitions named.name (Some named.definition) } in
       rw h.0 (record {
         after = t;
-        steps = defines_new named None r t (ap (λ x. x.step) a) (defined_now s named.name known) refl (ap (λ x. defining named x.after) (sym a));
-        stands = stands_line s e (changed r.definitions named.name (Some named.definition)) its h.1
-            (ap (λ (m : Definitions). changed m named.name (Some named.definition)) s.definitions ∙ sym h.2.meaning);
+        steps = defines_new named None r t (ap (λ x. x.step) a) (defined_now s named.name known) refl (ap (λ x. after_define named x.after) (sym a));
+        stands = stands_line s e (with_change r.definitions named.name (Some named.definition)) its h.1
+            (ap (λ (m : Definitions). with_change m named.name (Some named.definition)) s.definitions ∙ sym h.2.meaning);
       })
   define_over its named a (Some before) known (inl h) =
       rw h.1 (record {
@@ -147,10 +147,10 @@ module _ {old : Source} {r : SourceReader} (s : StandsForReader old r) (move : S
 
   undefine_simulates : part_of directive ≡ None → (name : Name) → ActsBy (undefines name) → Has (undefines name) → Simulates move r new
   undefine_simulates its name a h =
-      pauses_here s move new (line_here s (λ n. pause_at (record (advanced_by n r) { definitions = changed r.definitions name None })) a) (
+      pauses_here s move new (line_here s (λ n. pause_at (record (advanced_by n r) { definitions = with_change r.definitions name None })) a) (
         h.0,
-        stands_line s e (changed r.definitions name None) its h.1
-            (ap (λ (m : Definitions). changed m name None) s.definitions ∙ sym h.2.meaning),
+        stands_line s e (with_change r.definitions name None) its h.1
+            (ap (λ (m : Definitions). with_change m name None) s.definitions ∙ sym h.2.meaning),
       )
 
   number_simulates : part_of directive ≡ None → (tokens : List Token) → ActsBy (renumbers word tokens) → Has (renumbers word tokens)
@@ -159,8 +159,8 @@ module _ {old : Source} {r : SourceReader} (s : StandsForReader old r) (move : S
       let same : IsLineNumber (answers_at expansion_limit) word tokens r.definitions (Ok n) =
       subst (λ (m : Definitions). IsLineNumber (answers_at expansion_limit) word tokens m (Ok n)) (sym s.definitions) number in
       rw pauses.0 (record {
-        after = renumbered r word n;
-        steps = numbers_anew word tokens n None r (renumbered r word n) (ap (λ x. x.step) a) same refl refl;
+        after = after_line_number r word n;
+        steps = numbers_anew word tokens n None r (after_line_number r word n) (ap (λ x. x.step) a) same refl refl;
         stands = line_stays (renumbered_stands old r s word n) e its pauses.1 pauses.2;
       })
   number_simulates its tokens a (faulty_number fault number failed left) =
@@ -255,7 +255,7 @@ module _ {old : Source} {r : SourceReader} (s : StandsForReader old r) (move : S
         unknown = λ now its a h. unknown_simulates (alive ∙ now) its a h;
         passing = λ its a h. passes_simulates its a h;
         items = λ now its value is a h. item_simulates its value a h;
-        defining = λ now its named is a h. define_simulates its named a h;
+        after_define = λ now its named is a h. define_simulates its named a h;
         undefining = λ now its name a h. undefine_simulates its name a h;
         numbering = λ now its tokens a h. number_simulates its tokens a h;
         asking = λ now its asked name a h. ask_simulates (alive ∙ now) its asked name a h;

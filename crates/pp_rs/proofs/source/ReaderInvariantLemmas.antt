@@ -9,11 +9,11 @@ use Rattle.pp_model.specs.Definitions.{Definition}
 use Rattle.pp_model.specs.Reading.{Expander}
 use Rattle.pp_model.specs.Taking.{Fetches, held, listed, read, Takes}
 use Rattle.pp_model.specs.Calls.{Fault, Gathered, Gathers, closed, inside, overfull, ended, failed, Answers, Called, Calls, alone, broken, whole}
-use Rattle.pp_model.specs.Emitting.{opened, Emits, itself, object, name_alone, call_refused, call}
-use Rattle.pp_model.specs.SourceReader.{SourceReader, start_of}
+use Rattle.pp_model.specs.Emitting.{with_macro, Emits, itself, object, name_alone, call_refused, call}
+use Rattle.pp_model.specs.SourceReader.{SourceReader, reader_at_start}
 use Rattle.pp_model.specs.Reads.{Steps, Reads, here, later, source_reading}
 use Rattle.pp_model.specs.Run.{start, with_added}
-use Rattle.pp_model.specs.inner.Run.{adding as with_definition}
+use Rattle.pp_model.specs.inner.Run.{after_addition as with_definition}
 use Rattle.pp_model.specs.RunStates.{LeadsTo, nowhere, adding, giving, IsReached}
 use Rattle.pp_model.specs.declared.outcome.Outcome.{Outcome}
 use Rattle.pp_model.specs.declared.read.Taken.{Taken}
@@ -51,12 +51,12 @@ module _ (A : Answers) (P : SourceReader → Type 0) (kept : IsKept A P) where
 
   item_keeps : (o : Taken) (e f : Expander SourceReader) → Emits (source_reading A) A e o f → P e.reader → P f.reader
   item_keeps o e f (itself o1 e1 f1 t none) h = taking_keeps o e f t h
-  item_keeps o e f (object x o1 m e1 g f1 t some k i) h = item_keeps o (opened m m.token.location.line [] g) f i (taking_keeps x e g t h)
+  item_keeps o e f (object x o1 m e1 g f1 t some k i) h = item_keeps o (with_macro m m.token.location.line [] g) f i (taking_keeps x e g t h)
   item_keeps o e f (name_alone x y o1 m e1 g g1 f1 t some k c p q) h =
       subst P (sym (ap (λ z. z.reader) q)) (call_keeps m.definition _ g g1 c (taking_keeps x e g t h))
   item_keeps o e f (call_refused x o1 fault m e1 g f1 t some k c p) h = call_keeps m.definition _ g f c (taking_keeps x e g t h)
   item_keeps o e f (call x o1 arguments line m e1 g g1 f1 t some k c i) h =
-      item_keeps o (opened m line arguments g1) f i (call_keeps m.definition _ g g1 c (taking_keeps x e g t h))
+      item_keeps o (with_macro m line arguments g1) f i (call_keeps m.definition _ g g1 c (taking_keeps x e g t h))
 
   leading_keeps : (e f : Expander SourceReader) → LeadsTo A e f → P e.reader → P f.reader
   leading_keeps e f (nowhere e1 f1 p) h = subst P (sym (ap (λ g. g.reader) p)) h
@@ -64,5 +64,5 @@ module _ (A : Answers) (P : SourceReader → Type 0) (kept : IsKept A P) where
   leading_keeps e f (giving o e1 g f1 item more) h = leading_keeps g f more (item_keeps o e g item h)
 
   -- what holds of the reader at a source's start holds of it in each state of a run
-  pub reached_keeps : (source : List Seen) (e : Expander SourceReader) → IsReached A source e → P (start_of source) → P e.reader
+  pub reached_keeps : (source : List Seen) (e : Expander SourceReader) → IsReached A source e → P (reader_at_start source) → P e.reader
   reached_keeps source e reached h = leading_keeps (start source) e reached h

@@ -1,10 +1,10 @@
 -- What holds of an expander over a source between any two calls, unless memory was refused.
 use Rattle.std.specs.Prelude.{◌≡◌, false, List, [], Option, Some, Err, ⊤}
 use Rattle.pp_model.specs.declared.read.Read.{Read}
-use Rattle.pp_macros.specs.inner.Frames.{Layer}
+use Rattle.pp_macros.specs.inner.Frames.{Frame}
 use Rattle.pp_macros.specs.Item.{Step}
 use Rattle.pp_macros.specs.inner.Left.{IsSound}
-use Rattle.pp_macros.specs.inner.Machine.{Machine}
+use Rattle.pp_macros.specs.inner.Expander.{Expander}
 use Rattle.pp_macros.specs.inner.Reader.{Reader, of_source, of_list}
 use Rattle.pp_macros.specs.inner.Source.{Source, unreported_of}
 use Rattle.pp_macros.specs.inner.Unreported.{IsReportedBut}
@@ -21,15 +21,15 @@ IsReady (of_source source) = source.spent ≡ false
 IsReady (of_list list) = ⊤
 
 -- where the end is held, nothing is left
-abbrev pub EndIsLast : Option (Step Read) → List Layer → Reader → Type 0
+abbrev pub EndIsLast : Option (Step Read) → List Frame → Reader → Type 0
 EndIsLast (Some (Err Finished)) frames r = (frames ≡ []) × NothingIn r
 EndIsLast _ frames r = ⊤
 
-pub record IsFit (machine : Machine) (source : Source) : Type 0 where
+pub record IsFit (expander : Expander) (source : Source) : Type 0 where
   pub unspent : source.spent ≡ false
-  pub sound : IsSound machine (of_source source)
-  pub last : EndIsLast machine.held machine.frames (of_source source)
+  pub sound : IsSound expander (of_source source)
+  pub last : EndIsLast expander.held expander.frames (of_source source)
 
 -- each error of the lexer that was read was reported, but for one that is held
-abbrev pub IsReported : Machine → Source → Type 0
-IsReported machine source = IsReportedBut machine.held (unreported_of source)
+abbrev pub IsReported : Expander → Source → Type 0
+IsReported expander source = IsReportedBut expander.held (unreported_of source)

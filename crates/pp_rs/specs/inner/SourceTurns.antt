@@ -4,13 +4,13 @@ use Rattle.pp_lexer.specs.PreprocessorError.{out_of_memory}
 use Rattle.pp_lexer.specs.declared.token.Token.{Token}
 use Rattle.pp_model.specs.Calls.{Fault}
 use Rattle.pp_model.specs.Emitting.{answers_at}
-use Rattle.pp_macros.specs.inner.Calling.{PendingCall}
+use Rattle.pp_macros.specs.inner.Calling.{MacroCall}
 use Rattle.pp_macros.specs.inner.CallTurns.{TurnsTo, TakesSomething}
 use Rattle.pp_macros.specs.inner.Defined.{Defined}
 use Rattle.pp_macros.specs.inner.Finishing.{site_at, IsOpened}
 use Rattle.pp_macros.specs.inner.Frames.{names_of}
 use Rattle.pp_macros.specs.Item.{Step}
-use Rattle.pp_macros.specs.inner.Machine.{Machine}
+use Rattle.pp_macros.specs.inner.Expander.{Expander}
 use Rattle.pp_macros.specs.inner.Reader.{of_source}
 use Rattle.pp_macros.specs.inner.Source.{Source}
 use Rattle.pp_macros.specs.declared.calls.Taken.{Taken}
@@ -18,8 +18,8 @@ use Rattle.pp_macros.specs.declared.calls.Taken.TheVariants as taken
 use Rattle.pp_macros.specs.declared.step.StepExit.TheVariants.{Error, Continue}
 
 -- after a call its frame is open, which pauses, or its fault is given
-pub data FollowsCall (levels : ℕ) (definitions : List Defined) (call : PendingCall) (old : Machine) (step : Step Token)
-    (new : Machine) : Type 0 where
+pub data FollowsCall (levels : ℕ) (definitions : List Defined) (call : MacroCall) (old : Expander) (step : Step Token)
+    (new : Expander) : Type 0 where
   opened : step ≡ Err Continue
       → IsOpened levels definitions (names_of old.frames ++ []) call old new
       → FollowsCall levels definitions call old step new
@@ -30,24 +30,24 @@ pub data FollowsCall (levels : ℕ) (definitions : List Defined) (call : Pending
       → FollowsCall levels definitions call old step new
 
 -- what follows of a turn: a token is given without its paint
-abbrev pub FollowsTurn : ℕ → List Defined → Step Taken → Machine → Step Token → Machine → Type 0
+abbrev pub FollowsTurn : ℕ → List Defined → Step Taken → Expander → Step Token → Expander → Type 0
 FollowsTurn levels definitions (Ok (taken.Token read)) old step new = (step ≡ Ok read.token) × (new ≡ old)
 FollowsTurn levels definitions (Ok (taken.Call call)) old step new = FollowsCall levels definitions call old step new
 FollowsTurn levels definitions (Err exit) old step new = (step ≡ Err exit) × (new ≡ old)
 
-pub record TurnsSource (levels : ℕ) (old : Machine) (source : Source) (step : Step Token) (new : Machine)
+pub record TurnsSource (levels : ℕ) (old : Expander) (source : Source) (step : Step Token) (new : Expander)
     (after : Source) : Type 0 where
   pub taken : Step Taken
-  pub between : Machine
+  pub between : Expander
   pub turns : TurnsTo old (of_source source) taken between (of_source after)
   pub follows : FollowsTurn levels after.definitions taken between step new
 
 -- memory was refused, where something was taken
-pub record IsRefusedOver (old : Machine) (source : Source) (step : Step Token) : Type 0 where
+pub record IsRefusedOver (old : Expander) (source : Source) (step : Step Token) : Type 0 where
   pub some : TakesSomething old (of_source source)
   pub fault : step ≡ Err (Error out_of_memory)
 
 -- a turn, unless memory is refused
-abbrev pub StepsOver : ℕ → Machine → Source → Step Token → Machine → Source → Type 0
+abbrev pub StepsOver : ℕ → Expander → Source → Step Token → Expander → Source → Type 0
 StepsOver levels old source step new after =
     TurnsSource levels old source step new after ⊎ IsRefusedOver old source step

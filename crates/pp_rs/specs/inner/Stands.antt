@@ -10,7 +10,8 @@ use Rattle.pp_macros.specs.inner.Defined.{meaning_of}
 use Rattle.pp_macros.specs.inner.Frames.{flat}
 use Rattle.pp_macros.specs.Item.{Step}
 use Rattle.pp_directives.specs.inner.Lined.{AreLined}
-use Rattle.pp_macros.specs.inner.Machine.{Machine, outcome_of_step}
+use Rattle.pp_macros.specs.inner.Expander as kept
+use Rattle.pp_macros.specs.inner.Expander.{outcome_of_step}
 use Rattle.pp_macros.specs.inner.OpenBlocks.{last_block, is_live_in, StandForBlocks, AreBefore}
 use Rattle.pp_macros.specs.inner.Source.{Source}
 use Rattle.pp_macros.specs.declared.step.StepExit.TheVariants.{Error, Continue}
@@ -47,8 +48,8 @@ StandsForHeld (Some (Err Continue)) source reader = ⊥
 StandsForHeld _ source reader = StandsForReader source reader
 
 -- an expander over it: the frames are its splice list
-pub record StandsFor (machine : Machine) (source : Source) (state : Expander SourceReader) : Type 0 where
-  pub held : state.held ≡ option_map outcome_of_step machine.held
-  pub list : state.list ≡ flat machine.frames
-  pub reader : StandsForHeld machine.held source state.reader
+pub record StandsFor (expander : kept.Expander) (source : Source) (state : Expander SourceReader) : Type 0 where
+  pub held : state.held ≡ option_map outcome_of_step expander.held
+  pub list : state.list ≡ flat expander.frames
+  pub reader : StandsForHeld expander.held source state.reader
   pub hidden : state.hidden ≡ []

@@ -17,7 +17,7 @@ use crate::lexer::PlainItem;
 use crate::pp::source_turn::turn_source;
 use crate::token::{Location, NOWHERE, PreprocessorError, Token, out_of_memory};
 use pp_directives::directives::DirectiveProcessor;
-use pp_macros::calls::Caller;
+use pp_macros::calls::Expander;
 use pp_macros::halt::Halt;
 use pp_macros::step::{StepExit, is_out_of_memory};
 use std::alloc::Global;
@@ -32,7 +32,7 @@ pub type PreprocessorItem = Result<Token, (PreprocessorError, Location)>;
 #[derive(Drop)]
 pub struct Preprocessor<'a> {
     alloc: Global,
-    caller: Caller,
+    expander: Expander,
     source: DirectiveProcessor<'a>,
     spent: bool,
     place: Location,
@@ -45,9 +45,9 @@ impl<'a> Model for Preprocessor<'a> {
 
     ghost Value = { Preprocessing };
 
-    ghost view = { λ p. record { machine = p.caller; source = p.source; spent = p.spent; place = p.place } };
+    ghost view = { λ p. record { expander = p.expander; source = p.source; spent = p.spent; place = p.place } };
 
-    ghost invariant = { λ p. p.spent ≡ false → IsFit p.caller p.source × IsReported p.caller p.source };
+    ghost invariant = { λ p. p.spent ≡ false → IsFit p.expander p.source × IsReported p.expander p.source };
 }
 
 // The error. `OutOfMemory` always gets the same place.
@@ -74,7 +74,7 @@ impl<'a> Preprocessor<'a> {
     {
         Preprocessor {
             alloc,
-            caller: Caller::new(alloc),
+            expander: Expander::new(alloc),
             source: DirectiveProcessor::new(alloc, input),
             spent: false,
             place: NOWHERE,
@@ -89,7 +89,7 @@ impl<'a> Preprocessor<'a> {
     pub fn next_word(&mut self) -> Option<PlainItem<'a>>
         ensures { IsNextWord self.old result self.new }
     {
-        if self.spent || !self.caller.is_idle() {
+        if self.spent || !self.expander.is_idle() {
             return None;
         }
         'words: loop {
@@ -125,7 +125,7 @@ impl<'a> Preprocessor<'a> {
     pub fn call_line(&self) -> Option<u32>
         ensures { IsCallLine result self.now }
     {
-        self.caller.outermost_line()
+        self.expander.outermost_line()
     }
 
     /// Defines the name as an object-like macro, replacing any definition of it, as `Preprocessor::add_define` of pp-rs
@@ -167,7 +167,7 @@ impl<'a> Iterator for Preprocessor<'a> {
             return None;
         }
         loop {
-            match turn_source(self.alloc, &mut self.caller, &mut self.source) {
+            match turn_source(self.alloc, &mut self.expander, &mut self.source) {
                 Ok(token) => return Some(Ok(token)),
                 Err(StepExit::Error(error)) => {
                     self.spent = is_out_of_memory(&error.0);
@@ -176,7 +176,7 @@ impl<'a> Iterator for Preprocessor<'a> {
                     return Some(Err(error));
                 }
                 Err(StepExit::Finished) => return None,
-                Err(StepExit::Continue) => self.caller.pass_pauses(),
+                Err(StepExit::Continue) => self.expander.pass_pauses(),
             }
         }
     }

@@ -18,9 +18,9 @@ use crate::token::Token;
 use pp_directives::directives::DirectiveProcessor;
 use pp_directives::limit::expansion_limit;
 use pp_macros::arguments::finish_call;
-use pp_macros::calls::{Call, Caller, Taken};
+use pp_macros::calls::{Expander, MacroCall, Taken};
 use pp_macros::definitions::gives_itself;
-use pp_macros::expander::make_line_number;
+use pp_macros::macro_processor::make_line_number;
 use pp_macros::open_around::OpenAround;
 use pp_macros::reader::MeLexer;
 use pp_macros::step::{Step, StepExit};
@@ -32,18 +32,18 @@ use std::alloc::Global;
 #[inline(never)]
 fn follow_call(
     alloc: Global,
-    caller: &mut Caller,
+    expander: &mut Expander,
     source: &DirectiveProcessor<'_>,
-    call: Call,
+    call: MacroCall,
 ) -> Step<Token>
-    ensures follows { FollowsCall expansion_limit source.now.definitions call caller.old result
-        caller.new ⊎ (result ≡ Err (Error out_of_memory)) }
+    ensures follows { FollowsCall expansion_limit source.now.definitions call expander.old result
+        expander.new ⊎ (result ≡ Err (Error out_of_memory)) }
     ensures holds { IfOk result (λ token. HoldsOrdinary token.value) }
 {
     let around = OpenAround::nothing(alloc);
     finish_call(
         alloc,
-        caller,
+        expander,
         call,
         source.definitions(),
         &around,
@@ -54,17 +54,17 @@ fn follow_call(
 
 // One step of the expander over a source. A call that it finds is finished at once.
 #[inline(always)]
-fn turn_caller(
+fn turn_expander(
     alloc: Global,
-    caller: &mut Caller,
+    expander: &mut Expander,
     source: &mut DirectiveProcessor<'_>,
 ) -> Step<Token>
-    ensures turns { StepsOver expansion_limit caller.old source.old result caller.new source.new }
+    ensures turns { StepsOver expansion_limit expander.old source.old result expander.new source.new }
     ensures holds { IfOk result (λ token. HoldsOrdinary token.value) }
 {
-    match step_source(caller, source)? {
+    match step_source(expander, source)? {
         Taken::Token(read) => Ok(read.token),
-        Taken::Call(call) => follow_call(alloc, caller, &*source, call),
+        Taken::Call(call) => follow_call(alloc, expander, &*source, call),
     }
 }
 
@@ -91,12 +91,12 @@ fn take_in(source: &DirectiveProcessor<'_>, token: Token) -> Step<Token>
 // Holds a token of the source that is `__LINE__` or may open a macro, while no macro is open. The next step of the
 // expander then takes it.
 #[inline(never)]
-fn hold_word(caller: &mut Caller, source: &DirectiveProcessor<'_>, word: Token) -> Step<()>
+fn hold_word(expander: &mut Expander, source: &DirectiveProcessor<'_>, word: Token) -> Step<()>
     requires { HoldsOrdinary word.value }
-    ensures { HoldsWord word source.now caller.old result caller.new }
+    ensures { HoldsWord word source.now expander.old result expander.new }
 {
     let token = take_in(source, word)?;
-    caller.hold(token);
+    expander.hold(token);
     Ok(())
 }
 
@@ -106,18 +106,18 @@ fn hold_word(caller: &mut Caller, source: &DirectiveProcessor<'_>, word: Token) 
 #[inline(always)]
 pub fn turn_source(
     alloc: Global,
-    caller: &mut Caller,
+    expander: &mut Expander,
     source: &mut DirectiveProcessor<'_>,
 ) -> Step<Token>
-    ensures turns { StepsOver expansion_limit caller.old source.old result caller.new source.new }
+    ensures turns { StepsOver expansion_limit expander.old source.old result expander.new source.new }
     ensures holds { IfOk result (λ token. HoldsOrdinary token.value) }
 {
-    if caller.is_idle() {
+    if expander.is_idle() {
         let token = source.step()?;
         if gives_itself(source.definitions(), &token.value) {
             return Ok(token);
         }
-        hold_word(caller, &*source, token)?;
+        hold_word(expander, &*source, token)?;
     }
-    turn_caller(alloc, caller, source)
+    turn_expander(alloc, expander, source)
 }

@@ -3,7 +3,7 @@ use Rattle.std.specs.Prelude.{Ok, Err, None}
 use Rattle.pp_model.specs.Calls.{arguments_of, misfit}
 use Rattle.pp_macros.specs.declared.argument_lists.Part.{Part}
 use Rattle.pp_macros.specs.inner.Frames.{names_of}
-use Rattle.pp_macros.specs.inner.Parts.{added, list_of, lists_of}
+use Rattle.pp_macros.specs.inner.Parts.{addition, list_of, lists_of}
 use Rattle.std.proofs.lemmas.Result.{err_from_is_err_and, IfOk-weaker}
 use Rattle.pp_model.specs.Emitting.{first_failed, more, none}
 use Rattle.pp_model.specs.inner.Emitting.{list_before}
@@ -25,7 +25,7 @@ use Rattle.pp_macros.proofs.arguments.+answers.Goals as goal
 
 pub expand_list-items-init : goal.expand_list-items-init
 expand_list-items-init t c =
-    let none_added : added c.args.items.now.items c.args.items.now.items ≡ [] = added_is c.args.items.now.items c.args.items.now.items [] (sym (append-nil c.args.items.now.items)) in
+    let none_added : addition c.args.items.now.items c.args.items.now.items ≡ [] = added_is c.args.items.now.items c.args.items.now.items [] (sym (append-nil c.args.items.now.items)) in
     record {
       keeps = sym (append-nil c.args.items.now.items) ∙ ap (λ (out : List Read). c.args.items.now.items ++ out) (sym none_added);
       reached = reached_start _ _ _ _ _ _ _ c.requires.start.idle c.requires.start.argument none_added;
@@ -47,7 +47,7 @@ expand_list-items-preserved-in-Continue-branch-2 t c =
     let on = reached_added _ _ _ _ _ _ c.args.items.now.items _ _ _ c.items.invariant.keeps c.items.invariant.reached c.in_ok-give_frames.ensures.gives in
     let put = added_push c.args.items.now.items c.give_frames.new.items.items c.push.new.self.items c.in-Ok-Token.read on.keeps
     c.in_ok-push-in-Ok-Token.ensures.items in
-    let one_more : added c.args.items.now.items c.push.new.self.items ≡ added c.args.items.now.items c.give_frames.new.items.items ++ c.in-Ok-Token.read ∷ [] =
+    let one_more : addition c.args.items.now.items c.push.new.self.items ≡ addition c.args.items.now.items c.give_frames.new.items.items ++ c.in-Ok-Token.read ∷ [] =
     added_is c.args.items.now.items c.push.new.self.items _ put in
     record {
       keeps = put ∙ ap (λ (out : List Read). c.args.items.now.items ++ out) (sym one_more);
@@ -130,7 +130,7 @@ expand_list-returns-in_err-finish_call-in-Ok-Call-clause-alone t c =
     satisfies_exit _ c.in_err-finish_call-in-Ok-Call.field-0.0 _ (e.1 ∙ ap Err e.2)
     (λ fault is. reached_call_fault _ _ _ _ _ _ _ on.reached _ _ c.in-Ok-Call.call fault
     (turned _ _ _ _ _ (rw c.in-Ok-Call.field-0-is at c.in-Ok-Call.ensures.turns) refl)
-    (finish_fault c.args.levels c.args.definitions.now c.args.hidden.now c.in-Ok-Call.call c.step_list.new.caller c.finish_call.new.caller
+    (finish_fault c.args.levels c.args.definitions.now c.args.hidden.now c.in-Ok-Call.call c.step_list.new.expander c.finish_call.new.expander
     c.in_err-finish_call-in-Ok-Call.field-0.0 fault is c.in_err-finish_call-in-Ok-Call.ensures))
 
 pub expand_argument-returns-then-are_plain-clause-alone : goal.expand_argument-returns-then-are_plain-clause-alone
@@ -190,7 +190,7 @@ expand_parts-loop-part-preserved t c =
     let left : AreLeft c.args.tokens.now c.loop-part.tokens (part ∷ drop (c.loop-part.part-index + 1) c.args.parts.now)
     = rw here at c.loop-part.invariant.left in
     let same : list_of c.loop-part.tokens part ≡ list_of c.args.tokens.now part = left_first c.args.tokens.now c.loop-part.tokens part _ left in
-    let out = added c.loop-part.items.items c.expand_argument.new.items.items in
+    let out = addition c.loop-part.items.items c.expand_argument.new.items.items in
     let put : c.push.new.self.items ≡ c.loop-part.expanded.items
     ++ record { start = length c.loop-part.items.items; end = length c.expand_argument.new.items.items } ∷ [] = search rules in
     let lists : lists_of c.expand_argument.new.items.items c.push.new.self.items ≡ lists_of c.loop-part.items.items c.loop-part.expanded.items ++ out ∷ []
@@ -242,7 +242,7 @@ expand_call-returns t c =
     let known : misfit c.define.result.now.parameters c.in_ok-arguments.arguments ≡ None = sym c.misfit.ensures ∙ c.in-None.is in
     rw (c.define.ensures, left, cut) at known in
     let some : c.args.levels ≢ 0 = λ e. omega (arith, e, c.if-levels-eq0.false) in
-    let around = names_of c.args.caller.now.frames ++ c.args.hidden.now in
+    let around = names_of c.args.expander.now.frames ++ c.args.hidden.now in
     record {
       answers = satisfies_more c.expand_within.result _ _ (answers_each c.args.levels c.args.definitions.now around c.args.call.now some fits)
           (rw cut at c.expand_within.ensures.each);
@@ -254,7 +254,7 @@ expand_call-returns t c =
 pub finish_call-returns-in_err-expanded : goal.finish_call-returns-in_err-expanded
 finish_call-returns-in_err-expanded t c =
     let e = err_from_is_err_and c.from_residual.result c.from_residual.ensures.1 in
-    finishes_without c.args.levels c.args.definitions.now c.args.hidden.now c.args.call c.args.caller.now c.args.caller.now _
+    finishes_without c.args.levels c.args.definitions.now c.args.hidden.now c.args.call c.args.expander.now c.args.expander.now _
     c.in_err-expanded.field-0.0 (e.1 ∙ ap Err e.2) c.in_err-expanded.ensures.answers refl
 
 pub finish_call-returns : goal.finish_call-returns

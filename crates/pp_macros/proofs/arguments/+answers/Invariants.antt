@@ -5,7 +5,7 @@ use Rattle.pp_model.specs.Calls.{Fault}
 use Rattle.pp_model.specs.Emitting.{Each, Alone}
 use Rattle.pp_model.proofs.CollectLemmas.{after_items}
 use Rattle.pp_macros.specs.inner.Defined.{meaning_of}
-use Rattle.pp_macros.specs.inner.Parts.{added, lists_of, AreInOrder}
+use Rattle.pp_macros.specs.inner.Parts.{addition, lists_of, AreInOrder}
 use Rattle.pp_macros.specs.inner.Reading.{AllReadOrdinary}
 use Rattle.pp_macros.specs.inner.Left.{work_of, most_alone}
 use Rattle.pp_macros.specs.inner.Reader.{of_list}
@@ -40,13 +40,13 @@ decreases-expand_within l = 8 * l.levels + 7
 -- what was added so far, and the state from which the rest comes
 abbrev pub invariant-expand_list-items : goal.invariant-expand_list-items
 invariant-expand_list-items l = record {
-  keeps : l.items.items ≡ l.fn.items.items ++ added l.fn.items.items l.items.items;
-  reached : Reached l.levels l.definitions l.hidden l.fn.lexer.tokens l.caller l.lexer (added l.fn.items.items l.items.items);
+  keeps : l.items.items ≡ l.fn.items.items ++ addition l.fn.items.items l.items.items;
+  reached : Reached l.levels l.definitions l.hidden l.fn.lexer.tokens l.expander l.lexer (addition l.fn.items.items l.items.items);
   holds : AllReadOrdinary l.items.items;
 }
 
 abbrev pub decreases-expand_list-items : goal.decreases-expand_list-items
-decreases-expand_list-items l = work_of l.levels l.caller (of_list l.lexer)
+decreases-expand_list-items l = work_of l.levels l.expander (of_list l.lexer)
 
 -- the lists so far, and the parts that are left
 abbrev pub invariant-expand_parts-loop-part : goal.invariant-expand_parts-loop-part

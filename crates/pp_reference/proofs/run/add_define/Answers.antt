@@ -1,7 +1,7 @@
 use Rattle.std.proofs.Common.{ap, ◌∙◌}
 use Rattle.pp_model.specs.Names.{Name}
 use Rattle.pp_model.specs.Emitting.{answers_at, expansion_limit}
-use Rattle.pp_model.specs.inner.Run.{adding}
+use Rattle.pp_model.specs.inner.Run.{after_addition}
 use Rattle.pp_reference.specs.inner.Seen.{seen}
 use Rattle.pp_reference.specs.inner.SeenSource.{source_state}
 use Rattle.pp_model.specs.SourceReader.{SourceReader}
@@ -21,4 +21,4 @@ returns-in_ok-add-in-Ok c =
     let old = seen source_state c.args.expander.now in
     added_reply (answers_at expansion_limit) c.args.name.now c.args.content.now c.added_body.result c.in-Ok.body old _ c.added_body.ensures c.in-Ok.is
     (ap (λ (r : SourceReader). record old { reader = r }) ((c.in_ok-add-in-Ok.ensures {u = tt})
-    ∙ ap (λ (n : Name). adding n c.in-Ok.body old.reader) (c.in_ok-name-in-Ok.ensures {u = tt})))
+    ∙ ap (λ (n : Name). after_addition n c.in-Ok.body old.reader) (c.in_ok-name-in-Ok.ensures {u = tt})))

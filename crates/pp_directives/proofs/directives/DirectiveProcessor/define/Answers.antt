@@ -1,4 +1,4 @@
-use Rattle.pp_directives.specs.inner.ReadNames.{named}
+use Rattle.pp_directives.specs.inner.ReadNames.{as_named}
 use Rattle.pp_directives.proofs.SourceActsLemmas.{err_result, define_failed, define_acts}
 use Rattle.pp_directives.proofs.directives.DirectiveProcessor.define.Goals as goal
 
@@ -7,7 +7,7 @@ returns-in_err-line-clause-acts c =
     let p = c.self.inside in
     let e = c.in_err-line.ensures in
     rw (← c.self.view_is, err_result c.from_residual.result c.in_err-line.field-0.0 c.from_residual.ensures.1)
-    (define_failed p.definitions p.blocks p.line_offset p.has_text p.has_directive p.dead_for_good p.lexer c.define_line.new.lexer c.args.word named
+    (define_failed p.definitions p.blocks p.line_offset p.has_text p.has_directive p.dead_for_good p.lexer c.define_line.new.lexer c.args.word as_named
     c.in_err-line.field-0.0 e.is e.takes)
 
 pub returns-clause-acts : goal.returns-clause-acts
@@ -16,4 +16,4 @@ returns-clause-acts c =
     let e = c.in_ok-line.ensures in
     rw (← c.self.view_is)
     (define_acts p.definitions p.blocks p.line_offset p.has_text p.has_directive p.dead_for_good p.lexer c.define_line.new.lexer c.args.word
-    (named c.in_ok-line.line) c.add.result c.add.new.self e.is e.takes c.add.ensures.acts)
+    (as_named c.in_ok-line.line) c.add.result c.add.new.self e.is e.takes c.add.ensures.acts)

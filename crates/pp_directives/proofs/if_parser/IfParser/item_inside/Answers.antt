@@ -27,8 +27,8 @@ items-preserved-in-Continue-1 c = items_call _ _ _ _ _ _ c.items.invariant _ _ c
 pub returns-in_err-finish_call-in-Ok-Call-clause-reads : goal.returns-in_err-finish_call-in-Ok-Call-clause-reads
 returns-in_err-finish_call-in-Ok-Call-clause-reads c =
     let e = err_from_is_err_and c.from_residual.result c.from_residual.ensures.1 in
-    let finishes = subst (λ hidden. Finishes c.args.self.now.levels c.args.self.now.definitions.now hidden c.in-Ok-Call.call c.step_list.new.caller
-    (Err c.in_err-finish_call-in-Ok-Call.field-0.0) c.finish_call.new.caller) c.requires.alone c.in_err-finish_call-in-Ok-Call.ensures in
+    let finishes = subst (λ hidden. Finishes c.args.self.now.levels c.args.self.now.definitions.now hidden c.in-Ok-Call.call c.step_list.new.expander
+    (Err c.in_err-finish_call-in-Ok-Call.field-0.0) c.finish_call.new.expander) c.requires.alone c.in_err-finish_call-in-Ok-Call.ensures in
     items_call_fault _ _ _ _ _ _ c.items.invariant _ _ c.in-Ok-Call.call
     (rw c.in-Ok-Call.field-0-is at c.in-Ok-Call.ensures.turns) _ c.in_err-finish_call-in-Ok-Call.field-0.0 _ finishes (e.1 ∙ ap Err e.2)
 

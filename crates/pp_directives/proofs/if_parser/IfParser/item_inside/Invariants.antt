@@ -4,7 +4,7 @@ use Rattle.pp_directives.proofs.LineReadLemmas.{ItemsOn}
 use Rattle.pp_directives.proofs.if_parser.IfParser.item_inside.Given as goal
 
 abbrev pub invariant-items : goal.invariant-items
-invariant-items l = ItemsOn l.self.levels l.self.definitions.now l.initial.line.caller l.initial.line.lexer l.line.caller l.line.lexer
+invariant-items l = ItemsOn l.self.levels l.self.definitions.now l.initial.line.expander l.initial.line.lexer l.line.expander l.line.lexer
 
 abbrev pub decreases-items : goal.decreases-items
-decreases-items l = work_of l.self.levels l.line.caller (of_list l.line.lexer)
+decreases-items l = work_of l.self.levels l.line.expander (of_list l.line.lexer)

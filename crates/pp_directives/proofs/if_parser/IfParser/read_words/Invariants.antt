@@ -4,8 +4,8 @@ use Rattle.pp_directives.proofs.LineWordsLemmas.{WordsOn}
 use Rattle.pp_directives.proofs.if_parser.IfParser.read_words.Given as goal
 
 abbrev pub invariant-words : goal.invariant-words
-invariant-words l = WordsOn l.self.kind l.self.directive l.self.levels l.self.definitions.now l.initial.line.caller l.initial.line.lexer
-    l.words.items l.line.caller l.line.lexer
+invariant-words l = WordsOn l.self.kind l.self.directive l.self.levels l.self.definitions.now l.initial.line.expander l.initial.line.lexer
+    l.words.items l.line.expander l.line.lexer
 
 abbrev pub decreases-words : goal.decreases-words
-decreases-words l = work_of l.self.levels l.line.caller (of_list l.line.lexer)
+decreases-words l = work_of l.self.levels l.line.expander (of_list l.line.lexer)

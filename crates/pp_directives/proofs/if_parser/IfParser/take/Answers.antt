@@ -3,7 +3,7 @@ use Rattle.std.specs.Prelude.{Ok, Err}
 use Rattle.pp_macros.specs.declared.step.StepExit.TheVariants.{Continue, Finished}
 use Rattle.pp_directives.proofs.LineReadLemmas.{taken_fault}
 use Rattle.pp_directives.proofs.LineTurnLemmas.{next_read}
-use Rattle.pp_macros.proofs.taking.MachineLemmas.{next_no_pause}
+use Rattle.pp_macros.proofs.taking.ExpanderLemmas.{next_no_pause}
 use Rattle.pp_directives.proofs.if_parser.IfParser.take.Goals as goal
 
 pub returns-in-Ok : goal.returns-in-Ok

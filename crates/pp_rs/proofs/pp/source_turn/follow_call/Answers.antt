@@ -8,5 +8,5 @@ pub returns-in_err-finish_call-clause-follows : goal.returns-in_err-finish_call-
 returns-in_err-finish_call-clause-follows c =
     let e = err_from_is_err_and c.from_residual.result c.from_residual.ensures.1 in
     follows_halt expansion_limit c.expansion_limit.result c.args.source.now.definitions c.definitions.result.now
-    c.nothing-around.result c.args.call c.args.caller.now c.finish_call.new.caller c.in_err-finish_call.field-0.0 _
+    c.nothing-around.result c.args.call c.args.expander.now c.finish_call.new.expander c.in_err-finish_call.field-0.0 _
     c.expansion_limit.ensures c.definitions.ensures c.nothing-around.ensures c.in_err-finish_call.ensures (e.1 ∙ ap Err e.2)

@@ -8,6 +8,6 @@ use Rattle.pp_rs.proofs.pp.preprocessor.Preprocessor.call_line.Goals as goal
 pub returns : goal.returns
 unfolding Stands
 returns c = λ state stands.
-    let frames = c.args.self.now.machine.frames in
-    c.outermost_line.ensures ∙ ap (λ p. outermost_frame_line p.machine.frames) c.self.view_is
+    let frames = c.args.self.now.expander.frames in
+    c.outermost_line.ensures ∙ ap (λ p. outermost_frame_line p.expander.frames) c.self.view_is
     ∙ sym (ap outermost_line stands.list ∙ outermost_flat frames)

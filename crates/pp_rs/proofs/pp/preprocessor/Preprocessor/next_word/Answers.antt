@@ -9,7 +9,7 @@ words-init c = record {
   unspent = c.if-self.false;
   placed = ap (λ p. p.place) c.self.view_is;
   idle = sym c.is_idle.ensures ∙ c.if-not-is_idle.false;
-  reached = reached_first _ _ _ _ (ap (λ p. p.machine) c.self.view_is) (ap (λ p. p.source) c.self.view_is) (c.self.invariant c.if-self.false);
+  reached = reached_first _ _ _ _ (ap (λ p. p.expander) c.self.view_is) (ap (λ p. p.source) c.self.view_is) (c.self.invariant c.if-self.false);
 }
 
 pub words-preserved : goal.words-preserved

@@ -11,9 +11,9 @@ abbrev pub invariant-words : goal.invariant-words
 invariant-words l = record {
   unspent : l.self-inside.spent ≡ false;
   placed : l.self-inside.place ≡ l.fn.self.place;
-  idle : is_idle l.self-inside.caller ≡ true;
-  reached : Reached l.fn.self.machine l.fn.self.source l.self-inside.caller l.self-inside.source;
+  idle : is_idle l.self-inside.expander ≡ true;
+  reached : Reached l.fn.self.expander l.fn.self.source l.self-inside.expander l.self-inside.source;
 }
 
 abbrev pub decreases-words : goal.decreases-words
-decreases-words l = work_of expansion_limit l.self-inside.caller (of_source l.self-inside.source)
+decreases-words l = work_of expansion_limit l.self-inside.expander (of_source l.self-inside.source)

@@ -10,7 +10,7 @@ pub loop-token-init : goal.loop-token-init
 loop-token-init c = record {
   unspent = c.if-self.false;
   placed = ap (λ p. p.place) c.self.view_is;
-  reached = reached_first _ _ _ _ (ap (λ p. p.machine) c.self.view_is) (ap (λ p. p.source) c.self.view_is) (c.self.invariant c.if-self.false);
+  reached = reached_first _ _ _ _ (ap (λ p. p.expander) c.self.view_is) (ap (λ p. p.source) c.self.view_is) (c.self.invariant c.if-self.false);
 }
 
 pub loop-token-smaller : goal.loop-token-smaller

@@ -10,8 +10,8 @@ abbrev pub invariant-loop-token : goal.invariant-loop-token
 invariant-loop-token l = record {
   unspent : l.self-inside.spent ≡ false;
   placed : l.self-inside.place ≡ l.fn.self.place;
-  reached : Reached l.fn.self.machine l.fn.self.source l.self-inside.caller l.self-inside.source;
+  reached : Reached l.fn.self.expander l.fn.self.source l.self-inside.expander l.self-inside.source;
 }
 
 abbrev pub decreases-loop-token : goal.decreases-loop-token
-decreases-loop-token l = work_of expansion_limit l.self-inside.caller (of_source l.self-inside.source)
+decreases-loop-token l = work_of expansion_limit l.self-inside.expander (of_source l.self-inside.source)

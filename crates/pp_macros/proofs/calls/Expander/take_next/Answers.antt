@@ -1,0 +1,14 @@
+use Rattle.pp_macros.proofs.taking.ExpanderLemmas.{leads_more, leads_now, pause_falls}
+use Rattle.pp_macros.proofs.calls.Expander.take_next.Goals as goal
+
+pub loop-step-init : goal.loop-step-init
+loop-step-init g c = record { leads = λ step p t next. next }
+
+pub returns-then-not-is_pause-clause-takes : goal.returns-then-not-is_pause-clause-takes
+returns-then-not-is_pause-clause-takes g c = leads_now _ _ _ _ _ _ _ c.loop-step.invariant.leads c.take-step.ensures.steps (cc)
+
+pub loop-step-smaller : goal.loop-step-smaller
+loop-step-smaller g c = pause_falls _ _ _ _ _ c.take-step.ensures.steps (cc)
+
+pub loop-step-preserved : goal.loop-step-preserved
+loop-step-preserved g c = record { leads = leads_more _ _ _ _ _ _ _ c.loop-step.invariant.leads c.take-step.ensures.steps (cc) }

@@ -1,0 +1,13 @@
+use Rattle.pp_macros.specs.inner.Left.{regions}
+use Rattle.pp_macros.specs.inner.Reach.{total}
+use Rattle.pp_macros.proofs.taking.ExpanderLemmas.{LeadsToNext}
+use Rattle.pp_macros.proofs.calls.Expander.take_next.Given as goal
+
+-- a pause keeps what is taken next
+abbrev pub invariant-loop-step : goal.invariant-loop-step
+invariant-loop-step o l = record {
+  leads : LeadsToNext l.fn.self ((goal.MeLexer-dyn o l.fn.lexer.now).reader l.fn.lexer.now.1) l.self ((goal.MeLexer-dyn o l.lexer.now).reader l.lexer.now.1);
+}
+
+abbrev pub decreases-loop-step : goal.decreases-loop-step
+decreases-loop-step o l = total (regions l.self ((goal.MeLexer-dyn o l.lexer.now).reader l.lexer.now.1))

@@ -1,0 +1,126 @@
+-- Steps of taking, as the code makes them.
+use Rattle.std.proofs.Common.{◌≡◌, ◌∙◌, false, true, List, [], ◌∷◌, ◌++◌, ◌<◌, ℕ, arith, refl, sym, ap, subst, Option, Some, None, Result, Ok, Err, MatchResult}
+use Rattle.std.specs.Prelude.{is_some}
+use Rattle.pp_model.specs.declared.read.Read.{Read}
+use Rattle.pp_lexer.specs.declared.token.Location.{Location}
+use Rattle.pp_lexer.specs.declared.token.PreprocessorError.TheVariants.{LineOverflow, IntegerOverflow, UnexpectedEndOfInput}
+use Rattle.pp_model.specs.Calls.{Fault, Gathered, before, nesting, closes, within, too_many}
+use Rattle.pp_model.specs.declared.read.Taken.TheVariants as given
+use Rattle.pp_macros.specs.Item.{Step, is_out_of_memory}
+use Rattle.pp_macros.specs.inner.Frames.{Frame}
+use Rattle.pp_macros.specs.inner.Expander.{Expander, is_pause, step_of_outcome, taken_as, StepsFetching, StepsTaking, held, moved, TakesNext, now, later, GathersNext, closed, inside, overfull, ended, failed}
+use Rattle.pp_macros.specs.inner.Left.{regions, regions_of, holding_step, reads_left}
+use Rattle.pp_model.proofs.GatherLemmas.{after_tokens, after_tokens-before, after_tokens-closed}
+use Rattle.pp_macros.specs.inner.Reach.{total}
+use Rattle.pp_macros.specs.inner.Reader.{Reader}
+use Rattle.pp_macros.proofs.work.SpendLemmas.{step_spends, next_spends, total_one_more}
+use Rattle.pp_macros.specs.inner.Turns.{Moves, taken_in, gives_line_name}
+use Rattle.pp_macros.specs.declared.step.StepExit.TheVariants.{Error, Continue, Finished}
+
+-- what is held comes first
+pub fetches_held : (m n : Expander) (step : Step Read) (r : Reader) → m.held ≡ Some step → n ≡ record m { held = None } → StepsFetching m r step n r
+fetches_held m n step r is at = held step m n r r is at refl
+
+pub none_held : (o : Option (Step Read)) → is_some o ≡ false → o ≡ None
+none_held None e = refl
+none_held (Some step) e = cc
+
+pub none_opened : {A : Type 0} → (o : Option A) → is_some o ≡ false → o ≡ None
+none_opened None e = refl
+none_opened (Some value) e = cc
+
+-- a step of the frames or the reader that gives no `__LINE__`
+pub fetches_step : (m : Expander) (old new : Option (Step Read)) (frames after : List Frame) (move : Step Read) (r s : Reader)
+    → m ≡ record { held = old; frames = frames } → old ≡ None → new ≡ None
+    → Moves frames r move after s → gives_line_name move ≡ false → StepsFetching m r move (record { held = new; frames = after }) s
+fetches_step m old new frames after move r s e f g moves is =
+    moved move move m (record { held = new; frames = after }) r s (ap (λ (k : Expander). k.held) e ∙ f)
+    (subst (λ (fs : List Frame). Moves fs r move after s) (sym (ap (λ (k : Expander). k.frames) e)) moves) (same move is) g
+  where
+    same : (step : Step Read) → gives_line_name step ≡ false → step ≡ taken_as step after s
+    same (Ok read) apart = rw apart refl
+    same (Err exit) apart = refl
+
+-- what a step of the frames or the reader is once it comes first
+pub fetches_shown : (m : Expander) (old new : Option (Step Read)) (frames after : List Frame) (move step : Step Read) (r s : Reader)
+    → m ≡ record { held = old; frames = frames } → old ≡ None → new ≡ None
+    → Moves frames r move after s → step ≡ taken_as move after s → StepsFetching m r step (record { held = new; frames = after }) s
+fetches_shown m old new frames after move step r s e f g moves is =
+    moved move step m (record { held = new; frames = after }) r s (ap (λ (k : Expander). k.held) e ∙ f)
+    (subst (λ (fs : List Frame). Moves fs r move after s) (sym (ap (λ (k : Expander). k.frames) e)) moves) is g
+
+-- a token that is taken
+pub shows_token : (frames : List Frame) (reader : Reader) (read : Read) (step : Step Read)
+    → MatchResult step (λ taken. taken_in frames reader read ≡ given.Token taken)
+    (λ exit. (exit ≡ Error (LineOverflow, read.token.location)) × (taken_in frames reader read ≡ given.Fault (LineOverflow, read.token.location)))
+    → step ≡ taken_as (Ok read) frames reader
+shows_token frames reader read (Ok t) h = ap step_of_outcome (sym h)
+shows_token frames reader read (Err exit) h = ap Err h.0 ∙ ap step_of_outcome (sym h.1)
+
+-- what is taken next from here on is taken next from the beginning on
+abbrev pub LeadsToNext : Expander → Reader → Expander → Reader → Type 0
+LeadsToNext m r n s = (step : Step Read) (p : Expander) (t : Reader) → TakesNext n s step p t → TakesNext m r step p t
+
+pub leads_more : (m n p : Expander) (r s t : Reader) (step : Step Read) → LeadsToNext m r n s → StepsTaking n s step p t → is_pause step ≡ true
+    → LeadsToNext m r p t
+leads_more m n p r s t (Err Continue) leads steps pause = λ step q u next. leads step q u (later step n p q s t u steps next)
+leads_more m n p r s t (Err Finished) leads steps pause = cc
+leads_more m n p r s t (Err (Error fault)) leads steps pause = cc
+leads_more m n p r s t (Ok read) leads steps pause = cc
+
+pub leads_now : (m n p : Expander) (r s t : Reader) (step : Step Read) → LeadsToNext m r n s → StepsTaking n s step p t → is_pause step ≡ false
+    → TakesNext m r step p t
+leads_now m n p r s t step leads steps goes = leads step p t (now step n p s t steps goes)
+
+-- a pause falls
+pub pause_falls : (m n : Expander) (r s : Reader) (step : Step Read) → StepsTaking m r step n s → is_pause step ≡ true
+    → total (regions n s) < total (regions m r)
+pause_falls m n r s (Err Continue) steps pause = (step_spends (λ c. c) 0 (λ a b low. low) (Err Continue) m n r s steps refl).spends.least
+pause_falls m n r s (Err Finished) steps pause = cc
+pause_falls m n r s (Err (Error fault)) steps pause = cc
+pause_falls m n r s (Ok read) steps pause = cc
+
+-- what comes next is no pause
+pub next_no_pause : (m n : Expander) (r s : Reader) (step : Step Read) → TakesNext m r step n s → is_pause step ≡ false
+next_no_pause m n r s step (now step1 m1 n1 r1 s1 steps goes) = goes
+next_no_pause m n r s step (later step1 m1 between n1 r1 s1 t1 steps next) = next_no_pause between n s1 s step next
+
+-- what comes next lowers what is left, but at the end
+pub next_falls : (m n : Expander) (r s : Reader) (read : Read) → TakesNext m r (Ok read) n s → total (regions n s) < total (regions m r)
+next_falls m n r s read next =
+    let h = next_spends (λ c. c) 0 (λ a b low. low) (Ok read) m n r s next refl in
+    let free : regions n s ≡ regions_of n.frames (reads_left s) = ap (λ o. holding_step o (regions_of n.frames (reads_left s))) h.free in
+    omega (arith, h.spends.least, total_one_more (regions_of n.frames (reads_left s)), ap total free)
+
+-- how the search goes on from here is how it goes on from the beginning, after these tokens
+abbrev pub Gathering : Location → Expander → Reader → List Read → ℕ → Location → Expander → Reader → Type 0
+Gathering paren m r tokens k last n s = (rest : Result Gathered Fault) (p : Expander) (t : Reader) → GathersNext k last n s rest p t
+    → GathersNext 0 paren m r (after_tokens tokens rest) p t
+
+module _ (paren : Location) (m : Expander) (r : Reader) (tokens : List Read)
+    (k : ℕ) (last : Location) (n : Expander) (s : Reader) (so_far : Gathering paren m r tokens k last n s) (p : Expander) (t : Reader) where
+  pub gathers_fault : (fault : Fault) → TakesNext n s (Err (Error fault)) p t → is_out_of_memory fault.0 ≡ false → GathersNext 0 paren m r (Err fault) p t
+  gathers_fault fault next reported = so_far (Err fault) p t (failed k last fault n p s t (Err fault) next reported refl)
+
+  pub gathers_end : TakesNext n s (Err Finished) p t → GathersNext 0 paren m r (Err (UnexpectedEndOfInput, last)) p t
+  gathers_end next = so_far (Err (UnexpectedEndOfInput, last)) p t (ended k last n p s t (Err (UnexpectedEndOfInput, last)) next refl)
+
+  pub gathers_never : (g : Result Gathered Fault) → TakesNext n s (Err Continue) p t → GathersNext 0 paren m r g p t
+  gathers_never g next = absurd (let bad : true ≡ false = next_no_pause n p s t (Err Continue) next in cc)
+
+  pub gathers_closed : (read : Read) → TakesNext n s (Ok read) p t → nesting k read.token.value ≡ closes
+      → GathersNext 0 paren m r (Ok (record { tokens = tokens; closing = read.token.location })) p t
+  gathers_closed read next out = rw (← after_tokens-closed tokens read.token.location)
+      (so_far (Ok (record { tokens = []; closing = read.token.location })) p t
+      (closed k last read n p s t (Ok (record { tokens = []; closing = read.token.location })) next out refl))
+
+  pub gathers_overfull : (read : Read) → TakesNext n s (Ok read) p t → nesting k read.token.value ≡ too_many
+      → GathersNext 0 paren m r (Err (IntegerOverflow, read.token.location)) p t
+  gathers_overfull read next out = so_far (Err (IntegerOverflow, read.token.location)) p t (overfull k last read n p s t
+      (Err (IntegerOverflow, read.token.location)) next out refl)
+
+  pub gathers_more : (read : Read) (l : ℕ) (more : List Read) → TakesNext n s (Ok read) p t → nesting k read.token.value ≡ within l
+      → more ≡ tokens ++ read ∷ [] → Gathering paren m r more l read.token.location p t
+  gathers_more read l more next in_call is =
+      rw is (λ rest q u gathers. rw (← after_tokens-before tokens read rest)
+      (so_far (before read rest) q u (inside k l last read n p q s t u rest (before read rest) next in_call gathers refl)))

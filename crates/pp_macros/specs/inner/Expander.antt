@@ -1,0 +1,112 @@
+-- An expander over a reader: open macros, and a step that was found too early and is held (docs/RULES.md, Expansion 5).
+use Rattle.std.specs.Prelude.{◌≡◌, Bool, false, true, ℕ, ⊤, List, [], Option, Some, None, Result, Ok, Err}
+use Rattle.pp_lexer.specs.declared.token.Location.{Location}
+use Rattle.pp_lexer.specs.declared.token.PreprocessorError.TheVariants.{IntegerOverflow, UnexpectedEndOfInput}
+use Rattle.pp_model.specs.declared.read.Read.{Read}
+use Rattle.pp_model.specs.Calls.{Fault, Gathered, before, nesting, closes, within, too_many}
+use Rattle.pp_model.specs.declared.read.Taken.{Taken as Given}
+use Rattle.pp_model.specs.declared.read.Taken.TheVariants as given
+use Rattle.pp_macros.specs.Item.{Step, is_out_of_memory}
+use Rattle.pp_macros.specs.inner.Frames.{Frame}
+use Rattle.pp_macros.specs.inner.Reader.{Reader}
+use Rattle.pp_macros.specs.inner.Reading.{painted_step}
+use Rattle.pp_macros.specs.inner.Turns.{Moves, taken_in, masks}
+use Rattle.pp_macros.specs.declared.halt.Halt.{Halt}
+use Rattle.pp_macros.specs.declared.halt.Halt.TheVariants as halt
+use Rattle.pp_macros.specs.declared.step.StepExit.TheVariants.{Error, Continue, Finished}
+
+pub record Expander : Type 0 where
+  pub held : Option (Step Read)
+  pub frames : List Frame
+
+-- an outcome as a step
+abbrev pub step_of_outcome : Given → Step Read
+step_of_outcome (given.Token read) = Ok read
+step_of_outcome (given.Fault fault) = Err (Error fault)
+step_of_outcome given.End = Err Finished
+
+-- the outcome that a step is; a pause is none
+abbrev pub outcome_of_step : Step Read → Given
+outcome_of_step (Ok read) = given.Token read
+outcome_of_step (Err (Error fault)) = given.Fault fault
+outcome_of_step (Err Finished) = given.End
+outcome_of_step (Err Continue) = given.End
+
+-- what a step of the frames or the reader is once it is taken
+abbrev pub taken_as : Step Read → List Frame → Reader → Step Read
+taken_as (Ok read) frames reader = step_of_outcome (taken_in frames reader read)
+taken_as (Err exit) frames reader = Err exit
+
+abbrev pub is_pause : {T : Type 0} → Step T → Bool
+is_pause (Err Continue) = true
+is_pause (Err Finished) = false
+is_pause (Err (Error fault)) = false
+is_pause (Ok value) = false
+
+-- what comes first: what is held, or a step of the frames or the reader
+pub data StepsFetching : Expander → Reader → Step Read → Expander → Reader → Type 0 where
+  held : (step : Step Read) (m n : Expander) (r s : Reader)
+      → m.held ≡ Some step
+      → n ≡ record m { held = None }
+      → s ≡ r
+      → StepsFetching m r step n s
+  moved : (move step : Step Read) (m n : Expander) (r s : Reader)
+      → m.held ≡ None
+      → Moves m.frames r move n.frames s
+      → step ≡ taken_as move n.frames s
+      → n.held ≡ None
+      → StepsFetching m r step n s
+
+-- one step of taking: an identifier is painted whose name is open, here or around
+pub record StepsTaking (m : Expander) (r : Reader) (step : Step Read) (n : Expander) (s : Reader) : Type 0 where
+  pub first : Step Read
+  pub fetches : StepsFetching m r first n s
+  pub paints : step ≡ painted_step (masks n.frames s) first
+
+-- what is taken next: the first step that is no pause
+pub data TakesNext : Expander → Reader → Step Read → Expander → Reader → Type 0 where
+  now : (step : Step Read) (m n : Expander) (r s : Reader)
+      → StepsTaking m r step n s
+      → is_pause step ≡ false
+      → TakesNext m r step n s
+  later : (step : Step Read) (m n p : Expander) (r s t : Reader)
+      → StepsTaking m r (Err Continue) n s
+      → TakesNext n s step p t
+      → TakesNext m r step p t
+
+-- the tokens that are taken up to the matching `)`, or the fault that is met before it
+pub data GathersNext : ℕ → Location → Expander → Reader → Result Gathered Fault → Expander → Reader → Type 0 where
+  closed : (k : ℕ) (last : Location) (read : Read) (m n : Expander) (r s : Reader) (g : Result Gathered Fault)
+      → TakesNext m r (Ok read) n s → nesting k read.token.value ≡ closes
+      → g ≡ Ok (record { tokens = []; closing = read.token.location })
+      → GathersNext k last m r g n s
+  inside : (k l : ℕ) (last : Location) (read : Read) (m n p : Expander) (r s t : Reader)
+      (rest g : Result Gathered Fault)
+      → TakesNext m r (Ok read) n s → nesting k read.token.value ≡ within l
+      → GathersNext l read.token.location n s rest p t
+      → g ≡ before read rest
+      → GathersNext k last m r g p t
+  overfull : (k : ℕ) (last : Location) (read : Read) (m n : Expander) (r s : Reader) (g : Result Gathered Fault)
+      → TakesNext m r (Ok read) n s → nesting k read.token.value ≡ too_many
+      → g ≡ Err (IntegerOverflow, read.token.location)
+      → GathersNext k last m r g n s
+  ended : (k : ℕ) (last : Location) (m n : Expander) (r s : Reader) (g : Result Gathered Fault)
+      → TakesNext m r (Err Finished) n s
+      → g ≡ Err (UnexpectedEndOfInput, last)
+      → GathersNext k last m r g n s
+  failed : (k : ℕ) (last : Location) (fault : Fault) (m n : Expander) (r s : Reader) (g : Result Gathered Fault)
+      → TakesNext m r (Err (Error fault)) n s
+      → is_out_of_memory fault.0 ≡ false
+      → g ≡ Err fault
+      → GathersNext k last m r g n s
+
+-- what a search gives: as it must be, unless memory is refused
+abbrev pub Satisfies : {A : Type 0} → Result A Halt → (Result A Fault → Type 0) → Type 0
+Satisfies (Ok value) P = P (Ok value)
+Satisfies (Err (halt.Fault fault)) P = P (Err fault)
+Satisfies (Err halt.OutOfMemory) P = ⊤
+
+-- the tokens of a call whose `)` stands there
+abbrev pub gathered_to : List Read → Result Location Fault → Result Gathered Fault
+gathered_to tokens (Ok closing) = Ok (record { tokens = tokens; closing = closing })
+gathered_to tokens (Err fault) = Err fault

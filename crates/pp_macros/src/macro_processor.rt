@@ -1,0 +1,292 @@
+//! The macros that are open, over a reader.
+
+ghost use Rattle.std.specs.Prelude.{◌≡◌, ◌≤◌, ◌<◌, ◌-◌, ◌∷◌, [], drop, take, IfOk, IfSome, OnErr, OnOk, MatchResult, Ok, Err, option_map, is_some, not, pos, false};
+ghost use Rattle.std.specs.List.{list_any};
+ghost use Rattle.std.specs.Str.{chars};
+ghost use Rattle.pp_lexer.specs.declared.token.PreprocessorError.TheVariants.{LineOverflow};
+ghost use Rattle.pp_lexer.specs.declared.token.TokenValue.TheVariants as value;
+ghost use Rattle.pp_model.specs.Names.{is_in, is_same_name};
+ghost use Rattle.pp_model.specs.Painting.{is_one_of, painted_among};
+ghost use Rattle.pp_model.specs.declared.read.Taken.TheVariants as given;
+ghost use Rattle.pp_macros.specs.inner.Frames.{new_frame, names_of, outermost_frame_line};
+ghost use Rattle.pp_macros.specs.Held.{HoldsOrdinary};
+ghost use Rattle.pp_macros.specs.inner.Ahead.{given_next, frames_after};
+ghost use Rattle.pp_macros.specs.inner.OpenNames.{after_closing, after_opening};
+ghost use Rattle.pp_macros.specs.inner.Turns.{Moves, taken_in, masks, gives_line_name, macro_of_value};
+ghost use Rattle.pp_macros.specs.declared.step.StepExit.TheVariants.{Error, Continue};
+
+use crate::argument_lists::ArgumentLists;
+use crate::define::Define;
+use crate::frames::{Ahead, Frame, give};
+use crate::names::is_text;
+use crate::open_names::OpenNames;
+use crate::reader::MeLexer;
+use crate::step::{Step, StepExit};
+use pp_lexer::token::{Integer, Location, Text, Token, TokenValue};
+use pp_model::names::is_line_name;
+use pp_model::read::Read;
+use std::alloc::{AllocError, Global};
+use std::marker::Model;
+use std::rc::Rc;
+
+// The names of this many macros, the outermost ones, are compared one by one.
+const FEW: usize = 8;
+
+/// Macros that are open, the innermost last.
+#[derive(Drop)]
+pub struct MacroProcessor {
+    alloc: Global,
+    frames: Vec<Frame>,
+    // the names of the macros that are open inside the first `FEW`
+    open_names: OpenNames,
+}
+
+impl Model for MacroProcessor {
+    ghost use Rattle.std.specs.Prelude.{◌≡◌, List, reverse};
+    ghost use Rattle.pp_macros.specs.inner.Frames as spec;
+    ghost use Rattle.pp_macros.specs.inner.Frames.{names_of};
+    ghost use Rattle.pp_macros.specs.inner.OpenNames.{deeper_names, outermost_positions};
+
+    ghost Value = { List spec.Frame };
+
+    ghost view = { λ p. reverse p.frames.items };
+
+    ghost invariant = { λ p. p.open_names ≡ outermost_positions (deeper_names (names_of (reverse p.frames.items))) };
+}
+
+// Whether the frame is of the macro with this name.
+#[inline(always)]
+fn has_name(frame: &Frame, name: &str) -> bool
+    ensures { result ≡ is_same_name (chars name.now) frame.now.name }
+{
+    is_text(frame.name(), name)
+}
+
+// Whether one of the first few frames is of the macro with this name.
+#[inline(always)]
+fn is_name_of(frames: &[Frame], name: &str) -> bool
+    ensures { result ≡ list_any (λ frame. is_same_name (chars name.now) frame.name) (take 8 frames.now) }
+{
+    frames.iter().take(FEW).any(|frame| has_name(frame, name))
+}
+
+// Adds the name of a frame that opens inside `frames` others, unless it is one of the first few.
+fn note_name(names: &mut OpenNames, name: &str, frames: usize) -> Result<(), AllocError>
+    ensures few { frames < 8 → OnOk result (names.new ≡ names.old) }
+    ensures many { 8 ≤ frames
+        → OnOk result (names.new ≡ after_opening (chars name.now) (frames - 8) names.old) }
+    ensures err { OnErr result (names.new ≡ names.old) }
+{
+    if frames < FEW {
+        return Ok(());
+    }
+    names.open(name, frames - FEW)
+}
+
+// Removes the name of a frame that closes inside `frames` others, unless it is one of the first
+// few.
+fn free_name(names: &mut OpenNames, frames: usize)
+    ensures few { frames < 8 → names.new ≡ names.old }
+    ensures many { 8 ≤ frames → names.new ≡ after_closing (frames - 8) names.old }
+{
+    if frames >= FEW {
+        names.close(frames - FEW);
+    }
+}
+
+/// Whether the step gives `__LINE__`.
+pub fn gives_line_name(step: &Step<Read>) -> bool
+    ensures { result ≡ gives_line_name step.now }
+{
+    match step {
+        Ok(read) => is_line_name(&read.token.value),
+        Err(_) => false,
+    }
+}
+
+/// A line number as an unsigned integer at this place.
+pub fn make_line_number(line: u32, location: Location) -> Token
+    ensures { result ≡ record {
+      value = value.Integer (record {
+        value = line;
+        signed = false;
+        width = pos 32;
+      });
+      location = location;
+    } }
+{
+    Token {
+        value: TokenValue::Integer(Integer {
+            value: line as u64,
+            signed: false,
+            width: 32,
+        }),
+        location,
+    }
+}
+
+impl MacroProcessor {
+    /// No macro is open. It allocates nothing.
+    pub fn new(alloc: Global) -> MacroProcessor
+        ensures { result ≡ [] }
+    {
+        MacroProcessor {
+            alloc,
+            frames: Vec::new(alloc),
+            open_names: OpenNames::new(alloc),
+        }
+    }
+
+    /// Whether no macro is open.
+    #[inline(always)]
+    pub fn is_idle(&self) -> bool
+        ensures { is_some (outermost_frame_line self.now) ≡ not result }
+    {
+        self.outermost_line().is_none()
+    }
+
+    /// Whether the macro of this name is open.
+    pub fn is_open(&self, name: &str) -> bool
+        ensures { result ≡ is_in (chars name.now) (names_of self.now) }
+    {
+        is_name_of(&self.frames, name) || self.open_names.is_open(name)
+    }
+
+    /// The line of the outermost macro that is open: the line of its name, or of the `)` of its
+    /// call.
+    #[inline(always)]
+    pub fn outermost_line(&self) -> Option<u32>
+        ensures { result ≡ outermost_frame_line self.now }
+    {
+        match self.frames.first() {
+            Some(frame) => Some(frame.line()),
+            None => None,
+        }
+    }
+
+    // Closes the innermost frame. It is a function of its own, since most steps close none.
+    #[inline(never)]
+    fn close(&mut self)
+        ensures { self.new ≡ drop 1 self.old }
+    {
+        self.frames.pop();
+        free_name(&mut self.open_names, self.frames.len());
+    }
+
+    /// The token that the innermost frame gives next, or `None` if its next step is a pause.
+    pub fn token(&self) -> Option<Ahead<'_>>
+        ensures token { result ≡ given_next self.now }
+        ensures holds { IfSome result (λ ahead. HoldsOrdinary ahead.token.value) }
+    {
+        match self.frames.last() {
+            Some(frame) => frame.token(),
+            None => None,
+        }
+    }
+
+    /// Advances the innermost frame by one step. A frame at its end is closed.
+    #[inline(never)]
+    pub fn pass(&mut self)
+        ensures { self.new ≡ frames_after self.old }
+    {
+        let Some(frame) = self.frames.last_mut() else {
+            return;
+        };
+        if frame.is_spent() {
+            self.close();
+            return;
+        }
+        frame.pass();
+    }
+
+    // One step of the innermost frame, or of the reader if no macro is open. A frame at its end is
+    // closed.
+    pub fn advance(&mut self, lexer: &mut dyn MeLexer) -> Step<Read>
+        ensures moves { Moves self.old (reader lexer.old) result self.new (reader lexer.new) }
+        ensures holds { IfOk result (λ read. HoldsOrdinary read.token.value) }
+    {
+        if self.is_idle() {
+            return lexer.step();
+        }
+        let step = match self.token() {
+            Some(ahead) => give(self.alloc, ahead),
+            None => Err(StepExit::Continue),
+        };
+        self.pass();
+        step
+    }
+
+    // Takes a token: `__LINE__` becomes a number at once.
+    pub fn take_in(&self, lexer: &dyn MeLexer, read: Read) -> Step<Read>
+        requires { HoldsOrdinary read.token.value }
+        ensures taken { MatchResult result
+            (λ taken. taken_in self.now (reader lexer.now) read ≡ given.Token taken)
+            (λ exit. (exit ≡ Error (LineOverflow, read.token.location))
+            × (taken_in self.now (reader lexer.now) read
+            ≡ given.Fault (LineOverflow, read.token.location))) }
+        ensures holds { IfOk result (λ read. HoldsOrdinary read.token.value) }
+    {
+        if !is_line_name(&read.token.value) {
+            return Ok(read);
+        }
+        let location = read.token.location;
+        drop(read);
+        let line = self.outermost_line().unwrap_or(location.line);
+        let shown = lexer.apply_line_offset(line, location)?;
+        Ok(Read::unpainted(make_line_number(shown, location)))
+    }
+
+    // Whether the value is the name of a macro that is open here or around.
+    fn is_masked(&self, lexer: &dyn MeLexer, value: &TokenValue) -> bool
+        ensures { result ≡ is_one_of (masks self.now (reader lexer.now)) value.now }
+    {
+        match value {
+            TokenValue::Ident(name) => {
+                self.is_open(name.as_str()) || lexer.is_hidden(name.as_str())
+            }
+            _ => false,
+        }
+    }
+
+    /// Paints a token that is taken, if it is the name of a macro that is open here or around.
+    pub fn paint(&self, lexer: &dyn MeLexer, read: &mut Read)
+        ensures { read.new ≡ painted_among (masks self.now (reader lexer.now)) read.old }
+    {
+        if !read.painted {
+            read.painted = self.is_masked(lexer, &read.token.value);
+        }
+    }
+
+    // The definition that the reader has for the name.
+    pub fn find_macro(
+        &self,
+        lexer: &dyn MeLexer,
+        name: &Text,
+    ) -> Result<Option<Rc<Define>>, AllocError>
+        ensures { IfOk result (λ found. option_map (λ define. (name.now, define.value)) found
+            ≡ macro_of_value (reader lexer.now) (value.Ident name.now)) }
+    {
+        let Some(define) = lexer.get_define(name.as_str()) else {
+            return Ok(None);
+        };
+        Ok(Some(define.clone()?))
+    }
+
+    /// Opens the macro of this name with these arguments. `line` is the line that `__LINE__` shows
+    /// in it.
+    pub fn open(
+        &mut self,
+        name: Text,
+        line: u32,
+        define: Rc<Define>,
+        arguments: ArgumentLists,
+    ) -> Result<(), AllocError>
+        ensures { OnOk result (self.new ≡ new_frame name line define.value arguments ∷ self.old) }
+    {
+        self.frames.reserve(1)?;
+        note_name(&mut self.open_names, name.as_str(), self.frames.len())?;
+        let frame = Frame::new(name, line, define, arguments);
+        self.frames.push_reserved(frame);
+        Ok(())
+    }
+}

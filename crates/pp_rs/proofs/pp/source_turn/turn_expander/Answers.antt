@@ -1,0 +1,9 @@
+use Rattle.pp_model.specs.Emitting.{expansion_limit}
+use Rattle.pp_rs.proofs.runs.SourceTurnLemmas.{goes_follow}
+use Rattle.pp_rs.proofs.pp.source_turn.turn_expander.Goals as goal
+
+pub returns-in-Call-clause-turns : goal.returns-in-Call-clause-turns
+returns-in-Call-clause-turns c =
+    goes_follow expansion_limit c.args.expander.now c.step_source.new.expander c.args.source.now c.step_source.new.source
+    c.in-Call.call c.follow_call.new.expander c.follow_call.result (rw c.in-Call.is at c.in_ok-read.ensures.turns)
+    c.follow_call.ensures.follows
