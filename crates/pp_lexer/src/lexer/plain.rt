@@ -1,6 +1,6 @@
 //! Words, spaces and newlines of ASCII text, read byte by byte.
 
-ghost use Rattle.std.specs.Prelude.{⊤, ◌≡◌, ◌<◌, ◌≤◌, true, false, length, take, slice_index, IsTrue, MatchOption};
+ghost use Rattle.std.specs.Prelude.{⊤, ◌≡◌, ◌<◌, ◌≤◌, true, false, length, take, get_or, slice_index, IsTrue, MatchOption};
 ghost use Rattle.std.specs.List.{list_all};
 ghost use Rattle.std.specs.Str.{IsUtf8};
 ghost use Rattle.pp_lexer.specs.inner.PlainWords.{is_space, begins, continues, begins_comment, Stops, IsFirstWord, IsPlainNewline};
