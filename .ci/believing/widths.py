@@ -2,13 +2,11 @@
 import re
 
 WIDEST = 120
-IMPORT = re.compile(r'\s*(pub )?use ')
 COMMENT = re.compile(r'\s*//')
 
 
 def of_specs(text):
-    """Each line but an import, which is one line however long its list is."""
-    return [(number, line) for number, line in numbered(text) if not IMPORT.match(line)]
+    return numbered(text)
 
 
 def of_comments(text):

@@ -1,5 +1,6 @@
 -- The version that a source says in its first tokens: GLSL ES 3.20, section 3.4.
-use Rattle.std.specs.Prelude.{ℕ, Bool, true, false, not, ◌&&◌, ◌||◌, ◌==◌, nat_le, List, [], ◌∷◌, ◌++◌, map, Option, Some, None, Result, Ok, codes, nat_eq, if◌then◌else◌, unwrap_or, option_map}
+use Rattle.std.specs.Prelude.{ℕ, Bool, true, false, not, ◌&&◌, ◌||◌, ◌==◌, nat_le, List, [], ◌∷◌, ◌++◌, map, Option}
+use Rattle.std.specs.Prelude.{Some, None, Result, Ok, codes, nat_eq, if◌then◌else◌, unwrap_or, option_map}
 use Rattle.std.specs.Cmp.Lexicographic.{pointwise}
 use Rattle.pp_lexer.specs.declared.lexer.item.TokenValue.{TokenValue as LexerTokenValue}
 use Rattle.pp_lexer.specs.declared.lexer.item.TokenValue.TheVariants.{Hash, NewLine, Ident, Integer}

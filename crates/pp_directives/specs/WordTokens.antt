@@ -2,7 +2,10 @@
 use Rattle.std.specs.Prelude.{ℕ, List, true, false, pos}
 use Rattle.pp_lexer.specs.PlainItems.{without_suffix}
 use Rattle.pp_lexer.specs.declared.lexer.plain.Form.{Form}
-use Rattle.pp_lexer.specs.declared.lexer.plain.Form.TheVariants.{Identifier, Integer as IntegerForm, Unsigned as UnsignedForm, Float as FloatForm, SuffixedFloat as SuffixedForm, Punct as PunctForm, Hash as HashForm}
+use Rattle.pp_lexer.specs.declared.lexer.plain.Form.TheVariants.{Identifier, Integer as IntegerForm}
+use Rattle.pp_lexer.specs.declared.lexer.plain.Form.TheVariants.{Unsigned as UnsignedForm, Float as FloatForm}
+use Rattle.pp_lexer.specs.declared.lexer.plain.Form.TheVariants.{SuffixedFloat as SuffixedForm, Punct as PunctForm}
+use Rattle.pp_lexer.specs.declared.lexer.plain.Form.TheVariants.{Hash as HashForm}
 use Rattle.pp_lexer.specs.declared.lexer.plain_item.PlainItem.{PlainItem}
 use Rattle.pp_lexer.specs.declared.token.Token.{Token}
 use Rattle.pp_lexer.specs.declared.token.TokenValue.{TokenValue}

@@ -3,7 +3,8 @@
 -- `<<` drops high bits and `>>` keeps the sign. True is 1, false is 0, and every number but 0 counts as true. A result
 -- outside of that range is a fault, and so are a division and a remainder by 0. Both operands of `&&` and `||` are
 -- computed, whatever the first one is.
-use Rattle.std.specs.Prelude.{ℕ, ◌^◌, Bool, not, ◌&&◌, ◌||◌, if◌then◌else◌, nat_lt, Result, Ok, Err, ℤ, pos, negsuc, ◌+ℤ◌, ◌-ℤ◌, ◌*ℤ◌, neg_ℤ, int_div, int_rem, int_lt, int_le, bit_and, bit_or, bit_xor}
+use Rattle.std.specs.Prelude.{ℕ, ◌^◌, Bool, not, ◌&&◌, ◌||◌, if◌then◌else◌, nat_lt, Result, Ok, Err, ℤ, pos, negsuc}
+use Rattle.std.specs.Prelude.{◌+ℤ◌, ◌-ℤ◌, ◌*ℤ◌, neg_ℤ, int_div, int_rem, int_lt, int_le, bit_and, bit_or, bit_xor}
 use Rattle.std.specs.Int.{w64, int_shl, int_shr, cast_signed, cast_unsigned}
 use Rattle.std.specs.Ordering.{int_eq}
 use Rattle.pp_expression.specs.Answers.{◌>>=◌}

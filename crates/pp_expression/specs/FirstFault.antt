@@ -8,7 +8,8 @@
 --   order 4   the symbol, or the end of the line, can't stand there
 --
 -- Order 3 is left to whoever asks something of the whole value, which is found at the symbol after the expression.
-use Rattle.std.specs.Prelude.{◌≡◌, ℕ, ◌+◌, ◌≤◌, ◌<◌, false, nat_lt, length, if◌then◌else◌, List, [], ◌∷◌, ◌++◌, Option, Some, None, Result, Ok, Err, ℤ, MatchResult, ◌⊎◌}
+use Rattle.std.specs.Prelude.{◌≡◌, ℕ, ◌+◌, ◌≤◌, ◌<◌, false, nat_lt, length, if◌then◌else◌, List, [], ◌∷◌, ◌++◌, Option}
+use Rattle.std.specs.Prelude.{Some, None, Result, Ok, Err, ℤ, MatchResult, ◌⊎◌}
 use Rattle.pp_lexer.specs.declared.token.Punct.TheVariants as mark
 use Rattle.pp_expression.specs.declared.operator.Unary.{Unary}
 use Rattle.pp_expression.specs.declared.operator.Binary.{Binary}

@@ -1,7 +1,8 @@
 -- The symbols of a directive's line, and an expression at their front (GLSL ES 3.20 section 3.4). The reading of the
 -- words after the symbols may end in a fault, as in a macro call without its `)`; an expression that is over before is
 -- not touched by it, where it can be known that it is over.
-use Rattle.std.specs.Prelude.{◌≡◌, ℕ, ◌≤◌, Bool, false, nat_le, List, [], ◌∷◌, ◌++◌, Option, Some, None, Result, Ok, Err, IsOk, ℤ}
+use Rattle.std.specs.Prelude.{◌≡◌, ℕ, ◌≤◌, Bool, false, nat_le, List, [], ◌∷◌, ◌++◌, Option, Some, None, Result, Ok}
+use Rattle.std.specs.Prelude.{Err, IsOk, ℤ}
 use Rattle.std.specs.Option.{option_map_or}
 use Rattle.pp_expression.specs.declared.symbol.Symbol.{Symbol}
 use Rattle.pp_expression.specs.declared.symbol.Symbol.TheVariants as symbol

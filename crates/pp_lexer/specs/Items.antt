@@ -1,6 +1,7 @@
 -- The items of a text: its tokens and errors, each by the segments that stand before it (docs/RULES.md, Characters 6,
 -- Tokens 1, 7 and 8). Of the segments before a place the nearest comes first.
-use Rattle.std.specs.Prelude.{ℕ, Bool, true, false, ◌||◌, ◌&&◌, if◌then◌else◌, List, [], ◌∷◌, ◌++◌, reverse, Result, Ok, Err, count_by}
+use Rattle.std.specs.Prelude.{ℕ, Bool, true, false, ◌||◌, ◌&&◌, if◌then◌else◌, List, [], ◌∷◌, ◌++◌, reverse, Result, Ok}
+use Rattle.std.specs.Prelude.{Err, count_by}
 use Rattle.std.specs.List.{flat_map}
 use Rattle.pp_lexer.specs.declared.token.Location.{Location}
 use Rattle.pp_lexer.specs.declared.token.PreprocessorError.{PreprocessorError}

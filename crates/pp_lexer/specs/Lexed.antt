@@ -1,5 +1,6 @@
 -- What a lexer stands for, and what a call of `next` gives.
-use Rattle.std.specs.Prelude.{◌≡◌, Bool, true, false, ◌⊎◌, IsTrue, nat_lt, List, [], ◌∷◌, map, Option, Some, None, Ok, Err, MatchBool}
+use Rattle.std.specs.Prelude.{◌≡◌, Bool, true, false, ◌⊎◌, IsTrue, nat_lt, List, [], ◌∷◌, map, Option, Some, None, Ok}
+use Rattle.std.specs.Prelude.{Err, MatchBool}
 use Rattle.pp_lexer.specs.declared.lexer.char_iterator.Spot.{Spot}
 use Rattle.pp_lexer.specs.declared.token.Location.{Location}
 use Rattle.pp_lexer.specs.LexerToken.{holds_memory}

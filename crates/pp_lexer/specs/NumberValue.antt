@@ -1,12 +1,15 @@
 -- What a number is worth, by its spelling and the characters after it: GLSL ES 3.20, sections 4.1.3 and 4.1.4. What the
 -- language's types can't hold, as 64-bit literals, is an error.
-use Rattle.std.specs.Prelude.{ℕ, ◌+◌, ◌^◌, pos, Bool, not, ◌&&◌, ◌||◌, ◌==◌, nat_lt, if◌then◌else◌, List, [], ◌∷◌, Option, Some, None, Ok, Err, length, take, drop, map, filter, ok_or, option_map}
+use Rattle.std.specs.Prelude.{ℕ, ◌+◌, ◌^◌, pos, Bool, not, ◌&&◌, ◌||◌, ◌==◌, nat_lt, if◌then◌else◌, List, [], ◌∷◌}
+use Rattle.std.specs.Prelude.{Option, Some, None, Ok, Err, length, take, drop, map, filter, ok_or, option_map}
 use Rattle.std.specs.List.{list_all, list_any}
 use Rattle.std.specs.Char.{is_digit}
 use Rattle.std.specs.Str.Parse.{digits_value_after}
 use Rattle.std.specs.Option.{option_map_or}
 use Rattle.pp_lexer.specs.declared.token.PreprocessorError.{PreprocessorError}
-use Rattle.pp_lexer.specs.declared.token.PreprocessorError.TheVariants.{NotSupported64BitLiteral, NotSupported16BitLiteral, IntegerOverflow, FloatParsingError}
+use Rattle.pp_lexer.specs.declared.token.PreprocessorError.TheVariants.{NotSupported64BitLiteral}
+use Rattle.pp_lexer.specs.declared.token.PreprocessorError.TheVariants.{NotSupported16BitLiteral, IntegerOverflow}
+use Rattle.pp_lexer.specs.declared.token.PreprocessorError.TheVariants.{FloatParsingError}
 use Rattle.pp_lexer.specs.declared.lexer.item.TokenValue.TheVariants.{Integer, Float}
 use Rattle.pp_lexer.specs.Longest.{longest}
 use Rattle.pp_lexer.specs.Numbers.{is_zero, is_x, is_point, is_e, is_sign, is_decimal, digits, is_number}

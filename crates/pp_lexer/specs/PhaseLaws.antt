@@ -1,5 +1,6 @@
 -- Laws of the character phases, each for every source.
-use Rattle.std.specs.Prelude.{◌≡◌, ℕ, ◌+◌, ◌≤◌, Bool, true, false, ◌&&◌, List, [], ◌∷◌, ◌++◌, Some, AllPairs, slice_get, count_by, take, length}
+use Rattle.std.specs.Prelude.{◌≡◌, ℕ, ◌+◌, ◌≤◌, Bool, true, false, ◌&&◌, List, [], ◌∷◌, ◌++◌, Some, AllPairs, slice_get}
+use Rattle.std.specs.Prelude.{count_by, take, length}
 use Rattle.std.specs.Str.{chars, IsUtf8}
 use Rattle.std.specs.Char.{len_utf8}
 use Rattle.pp_lexer.specs.Cursor.{Placed, last_end}

@@ -1,11 +1,15 @@
 -- A word of plain text that a lexer gives before memory is taken for it (docs/RULES.md, Tokens).
-use Rattle.std.specs.Prelude.{◌≡◌, ◌≢◌, ℕ, ◌-◌, Bool, true, false, List, [], ◌∷◌, length, take, Option, Some, Ok, Err, MatchBool, MatchOption, pos, ⊤}
+use Rattle.std.specs.Prelude.{◌≡◌, ◌≢◌, ℕ, ◌-◌, Bool, true, false, List, [], ◌∷◌, length, take, Option, Some, Ok, Err}
+use Rattle.std.specs.Prelude.{MatchBool, MatchOption, pos, ⊤}
 use Rattle.std.specs.Str.{IsAscii}
 use Rattle.pp_lexer.specs.declared.lexer.item.Token.{Token}
 use Rattle.pp_lexer.specs.declared.lexer.item.TokenValue.{TokenValue}
 use Rattle.pp_lexer.specs.declared.lexer.item.TokenValue.TheVariants.{Hash, Ident, Integer, Float, Punct}
 use Rattle.pp_lexer.specs.declared.lexer.plain.Form.{Form}
-use Rattle.pp_lexer.specs.declared.lexer.plain.Form.TheVariants.{Identifier, Integer as IntegerForm, Unsigned as UnsignedForm, Float as FloatForm, SuffixedFloat as SuffixedForm, Punct as PunctForm, Hash as HashForm}
+use Rattle.pp_lexer.specs.declared.lexer.plain.Form.TheVariants.{Identifier, Integer as IntegerForm}
+use Rattle.pp_lexer.specs.declared.lexer.plain.Form.TheVariants.{Unsigned as UnsignedForm, Float as FloatForm}
+use Rattle.pp_lexer.specs.declared.lexer.plain.Form.TheVariants.{SuffixedFloat as SuffixedForm, Punct as PunctForm}
+use Rattle.pp_lexer.specs.declared.lexer.plain.Form.TheVariants.{Hash as HashForm}
 use Rattle.pp_lexer.specs.declared.lexer.plain_item.PlainItem.{PlainItem}
 use Rattle.pp_lexer.specs.Items.{Lexeme, is_newline}
 use Rattle.pp_lexer.specs.Segments as segments

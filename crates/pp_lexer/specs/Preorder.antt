@@ -3,7 +3,8 @@ use Rattle.std.specs.Prelude.{◌+◌, List, [], ◌∷◌, ◌++◌, map}
 use Rattle.pp_lexer.specs.Entry.{Entry, Leaf, ident, integer, float, punct, version, extension, pragma}
 use Rattle.pp_lexer.specs.declared.token.Token.{Token}
 use Rattle.pp_lexer.specs.declared.token.TokenValue.{TokenValue}
-use Rattle.pp_lexer.specs.declared.token.TokenValue.TheVariants.{Ident, Integer, Float, Punct, Version, Extension, Pragma}
+use Rattle.pp_lexer.specs.declared.token.TokenValue.TheVariants.{Ident, Integer, Float, Punct, Version, Extension}
+use Rattle.pp_lexer.specs.declared.token.TokenValue.TheVariants.{Pragma}
 
 -- the entry one level further down
 abbrev pub deeper : Entry → Entry

@@ -4,7 +4,19 @@ use Rattle.pp_lexer.specs.TokenValue.{holds_memory}
 use Rattle.pp_lexer.specs.Location.{nowhere}
 use Rattle.pp_lexer.specs.declared.token.Location.{Location}
 use Rattle.pp_lexer.specs.declared.token.PreprocessorError.{PreprocessorError}
-use Rattle.pp_lexer.specs.declared.token.PreprocessorError.TheVariants.{IntegerOverflow, FloatParsingError, UnexpectedCharacter, UnexpectedToken, UnexpectedHash, UnexpectedNewLine, UnexpectedEndOfInput, TooFewDefineArguments, TooManyDefineArguments, ErrorDirective, DuplicateParameter, UnknownDirective, DefineRedefined, ElifOutsideOfBlock, ElseOutsideOfBlock, EndifOutsideOfBlock, ElifAfterElse, MoreThanOneElse, UnfinishedBlock, LineOverflow, NotSupported16BitLiteral, NotSupported64BitLiteral, MacroNotDefined, RecursionLimitReached, DivisionByZero, RemainderByZero, OutOfMemory}
+use Rattle.pp_lexer.specs.declared.token.PreprocessorError.TheVariants.{IntegerOverflow, FloatParsingError}
+use Rattle.pp_lexer.specs.declared.token.PreprocessorError.TheVariants.{UnexpectedCharacter, UnexpectedToken}
+use Rattle.pp_lexer.specs.declared.token.PreprocessorError.TheVariants.{UnexpectedHash, UnexpectedNewLine}
+use Rattle.pp_lexer.specs.declared.token.PreprocessorError.TheVariants.{UnexpectedEndOfInput, TooFewDefineArguments}
+use Rattle.pp_lexer.specs.declared.token.PreprocessorError.TheVariants.{TooManyDefineArguments, ErrorDirective}
+use Rattle.pp_lexer.specs.declared.token.PreprocessorError.TheVariants.{DuplicateParameter, UnknownDirective}
+use Rattle.pp_lexer.specs.declared.token.PreprocessorError.TheVariants.{DefineRedefined, ElifOutsideOfBlock}
+use Rattle.pp_lexer.specs.declared.token.PreprocessorError.TheVariants.{ElseOutsideOfBlock, EndifOutsideOfBlock}
+use Rattle.pp_lexer.specs.declared.token.PreprocessorError.TheVariants.{ElifAfterElse, MoreThanOneElse, UnfinishedBlock}
+use Rattle.pp_lexer.specs.declared.token.PreprocessorError.TheVariants.{LineOverflow, NotSupported16BitLiteral}
+use Rattle.pp_lexer.specs.declared.token.PreprocessorError.TheVariants.{NotSupported64BitLiteral, MacroNotDefined}
+use Rattle.pp_lexer.specs.declared.token.PreprocessorError.TheVariants.{RecursionLimitReached, DivisionByZero}
+use Rattle.pp_lexer.specs.declared.token.PreprocessorError.TheVariants.{RemainderByZero, OutOfMemory}
 
 -- the variant's name as ASCII text, without what the variant holds
 abbrev pub name_of : PreprocessorError → List ℕ

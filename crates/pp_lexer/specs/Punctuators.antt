@@ -1,10 +1,19 @@
 -- The punctuators: GLSL ES 3.20, sections 3.6 and 5.1. With them the `#` of a directive, section 3.4.
-use Rattle.std.specs.Prelude.{ℕ, Bool, ◌||◌, nat_eq, List, [], ◌∷◌, Option, Some, None, Ok, Err, take, is_some, option_map, unwrap_or, if◌then◌else◌, codes}
+use Rattle.std.specs.Prelude.{ℕ, Bool, ◌||◌, nat_eq, List, [], ◌∷◌, Option, Some, None, Ok, Err, take, is_some}
+use Rattle.std.specs.Prelude.{option_map, unwrap_or, if◌then◌else◌, codes}
 use Rattle.std.specs.List.{find}
 use lib.Pointwise.{pointwise}
 use Rattle.pp_lexer.specs.contracts.token.PunctPartialEq.TheImpl.{eq-value as punct_eq}
 use Rattle.pp_lexer.specs.declared.token.Punct.{Punct as Punctuator}
-use Rattle.pp_lexer.specs.declared.token.Punct.TheVariants.{AddAssign, SubAssign, MulAssign, DivAssign, ModAssign, LeftShiftAssign, RightShiftAssign, AndAssign, XorAssign, OrAssign, Increment, Decrement, LogicalAnd, LogicalOr, LogicalXor, LessEqual, GreaterEqual, EqualEqual, NotEqual, LeftShift, RightShift, LeftBrace, RightBrace, LeftParen, RightParen, LeftBracket, RightBracket, LeftAngle, RightAngle, Semicolon, Comma, Colon, Dot, Equal, Bang, Minus, Tilde, Plus, Star, Slash, Percent, Pipe, Caret, Ampersand, Question}
+use Rattle.pp_lexer.specs.declared.token.Punct.TheVariants.{AddAssign, SubAssign, MulAssign, DivAssign, ModAssign}
+use Rattle.pp_lexer.specs.declared.token.Punct.TheVariants.{LeftShiftAssign, RightShiftAssign, AndAssign, XorAssign}
+use Rattle.pp_lexer.specs.declared.token.Punct.TheVariants.{OrAssign, Increment, Decrement, LogicalAnd, LogicalOr}
+use Rattle.pp_lexer.specs.declared.token.Punct.TheVariants.{LogicalXor, LessEqual, GreaterEqual, EqualEqual, NotEqual}
+use Rattle.pp_lexer.specs.declared.token.Punct.TheVariants.{LeftShift, RightShift, LeftBrace, RightBrace, LeftParen}
+use Rattle.pp_lexer.specs.declared.token.Punct.TheVariants.{RightParen, LeftBracket, RightBracket, LeftAngle}
+use Rattle.pp_lexer.specs.declared.token.Punct.TheVariants.{RightAngle, Semicolon, Comma, Colon, Dot, Equal, Bang}
+use Rattle.pp_lexer.specs.declared.token.Punct.TheVariants.{Minus, Tilde, Plus, Star, Slash, Percent, Pipe, Caret}
+use Rattle.pp_lexer.specs.declared.token.Punct.TheVariants.{Ampersand, Question}
 use Rattle.pp_lexer.specs.declared.token.PreprocessorError.TheVariants.{UnexpectedCharacter}
 use Rattle.pp_lexer.specs.declared.lexer.item.TokenValue.{TokenValue}
 use Rattle.pp_lexer.specs.declared.lexer.item.TokenValue.TheVariants.{Hash, Punct}

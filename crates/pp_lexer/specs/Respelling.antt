@@ -1,14 +1,18 @@
 -- Values that can be spelled, and what a lexer reads in a text that spells them: the
 -- tokens of GLSL ES 3.20, section 3.6.
-use Rattle.std.specs.Prelude.{◌≡◌, ℕ, ◌<◌, ◌^◌, pos, true, ⊤, List, [], ◌∷◌, ◌++◌, map, Result, Ok, Err, All, encode_utf8_all}
+use Rattle.std.specs.Prelude.{◌≡◌, ℕ, ◌<◌, ◌^◌, pos, true, ⊤, List, [], ◌∷◌, ◌++◌, map, Result, Ok, Err, All}
+use Rattle.std.specs.Prelude.{encode_utf8_all}
 use Rattle.std.specs.Str.{IsUtf8, all_scalars}
 use Rattle.pp_lexer.specs.declared.token.Float.{Float as FloatLiteral}
 use Rattle.pp_lexer.specs.declared.token.Integer.{Integer as IntegerLiteral}
 use Rattle.pp_lexer.specs.declared.token.PreprocessorError.{PreprocessorError}
 use Rattle.pp_lexer.specs.declared.token.TokenValue.{TokenValue}
-use Rattle.pp_lexer.specs.declared.token.TokenValue.TheVariants.{Ident, Integer, Float, Punct, Version, Extension, Pragma}
+use Rattle.pp_lexer.specs.declared.token.TokenValue.TheVariants.{Ident, Integer, Float, Punct, Version, Extension}
+use Rattle.pp_lexer.specs.declared.token.TokenValue.TheVariants.{Pragma}
 use Rattle.pp_lexer.specs.declared.lexer.item.TokenValue.{TokenValue as LexerTokenValue}
-use Rattle.pp_lexer.specs.declared.lexer.item.TokenValue.TheVariants.{Hash, NewLine, Ident as LexerIdent, Integer as LexerInteger, Float as LexerFloat, Punct as LexerPunct}
+use Rattle.pp_lexer.specs.declared.lexer.item.TokenValue.TheVariants.{Hash, NewLine, Ident as LexerIdent}
+use Rattle.pp_lexer.specs.declared.lexer.item.TokenValue.TheVariants.{Integer as LexerInteger, Float as LexerFloat}
+use Rattle.pp_lexer.specs.declared.lexer.item.TokenValue.TheVariants.{Punct as LexerPunct}
 use Rattle.pp_lexer.specs.Identifiers.{is_identifier}
 use Rattle.pp_lexer.specs.Items.{Lexeme}
 use Rattle.pp_lexer.specs.Lexed.{start_of}

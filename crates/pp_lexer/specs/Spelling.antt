@@ -6,7 +6,8 @@ use Rattle.pp_lexer.specs.declared.token.Integer.{Integer as IntegerLiteral}
 use Rattle.pp_lexer.specs.declared.token.Token.{Token}
 use Rattle.pp_lexer.specs.declared.token.TokenValue.{TokenValue}
 use Rattle.pp_lexer.specs.Punctuators.{punctuator}
-use Rattle.pp_lexer.specs.declared.token.TokenValue.TheVariants.{Ident, Integer, Float, Punct, Version, Extension, Pragma}
+use Rattle.pp_lexer.specs.declared.token.TokenValue.TheVariants.{Ident, Integer, Float, Punct, Version, Extension}
+use Rattle.pp_lexer.specs.declared.token.TokenValue.TheVariants.{Pragma}
 
 -- the decimal digits of an integer, and a `u` where it is unsigned
 abbrev pub integer_literal : IntegerLiteral → List ℕ

@@ -1,7 +1,8 @@
 -- What kinds of token there are.
 use Rattle.std.specs.Prelude.{Bool, true, false}
 use Rattle.pp_lexer.specs.declared.token.TokenValue.{TokenValue}
-use Rattle.pp_lexer.specs.declared.token.TokenValue.TheVariants.{Ident, Integer, Float, Punct, Version, Extension, Pragma}
+use Rattle.pp_lexer.specs.declared.token.TokenValue.TheVariants.{Ident, Integer, Float, Punct, Version, Extension}
+use Rattle.pp_lexer.specs.declared.token.TokenValue.TheVariants.{Pragma}
 
 -- an ordinary token is an identifier, a literal or a punctuator; the others are directives
 abbrev pub is_ordinary : TokenValue → Bool

@@ -5,9 +5,11 @@ use Rattle.pp_lexer.specs.declared.token.PreprocessorError.TheVariants.{Unfinish
 use Rattle.pp_model.specs.Definitions.{with_change}
 use Rattle.pp_model.specs.Lines.{line_length}
 use Rattle.pp_model.specs.Sights.{sight_of}
-use Rattle.pp_model.specs.Blocks.{Block, blocks_at, innermost, is_live, are_surroundings_live, has_taken_branch, has_else}
+use Rattle.pp_model.specs.Blocks.{Block, blocks_at, innermost, is_live, are_surroundings_live, has_taken_branch}
+use Rattle.pp_model.specs.Blocks.{has_else}
 use Rattle.pp_model.specs.SourceReader.{SourceReader, has_live_text_before, is_first_directive}
-use Rattle.pp_model.specs.Moves.{BlockFacts, Effect, gives, gives_item, fails, ends, defines, undefines, opens_where, opens_if, parts_if, renumbers, Move, move_at}
+use Rattle.pp_model.specs.Moves.{BlockFacts, Effect, gives, gives_item, fails, ends, defines, undefines, opens_where}
+use Rattle.pp_model.specs.Moves.{opens_if, parts_if, renumbers, Move, move_at}
 use Rattle.pp_model.specs.declared.outcome.Outcome.{Outcome}
 use Rattle.pp_model.specs.declared.outcome.Outcome.TheVariants as outcome
 use Rattle.pp_model.specs.declared.step.Step.{Step}

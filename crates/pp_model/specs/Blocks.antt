@@ -1,6 +1,7 @@
 -- Blocks of conditional text, and which text is live (GLSL ES 3.20, section 3.4, and
 -- docs/RULES.md, Directives 7 to 11).
-use Rattle.std.specs.Prelude.{ℕ, ◌+◌, ◌-◌, ◌==◌, Bool, true, false, not, ◌&&◌, ◌||◌, if◌then◌else◌, List, [], ◌∷◌, length, take, slice_get, Option, Some, None, find, option_map, unwrap_or}
+use Rattle.std.specs.Prelude.{ℕ, ◌+◌, ◌-◌, ◌==◌, Bool, true, false, not, ◌&&◌, ◌||◌, if◌then◌else◌, List, [], ◌∷◌}
+use Rattle.std.specs.Prelude.{length, take, slice_get, Option, Some, None, find, option_map, unwrap_or}
 use Rattle.std.specs.List.{list_any, list_all, cons_option}
 use Rattle.pp_lexer.specs.Lexed.{Seen}
 use Rattle.pp_model.specs.Sights.{sight_of}

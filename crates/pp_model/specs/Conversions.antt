@@ -2,9 +2,12 @@
 use Rattle.std.specs.Prelude.{Bool, true, false, Option, Some, None, Result, Ok, Err}
 use Rattle.pp_lexer.specs.declared.lexer.item.Token.{Token as LexerToken}
 use Rattle.pp_lexer.specs.declared.lexer.item.TokenValue.{TokenValue as LexerTokenValue}
-use Rattle.pp_lexer.specs.declared.lexer.item.TokenValue.TheVariants.{Hash, NewLine, Ident as LexerIdent, Integer as LexerInteger, Float as LexerFloat, Punct as LexerPunct}
+use Rattle.pp_lexer.specs.declared.lexer.item.TokenValue.TheVariants.{Hash, NewLine, Ident as LexerIdent}
+use Rattle.pp_lexer.specs.declared.lexer.item.TokenValue.TheVariants.{Integer as LexerInteger, Float as LexerFloat}
+use Rattle.pp_lexer.specs.declared.lexer.item.TokenValue.TheVariants.{Punct as LexerPunct}
 use Rattle.pp_lexer.specs.declared.token.Location.{Location}
-use Rattle.pp_lexer.specs.declared.token.PreprocessorError.TheVariants.{UnexpectedToken, UnexpectedHash, UnexpectedNewLine}
+use Rattle.pp_lexer.specs.declared.token.PreprocessorError.TheVariants.{UnexpectedToken, UnexpectedHash}
+use Rattle.pp_lexer.specs.declared.token.PreprocessorError.TheVariants.{UnexpectedNewLine}
 use Rattle.pp_lexer.specs.declared.token.Punct.TheVariants.{LeftParen, RightParen, Comma}
 use Rattle.pp_lexer.specs.declared.token.Token.{Token}
 use Rattle.pp_lexer.specs.declared.token.TokenValue.TheVariants.{Ident, Integer, Float, Punct}

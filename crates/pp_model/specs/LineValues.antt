@@ -1,6 +1,8 @@
 -- What an `#if`, `#elif` or `#line` line comes to (GLSL ES 3.20, section 3.4, and docs/RULES.md, Expressions 3 to 7 and
 -- Directives 13). Trees, their values and the first fault of an expression are those of pp_expression.
-use Rattle.std.specs.Prelude.{◌≡◌, ◌≢◌, ℕ, ℤ, pos, negsuc, ◌-◌, ◌^◌, nat_lt, Bool, not, if◌then◌else◌, List, [], length, drop, slice_get, map, Option, Some, None, option_map, option_and_then, unwrap_or, Result, Ok, Err}
+use Rattle.std.specs.Prelude.{◌≡◌, ◌≢◌, ℕ, ℤ, pos, negsuc, ◌-◌, ◌^◌, nat_lt, Bool, not, if◌then◌else◌, List, [], length}
+use Rattle.std.specs.Prelude.{drop, slice_get, map, Option, Some, None, option_map, option_and_then, unwrap_or, Result}
+use Rattle.std.specs.Prelude.{Ok, Err}
 use Rattle.pp_expression.specs.declared.symbol.Symbol.{Symbol}
 use Rattle.pp_expression.specs.declared.symbol.Symbol.TheVariants as symbol
 use Rattle.pp_expression.specs.declared.symbol.ExpressionFault.{ExpressionFault}
@@ -12,7 +14,9 @@ use Rattle.pp_expression.specs.Lines.{Line}
 use Rattle.pp_expression.specs.FirstFault.{Evaluates}
 use Rattle.std.specs.Option.{option_map_or}
 use Rattle.pp_lexer.specs.declared.token.Location.{Location}
-use Rattle.pp_lexer.specs.declared.token.PreprocessorError.TheVariants.{IntegerOverflow, DivisionByZero, RemainderByZero, UnexpectedEndOfInput, UnexpectedToken, LineOverflow}
+use Rattle.pp_lexer.specs.declared.token.PreprocessorError.TheVariants.{IntegerOverflow, DivisionByZero}
+use Rattle.pp_lexer.specs.declared.token.PreprocessorError.TheVariants.{RemainderByZero, UnexpectedEndOfInput}
+use Rattle.pp_lexer.specs.declared.token.PreprocessorError.TheVariants.{UnexpectedToken, LineOverflow}
 use Rattle.pp_lexer.specs.declared.token.Token.{Token}
 use Rattle.pp_lexer.specs.declared.token.TokenValue.{TokenValue}
 use Rattle.pp_lexer.specs.declared.token.TokenValue.TheVariants.{Ident, Integer, Punct}

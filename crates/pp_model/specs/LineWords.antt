@@ -1,5 +1,6 @@
 -- The words of an `#if`, `#elif` or `#line` line (GLSL ES 3.20, section 3.4, and docs/RULES.md, Expressions 1 to 3).
-use Rattle.std.specs.Prelude.{◌≡◌, pos, Bool, true, false, if◌then◌else◌, List, [], ◌∷◌, Option, Some, None, Result, Ok, Err, is_some}
+use Rattle.std.specs.Prelude.{◌≡◌, pos, Bool, true, false, if◌then◌else◌, List, [], ◌∷◌, Option, Some, None, Result, Ok}
+use Rattle.std.specs.Prelude.{Err, is_some}
 use Rattle.pp_lexer.specs.declared.token.Location.{Location}
 use Rattle.pp_lexer.specs.declared.token.PreprocessorError.TheVariants.{UnexpectedToken, UnexpectedEndOfInput}
 use Rattle.pp_lexer.specs.declared.token.Token.{Token}

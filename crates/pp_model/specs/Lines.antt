@@ -1,7 +1,8 @@
 -- The rest of a directive's line: the items after its word, up to the line's NewLine (docs/RULES.md, Directives 3 to 7,
 -- 9, 10, 13 and 14). The items of a text always have that NewLine. Where a list ends without it, the line ends there
 -- too; a token that is wanted there is refused at the word.
-use Rattle.std.specs.Prelude.{ℕ, ◌+◌, Bool, false, if◌then◌else◌, List, [], ◌∷◌, drop, Option, None, ok_or, Result, Ok, Err}
+use Rattle.std.specs.Prelude.{ℕ, ◌+◌, Bool, false, if◌then◌else◌, List, [], ◌∷◌, drop, Option, None, ok_or, Result, Ok}
+use Rattle.std.specs.Prelude.{Err}
 use Rattle.std.specs.Option.{option_or}
 use Rattle.std.specs.Result.{result_err}
 use Rattle.pp_lexer.specs.Lexed.{Seen}

@@ -1,13 +1,17 @@
 -- The table of directives: what a token or a line at the front of the items that are left does, one equation a rule
 -- (GLSL ES 3.20, section 3.4, and docs/RULES.md, Directives 1 to 14). Acts says what each effect does to a reader.
 -- The lines of `#define`, `#if`, `#elif` and `#line` are gathered here and decided in Reads.
-use Rattle.std.specs.Prelude.{ℕ, ◌+◌, Bool, true, false, not, ◌||◌, if◌then◌else◌, List, drop, Option, Some, None, Result, Ok, Err}
+use Rattle.std.specs.Prelude.{ℕ, ◌+◌, Bool, true, false, not, ◌||◌, if◌then◌else◌, List, drop, Option, Some, None}
+use Rattle.std.specs.Prelude.{Result, Ok, Err}
 use Rattle.std.specs.Option.{option_map_or}
 use Rattle.pp_lexer.specs.Entry.{Entry}
 use Rattle.pp_lexer.specs.Lexed.{Seen}
 use Rattle.pp_lexer.specs.Preorder.{preorder}
 use Rattle.pp_lexer.specs.declared.token.Location.{Location}
-use Rattle.pp_lexer.specs.declared.token.PreprocessorError.TheVariants.{UnexpectedHash, ErrorDirective, UnknownDirective, ElifOutsideOfBlock, ElseOutsideOfBlock, EndifOutsideOfBlock, ElifAfterElse, MoreThanOneElse}
+use Rattle.pp_lexer.specs.declared.token.PreprocessorError.TheVariants.{UnexpectedHash, ErrorDirective}
+use Rattle.pp_lexer.specs.declared.token.PreprocessorError.TheVariants.{UnknownDirective, ElifOutsideOfBlock}
+use Rattle.pp_lexer.specs.declared.token.PreprocessorError.TheVariants.{ElseOutsideOfBlock, EndifOutsideOfBlock}
+use Rattle.pp_lexer.specs.declared.token.PreprocessorError.TheVariants.{ElifAfterElse, MoreThanOneElse}
 use Rattle.pp_lexer.specs.declared.token.Token.{Token}
 use Rattle.pp_lexer.specs.declared.token.TokenValue.{TokenValue}
 use Rattle.pp_lexer.specs.declared.token.TokenValue.TheVariants.{Version, Extension, Pragma}

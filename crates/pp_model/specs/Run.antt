@@ -1,5 +1,6 @@
 -- Runs: lists of calls of `add_define` and `next`, with what they answer (docs/RULES.md, "Runs").
-use Rattle.std.specs.Prelude.{◌≡◌, ℕ, Bool, true, false, if◌then◌else◌, List, [], map, ◌∷◌, Some, None, Result, Ok, Err, ◌<◌, ◌^◌, ◌-◌, length, ⊤}
+use Rattle.std.specs.Prelude.{◌≡◌, ℕ, Bool, true, false, if◌then◌else◌, List, [], map, ◌∷◌, Some, None, Result, Ok, Err}
+use Rattle.std.specs.Prelude.{◌<◌, ◌^◌, ◌-◌, length, ⊤}
 use Rattle.std.specs.Str.{chars}
 use Rattle.pp_lexer.specs.Items as lexer
 use Rattle.pp_lexer.specs.Lexed.{Seen, seen}

@@ -8,7 +8,8 @@ use Rattle.pp_model.specs.Calls.{Fault, Answers}
 use Rattle.pp_model.specs.Emitting.{Emits}
 use Rattle.pp_model.specs.SourceReader.{SourceReader}
 use Rattle.pp_model.specs.Reads.{source_reading}
-use Rattle.pp_model.specs.Run.{Comings, by_rules, Call, add_define, next, items_of, content_tokens, with_added, is_fault, start, Runs}
+use Rattle.pp_model.specs.Run.{Comings, by_rules, Call, add_define, next, items_of, content_tokens, with_added}
+use Rattle.pp_model.specs.Run.{is_fault, start, Runs}
 use Rattle.pp_model.specs.declared.call.Reply.{Reply}
 use Rattle.pp_model.specs.declared.call.Reply.TheVariants as reply
 use Rattle.pp_model.specs.declared.outcome.Outcome.{Outcome}

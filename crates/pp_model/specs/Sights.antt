@@ -1,6 +1,7 @@
 -- What stands at a position of a source: text or a directive (GLSL ES 3.20, section 3.4, and
 -- docs/RULES.md, Directives 1 and 2).
-use Rattle.std.specs.Prelude.{ℕ, Bool, true, false, ◌&&◌, if◌then◌else◌, List, [], ◌∷◌, Option, Some, None, option_map, unwrap_or, Result, Ok, Err, codes}
+use Rattle.std.specs.Prelude.{ℕ, Bool, true, false, ◌&&◌, if◌then◌else◌, List, [], ◌∷◌, Option, Some, None, option_map}
+use Rattle.std.specs.Prelude.{unwrap_or, Result, Ok, Err, codes}
 use Rattle.std.specs.List.{find}
 use Rattle.pp_lexer.specs.Lexed.{Seen}
 use Rattle.pp_lexer.specs.Items.{Lexeme}

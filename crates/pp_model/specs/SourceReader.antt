@@ -1,5 +1,6 @@
 -- A reader of a source, and what was read before a position (docs/RULES.md, Directives 1, 11, 13 and 14).
-use Rattle.std.specs.Prelude.{ℕ, zero, suc, ℤ, pos, Bool, false, not, ◌&&◌, ◌||◌, List, [], ◌∷◌, take, drop, length, reverse, None}
+use Rattle.std.specs.Prelude.{ℕ, zero, suc, ℤ, pos, Bool, false, not, ◌&&◌, ◌||◌, List, [], ◌∷◌, take, drop, length}
+use Rattle.std.specs.Prelude.{reverse, None}
 use Rattle.std.specs.List.{list_any, take_while}
 use Rattle.pp_lexer.specs.Lexed.{Seen}
 use Rattle.pp_model.specs.Definitions.{Definitions}

@@ -7,7 +7,8 @@ use Rattle.pp_rs.specs.declared.token.PreprocessorError.{PreprocessorError}
 use Rattle.pp_print.specs.declared.ends.RunEnd.{RunEnd}
 use Rattle.pp_print.specs.declared.ends.RunEnd.TheVariants.{Done, Stopped}
 use Rattle.pp_print.specs.declared.ends.RunFault.{RunFault}
-use Rattle.pp_print.specs.declared.ends.RunFault.TheVariants.{ReadFailed, TooLong, NotUtf8, BadWord, WriteFailed, OutOfMemory}
+use Rattle.pp_print.specs.declared.ends.RunFault.TheVariants.{ReadFailed, TooLong, NotUtf8, BadWord, WriteFailed}
+use Rattle.pp_print.specs.declared.ends.RunFault.TheVariants.{OutOfMemory}
 
 -- the exit status: 0 for a whole run, 1 for an error in the source, 2 for a fault
 abbrev pub status_of : Result RunEnd RunFault → ℕ

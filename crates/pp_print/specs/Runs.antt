@@ -1,5 +1,6 @@
 -- What the end of a run says of its source and of its output
-use Rattle.std.specs.Prelude.{◌≡◌, ◌≢◌, ℕ, ◌-◌, ◌^◌, ◌<◌, ◌≤◌, ◌⊎◌, List, ◌++◌, length, Option, Result, Ok, Err, IsOk, IsErr, IsUtf8, ⊤}
+use Rattle.std.specs.Prelude.{◌≡◌, ◌≢◌, ℕ, ◌-◌, ◌^◌, ◌<◌, ◌≤◌, ◌⊎◌, List, ◌++◌, length, Option, Result, Ok, Err, IsOk}
+use Rattle.std.specs.Prelude.{IsErr, IsUtf8, ⊤}
 use Rattle.std.specs.Io.KnownBytes.{Appends}
 use Rattle.pp_rs.specs.declared.token.PreprocessorError.TheVariants.{OutOfMemory as WantOfMemory}
 use Rattle.pp_rs.specs.declared.token.Token.{Token}
@@ -8,7 +9,8 @@ use Rattle.pp_print.specs.SourceRuns.{Definition, tokens_of}
 use Rattle.pp_print.specs.declared.ends.RunEnd.{RunEnd}
 use Rattle.pp_print.specs.declared.ends.RunEnd.TheVariants.{Done, Stopped}
 use Rattle.pp_print.specs.declared.ends.RunFault.{RunFault}
-use Rattle.pp_print.specs.declared.ends.RunFault.TheVariants.{ReadFailed, TooLong, NotUtf8, BadWord, WriteFailed, OutOfMemory}
+use Rattle.pp_print.specs.declared.ends.RunFault.TheVariants.{ReadFailed, TooLong, NotUtf8, BadWord, WriteFailed}
+use Rattle.pp_print.specs.declared.ends.RunFault.TheVariants.{OutOfMemory}
 
 -- bytes that can be preprocessed
 pub record IsSource (bytes : List ℕ) : Type 0 where

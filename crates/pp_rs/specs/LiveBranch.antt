@@ -3,7 +3,8 @@
 use Rattle.std.specs.Prelude.{◌≡◌, ℕ, ◌≤◌, ◌<◌, true, List, take, drop, length, Some, option_map}
 use Rattle.std.specs.List.{AllByRecursion as Each}
 use Rattle.pp_lexer.specs.Lexed.{Seen}
-use Rattle.pp_model.specs.Blocks.{Truths, Block, line_at, blocks_at, innermost, is_last_chosen, are_surroundings_live, has_else}
+use Rattle.pp_model.specs.Blocks.{Truths, Block, line_at, blocks_at, innermost, is_last_chosen, are_surroundings_live}
+use Rattle.pp_model.specs.Blocks.{has_else}
 use Rattle.pp_model.specs.Calls.{Answers}
 use Rattle.pp_model.specs.Reading.{Expander}
 use Rattle.pp_model.specs.Run.{items_of}

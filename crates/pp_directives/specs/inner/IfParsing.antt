@@ -11,7 +11,8 @@ use Rattle.pp_model.specs.LineWords.{Words, LineWords, name_in, unwanted_part}
 use Rattle.pp_model.specs.Reading.{reading_of}
 use Rattle.pp_model.specs.declared.word.LineKind.{LineKind}
 use Rattle.pp_macros.specs.inner.Defined.{Defined, meaning_of}
-use Rattle.pp_directives.specs.inner.LineItems.{IsOnLine, IsWorkLess, ReadsItem, ReadsTaken, ReadsOperand, ReadsInParentheses, ReadsClosed, expander_of, taken_of_read}
+use Rattle.pp_directives.specs.inner.LineItems.{IsOnLine, IsWorkLess, ReadsItem, ReadsTaken, ReadsOperand}
+use Rattle.pp_directives.specs.inner.LineItems.{ReadsInParentheses, ReadsClosed, expander_of, taken_of_read}
 use Rattle.pp_macros.specs.declared.halt.Halt.{Halt}
 use Rattle.pp_directives.specs.declared.if_parser.IfParser.{IfParser}
 use Rattle.pp_directives.specs.declared.if_parser.LineExpander.{LineExpander}

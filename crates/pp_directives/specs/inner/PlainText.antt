@@ -1,5 +1,6 @@
 -- A word of plain text, before memory is taken for it.
-use Rattle.std.specs.Prelude.{◌≡◌, ◌≢◌, ℕ, Bool, true, false, ◌||◌, is_some, List, Option, Some, Ok, Err, MatchBool, MatchOption}
+use Rattle.std.specs.Prelude.{◌≡◌, ◌≢◌, ℕ, Bool, true, false, ◌||◌, is_some, List, Option, Some, Ok, Err, MatchBool}
+use Rattle.std.specs.Prelude.{MatchOption}
 use Rattle.std.specs.Str.{IsAscii}
 use Rattle.pp_lexer.specs.PlainItems.{token_of, begins_newline, IsUnknown}
 use Rattle.pp_lexer.specs.declared.lexer.plain.Form.TheVariants.{Hash}

@@ -1,5 +1,6 @@
 -- What a directive does, where the source stands after its word or its number sign.
-use Rattle.std.specs.Prelude.{◌≡◌, ◌≤◌, ◌+◌, Bool, false, not, if◌then◌else◌, List, length, Option, Some, None, Result, Ok, Err, ⊤}
+use Rattle.std.specs.Prelude.{◌≡◌, ◌≤◌, ◌+◌, Bool, false, not, if◌then◌else◌, List, length, Option, Some, None, Result}
+use Rattle.std.specs.Prelude.{Ok, Err, ⊤}
 use Rattle.pp_lexer.specs.Lexed.{Seen}
 use Rattle.pp_lexer.specs.declared.lexer.item.Token.{Token as LexerToken}
 use Rattle.pp_lexer.specs.declared.token.PreprocessorError.TheVariants.{DefineRedefined}
@@ -14,7 +15,8 @@ use Rattle.pp_model.specs.declared.definition.Named.{Named}
 use Rattle.pp_macros.specs.inner.Defined.{Defined, meaning_of, body_tokens}
 use Rattle.pp_macros.specs.Item.{Step}
 use Rattle.pp_macros.specs.inner.Source.{Source, Condition, LineNumber, Makes}
-use Rattle.pp_model.specs.Moves.{Effect, fails, defines, opens_if, parts_if, renumbers, Move, failing, directive_move, BlockFacts, passing}
+use Rattle.pp_model.specs.Moves.{Effect, fails, defines, opens_if, parts_if, renumbers, Move, failing, directive_move}
+use Rattle.pp_model.specs.Moves.{BlockFacts, passing}
 use Rattle.pp_model.specs.inner.Moves.{taking_more}
 use Rattle.pp_macros.specs.inner.SourceMoves.{Note, unnoted, note_at}
 use Rattle.pp_macros.specs.inner.Turns.{as_pause}

@@ -11,7 +11,8 @@ use Rattle.pp_expression.specs.Operators.{binary_of}
 use Rattle.pp_expression.specs.Trees.{HasValue}
 use Rattle.pp_expression.specs.Answers.{◌>>=◌}
 use Rattle.pp_expression.specs.Lines.{Line, next}
-use Rattle.pp_expression.specs.FirstFault.{sign_of, atom_of, closing, Front, Here, InGroup, InPrefix, InInfix, Fails, unread_after, unclosed, Possible}
+use Rattle.pp_expression.specs.FirstFault.{sign_of, atom_of, closing, Front, Here, InGroup, InPrefix, InInfix, Fails}
+use Rattle.pp_expression.specs.FirstFault.{unread_after, unclosed, Possible}
 
 -- the line without its next symbol
 abbrev pub after_next : Line → Line

@@ -1,5 +1,6 @@
 -- Parts of the value of a number, under names of their own.
-use Rattle.std.specs.Prelude.{ℕ, ◌^◌, List, Option, Some, None, Err, pos, Bool, not, ◌||◌, ◌&&◌, ◌==◌, nat_lt, if◌then◌else◌, option_map, ok_or}
+use Rattle.std.specs.Prelude.{ℕ, ◌^◌, List, Option, Some, None, Err, pos, Bool, not, ◌||◌, ◌&&◌, ◌==◌, nat_lt}
+use Rattle.std.specs.Prelude.{if◌then◌else◌, option_map, ok_or}
 use Rattle.std.specs.List.{list_all}
 use Rattle.std.specs.Char.{is_digit}
 use Rattle.std.specs.Str.Parse.{digits_value_after}

@@ -1,5 +1,6 @@
 -- A lexer in the midst of a text: what it has passed, as far as the items to come depend on it.
-use Rattle.std.specs.Prelude.{◌≡◌, Bool, true, false, ◌||◌, ◌⊎◌, IsTrue, IsErr, if◌then◌else◌, List, [], ◌∷◌, ◌++◌, Option, Result, Ok, Err}
+use Rattle.std.specs.Prelude.{◌≡◌, Bool, true, false, ◌||◌, ◌⊎◌, IsTrue, IsErr, if◌then◌else◌, List, [], ◌∷◌, ◌++◌}
+use Rattle.std.specs.Prelude.{Option, Result, Ok, Err}
 use Rattle.std.specs.List.{list_any}
 use Rattle.std.specs.declared.alloc.AllocError.{AllocError}
 use Rattle.pp_lexer.specs.declared.token.PreprocessorError.{PreprocessorError}
@@ -12,7 +13,8 @@ use Rattle.pp_lexer.specs.Location.{nowhere}
 use Rattle.pp_lexer.specs.Reading.{Reading}
 use Rattle.pp_lexer.specs.Segments.{Kind, blank, comment, item, Segment, segments}
 use Rattle.pp_lexer.specs.Items.{Lexeme, is_comment, is_newline, place_after, places_at}
-use Rattle.pp_lexer.specs.Lexed.{Seen, Lexed, first_item, after_first_item, comments_before, first_takes_memory, first_place, places_after_first}
+use Rattle.pp_lexer.specs.Lexed.{Seen, Lexed, first_item, after_first_item, comments_before, first_takes_memory}
+use Rattle.pp_lexer.specs.Lexed.{first_place, places_after_first}
 
 abbrev pub is_newline_result : Result TokenValue PreprocessorError → Bool
 is_newline_result r = is_newline (item r)

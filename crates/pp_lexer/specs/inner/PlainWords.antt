@@ -1,10 +1,19 @@
 -- Words, spaces and newlines at the front of a plain text, by their bytes.
-use Rattle.std.specs.Prelude.{◌≡◌, ℕ, ◌+◌, ◌<◌, ◌≤◌, Bool, true, false, ◌||◌, ◌&&◌, ◌==◌, List, [], ◌∷◌, ◌++◌, length, take, drop, slice_index, is_some, if◌then◌else◌, Option, Some, None, Result, Ok, Err, MatchResult, MatchOption}
+use Rattle.std.specs.Prelude.{◌≡◌, ℕ, ◌+◌, ◌<◌, ◌≤◌, Bool, true, false, ◌||◌, ◌&&◌, ◌==◌, List, [], ◌∷◌, ◌++◌, length}
+use Rattle.std.specs.Prelude.{take, drop, slice_index, is_some, if◌then◌else◌, Option, Some, None, Result, Ok, Err}
+use Rattle.std.specs.Prelude.{MatchResult, MatchOption}
 use Rattle.std.specs.Char.{is_ascii_alphabetic, is_ascii_alphanumeric}
 use Rattle.std.specs.Str.{IsAscii, IsCharBoundary}
 use Rattle.std.specs.declared.alloc.AllocError.{AllocError}
 use Rattle.pp_lexer.specs.declared.token.Punct.{Punct as Punctuator}
-use Rattle.pp_lexer.specs.declared.token.Punct.TheVariants.{AddAssign, SubAssign, MulAssign, DivAssign, ModAssign, AndAssign, XorAssign, OrAssign, Increment, Decrement, LogicalAnd, LogicalOr, LogicalXor, LessEqual, GreaterEqual, EqualEqual, NotEqual, LeftShift, RightShift, LeftBrace, RightBrace, LeftParen, RightParen, LeftBracket, RightBracket, LeftAngle, RightAngle, Semicolon, Comma, Colon, Dot, Equal, Bang, Minus, Tilde, Plus, Star, Slash, Percent, Pipe, Caret, Ampersand, Question}
+use Rattle.pp_lexer.specs.declared.token.Punct.TheVariants.{AddAssign, SubAssign, MulAssign, DivAssign, ModAssign}
+use Rattle.pp_lexer.specs.declared.token.Punct.TheVariants.{AndAssign, XorAssign, OrAssign, Increment, Decrement}
+use Rattle.pp_lexer.specs.declared.token.Punct.TheVariants.{LogicalAnd, LogicalOr, LogicalXor, LessEqual, GreaterEqual}
+use Rattle.pp_lexer.specs.declared.token.Punct.TheVariants.{EqualEqual, NotEqual, LeftShift, RightShift, LeftBrace}
+use Rattle.pp_lexer.specs.declared.token.Punct.TheVariants.{RightBrace, LeftParen, RightParen, LeftBracket}
+use Rattle.pp_lexer.specs.declared.token.Punct.TheVariants.{RightBracket, LeftAngle, RightAngle, Semicolon, Comma}
+use Rattle.pp_lexer.specs.declared.token.Punct.TheVariants.{Colon, Dot, Equal, Bang, Minus, Tilde, Plus, Star, Slash}
+use Rattle.pp_lexer.specs.declared.token.Punct.TheVariants.{Percent, Pipe, Caret, Ampersand, Question}
 use Rattle.pp_lexer.specs.declared.lexer.item.TokenValue.{TokenValue}
 use Rattle.pp_lexer.specs.declared.lexer.plain.Word.{Word}
 use Rattle.pp_lexer.specs.declared.lexer.Flags.{Flags}

@@ -1,5 +1,6 @@
 -- What the character readers have left, by their fields, and what their steps come to.
-use Rattle.std.specs.Prelude.{◌≡◌, ◌≢◌, ℕ, ◌+◌, ◌-◌, ◌≤◌, if◌then◌else◌, List, [], ◌∷◌, ◌++◌, ◌⊎◌, Some, slice_get, encode_utf8, length}
+use Rattle.std.specs.Prelude.{◌≡◌, ◌≢◌, ℕ, ◌+◌, ◌-◌, ◌≤◌, if◌then◌else◌, List, [], ◌∷◌, ◌++◌, ◌⊎◌, Some, slice_get}
+use Rattle.std.specs.Prelude.{encode_utf8, length}
 use Rattle.std.specs.Str.{chars}
 use Rattle.std.specs.Char.{len_utf8}
 use Rattle.pp_lexer.specs.Cursor.{Placed, Cursor, passed, finished}

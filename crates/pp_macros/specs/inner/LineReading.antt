@@ -1,5 +1,6 @@
 -- What the reading of a part of a line gives, and where the lexer stands after it.
-use Rattle.std.specs.Prelude.{◌≡◌, ◌≢◌, ℕ, ◌≤◌, ◌<◌, Bool, false, if◌then◌else◌, not, List, [], ◌∷◌, length, drop, Option, Some, None, Result, Ok, Err, ⊤, IsTrue, IfOk, IfSome}
+use Rattle.std.specs.Prelude.{◌≡◌, ◌≢◌, ℕ, ◌≤◌, ◌<◌, Bool, false, if◌then◌else◌, not, List, [], ◌∷◌, length, drop}
+use Rattle.std.specs.Prelude.{Option, Some, None, Result, Ok, Err, ⊤, IsTrue, IfOk, IfSome}
 use Rattle.pp_lexer.specs.Lexed.{Seen}
 use Rattle.pp_lexer.specs.Items.{Lexeme}
 use Rattle.pp_lexer.specs.TokenValue.{is_ordinary}

@@ -1,5 +1,6 @@
 -- What the reader of a source keeps, and one step of it.
-use Rattle.std.specs.Prelude.{◌≡◌, ◌≢◌, ℕ, ◌+◌, ◌<◌, ◌≤◌, ◌⊎◌, Bool, false, not, ◌||◌, is_some, List, [], ◌∷◌, ◌++◌, length, drop, Option, Some, None, Result, Ok, Err, MatchBool, ℤ, pos, ◌-ℤ◌}
+use Rattle.std.specs.Prelude.{◌≡◌, ◌≢◌, ℕ, ◌+◌, ◌<◌, ◌≤◌, ◌⊎◌, Bool, false, not, ◌||◌, is_some, List, [], ◌∷◌, ◌++◌}
+use Rattle.std.specs.Prelude.{length, drop, Option, Some, None, Result, Ok, Err, MatchBool, ℤ, pos, ◌-ℤ◌}
 use Rattle.pp_lexer.specs.Lexed.{Seen}
 use Rattle.pp_lexer.specs.PreprocessorError.{out_of_memory}
 use Rattle.pp_lexer.specs.declared.token.PreprocessorError.TheVariants.{DefineRedefined, UnfinishedBlock}
@@ -12,9 +13,11 @@ use Rattle.pp_model.specs.LineValues.{IsCondition, IsLineNumber}
 use Rattle.pp_model.specs.declared.definition.Named.{Named}
 use Rattle.pp_macros.specs.Item.{Step}
 use Rattle.pp_macros.specs.inner.Defined.{Defined, meaning_of, body_tokens, IsChanged}
-use Rattle.pp_macros.specs.inner.OpenBlocks.{last_block, outer_blocks, with_last, block_opened, block_unread, block_parted, block_skipped, block_decided}
+use Rattle.pp_macros.specs.inner.OpenBlocks.{last_block, outer_blocks, with_last, block_opened, block_unread}
+use Rattle.pp_macros.specs.inner.OpenBlocks.{block_parted, block_skipped, block_decided}
 use Rattle.pp_macros.specs.declared.blocks.OpenBlock.{OpenBlock}
-use Rattle.pp_model.specs.Moves.{Effect, gives, gives_item, fails, ends, passes, defines, undefines, opens_where, opens_if, opens_unread, parts, skips_branch, parts_if, closes, renumbers, Move}
+use Rattle.pp_model.specs.Moves.{Effect, gives, gives_item, fails, ends, passes, defines, undefines, opens_where}
+use Rattle.pp_model.specs.Moves.{opens_if, opens_unread, parts, skips_branch, parts_if, closes, renumbers, Move}
 use Rattle.pp_macros.specs.inner.SourceMoves.{Note, notes_text, notes_directive, move_of, note_of}
 use Rattle.pp_macros.specs.inner.Unreported.{Unreported, unreported}
 use Rattle.pp_macros.specs.declared.step.StepExit.TheVariants.{Error, Continue, Finished}

@@ -1,7 +1,8 @@
 -- The source that is read, and why a call on a device ends without one
 use Rattle.std.specs.Prelude.{◌≡◌, ℕ, ◌-◌, ◌^◌, ◌<◌, ◌≤◌, ◌⊎◌, Bool, true, false, List, length, Option, IfSome, IsUtf8}
 use Rattle.pp_print.specs.declared.ends.RunFault.{RunFault}
-use Rattle.pp_print.specs.declared.ends.RunFault.TheVariants.{ReadFailed, TooLong, NotUtf8, BadWord, WriteFailed, OutOfMemory}
+use Rattle.pp_print.specs.declared.ends.RunFault.TheVariants.{ReadFailed, TooLong, NotUtf8, BadWord, WriteFailed}
+use Rattle.pp_print.specs.declared.ends.RunFault.TheVariants.{OutOfMemory}
 
 -- a call that uses a device ends with the device's failure, or without memory while the device hasn't
 -- failed
