@@ -31,9 +31,9 @@ LeadsFrom A e (Err Continue) expander source = (f : Expander SourceReader) × St
 LeadsFrom A e (Err Finished) expander source = (f : Expander SourceReader) × GivesItem A e outcome.End f × StandsFor expander source f
 LeadsFrom A e (Err (Error fault)) expander source = (f : Expander SourceReader) × GivesItem A e (outcome.Fault fault) f
 
--- the same of each state that the machine and the source stand for; one step, or many that pause before it
-pub record Leads (A : Answers) (expander : kept.Expander) (source : Source) (step : Step Token) (machine_then : kept.Expander) (source_then : Source) : Type 0 where
-  pub from : (e : Expander SourceReader) → StandsFor expander source e → LeadsFrom A e step machine_then source_then
+-- the same of each state that the expander and the source stand for; one step, or many that pause before it
+pub record Leads (A : Answers) (expander : kept.Expander) (source : Source) (step : Step Token) (expander_then : kept.Expander) (source_then : Source) : Type 0 where
+  pub from : (e : Expander SourceReader) → StandsFor expander source e → LeadsFrom A e step expander_then source_then
 
 -- what comes from the state after a pause comes from the one before it
 item_kept : (A : Answers) (e f g : Expander SourceReader) (o : Outcome)
@@ -49,12 +49,12 @@ leads_on A e f (Err Finished) expander source keeps leads = (leads.0, item_kept 
 leads_on A e f (Err (Error fault)) expander source keeps leads = (leads.0, item_kept A e f leads.0 (outcome.Fault fault) keeps leads.1)
 
 -- a pause, and then a step
-pub leads_then : (A : Answers) (expander machine_then machine_last : kept.Expander) (source source_then source_last : Source) (step : Step Token)
-    → Leads A expander source (Err Continue) machine_then source_then → Leads A machine_then source_then step machine_last source_last
-    → Leads A expander source step machine_last source_last
-leads_then A expander machine_then machine_last source source_then source_last step pauses leads =
+pub leads_then : (A : Answers) (expander expander_then expander_last : kept.Expander) (source source_then source_last : Source) (step : Step Token)
+    → Leads A expander source (Err Continue) expander_then source_then → Leads A expander_then source_then step expander_last source_last
+    → Leads A expander source step expander_last source_last
+leads_then A expander expander_then expander_last source source_then source_last step pauses leads =
     record {
       from = λ e stands.
-          let after : LeadsFrom A e (Err Continue) machine_then source_then = pauses.from e stands in
-          leads_on A e after.0 step machine_last source_last after.2 (leads.from after.0 after.1);
+          let after : LeadsFrom A e (Err Continue) expander_then source_then = pauses.from e stands in
+          leads_on A e after.0 step expander_last source_last after.2 (leads.from after.0 after.1);
     }
