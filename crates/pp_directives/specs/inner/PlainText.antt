@@ -67,11 +67,11 @@ StepsPlain old answer new = MatchOption answer (new ≡ old) (λ step. IsStep ol
 abbrev pub opens : List Defined → List ℕ → Bool
 opens definitions name = is_same_name name line_name || is_some (meaning_of definitions name)
 
--- A step at a word of plain text before memory is taken for it. Where no macro is open it is given as it stands there.
+-- A step at a word of plain text before memory is taken for it. If no macro is open, the word is given as it is.
 pub record TakesWord (old : Source) (item : PlainItem) (new : Source) : Type 0 where
   pub no_hash : item.form ≢ Hash
   pub ascii : IsAscii item.spelling.now
-  pub itself : gives_itself new (word_value item.form item.spelling.now) ≡ true
+  pub itself : gives_itself new.definitions (word_value item.form item.spelling.now) ≡ true
   pub holds : HoldsOrdinary (word_value item.form item.spelling.now)
   pub step : IsStep old (Ok (word_token item)) new
 

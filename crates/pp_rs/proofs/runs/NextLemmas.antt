@@ -35,13 +35,13 @@ comes : (e f : Expander SourceReader) (o : Outcome) → GivesItem (answers_at ex
 comes e f o item = record { taken = item.taken; emits = item.emits; is = item.is }
 
 -- a state from which the same comes next as from the first
-pub record Reached (expander : kept.Expander) (source : Source) (machine_now : kept.Expander) (source_now : Source) : Type 0 where
-  pub fit : IsFit machine_now source_now
-  pub leads : Leads (answers_at expansion_limit) expander source (Err Continue) machine_now source_now
-  pub left : SomethingLeft machine_now source_now → SomethingLeft expander source
-  pub less : work_of expansion_limit machine_now (of_source source_now) ≤ work_of expansion_limit expander (of_source source)
-  pub reported : IsReported machine_now source_now
-  pub errors : errors_of machine_now source_now ≡ errors_of expander source
+pub record Reached (expander : kept.Expander) (source : Source) (expander_now : kept.Expander) (source_now : Source) : Type 0 where
+  pub fit : IsFit expander_now source_now
+  pub leads : Leads (answers_at expansion_limit) expander source (Err Continue) expander_now source_now
+  pub left : SomethingLeft expander_now source_now → SomethingLeft expander source
+  pub less : work_of expansion_limit expander_now (of_source source_now) ≤ work_of expansion_limit expander (of_source source)
+  pub reported : IsReported expander_now source_now
+  pub errors : errors_of expander_now source_now ≡ errors_of expander source
 
 -- the state that it begins in
 pub reached_first : (expander now : kept.Expander) (source source_now : Source) → now ≡ expander → source_now ≡ source → IsFit now source_now

@@ -21,7 +21,7 @@ pub newline_over : (m : Expander) (r s : Source) → is_idle m ≡ true → IsSt
 newline_over m r s idle step = idle_exit expansion_limit r s m Continue (Err Continue) (is_idle-idle m idle) (step.reads, step.errors) refl
 
 -- so is a word
-pub word_over : (m : Expander) (r s : Source) (token : Token) → is_idle m ≡ true → IsStep r (Ok token) s → gives_itself s token.value ≡ true
+pub word_over : (m : Expander) (r s : Source) (token : Token) → is_idle m ≡ true → IsStep r (Ok token) s → gives_itself s.definitions token.value ≡ true
     → StepsOver expansion_limit m r (Ok token) m s
 word_over m r s token idle step itself = idle_token expansion_limit r s m token (is_idle-idle m idle) (step.reads, step.errors) itself
 

@@ -255,7 +255,7 @@ module _ {old : Source} {r : SourceReader} (s : StandsForReader old r) (move : S
         unknown = λ now its a h. unknown_simulates (alive ∙ now) its a h;
         passing = λ its a h. passes_simulates its a h;
         items = λ now its value is a h. item_simulates its value a h;
-        after_define = λ now its named is a h. define_simulates its named a h;
+        defining = λ now its named is a h. define_simulates its named a h;
         undefining = λ now its name a h. undefine_simulates its name a h;
         numbering = λ now its tokens a h. number_simulates its tokens a h;
         asking = λ now its asked name a h. ask_simulates (alive ∙ now) its asked name a h;

@@ -81,8 +81,8 @@ impl<'a> Preprocessor<'a> {
         }
     }
 
-    /// Returns the next token before memory is taken for it, if it is a word of plain text that is given as it stands
-    /// in the source. Else it returns `None`, and `next` returns what comes.
+    /// Returns the next token before memory is taken for it, if it is a word of plain text that is given as it is
+    /// in the source. Otherwise it returns `None`, and `next` returns what comes.
     ///
     /// It is private to the repository. It passes newlines before the token, also if it returns `None`.
     #[inline(always)]
