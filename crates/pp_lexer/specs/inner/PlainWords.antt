@@ -7,6 +7,7 @@ use Rattle.pp_lexer.specs.declared.token.Punct.{Punct as Punctuator}
 use Rattle.pp_lexer.specs.declared.token.Punct.TheVariants.{AddAssign, SubAssign, MulAssign, DivAssign, ModAssign, AndAssign, XorAssign, OrAssign, Increment, Decrement, LogicalAnd, LogicalOr, LogicalXor, LessEqual, GreaterEqual, EqualEqual, NotEqual, LeftShift, RightShift, LeftBrace, RightBrace, LeftParen, RightParen, LeftBracket, RightBracket, LeftAngle, RightAngle, Semicolon, Comma, Colon, Dot, Equal, Bang, Minus, Tilde, Plus, Star, Slash, Percent, Pipe, Caret, Ampersand, Question}
 use Rattle.pp_lexer.specs.declared.lexer.item.TokenValue.{TokenValue}
 use Rattle.pp_lexer.specs.declared.lexer.plain.Word.{Word}
+use Rattle.pp_lexer.specs.declared.lexer.plain.comment.Comment.{Comment}
 use Rattle.pp_lexer.specs.declared.lexer.Flags.{Flags}
 use Rattle.pp_lexer.specs.inner.Fronts.{spots_from, run}
 use Rattle.pp_lexer.specs.Items.{Lexeme, is_newline}
@@ -133,6 +134,16 @@ pub record IsPlainNewline (text : List ℕ) (taken : ℕ) : Type 0 where
       → spots_from line at text
       ≡ record { c = 10; line = line; begin = at; end = at + 1 }
       ∷ spots_from (line + 1) (at + taken) (drop taken text)
+
+-- a comment stands at the front of the text, and takes that many bytes, wherever the text stands in a source
+pub record IsPlainComment (text : List ℕ) (comment : Comment) : Type 0 where
+  pub within : comment.taken ≤ length text
+  pub cut : IsCharBoundary text comment.taken
+  pub lines : comment.newlines ≤ comment.taken
+  pub front : (line at : ℕ)
+      → spots_from line at text
+      ≡ record { c = 13; line = line; begin = at; end = at + 1 }
+      ∷ spots_from (line + comment.newlines) (at + comment.taken) (drop comment.taken text)
 
 -- the next item is given, or memory was refused, or all is as it was
 abbrev pub IsPlainLexed : Flags → Reading → Result (Option Lexeme) AllocError → Flags → Reading → Type 0
