@@ -13,7 +13,7 @@ use Rattle.pp_lexer.specs.inner.Fronts.{spots_from, run}
 use Rattle.pp_lexer.specs.Items.{Lexeme, is_newline}
 use Rattle.pp_lexer.specs.PlainItems.{value_of}
 use Rattle.pp_lexer.specs.Segments.{item}
-use Rattle.pp_lexer.specs.Numbers.{is_decimal, is_point}
+use Rattle.pp_lexer.specs.Numbers.{is_decimal, is_point, is_sign}
 use Rattle.pp_lexer.specs.inner.Passing.{IsLexed}
 use Rattle.pp_lexer.specs.Punctuators.{punct_of}
 use Rattle.pp_lexer.specs.Reading.{Reading, letters}
@@ -100,6 +100,11 @@ pub record BeginsHex (text : List ℕ) : Type 0 where
   pub more : 2 < length text
   pub zero : slice_index text 0 ≡ 48
   pub letter : ((slice_index text 1 == 120) || (slice_index text 1 == 88)) ≡ true
+
+-- the text begins with a sign
+pub record BeginsSign (text : List ℕ) : Type 0 where
+  pub some : 0 < length text
+  pub sign : is_sign (slice_index text 0) ≡ true
 
 -- so many bytes at the front are characters of one line, wherever the text stands in a source
 abbrev pub IsFront : List ℕ → ℕ → Type 0
