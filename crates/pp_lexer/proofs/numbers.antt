@@ -4,6 +4,8 @@ pub mod ScanLemmas
 pub mod ValueLemmas
 pub mod FloatLemmas
 pub mod PlainNumbersLemmas
+pub mod LongestFloatLemmas
+pub mod PlainFloatsLemmas
 pub mod PlainHexLemmas
 pub mod NumberSetsLemmas
 pub mod DecimalLemmas

@@ -43,7 +43,7 @@ pub use comments::Comments;
 pub use item::{LexerItem, Token, TokenValue};
 pub use known_names::KnownNames;
 pub use plain::Form;
-use plain::{Word, begins_comment, newline_length, plain_word, spaces_length};
+use plain::{Word, begins_comment, newline_length, plain_comment, plain_word, spaces_length};
 pub use plain_item::{PlainItem, plain_value, without_suffix};
 pub use position::line_column;
 pub use replace_comments::{COMMENT_SENTINEL_VALUE, ReplaceComments};
@@ -117,6 +117,48 @@ fn skip_spaces(inner: &mut LexerCharIterator<'_>, flags: &mut Flags)
     inner.go(rest, last);
 }
 
+// Passes the comment at the front if it is plain text, and returns whether it did.
+#[inline(always)]
+fn skip_comment(inner: &mut LexerCharIterator<'_>, flags: &mut Flags) -> bool
+    ensures same { seen_of flags.new inner.new ≡ seen_of flags.old inner.old }
+    ensures at_end { comments_at_end flags.new inner.new ≡ comments_at_end flags.old inner.old }
+    ensures places { places_left flags.new inner.new ≡ places_left flags.old inner.old }
+{
+    let left = inner.left();
+    let Some(comment) = plain_comment(left.text.as_bytes()) else {
+        return false;
+    };
+    let mark = Spot {
+        c: COMMENT_SENTINEL_VALUE,
+        line: left.line,
+        begin: left.at as u32,
+        end: (left.at + 1) as u32,
+    };
+    flags.leading_whitespace = true;
+    flags.had_comments = true;
+    let rest = Left {
+        text: &left.text[comment.taken..],
+        line: left.line + comment.newlines as u32,
+        at: left.at + comment.taken,
+    };
+    inner.go(rest, mark);
+    true
+}
+
+// Passes the comment at the front, and blanks after it.
+#[inline(never)]
+fn skip_comments(inner: &mut LexerCharIterator<'_>, flags: &mut Flags)
+    ensures same { seen_of flags.new inner.new ≡ seen_of flags.old inner.old }
+    ensures at_end { comments_at_end flags.new inner.new ≡ comments_at_end flags.old inner.old }
+    ensures places { places_left flags.new inner.new ≡ places_left flags.old inner.old }
+{
+    if skip_comment(inner, flags) {
+        skip_spaces(inner, flags);
+    } else {
+        skip_blanks(inner, flags);
+    }
+}
+
 // Passes the spaces and comments before the next item.
 #[inline(always)]
 fn skip_spaces_and_comments(inner: &mut LexerCharIterator<'_>, flags: &mut Flags)
@@ -126,7 +168,7 @@ fn skip_spaces_and_comments(inner: &mut LexerCharIterator<'_>, flags: &mut Flags
 {
     skip_spaces(inner, flags);
     if begins_comment(inner.left().text.as_bytes()) {
-        skip_blanks(inner, flags);
+        skip_comments(inner, flags);
     }
 }
 
@@ -377,7 +419,7 @@ fn lex(
     ensures placed { OnOk result
         (IsPlaced flags.old inner.old place.old flags.new inner.new place.new) }
 {
-    skip_spaces(inner, flags);
+    skip_spaces_and_comments(inner, flags);
     if let Some(item) = lex_plain(alloc, inner, flags, place)? {
         return Ok(Some(item));
     }

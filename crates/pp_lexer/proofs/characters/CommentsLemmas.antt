@@ -115,7 +115,7 @@ past_block_after star c = if star && begins_with is_slash c.rest then passed 1 c
 
 -- a step that does not end the comment
 module _ (total offset : ℕ) (p : Placed) (ps : List Placed) where
-  block_goes_on : past_block (record { rest = p ∷ ps; offset = offset; total = total }) ≡ past_block_after (is_star p)
+  pub block_goes_on : past_block (record { rest = p ∷ ps; offset = offset; total = total }) ≡ past_block_after (is_star p)
       (record { rest = ps; offset = p.end; total = total })
   block_goes_on = by_close (is_star p && begins_with is_slash ps) refl
     where

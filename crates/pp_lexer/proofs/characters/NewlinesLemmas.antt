@@ -25,7 +25,7 @@ use Rattle.pp_lexer.proofs.items.LexLemmas.{lexed_front, placed_front}
 use Rattle.pp_lexer.proofs.items.PlainLexLemmas.{no_blank_first}
 use Rattle.pp_lexer.proofs.words.WordAtLemmas.{newline_first}
 
-pieces_newline : (text : List ℕ) → IsUtf8 text → (0 < length text → (get_or text 0 0 < 128) × ((get_or text 0 0 == 13) ≡ false))
+pub pieces_newline : (text : List ℕ) → IsUtf8 text → (0 < length text → (get_or text 0 0 < 128) × ((get_or text 0 0 == 13) ≡ false))
     → pieces (10 ∷ chars text) ≡ newline_piece 1 ∷ pieces (chars text)
 pieces_newline [] u h = rw chars-nil refl
 pieces_newline (b ∷ text) u h =

@@ -15,13 +15,13 @@ use Rattle.pp_lexer.proofs.characters.ContinuationsLemmas.{continued-plain}
 use Rattle.pp_lexer.proofs.characters.FrontsLemmas.{ascii_chars, below, negated, pieces_plain, utf8_after}
 use Rattle.pp_lexer.proofs.characters.PlainFrontsLemmas.{passes_at, split_at}
 
-record Straight (c : ℕ) : Type 0 where
-  small : c < 128
-  no_feed : (c == 10) ≡ false
-  no_return : (c == 13) ≡ false
-  no_backslash : (c == 92) ≡ false
+pub record Straight (c : ℕ) : Type 0 where
+  pub small : c < 128
+  pub no_feed : (c == 10) ≡ false
+  pub no_return : (c == 13) ≡ false
+  pub no_backslash : (c == 92) ≡ false
 
-straight_parts : (c : ℕ) → is_straight c ≡ true → Straight c
+pub straight_parts : (c : ℕ) → is_straight c ≡ true → Straight c
 straight_parts c h =
     let a = and_parts (nat_lt c 128) _ h in
     let b = and_parts (not (c == 10)) _ a.1 in

@@ -40,7 +40,7 @@ sign_power c w h =
 exponent_apart : (c : ℕ) (w : List ℕ) → is_decimal c ≡ true → float_exponent (c ∷ w) ≡ false
 exponent_apart c w h = rw (small_e_apart c h) refl
 
-tail_apart : (c : ℕ) (w : List ℕ) → is_decimal c ≡ true → float_tail (c ∷ w) ≡ false
+pub tail_apart : (c : ℕ) (w : List ℕ) → is_decimal c ≡ true → float_tail (c ∷ w) ≡ false
 tail_apart c w h = rw (small_e_apart c h, point_apart c h) refl
 
 -- the set `one is_decimal digits` lacks the empty spelling, so `maybe` is opened here

@@ -93,7 +93,7 @@ small_e c e = or_left (c == 101) (c == 69) e
 same : (p : ℕ → Bool) → Implies p p
 same p c e = e
 
-some_digits : IsPart (one is_decimal digits) digits
+pub some_digits : IsPart (one is_decimal digits) digits
 some_digits [] e = absurd (false≢true e)
 some_digits (c ∷ w) e = e
 

@@ -47,16 +47,16 @@ zero_digit c h = by (c == 48) refl
     by false e = e
     by true e = let k : c ≡ 48 = eqb-true c 48 e in absurd (false≢true (sym h ∙ ap is_decimal k))
 
-exponent_apart : (c : ℕ) (w : List ℕ) → is_decimal c ≡ true → exponent (c ∷ w) ≡ false
+pub exponent_apart : (c : ℕ) (w : List ℕ) → is_decimal c ≡ true → exponent (c ∷ w) ≡ false
 exponent_apart c w h = rw (e_apart c h) refl
 
 hex_tail_apart : (c : ℕ) (w : List ℕ) → is_hex c ≡ true → hex_tail (c ∷ w) ≡ false
 hex_tail_apart c w h = rw (hex_point_apart c h) refl
 
-decimal_tail_apart : (c : ℕ) (w : List ℕ) → is_decimal c ≡ true → decimal_tail (c ∷ w) ≡ false
+pub decimal_tail_apart : (c : ℕ) (w : List ℕ) → is_decimal c ≡ true → decimal_tail (c ∷ w) ≡ false
 decimal_tail_apart c w h = rw (e_apart c h, point_apart c h) refl
 
-sign_apart : (c : ℕ) (w : List ℕ) → is_sign c ≡ true → digits (c ∷ w) ≡ false
+pub sign_apart : (c : ℕ) (w : List ℕ) → is_sign c ≡ true → digits (c ∷ w) ≡ false
 sign_apart c w h =
     elim (or_cases (c == 43) (c == 45) h) [
       | inl x ↦ rw (eqb-true c 43 x) refl

@@ -1,6 +1,6 @@
--- Decimal integers and floats at the front of a plain text.
-use Rattle.std.proofs.Common.{◌≡◌, ℕ, zero, suc, ◌+◌, ◌-◌, ◌*◌, ◌^◌, ◌<◌, ◌≤◌, List, [], ◌∷◌, ◌++◌, length, take, drop, get_or, Bool, true, false, ◌&&◌, ◌||◌, ◌==◌, append_assoc, length-append, length-drop, add-one, add-zero, refl, sym, ◌∙◌, ap, subst, arith, inl, inr, Ok, None, pos}
-use Rattle.std.specs.List.{list_all, list_any}
+-- Decimal integers at the front of a plain text.
+use Rattle.std.proofs.Common.{◌≡◌, ℕ, zero, suc, ◌+◌, ◌-◌, ◌*◌, ◌^◌, ◌<◌, ◌≤◌, List, [], ◌∷◌, ◌++◌, length, take, drop, get_or, Bool, true, false, ◌&&◌, ◌||◌, ◌==◌, append_assoc, length-drop, add-one, add-zero, refl, sym, ◌∙◌, ap, subst, arith, inl, inr, Ok, None, pos}
+use Rattle.std.specs.List.{list_all}
 use Rattle.std.specs.Str.{IsUtf8}
 use Rattle.std.specs.Str.Parse.{digits_value_after}
 use Rattle.std.specs.Char.{digit_value}
@@ -8,27 +8,24 @@ use Rattle.std.specs.Int.{IsInRange}
 use Rattle.std.proofs.lemmas.Int.Digits.{digits_value_more}
 use Rattle.std.proofs.lemmas.Str.{digit_value_digit}
 use Rattle.std.proofs.lemmas.Str.Parse.{digit_from_value}
-use Rattle.std.proofs.lemmas.Bool.{and_parts, eqb-true, or_cases, or_left, or_right}
+use Rattle.std.proofs.lemmas.Bool.{and_parts, eqb-true, or_cases}
 use Rattle.std.proofs.lemmas.Bool.Decides.{nat_tests}
 use Rattle.std.proofs.lemmas.List.{length-take-le, drop_at}
-use Rattle.pp_lexer.specs.declared.lexer.item.TokenValue.TheVariants.{Integer, Float}
+use Rattle.pp_lexer.specs.declared.lexer.item.TokenValue.TheVariants.{Integer}
 use Rattle.pp_lexer.specs.inner.Fronts.{is_plain}
 use Rattle.pp_lexer.specs.Longest.{longest, front_len}
 use Rattle.pp_lexer.specs.Numbers.{is_zero, is_x, is_point, is_e, is_decimal, decimal_tail, exponent, fraction, is_number, begins_number}
-use Rattle.pp_lexer.specs.NumberValue.{is_l, is_h, is_s, is_f, is_u, begins_octal, is_float_text, float_tail, float_exponent, width_refusal, number_outcome, float_outcome, number_at, begins_hex}
-use Rattle.pp_lexer.specs.inner.NumberValue.{is_float_mark}
+use Rattle.pp_lexer.specs.NumberValue.{is_l, is_h, is_s, is_f, is_u, begins_octal, width_refusal, number_outcome, number_at}
 use Rattle.pp_lexer.specs.inner.PlainWords.{continues_number, Stops, IsSuffixed, IsPlainWord}
-use Rattle.pp_lexer.specs.PlainItems.{without_suffix}
 use Rattle.pp_lexer.specs.Spellings.{many}
 use Rattle.pp_lexer.specs.Surroundings.{begins_with}
 use Rattle.pp_lexer.specs.Words.{is_blank, word_at}
 use Rattle.pp_lexer.proofs.numbers.DecimalLemmas.{IsDecimalText, digits_value, digits_outcome}
-use Rattle.pp_lexer.proofs.spelling.FloatSpellingLemmas.{value_same}
-use Rattle.pp_lexer.proofs.numbers.NumbersLemmas.{point_apart, either_apart, decimal_len, fraction_len, exponent_none, decimal_tail_len, decimal_tail_none, point_number_len, digit_number_len, zero_number_len, after_zero_digits}
+use Rattle.pp_lexer.proofs.numbers.NumbersLemmas.{point_apart, either_apart, decimal_len, fraction_len, exponent_none, decimal_tail_none, digit_number_len, zero_number_len, after_zero_digits}
 use Rattle.pp_lexer.proofs.characters.FrontsLemmas.{below}
 use Rattle.pp_lexer.proofs.characters.PlainFrontsLemmas.{all_plain, front_len-append, take_seam}
 use Rattle.pp_lexer.proofs.words.PlainWordsLemmas.{plain_before}
-use Rattle.pp_lexer.proofs.words.SetsLemmas.{both, all_many}
+use Rattle.pp_lexer.proofs.words.SetsLemmas.{both}
 use Rattle.pp_lexer.proofs.words.WordAtLemmas.{number_first}
 
 -- what the character after a number is not
@@ -53,13 +50,13 @@ no_x c h = grind (arith, nat_tests)
 no_l : (c : ℕ) → continues_number c ≡ false → is_l c ≡ false
 no_l c h = grind (arith, nat_tests)
 
-no_h : (c : ℕ) → continues_number c ≡ false → is_h c ≡ false
+pub no_h : (c : ℕ) → continues_number c ≡ false → is_h c ≡ false
 no_h c h = grind (arith, nat_tests)
 
 pub no_s : (c : ℕ) → continues_number c ≡ false → is_s c ≡ false
 no_s c h = grind (arith, nat_tests)
 
-no_f : (c : ℕ) → continues_number c ≡ false → is_f c ≡ false
+pub no_f : (c : ℕ) → continues_number c ≡ false → is_f c ≡ false
 no_f c h = grind (arith, nat_tests)
 
 pub no_u : (c : ℕ) → continues_number c ≡ false → is_u c ≡ false
@@ -71,13 +68,13 @@ pub drop_front : (n : ℕ) (w cs : List ℕ) → n ≡ length w → drop n (w ++
 drop_front n w cs e = drop_at w cs n (sym e)
 
 module _ (cs : List ℕ) (h : begins_with is_decimal cs ≡ false) where
-  digits_len : (w : List ℕ) → list_all is_decimal w ≡ true → longest (many is_decimal decimal_tail) (w ++ cs) ≡ length w + longest decimal_tail cs
+  pub digits_len : (w : List ℕ) → list_all is_decimal w ≡ true → longest (many is_decimal decimal_tail) (w ++ cs) ≡ length w + longest decimal_tail cs
   digits_len w d =
       let n : front_len is_decimal (w ++ cs) ≡ length w = front_len-append is_decimal w cs d h in
       decimal_len (w ++ cs) ∙ ap (λ t. front_len is_decimal (w ++ cs) + longest decimal_tail t) (drop_front (front_len is_decimal (w ++ cs)) w cs n)
       ∙ ap (λ k. k + longest decimal_tail cs) n
 
-  fraction_of : (w : List ℕ) → list_all is_decimal w ≡ true → begins_with is_e cs ≡ false → longest fraction (w ++ cs) ≡ length w
+  pub fraction_of : (w : List ℕ) → list_all is_decimal w ≡ true → begins_with is_e cs ≡ false → longest fraction (w ++ cs) ≡ length w
   fraction_of w d e =
       let n : front_len is_decimal (w ++ cs) ≡ length w = front_len-append is_decimal w cs d h in
       fraction_len (w ++ cs) ∙ ap (λ t. front_len is_decimal (w ++ cs) + longest exponent t) (drop_front (front_len is_decimal (w ++ cs)) w cs n)
@@ -113,11 +110,11 @@ number_of w cs b n =
 -- Integers
 
 -- no number goes on here
-record NoMore (cs : List ℕ) : Type 0 where
-  decimal : begins_with is_decimal cs ≡ false
-  x : begins_with is_x cs ≡ false
-  point : begins_with is_point cs ≡ false
-  mark : begins_with is_e cs ≡ false
+pub record NoMore (cs : List ℕ) : Type 0 where
+  pub decimal : begins_with is_decimal cs ≡ false
+  pub x : begins_with is_x cs ≡ false
+  pub point : begins_with is_point cs ≡ false
+  pub mark : begins_with is_e cs ≡ false
 
 digits_word : (cs w : List ℕ) → NoMore cs → 0 < length w → list_all is_decimal w ≡ true → word_at (w ++ cs) ≡ number_outcome w cs
 digits_word cs [] e l d = absurd (omega arith)
@@ -141,16 +138,8 @@ unsigned_ends u cs h =
     either_letter (λ c. NoMore (c ∷ cs)) u 117 85 h (record { decimal = refl; x = refl; point = refl; mark = refl })
     (record { decimal = refl; x = refl; point = refl; mark = refl })
 
-float_ends : (f : ℕ) (cs : List ℕ) → is_f f ≡ true → NoMore (f ∷ cs)
-float_ends f cs h =
-    either_letter (λ c. NoMore (c ∷ cs)) f 102 70 h (record { decimal = refl; x = refl; point = refl; mark = refl })
-    (record { decimal = refl; x = refl; point = refl; mark = refl })
-
-float_letter : (f : ℕ) (cs : List ℕ) → is_f f ≡ true → width_refusal is_h (f ∷ cs) ≡ None
-float_letter f cs h = either_letter (λ c. width_refusal is_h (c ∷ cs) ≡ None) f 102 70 h refl refl
-
 module _ (cs : List ℕ) (h : begins_with continues_number cs ≡ false) where
-  ended : NoMore cs
+  pub ended : NoMore cs
   ended = record {
     decimal = ends_class is_decimal no_decimal cs h;
     x = ends_class is_x no_x cs h;
@@ -207,7 +196,7 @@ value_more n value more xs l h e k =
     let d = digit_at n xs l h in
     k ∙ ap (λ v. v * 10 + (get_or xs n 0 - 48)) e ∙ ap (λ v. digits_value_after 10 0 (take n xs) * 10 + v) (sym d.1) ∙ sym (digits_value_more 10 xs n l)
 
-decimal_plain : (c : ℕ) → is_decimal c ≡ true → is_plain c ≡ true
+pub decimal_plain : (c : ℕ) → is_decimal c ≡ true → is_plain c ≡ true
 decimal_plain c h = grind (arith, nat_tests)
 
 decimal_no_blank : (c : ℕ) → is_decimal c ≡ true → is_blank c ≡ false
@@ -274,163 +263,3 @@ plain_unsigned text n value u some le digits octal small e suffix =
     (decimal_no_blank (get_or text 0 0) (first_decimal n text some le digits)) refl
     (λ cs h. ap (λ x. word_at (x ++ cs)) more ∙ unsigned_at cs h value letter (take n text) t suffix.letter
     ∙ ap (λ k. record { value = Ok (Integer (record { value = value; signed = false; width = pos 32 })); taken = k + 1 }) size)
-
--- Floats
-
-any_point : (hex : Bool) (v w : List ℕ) → list_any (is_float_mark hex) (v ++ 46 ∷ w) ≡ true
-any_point hex [] w = refl
-any_point hex (c ∷ v) w = or_right (is_float_mark hex c) (list_any (is_float_mark hex) (v ++ 46 ∷ w)) (any_point hex v w)
-
--- digits, a point and digits, at least one in all
-record IsPointed (v w : List ℕ) : Type 0 where
-  whole : list_all is_decimal v ≡ true
-  fraction : list_all is_decimal w ≡ true
-  some : 0 < length v + length w
-
-tail_pointed : (w : List ℕ) → list_all is_decimal w ≡ true → float_tail (46 ∷ w) ≡ true
-tail_pointed w h = or_right (float_exponent (46 ∷ w)) (many is_decimal float_exponent w) (all_many is_decimal float_exponent refl w h)
-
-many_pointed : (v w : List ℕ) → list_all is_decimal v ≡ true → list_all is_decimal w ≡ true → many is_decimal float_tail (v ++ 46 ∷ w) ≡ true
-many_pointed [] w d e = or_left (float_tail (46 ∷ w)) (is_decimal 46 && many is_decimal float_tail w) (tail_pointed w e)
-many_pointed (c ∷ v) w d e =
-    let b = and_parts (is_decimal c) (list_all is_decimal v) d in
-    or_right (float_tail (c ∷ (v ++ 46 ∷ w))) (is_decimal c && many is_decimal float_tail (v ++ 46 ∷ w)) (both (is_decimal c) _ b.0 (many_pointed v w b.1 e))
-
-pointed_text : (v w : List ℕ) → IsPointed v w → is_float_text (v ++ 46 ∷ w) ≡ true
-pointed_text [] [] h = absurd (omega (arith, h.some))
-pointed_text [] (d ∷ w) h =
-    let b = and_parts (is_decimal d) (list_all is_decimal w) h.fraction in
-    both (is_decimal d) (many is_decimal float_exponent w) b.0 (all_many is_decimal float_exponent refl w b.1)
-pointed_text (c ∷ v) w h =
-    let b = and_parts (is_decimal c) (list_all is_decimal v) h.whole in
-    or_left (is_decimal c && many is_decimal float_tail (v ++ 46 ∷ w)) _ (both (is_decimal c) _ b.0 (many_pointed v w b.1 h.fraction))
-
-begins_pointed : (v w cs : List ℕ) → IsPointed v w → begins_number ((v ++ 46 ∷ w) ++ cs) ≡ true
-begins_pointed [] [] cs h = absurd (omega (arith, h.some))
-begins_pointed [] (d ∷ w) cs h = (and_parts (is_decimal d) (list_all is_decimal w) h.fraction).0
-begins_pointed (c ∷ v) w cs h =
-    ap (λ b. b || (is_point c && begins_with is_decimal ((v ++ 46 ∷ w) ++ cs))) (and_parts (is_decimal c) (list_all is_decimal v) h.whole).0
-
-module _ (cs : List ℕ) (e : NoMore cs) where
-  after_point : (w : List ℕ) → list_all is_decimal w ≡ true → longest fraction (w ++ cs) ≡ length w
-  after_point w d = fraction_of cs e.decimal w d e.mark
-
-  pointed_len : (v w : List ℕ) → IsPointed v w → longest is_number ((v ++ 46 ∷ w) ++ cs) ≡ length (v ++ 46 ∷ w)
-  pointed_len [] w p =
-      let n = point_number_len (46 ∷ (w ++ cs)) (begins_pointed [] w cs p) refl in
-      n ∙ ap (λ k. 1 + k) (after_point w p.fraction) ∙ omega arith
-  pointed_len (c ∷ v) w p =
-      let b = and_parts (is_decimal c) (list_all is_decimal v) p.whole in
-      let n = number_len (46 ∷ (w ++ cs)) refl c v b.0 b.1 refl in
-      let t = decimal_tail_len (46 ∷ (w ++ cs)) refl in
-      ap (longest is_number) (append_assoc (c ∷ v) (46 ∷ w) cs) ∙ n ∙ ap (λ k. suc (length v) + k) (t ∙ ap (λ k. 1 + k) (after_point w p.fraction))
-      ∙ omega (arith, length-append (c ∷ v) (46 ∷ w))
-
-  pointed_word : (v w : List ℕ) → IsPointed v w → word_at ((v ++ 46 ∷ w) ++ cs) ≡ float_outcome (v ++ 46 ∷ w) cs
-  pointed_word v w p =
-      let u = v ++ 46 ∷ w in
-      let here : number_outcome u cs ≡ float_outcome u cs = rw (any_point (begins_hex u) v w) refl in
-      number_of u cs (begins_pointed v w cs p) (pointed_len v w p) ∙ here
-
-module _ (cs : List ℕ) (h : begins_with continues_number cs ≡ false) (v w : List ℕ) (p : IsPointed v w) where
-  float_at : word_at ((v ++ 46 ∷ w) ++ cs) ≡ record { value = Ok (Float (record { text = v ++ 46 ∷ w; width = pos 32 })); taken = length (v ++ 46 ∷ w) }
-  float_at =
-      let u = v ++ 46 ∷ w in
-      pointed_word cs (ended cs h) v w p ∙ rw (
-        no_refusal cs h is_h no_h,
-        value_same u (pointed_text v w p),
-        ends_class is_f no_f cs h,
-        add-zero (length u),
-      ) refl
-
-  suffixed_at : (f : ℕ) → is_f f ≡ true
-      → word_at (((v ++ 46 ∷ w) ++ f ∷ []) ++ cs) ≡ record {
-        value = Ok (Float (record { text = v ++ 46 ∷ w; width = pos 32 }));
-        taken = length (v ++ 46 ∷ w) + 1;
-      }
-  suffixed_at f e =
-      let u = v ++ 46 ∷ w in
-      ap word_at (append_assoc u (f ∷ []) cs) ∙ pointed_word (f ∷ cs) (float_ends f cs e) v w p
-      ∙ rw (float_letter f cs e, value_same u (pointed_text v w p), e) refl
-
--- the spelling by its parts
-split_point : (n m : ℕ) (text : List ℕ) → n < length text → get_or text n 0 ≡ 46 → take (suc (n + m)) text ≡ take n text ++ 46 ∷ take m (drop (suc n) text)
-split_point n m [] l e = absurd (omega arith)
-split_point zero m (c ∷ text) l e =
-    let k : 0 + m ≡ m = omega arith in
-    ap (λ x. x ∷ take (0 + m) text) e ∙ ap (λ x. 46 ∷ take x text) k ∙ ap (λ t. 46 ∷ take m t) (sym (drop_none text))
-  where
-    drop_none : (xs : List ℕ) → drop 0 xs ≡ xs
-    drop_none [] = refl
-    drop_none (x ∷ xs) = refl
-split_point (suc n) m (c ∷ text) l e =
-    let k : suc n + m ≡ suc (n + m) = omega arith in
-    ap (λ x. c ∷ take x text) k ∙ ap (λ t. c ∷ t) (split_point n m text (omega arith) e)
-
-all_joined : (v w : List ℕ) → list_all is_decimal v ≡ true → list_all is_decimal w ≡ true → list_all is_plain (v ++ 46 ∷ w) ≡ true
-all_joined [] w d e = all_plain is_decimal decimal_plain w e
-all_joined (c ∷ v) w d e =
-    let b = and_parts (is_decimal c) (list_all is_decimal v) d in
-    both (is_plain c) (list_all is_plain (v ++ 46 ∷ w)) (decimal_plain c b.0) (all_joined v w b.1 e)
-
-point_no_blank : (n : ℕ) (text : List ℕ) → n < length text → get_or text n 0 ≡ 46 → list_all is_decimal (take n text) ≡ true
-    → is_blank (get_or text 0 0) ≡ false
-point_no_blank zero text l e d = ap is_blank e
-point_no_blank (suc n) text l e d = decimal_no_blank (get_or text 0 0) (first_decimal (suc n) text (omega arith) (omega arith) d)
-
-pointed_split : (n m : ℕ) (text : List ℕ) → n < length text → get_or text n 0 ≡ 46 → take (n + 1 + m) text ≡ take n text ++ 46 ∷ take m (drop (n + 1) text)
-pointed_split n m text l point =
-    let size : n + 1 + m ≡ suc (n + m) = omega arith in
-    ap (λ k. take k text) size ∙ split_point n m text l point ∙ ap (λ k. take n text ++ 46 ∷ take m (drop k text)) (sym (add-one n))
-
-pub plain_float : (text : List ℕ) (n m : ℕ) → IsUtf8 text → n < length text → get_or text n 0 ≡ 46 → list_all is_decimal (take n text) ≡ true
-    → m ≤ length (drop (n + 1) text)
-    → list_all is_decimal (take m (drop (n + 1) text)) ≡ true → 0 < n + m → Stops continues_number text (n + 1 + m)
-    → IsPlainWord text (Float (record { text = take (n + 1 + m) text; width = pos 32 })) (n + 1 + m)
-plain_float text n m u l point whole le fraction some stops =
-    let v = take n text in
-    let w = take m (drop (n + 1) text) in
-    let within : n + 1 + m ≤ length text = omega (arith, length-drop (n + 1) text) in
-    let split : take (n + 1 + m) text ≡ v ++ 46 ∷ w = pointed_split n m text l point in
-    let p : IsPointed v w = record {
-      whole = whole;
-      fraction = fraction;
-      some = omega (arith, length-take-le n text (omega arith), length-take-le m (drop (n + 1) text) le);
-    } in
-    plain_before continues_number refl refl text (n + 1 + m) u (omega arith) within stops (Float (record { text = take (n + 1 + m) text; width = pos 32 }))
-    (ap (list_all is_plain) split ∙ all_joined v w whole fraction) (point_no_blank n text l point whole) refl
-    (λ cs h. ap (λ t. word_at (t ++ cs)) split ∙ float_at cs h v w p
-    ∙ ap (λ t. record { value = Ok (Float (record { text = t; width = pos 32 })); taken = length t }) (sym split)
-    ∙ ap (λ k. record { value = Ok (Float (record { text = take (n + 1 + m) text; width = pos 32 })); taken = k }) (length-take-le (n + 1 + m) text within))
-
-without_more : (c : ℕ) (w : List ℕ) → without_suffix (w ++ c ∷ []) ≡ w
-without_more c w =
-    let n : length (w ++ c ∷ []) - 1 ≡ length w = omega (arith, length-append w (c ∷ [])) in
-    ap (λ k. take k (w ++ c ∷ [])) n ∙ take_seam w (c ∷ [])
-
-pub plain_suffixed : (text : List ℕ) (n m : ℕ) → IsUtf8 text → n < length text → get_or text n 0 ≡ 46 → list_all is_decimal (take n text) ≡ true
-    → m ≤ length (drop (n + 1) text)
-    → list_all is_decimal (take m (drop (n + 1) text)) ≡ true → 0 < n + m → IsSuffixed 102 70 text (n + 1 + m)
-    → IsPlainWord text (Float (record { text = without_suffix (take (n + 1 + m + 1) text); width = pos 32 })) (n + 1 + m + 1)
-plain_suffixed text n m u l point whole le fraction some suffix =
-    let v = take n text in
-    let w = take m (drop (n + 1) text) in
-    let spelled = n + 1 + m in
-    let letter = get_or text spelled 0 in
-    let within : spelled ≤ length text = omega (arith, length-drop (n + 1) text) in
-    let split : take spelled text ≡ v ++ 46 ∷ w = pointed_split n m text l point in
-    let more : take (spelled + 1) text ≡ (v ++ 46 ∷ w) ++ letter ∷ [] = take_more spelled text suffix.within ∙ ap (λ t. t ++ letter ∷ []) split in
-    let p : IsPointed v w = record {
-      whole = whole;
-      fraction = fraction;
-      some = omega (arith, length-take-le n text (omega arith), length-take-le m (drop (n + 1) text) le);
-    } in
-    let plain : is_plain letter ≡ true = either_letter (λ c. is_plain c ≡ true) letter 102 70 suffix.letter refl refl in
-    let size : length (v ++ 46 ∷ w) ≡ spelled = ap length (sym split) ∙ length-take-le spelled text within in
-    let bare : v ++ 46 ∷ w ≡ without_suffix (take (spelled + 1) text) = sym (ap without_suffix more ∙ without_more letter (v ++ 46 ∷ w)) in
-    plain_before continues_number refl refl text (spelled + 1) u (omega arith) (omega (arith, suffix.within)) suffix.stops
-    (Float (record { text = without_suffix (take (spelled + 1) text); width = pos 32 }))
-    (ap (list_all is_plain) more ∙ plain_more letter (v ++ 46 ∷ w) (all_joined v w whole fraction) plain) (point_no_blank n text l point whole) refl
-    (λ cs h. ap (λ t. word_at (t ++ cs)) more ∙ suffixed_at cs h v w p letter suffix.letter
-    ∙ ap (λ t. record { value = Ok (Float (record { text = t; width = pos 32 })); taken = length (v ++ 46 ∷ w) + 1 }) bare
-    ∙ ap (λ k. record { value = Ok (Float (record { text = without_suffix (take (spelled + 1) text); width = pos 32 })); taken = k + 1 }) size)

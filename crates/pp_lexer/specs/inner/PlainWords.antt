@@ -16,12 +16,13 @@ use Rattle.pp_lexer.specs.declared.token.Punct.TheVariants.{Colon, Dot, Equal, B
 use Rattle.pp_lexer.specs.declared.token.Punct.TheVariants.{Percent, Pipe, Caret, Ampersand, Question}
 use Rattle.pp_lexer.specs.declared.lexer.item.TokenValue.{TokenValue}
 use Rattle.pp_lexer.specs.declared.lexer.plain.Word.{Word}
+use Rattle.pp_lexer.specs.declared.lexer.plain.comment.Comment.{Comment}
 use Rattle.pp_lexer.specs.declared.lexer.Flags.{Flags}
 use Rattle.pp_lexer.specs.inner.Fronts.{spots_from, run}
 use Rattle.pp_lexer.specs.Items.{Lexeme, is_newline}
 use Rattle.pp_lexer.specs.PlainItems.{value_of}
 use Rattle.pp_lexer.specs.Segments.{item}
-use Rattle.pp_lexer.specs.Numbers.{is_decimal, is_point}
+use Rattle.pp_lexer.specs.Numbers.{is_decimal, is_point, is_sign}
 use Rattle.pp_lexer.specs.inner.Passing.{IsLexed}
 use Rattle.pp_lexer.specs.Punctuators.{punct_of}
 use Rattle.pp_lexer.specs.Reading.{Reading, letters}
@@ -109,6 +110,11 @@ pub record BeginsHex (text : List ℕ) : Type 0 where
   pub zero : slice_index text 0 ≡ 48
   pub letter : ((slice_index text 1 == 120) || (slice_index text 1 == 88)) ≡ true
 
+-- the text begins with a sign
+pub record BeginsSign (text : List ℕ) : Type 0 where
+  pub some : 0 < length text
+  pub sign : is_sign (slice_index text 0) ≡ true
+
 -- so many bytes at the front are characters of one line, wherever the text stands in a source
 abbrev pub IsFront : List ℕ → ℕ → Type 0
 IsFront text n =
@@ -142,6 +148,16 @@ pub record IsPlainNewline (text : List ℕ) (taken : ℕ) : Type 0 where
       → spots_from line at text
       ≡ record { c = 10; line = line; begin = at; end = at + 1 }
       ∷ spots_from (line + 1) (at + taken) (drop taken text)
+
+-- a comment stands at the front of the text, and takes that many bytes, wherever the text stands in a source
+pub record IsPlainComment (text : List ℕ) (comment : Comment) : Type 0 where
+  pub within : comment.taken ≤ length text
+  pub cut : IsCharBoundary text comment.taken
+  pub lines : comment.newlines ≤ comment.taken
+  pub front : (line at : ℕ)
+      → spots_from line at text
+      ≡ record { c = 13; line = line; begin = at; end = at + 1 }
+      ∷ spots_from (line + comment.newlines) (at + comment.taken) (drop comment.taken text)
 
 -- the next item is given, or memory was refused, or all is as it was
 abbrev pub IsPlainLexed : Flags → Reading → Result (Option Lexeme) AllocError → Flags → Reading → Type 0

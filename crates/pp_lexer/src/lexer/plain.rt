@@ -1,4 +1,4 @@
-//! Words, spaces and newlines of ASCII text, read byte by byte.
+//! Words, spaces, comments and newlines of ASCII text, read byte by byte.
 
 ghost use Rattle.std.specs.Prelude.{⊤, ◌≡◌, ◌<◌, ◌≤◌, true, false, length, take, get_or, slice_index, IsTrue, MatchOption};
 ghost use Rattle.std.specs.List.{list_all};
@@ -9,8 +9,11 @@ use crate::token::Punct;
 use number::plain_number;
 use punctuation::plain_punctuation;
 
+mod comment;
 mod number;
 mod punctuation;
+
+pub use comment::{plain_comment, straight_length};
 
 /// What a word of ASCII text is.
 #[derive(Clone, Copy)]

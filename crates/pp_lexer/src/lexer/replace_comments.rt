@@ -1,4 +1,4 @@
-ghost use Rattle.std.specs.Prelude.{⊤, ◌≡◌, ◌+◌, ◌-◌, ◌^◌, ◌<◌, ◌≤◌, true, length, take, MatchOption};
+ghost use Rattle.std.specs.Prelude.{⊤, ◌≡◌, ◌+◌, ◌-◌, ◌^◌, ◌<◌, ◌≤◌, length, MatchOption};
 ghost use Rattle.std.specs.Str.{chars};
 ghost use Rattle.std.specs.Char.{len_utf8};
 ghost use Rattle.std.specs.Iterator.{at_most};
@@ -6,11 +6,11 @@ ghost use Rattle.pp_lexer.specs.Cursor.{start_of, first, after};
 ghost use Rattle.pp_lexer.specs.Lines.{lines};
 ghost use Rattle.pp_lexer.specs.Continuations.{continued};
 ghost use Rattle.pp_lexer.specs.Comments.{replaced};
-ghost use Rattle.std.specs.List.{list_all};
-ghost use Rattle.pp_lexer.specs.inner.Fronts.{left, is_straight};
+ghost use Rattle.pp_lexer.specs.inner.Fronts.{left};
 ghost use Rattle.pp_lexer.specs.inner.Readers.{joined, uncommented, past_line, past_block};
 
 use crate::lexer::chars_and_line::{Left, is_char};
+use crate::lexer::plain::straight_length;
 use crate::lexer::skip_backslash_newline::SkipBackslashNewline;
 use std::alloc::AllocError;
 use std::marker::Model;
@@ -39,20 +39,6 @@ impl<'a> Model for ReplaceComments<'a> {
     ghost Value = { Cursor };
 
     ghost view = { λ s. uncommented s.inner };
-}
-
-// How many bytes at the front are ASCII, and neither a newline nor a backslash.
-#[inline(always)]
-fn straight_length(bytes: &[u8]) -> usize
-    ensures within { result ≤ length bytes.now }
-    ensures passes { list_all is_straight (take result bytes.now) ≡ true }
-{
-    for (i, byte) in bytes.iter().enumerate() {
-        if !(*byte < 128 && *byte != 10 && *byte != 13 && *byte != 92) {
-            return i;
-        }
-    }
-    bytes.len()
 }
 
 // Passes the ASCII characters at the front of a line comment's rest, up to a newline or a backslash.

@@ -1,11 +1,13 @@
 //! Decimal and hexadecimal integers, and floats, of ASCII text.
 
-ghost use Rattle.std.specs.Prelude.{⊤, ◌≡◌, ◌<◌, ◌≤◌, true, false, length, take, IsTrue, IfSome, MatchOption};
+ghost use Rattle.std.specs.Prelude.{⊤, ◌≡◌, ◌<◌, ◌≤◌, true, false, length, take, slice_index, IsTrue, IfSome, MatchOption};
 ghost use Rattle.std.specs.List.{list_all};
 ghost use Rattle.std.specs.Str.{IsUtf8};
 ghost use Rattle.std.specs.Str.Parse.{digits_value};
 ghost use Rattle.pp_lexer.specs.Numbers.{is_decimal, is_hex};
-ghost use Rattle.pp_lexer.specs.inner.PlainWords.{continues_number, Stops, IsSuffixed, BeginsHex, IsFirstWord};
+ghost use Rattle.pp_lexer.specs.NumberValue.{float_exponent, is_float, is_float_text};
+ghost use Rattle.pp_lexer.specs.inner.NumberValue.{float_power};
+ghost use Rattle.pp_lexer.specs.inner.PlainWords.{continues_number, Stops, IsSuffixed, BeginsHex, BeginsSign, IsFirstWord};
 
 use crate::lexer::plain::{Form, Word, continues};
 
@@ -171,25 +173,56 @@ fn plain_hex(bytes: &[u8]) -> Option<Word>
     None
 }
 
-/// The integer or float at the front, if the bytes after it show that it ends there, and it is neither octal nor has an
-/// exponent.
+// Whether the text begins with a sign.
 #[inline(always)]
-pub fn plain_number(bytes: &[u8]) -> Option<Word>
-    requires { IsUtf8 bytes.now }
+fn begins_with_sign(bytes: &[u8]) -> bool
+    ensures { IsTrue result → BeginsSign bytes.now }
+{
+    bytes.len() > 0 && (bytes[0] == b'+' || bytes[0] == b'-')
+}
+
+// How many bytes the digits at the front take, and a sign before them, or 0 if there is no digit.
+#[inline(always)]
+fn power_length(bytes: &[u8]) -> usize
+    ensures within { result ≤ length bytes.now }
+    ensures power { 0 < result → float_power (take result bytes.now) ≡ true }
+{
+    if !begins_with_sign(bytes) {
+        return digits_length(bytes);
+    }
+    let digits = digits_length(&bytes[1..]);
+    if digits == 0 {
+        return 0;
+    }
+    digits + 1
+}
+
+// How many bytes the exponent at the front takes, or 0 if there is none that a float's text can have.
+#[inline(always)]
+fn exponent_length(bytes: &[u8]) -> usize
+    ensures within { result ≤ length bytes.now }
+    ensures exponent { float_exponent (take result bytes.now) ≡ true }
+{
+    if bytes.len() == 0 || bytes[0] != b'e' {
+        return 0;
+    }
+    let power = power_length(&bytes[1..]);
+    if power == 0 {
+        return 0;
+    }
+    power + 1
+}
+
+// The float that the `spelled` bytes at the front spell, and an `f` after them, if the bytes after it show that it ends
+// there.
+#[inline(always)]
+fn spelled_float(bytes: &[u8], spelled: usize) -> Option<Word>
+    requires utf8 { IsUtf8 bytes.now }
+    requires within { spelled ≤ length bytes.now }
+    requires text { is_float_text (take spelled bytes.now) ≡ true }
+    requires float { is_float (take spelled bytes.now) ≡ true }
     ensures { MatchOption result ⊤ (IsFirstWord bytes.now) }
 {
-    if begins_hex(bytes) {
-        return plain_hex(bytes);
-    }
-    let whole = digits_length(bytes);
-    if whole >= bytes.len() || bytes[whole] != 46 {
-        return plain_integer(bytes, whole);
-    }
-    let fraction = digits_length(&bytes[whole + 1..]);
-    let spelled = whole + 1 + fraction;
-    if spelled == 1 {
-        return None;
-    }
     if ends_number(bytes, spelled) {
         return Some(Word {
             form: Form::Float,
@@ -203,4 +236,57 @@ pub fn plain_number(bytes: &[u8]) -> Option<Word>
         });
     }
     None
+}
+
+// The float at the front that has a point after `whole` digits, if the bytes after it show that it ends there.
+#[inline(always)]
+fn pointed_float(bytes: &[u8], whole: usize) -> Option<Word>
+    requires utf8 { IsUtf8 bytes.now }
+    requires within { whole < length bytes.now }
+    requires digits { list_all is_decimal (take whole bytes.now) ≡ true }
+    requires point { slice_index bytes.now whole ≡ 46 }
+    ensures { MatchOption result ⊤ (IsFirstWord bytes.now) }
+{
+    let fraction = digits_length(&bytes[whole + 1..]);
+    if whole + fraction == 0 {
+        return None;
+    }
+    let mantissa = whole + 1 + fraction;
+    let exponent = exponent_length(&bytes[mantissa..]);
+    spelled_float(bytes, mantissa + exponent)
+}
+
+// The float at the front that has an exponent after `whole` digits, if the bytes after it show that it ends there.
+#[inline(never)]
+fn whole_float(bytes: &[u8], whole: usize) -> Option<Word>
+    requires utf8 { IsUtf8 bytes.now }
+    requires within { whole ≤ length bytes.now }
+    requires digits { list_all is_decimal (take whole bytes.now) ≡ true }
+    ensures { MatchOption result ⊤ (IsFirstWord bytes.now) }
+{
+    let exponent = exponent_length(&bytes[whole..]);
+    if whole == 0 || exponent == 0 {
+        return None;
+    }
+    spelled_float(bytes, whole + exponent)
+}
+
+/// The integer or float at the front, if the bytes after it show that it ends there, and it is not octal and has no
+/// capital `E`.
+#[inline(always)]
+pub fn plain_number(bytes: &[u8]) -> Option<Word>
+    requires { IsUtf8 bytes.now }
+    ensures { MatchOption result ⊤ (IsFirstWord bytes.now) }
+{
+    if begins_hex(bytes) {
+        return plain_hex(bytes);
+    }
+    let whole = digits_length(bytes);
+    if whole < bytes.len() && bytes[whole] == b'.' {
+        return pointed_float(bytes, whole);
+    }
+    if whole < bytes.len() && bytes[whole] == b'e' {
+        return whole_float(bytes, whole);
+    }
+    plain_integer(bytes, whole)
 }

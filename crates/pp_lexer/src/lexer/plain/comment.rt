@@ -1,0 +1,109 @@
+//! Comments of ASCII text.
+
+ghost use Rattle.std.specs.Prelude.{⊤, ◌≡◌, ◌<◌, ◌≤◌, true, length, take, slice_index, IsTrue, MatchOption};
+ghost use Rattle.std.specs.List.{list_all};
+ghost use Rattle.std.specs.Str.{IsUtf8};
+ghost use Rattle.pp_lexer.specs.Lines.{is_line_break};
+ghost use Rattle.pp_lexer.specs.inner.Fronts.{is_straight};
+ghost use Rattle.pp_lexer.specs.inner.PlainWords.{IsPlainComment};
+
+/// A comment at the front of a text: how many bytes it takes, and how many newlines are among them.
+#[derive(Clone, Copy)]
+pub struct Comment {
+    pub taken: usize,
+    pub newlines: usize,
+}
+
+// Whether the byte is an ASCII character other than a backslash and, of control characters, a tab.
+#[inline(always)]
+fn is_straight(byte: u8) -> bool
+    ensures { IsTrue result → is_straight byte ≡ true }
+{
+    (byte >= 32 && byte < 128 && byte != 92) || byte == 9
+}
+
+/// How many bytes at the front are ASCII, and neither a newline nor a backslash.
+#[inline(always)]
+pub fn straight_length(bytes: &[u8]) -> usize
+    ensures within { result ≤ length bytes.now }
+    ensures passes { list_all is_straight (take result bytes.now) ≡ true }
+{
+    for (i, byte) in bytes.iter().enumerate() {
+        if !is_straight(*byte) {
+            return i;
+        }
+    }
+    bytes.len()
+}
+
+// Whether the text ends at `at`, or goes on with a newline.
+#[inline(always)]
+fn ends_line(bytes: &[u8], at: usize) -> bool
+    ensures { IsTrue result → at < length bytes.now
+        → is_line_break (slice_index bytes.now at) ≡ true }
+{
+    at >= bytes.len() || bytes[at] == 10 || bytes[at] == 13
+}
+
+// The line comment at the front, if its bytes and the next one alone show where it ends.
+#[inline(always)]
+fn line_comment(bytes: &[u8]) -> Option<Comment>
+    requires utf8 { IsUtf8 bytes.now }
+    requires some { 1 < length bytes.now }
+    requires slash { slice_index bytes.now 0 ≡ 47 }
+    requires second { slice_index bytes.now 1 ≡ 47 }
+    ensures { MatchOption result ⊤ (IsPlainComment bytes.now) }
+{
+    let taken = straight_length(&bytes[2..]) + 2;
+    if !ends_line(bytes, taken) {
+        return None;
+    }
+    Some(Comment { taken, newlines: 0 })
+}
+
+// The block comment at the front, if its bytes alone show where it ends.
+#[inline(always)]
+fn block_comment(bytes: &[u8]) -> Option<Comment>
+    requires utf8 { IsUtf8 bytes.now }
+    requires some { 1 < length bytes.now }
+    requires slash { slice_index bytes.now 0 ≡ 47 }
+    requires second { slice_index bytes.now 1 ≡ 42 }
+    ensures { MatchOption result ⊤ (IsPlainComment bytes.now) }
+{
+    let body = &bytes[2..];
+    let mut newlines: usize = 0;
+    let mut was_star = false;
+    for (i, byte) in body.iter().enumerate() {
+        if was_star && *byte == 47 {
+            return Some(Comment {
+                taken: i + 3,
+                newlines,
+            });
+        }
+        if *byte == 10 {
+            newlines += 1;
+        } else if !is_straight(*byte) {
+            return None;
+        }
+        was_star = *byte == 42;
+    }
+    None
+}
+
+/// The comment at the front, if its bytes and the next one alone show where it ends.
+#[inline(always)]
+pub fn plain_comment(bytes: &[u8]) -> Option<Comment>
+    requires { IsUtf8 bytes.now }
+    ensures { MatchOption result ⊤ (IsPlainComment bytes.now) }
+{
+    if bytes.len() < 2 || bytes[0] != 47 {
+        return None;
+    }
+    if bytes[1] == 47 {
+        return line_comment(bytes);
+    }
+    if bytes[1] == 42 {
+        return block_comment(bytes);
+    }
+    None
+}
