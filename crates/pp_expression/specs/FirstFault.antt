@@ -144,8 +144,8 @@ pub record Possible (level : ℕ) (line : Line) (left order : ℕ) (kind : Expre
 abbrev pub Before : ℕ → ℕ → ℕ → ℕ → Type 0
 Before left order other_left other_order = (other_left < left) ⊎ ((other_left ≡ left) × (order ≤ other_order))
 
--- The first fault of an expression of the level at the front of the line: the line may have it, and every other fault
--- that the line may have comes after it.
+-- The first fault of an expression of the level at the front of the line: the line may have it, and no other fault that
+-- the line may have comes before it.
 pub record IsFirst (level : ℕ) (line : Line) (found : Found) : Type 0 where
   pub order : ℕ
   pub possible : Possible level line found.left order found.kind

@@ -27,8 +27,8 @@ has_close [] = false
 has_close (p ∷ ps) = (is_star p && begins_with is_slash ps) || has_close ps
 
 -- The number of characters of the comment at the front, or 0 if there is none. A `//` comment ends before the next
--- newline, and a `/*` comment after the first `*/` that lies wholly after its `/*`; if there is none, either ends at
--- the end.
+-- newline, and a `/*` comment after the first `*/` that lies wholly after its `/*`; if there is none, the comment ends
+-- with the text.
 abbrev pub comment_length : List Placed → ℕ
 comment_length [] = 0
 comment_length (p ∷ []) = 0

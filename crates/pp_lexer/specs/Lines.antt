@@ -28,7 +28,7 @@ pieces [] = []
 pieces (c ∷ []) = piece c ∷ []
 pieces (c ∷ d ∷ cs) = if is_pair c d then record { char = 10; bytes = 2 } ∷ pieces cs else piece c ∷ pieces (d ∷ cs)
 
--- The line is one more than the number of newlines before the character. Its stretch ends after all bytes up to and
+-- The line of a character is one more than the number of newlines before it. Its stretch ends after all bytes up to and
 -- with its own.
 abbrev pub placed : Surrounded Piece → Placed
 placed s = record {

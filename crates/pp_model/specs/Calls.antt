@@ -142,7 +142,7 @@ pub data Called : Type 0 where
   refused : Fault → Called
   fits : List (List Read) → ℕ → Called
 
--- the place of the `(` that was taken, if it is one
+-- the place of what was taken, if it is a `(`
 abbrev pub paren_at : Taken → Option Location
 paren_at (taken.Token read) = if is_left_paren read.token.value then Some read.token.location else None
 paren_at _ = None

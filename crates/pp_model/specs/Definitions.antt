@@ -4,7 +4,7 @@ use Rattle.pp_lexer.specs.declared.token.Token.{Token}
 use Rattle.pp_lexer.specs.Spelling.{values_of}
 use Rattle.pp_model.specs.Names.{Name, is_same_name}
 
--- a macro: whether it has parameters, each parameter at its position, and the tokens of the body
+-- a macro: whether it is function-like, its parameters, each at its position, and the tokens of its body
 pub record Definition : Type 0 where
   pub function_like : Bool
   pub parameters : List Name

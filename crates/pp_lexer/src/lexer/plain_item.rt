@@ -10,7 +10,7 @@ use crate::lexer::plain::Form;
 use crate::token::{Float, Integer, Location, Text};
 use std::alloc::{AllocError, Global};
 
-/// A word of plain text with its place: a token but for the memory that its value takes.
+/// A word of plain text with its place: a token without the memory that its value takes.
 #[derive(Clone, Copy)]
 pub struct PlainItem<'a> {
     /// What the word is.
