@@ -2,7 +2,7 @@
 use Rattle.std.specs.Prelude.{Result, Ok, Err}
 
 infixl 10 ◌>>=◌
--- what comes of an answer, if it isn't a fault
+-- what `next` gives for an answer; a fault stays as it is
 abbrev pub ◌>>=◌ : {A B E : Type 0} → Result A E → (A → Result B E) → Result B E
 (Ok answer) >>= next = next answer
 (Err kind) >>= next = Err kind

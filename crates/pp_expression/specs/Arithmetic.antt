@@ -24,7 +24,7 @@ abbrev pub fits : ℤ → Bool
 fits (pos number) = nat_lt number (2 ^ 63)
 fits (negsuc number) = nat_lt number (2 ^ 63)
 
--- the number, if it fits
+-- the number if it fits, and otherwise an overflow
 abbrev pub in_range : ℤ → Result ℤ ExpressionFault
 in_range number = if fits number then Ok number else Err fault.IntegerOverflow
 
@@ -47,13 +47,13 @@ unary_value unary.Minus operand = in_range (neg_ℤ operand)
 unary_value unary.Not operand = Ok (truth (is_zero operand))
 unary_value unary.Complement operand = Ok (neg_ℤ operand -ℤ pos 1)
 
--- by how many bits a shift goes: 0 to 63
+-- by how many bits a shift goes: 0 to 63, and otherwise an overflow
 abbrev pub shift_count : ℤ → Result ℕ ExpressionFault
 shift_count (pos count) = if nat_lt count 64 then Ok count else Err fault.IntegerOverflow
 shift_count (negsuc count) = Err fault.IntegerOverflow
 
--- The answer, which is a quotient or a remainder of left by right, if the quotient fits.
--- If right is 0, it is this fault.
+-- The answer, which is a quotient or a remainder of left by right, if the quotient fits, and otherwise an overflow. If
+-- right is 0, it is the fault `by_zero`.
 abbrev pub divided : ExpressionFault → ℤ → ℤ → ℤ → Result ℤ ExpressionFault
 divided by_zero left right answer =
     if is_zero right then Err by_zero else

@@ -1,13 +1,15 @@
 -- The first fault of an expression of `#if`, `#elif` or `#line` (GLSL ES 3.20 section 3.4), and what an evaluation
--- gives. A line may have several faults. Each is found when so much of the line is read that it is certain: the first
--- is the one found at the earliest symbol, and of those found at one symbol the one of the lowest order.
+-- gives. A line may have several faults. Each is found at the symbol with which it becomes certain, as the line is read
+-- from left to right. The first fault is the one found at the earliest symbol, and of several found at one symbol the
+-- one of the lowest order.
 --
---   order 1   the symbol isn't read: the fault that ends the reading stands in its place
+--   order 1   the symbol can't be read: the fault that ends the reading comes in its place
 --   order 2   an operator has no value. One in front of its operand, `*`, `/` and `%` are computed at the last symbol
 --             of their right operand, the others at the symbol after it, or at the end of the line
---   order 4   the symbol, or the end of the line, can't stand there
+--   order 4   the symbol, or the end of the line, isn't allowed there
 --
--- Order 3 is left to whoever asks something of the whole value, which is found at the symbol after the expression.
+-- Order 3 is left for a fault of the whole value (`LineOverflow` of a `#line`), which is found at the symbol after the
+-- expression.
 use Rattle.std.specs.Prelude.{◌≡◌, ℕ, ◌+◌, ◌≤◌, ◌<◌, false, nat_lt, length, if◌then◌else◌, List, [], ◌∷◌, ◌++◌, Option}
 use Rattle.std.specs.Prelude.{Some, None, Result, Ok, Err, ℤ, MatchResult, ◌⊎◌}
 use Rattle.pp_lexer.specs.declared.token.Punct.TheVariants as mark
@@ -24,31 +26,32 @@ use Rattle.pp_expression.specs.Arithmetic.{unary_value, binary_value}
 use Rattle.pp_expression.specs.Trees.{Tree, Prefix, Infix, spelling, Fits, value}
 use Rattle.pp_expression.specs.Lines.{Line, Begins, next, goes_on, Stops, Reads}
 
--- the operator that a symbol is in front of an operand
+-- the operator that a symbol is if it is in front of an operand
 abbrev pub sign_of : Option Symbol → Option Unary
 sign_of (Some (symbol.Punct punct)) = unary_of punct
 sign_of _ = None
 
--- the fault of a symbol, or of the end, that can't stand where it does
+-- the fault of a symbol, or of the end, that isn't allowed at its position
 abbrev pub unexpected : Option Symbol → ExpressionFault
 unexpected (Some ahead) = fault.Unexpected
 unexpected None = fault.UnexpectedEndOfInput
 
--- What a symbol begins where an operand without an operator in front is wanted: a number, or None at an opening
--- parenthesis. A `defined` whose own operand is at fault stands where an operand may stand.
+-- What a symbol begins, if an operand without an operator in front is expected: a number, or None at an opening
+-- parenthesis. A `defined` whose own operand has a fault is allowed here, but is that fault. Any other symbol, and the
+-- end, isn't allowed.
 abbrev pub atom_of : Option Symbol → Result (Option ℕ) ExpressionFault
 atom_of (Some (symbol.Number number)) = Ok (Some number)
 atom_of (Some (symbol.Punct mark.LeftParen)) = Ok None
 atom_of (Some symbol.Fault) = Err fault.Operand
 atom_of ahead = Err (unexpected ahead)
 
--- whether a symbol is the closing parenthesis that is wanted
+-- the symbol is a closing parenthesis; another one, or the end, is a fault
 abbrev pub closing : Option Symbol → Result (Unit {0}) ExpressionFault
 closing (Some (symbol.Punct mark.RightParen)) = Ok tt
 closing ahead = Err (unexpected ahead)
 
--- An expression up to a place where an operand is wanted, from the outside inwards: Here is the place; it may lie in
--- parentheses, after an operator in front, or after a left operand and its operator.
+-- An expression up to a place at which an operand is expected, from the outside inwards. `Here` is the place; it may be
+-- in parentheses, after an operator in front, or after a left operand and its operator.
 pub data Front : Type 0 where
   Here : Front
   InGroup : Front → Front
@@ -63,7 +66,7 @@ front_spelling (InPrefix operator front) = symbol.Punct (unary_punct operator) �
 front_spelling (InInfix operator left front) =
     spelling left ++ (symbol.Punct (binary_punct operator) ∷ front_spelling front)
 
--- The front may stand where operators bind at least as tightly as level.
+-- The front may begin an expression of the level, by the rules of `Fits`.
 abbrev pub FitsFront : ℕ → Front → Type 0
 FitsFront level Here = Unit {0}
 FitsFront level (InGroup front) = FitsFront 0 front
@@ -71,31 +74,32 @@ FitsFront level (InPrefix operator front) = FitsFront 10 front
 FitsFront level (InInfix operator left front) =
     (level ≤ level_of operator) × Fits (level_of operator) left × FitsFront (level_of operator + 1) front
 
--- the level of the operand that is wanted at the end of a front
+-- the level of the operand that is expected at the end of a front
 abbrev pub wanted : ℕ → Front → ℕ
 wanted level Here = level
 wanted level (InGroup front) = wanted 0 front
 wanted level (InPrefix operator front) = wanted 10 front
 wanted level (InInfix operator left front) = wanted (level_of operator + 1) front
 
--- how many symbols there are from the one at which an operation is computed, where rest is after its right operand
+-- The number of symbols from the one at which an operator is computed to the end, if `rest` is the line after its right
+-- operand: the last symbol of that operand for the operators of level 9, and the symbol after it for the others.
 abbrev pub unread_at : Binary → Line → ℕ
 unread_at operator rest = if nat_lt (level_of operator) 9 then length rest.symbols else length rest.symbols + 1
 
--- The faults that may come where an operand of the level is wanted before the line: each with how many symbols there
--- are from the one at which it is found on, its order, and its kind.
+-- The faults that are possible if an operand of the level is expected at the front of the line. Each has the number of
+-- symbols from the one at which it is found to the end, its order, and its kind.
 pub data Fails (level : ℕ) (line : Line) : ℕ → ℕ → ExpressionFault → Type 0 where
-  -- the symbol isn't read
+  -- the next symbol can't be read
   unread : (kind : ExpressionFault)
       → next line ≡ Err kind
       → Fails level line (length line.symbols) 1 kind
-  -- no operand begins with the symbol, or at the end
+  -- no operand begins with the next symbol, or at the end
   wrong : (ahead : Option Symbol) (kind : ExpressionFault)
       → next line ≡ Ok ahead
       → sign_of ahead ≡ None
       → atom_of ahead ≡ Err kind
       → Fails level line (length line.symbols) 4 kind
-  -- the symbol after the operand isn't read
+  -- the symbol after an operand of the level can't be read
   unread_after : (tree : Tree) (rest : Line) (kind : ExpressionFault)
       → level ≤ 9
       → Begins line (spelling tree) rest
@@ -127,8 +131,8 @@ pub data Fails (level : ℕ) (line : Line) : ℕ → ℕ → ExpressionFault →
       → Stops (level_of operator + 1) rest
       → Fails level line (unread_at operator rest) 2 kind
 
--- A fault that the line may have: its operators stand by precedence up to there. An operand that is finished before may
--- itself be at fault.
+-- A fault that the line may have: the operators before it are grouped by precedence. An operand that ends before it may
+-- itself have a fault.
 pub record Possible (level : ℕ) (line : Line) (left order : ℕ) (kind : ExpressionFault) : Type 0 where
   pub front : Front
   pub here : Line
@@ -136,12 +140,12 @@ pub record Possible (level : ℕ) (line : Line) (left order : ℕ) (kind : Expre
   pub stands : FitsFront level front
   pub fails : Fails (wanted level front) here left order kind
 
--- Found at an earlier symbol, where more of them are left, or at the same one and no later in order.
+-- Found at an earlier symbol, so that more symbols are left, or at the same one and no later in order.
 abbrev pub Before : ℕ → ℕ → ℕ → ℕ → Type 0
 Before left order other_left other_order = (other_left < left) ⊎ ((other_left ≡ left) × (order ≤ other_order))
 
--- The first fault of an expression of the level at the front of the line: the line may have it, and whatever fault the
--- line may have, none comes before it.
+-- The first fault of an expression of the level at the front of the line: the line may have it, and no other fault that
+-- the line may have comes before it.
 pub record IsFirst (level : ℕ) (line : Line) (found : Found) : Type 0 where
   pub order : ℕ
   pub possible : Possible level line found.left order found.kind
@@ -149,8 +153,7 @@ pub record IsFirst (level : ℕ) (line : Line) (found : Found) : Type 0 where
       → Possible level line other_left other_order kind
       → Before found.left order other_left other_order
 
--- An expression of this value stands at the front of the line, with that many symbols
--- after it, and no fault is possible.
+-- The line begins with an expression of this value, `found.left` symbols come after it, and no fault is possible.
 pub record IsValue (line : Line) (found : Value) : Type 0 where
   pub rest : Line
   pub reads : Reads 0 0 line rest found.value

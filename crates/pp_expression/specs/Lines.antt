@@ -1,6 +1,6 @@
 -- The symbols of a directive's line, and an expression at their front (GLSL ES 3.20 section 3.4). The reading of the
--- words after the symbols may end in a fault, as in a macro call without its `)`; an expression that is over before is
--- not touched by it, where it can be known that it is over.
+-- line may end in a fault after these symbols, such as a macro call without its `)`. The fault has no effect on an
+-- expression that is known to end before it.
 use Rattle.std.specs.Prelude.{◌≡◌, ℕ, ◌≤◌, Bool, false, nat_le, List, [], ◌∷◌, ◌++◌, Option, Some, None, Result, Ok}
 use Rattle.std.specs.Prelude.{Err, IsOk, ℤ}
 use Rattle.std.specs.Option.{option_map_or}
@@ -20,7 +20,7 @@ pub record Begins (line : Line) (front : List Symbol) (rest : Line) : Type 0 whe
   pub symbols : line.symbols ≡ front ++ rest.symbols
   pub ending : rest.ending ≡ line.ending
 
--- the first symbol, or what stands at the end of the symbols
+-- the first symbol; at the end none, or the fault that ends the reading
 abbrev pub next_of : List Symbol → Option ExpressionFault → Result (Option Symbol) ExpressionFault
 next_of (first ∷ others) ending = Ok (Some first)
 next_of [] None = Ok None
@@ -41,14 +41,16 @@ abbrev pub goes_on : ℕ → List Symbol → Bool
 goes_on level [] = false
 goes_on level (first ∷ others) = continues level first
 
--- An expression of the level is over before the line: it is known what comes next, and that isn't an operator of the
--- level. An operand alone, which has level 10, is over without a look at what comes next.
+-- An expression of the level ends before the line: it is known what comes next, and that is no operator between
+-- operands that binds at least as tightly as `level`. An operand alone, which has level 10, ends without a look at what
+-- comes next.
 pub record Stops (level : ℕ) (line : Line) : Type 0 where
   pub known : level ≤ 9 → IsOk (next line)
   pub over : goes_on level line.symbols ≡ false
 
--- From old to new stands a tree of the level with this value, and it is over there: stop is the tree's level, or the
--- next tighter for a left operand, which an operator of its level may follow.
+-- The line `old` begins with a tree of the level, which has this value; `new` is the line after it, and the tree ends
+-- there. `stop` is the tree's level, or for a left operand the next tighter one, since an operator of its level may
+-- follow.
 pub record Reads (level stop : ℕ) (old new : Line) (number : ℤ) : Type 0 where
   pub tree : Tree
   pub begins : Begins old (spelling tree) new

@@ -38,11 +38,11 @@ binary_operators =
     (mark.LogicalAnd, binary.LogicalAnd, 1) ∷
     (mark.LogicalOr, binary.LogicalOr, 0) ∷ []
 
--- the operator that a punctuator is in front of an operand
+-- the operator that a punctuator is if it is in front of an operand
 abbrev pub unary_of : Punct → Option Unary
 unary_of punct = option_map (λ row. row.1) (find (λ row. punct_eq.it row.0 punct) unary_operators)
 
--- the operator that a punctuator is after an operand
+-- the operator that a punctuator is if it is after an operand
 abbrev pub binary_of : Punct → Option Binary
 binary_of punct = option_map (λ row. row.1) (find (λ row. punct_eq.it row.0 punct) binary_operators)
 

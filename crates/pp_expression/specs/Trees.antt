@@ -26,9 +26,10 @@ spelling (Group tree) = symbol.Punct mark.LeftParen ∷ (spelling tree ++ (symbo
 spelling (Prefix operator operand) = symbol.Punct (unary_punct operator) ∷ spelling operand
 spelling (Infix operator left right) = spelling left ++ (symbol.Punct (binary_punct operator) ∷ spelling right)
 
--- The tree may stand where operators bind at least as tightly as level: the operators outside of its parentheses do. An
--- operand of an operator in front has level 10; the left operand of one between operands has that operator's level, and
--- the right one the next tighter.
+-- The tree may be an expression of the level: the operators between operands that are outside of its parentheses bind
+-- at least as tightly as `level`. An expression in parentheses has level 0, and the operand of an operator in front
+-- level 10. The left operand of an operator between operands has that operator's level, and the right one the next
+-- tighter.
 abbrev pub Fits : ℕ → Tree → Type 0
 Fits level (Number number) = Unit {0}
 Fits level (Group tree) = Fits 0 tree
@@ -44,6 +45,6 @@ value (Group tree) = value tree
 value (Prefix operator operand) = value operand >>= unary_value operator
 value (Infix operator left right) = value left >>= (λ first. value right >>= binary_value operator first)
 
--- no operator of the tree is at fault
+-- no operator of the tree has a fault
 abbrev pub HasValue : Tree → Type 0
 HasValue tree = IsOk (value tree)

@@ -7,8 +7,8 @@ use Rattle.pp_lexer.specs.Cursor.{Placed}
 use Rattle.pp_lexer.specs.Lines.{lines}
 use Rattle.pp_lexer.specs.declared.token.Location.{Location}
 
--- the stretches of the marks among these characters, of which the first one's begins here
--- (each has the line of the comment's first slash)
+-- the stretches of the marks among these characters, if the first character's stretch begins at `at`; each has the line
+-- of the comment's first slash
 abbrev pub marks_from : ℕ → List Placed → List Location
 marks_from at [] = []
 marks_from at (p ∷ ps) =

@@ -1,14 +1,15 @@
--- What a reader of characters stands for.
+-- The state of a reader of characters.
 use Rattle.std.specs.Prelude.{ℕ, Bool, false, ◌==◌, List, [], ◌∷◌, Option, Some, None, drop, take}
 
--- a character, its line, and where its stretch of the source ends, in bytes; it begins where
--- the one before it ends, or at 0
+-- A character, its line, and the byte at which its stretch of the source ends. The stretch begins where the one before
+-- it ends, or at 0.
 pub record Placed : Type 0 where
   pub char : ℕ
   pub line : ℕ
   pub end : ℕ
 
--- the characters to come, where the last one's stretch ended, and how many bytes the source has
+-- the characters to come, the byte at which the stretch of the last one taken ended, and the number of bytes of the
+-- source
 pub record Cursor : Type 0 where
   pub rest : List Placed
   pub offset : ℕ
@@ -29,11 +30,11 @@ abbrev pub after_of : List Placed → ℕ → Cursor
 after_of [] total = record { rest = []; offset = total; total = total }
 after_of (p ∷ ps) total = record { rest = ps; offset = p.end; total = total }
 
--- the reader once the next character is taken, or the end is met
+-- the reader after its next character; if there is none, at the end of the source
 abbrev pub after : Cursor → Cursor
 after c = after_of c.rest c.total
 
--- where the last of the characters ends, or this place where there are none
+-- the end of the last character's stretch, or `at` if there are no characters
 abbrev pub last_end : ℕ → List Placed → ℕ
 last_end at [] = at
 last_end at (p ∷ ps) = last_end p.end ps

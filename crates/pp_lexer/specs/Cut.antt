@@ -10,7 +10,7 @@ abbrev pub is_empty : {A : Type 0} → List A → Bool
 is_empty [] = true
 is_empty (x ∷ xs) = false
 
--- the parts of what stands after the first elements, that many
+-- the parts of the list after its first `n` elements
 abbrev pub cut_after : {A : Type 0} → (List A → ℕ) → ℕ → List A → List (Part A)
 cut_after size n [] = []
 cut_after size zero (x ∷ xs) =
@@ -18,7 +18,7 @@ cut_after size zero (x ∷ xs) =
     record { first = x; others = take others xs } ∷ cut_after size others xs
 cut_after size (suc n) (x ∷ xs) = cut_after size n xs
 
--- The first part has as many elements as the rule says of the list, or one where it says none.
--- The list after the first part is cut in the same way.
+-- The first part has as many elements as the rule says of the list, but at least one and no more than there are. The
+-- list after the first part is cut in the same way.
 unfoldable pub cut : {A : Type 0} → (List A → ℕ) → List A → List (Part A)
 cut size xs = cut_after size 0 xs

@@ -1,4 +1,4 @@
--- When two lists of entries are equal, as a test.
+-- A test whether two lists of entries are equal.
 use Rattle.std.specs.Prelude.{◌≡◌, Bool, true, false, ◌&&◌, ◌==◌, nat_eq, List, refl}
 use Rattle.std.specs.Bool.{Decides}
 use Rattle.std.specs.Ordering.{int_eq}
@@ -31,7 +31,7 @@ leaf_eq _ _ = false
 abbrev pub entry_eq : Entry → Entry → Bool
 entry_eq a b = (a.depth == b.depth) && (leaf_eq a.leaf b.leaf && location_eq.it a.location b.location)
 
--- The test says that they are equal.
+-- Each test holds exactly if the two are equal.
 
 pub beq_decides : (a b : Bool) → Decides (beq a b) (a ≡ b)
 beq_decides true true = (λ _. refl, λ _. refl)

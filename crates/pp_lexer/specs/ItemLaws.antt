@@ -17,7 +17,7 @@ TokensLieWithin =
     → IsUtf8 source
     → All (λ i. IsWithin (length source) i.item) (items_of (spots_of source))
 
--- A source has at most as many items as bytes, and one.
+-- A source has at most one more item than bytes.
 abbrev pub ItemsAreFinite : Type 0
 ItemsAreFinite = (source : List ℕ) → IsUtf8 source → length (items_of (spots_of source)) ≤ length source + 1
 
@@ -33,18 +33,18 @@ TokensHaveLines =
     → IsUtf8 source
     → All (λ i. HasLineWithin (length source) i.item) (items_of (spots_of source))
 
--- a token stands where it says; an error says no place
+-- the location of a token is this place; an error has no place of its own
 abbrev pub IsAt : Lexeme → Location → Type 0
 IsAt (Ok t) place = t.location ≡ place
 IsAt (Err e) place = Unit {0}
 
--- each item stands at the place of the same number, and there are no more places
+-- each item is at the place of the same number, and there are as many places as items
 abbrev pub StandAt : List Item → List Location → Type 0
 StandAt [] [] = Unit {0}
 StandAt [] (place ∷ places) = ⊥
 StandAt (i ∷ items) [] = ⊥
 StandAt (i ∷ items) (place ∷ places) = IsAt i.item place × StandAt items places
 
--- Each item of a source has one place, which is that of a token's location.
+-- Each item of a source has one place, and that of a token is its location.
 abbrev pub PlacesAreOfItems : Type 0
 PlacesAreOfItems = (source : List ℕ) → StandAt (items_of (spots_of source)) (places_of (spots_of source))

@@ -1,5 +1,5 @@
--- The items of a text: its tokens and errors, each by the segments that stand before it (docs/RULES.md, Characters 6,
--- Tokens 1, 7 and 8). Of the segments before a place the nearest comes first.
+-- The items of a text: its tokens and errors, each by the segments before it (docs/RULES.md, Characters 6, Tokens 1, 7
+-- and 8). A list of the segments before a place has the nearest first.
 use Rattle.std.specs.Prelude.{ℕ, Bool, true, false, ◌||◌, ◌&&◌, if◌then◌else◌, List, [], ◌∷◌, ◌++◌, reverse, Result, Ok}
 use Rattle.std.specs.Prelude.{Err, count_by}
 use Rattle.std.specs.List.{flat_map}
@@ -17,7 +17,7 @@ use Rattle.pp_lexer.specs.Segments.{Kind, blank, comment, item, Segment, segment
 abbrev pub Lexeme : Type 0
 Lexeme = Result Token (PreprocessorError × Location)
 
--- an item, and how many comments stand before it that were passed as blanks
+-- an item, and the number of comments before it that were passed as blanks
 pub record Item : Type 0 where
   pub item : Lexeme
   pub comments : ℕ
@@ -34,12 +34,12 @@ abbrev pub is_newline : Kind → Bool
 is_newline (item (Ok NewLine)) = true
 is_newline _ = false
 
--- the nearest segment before is a blank or a newline, or there is none
+-- the segment directly before is a blank, a comment or a newline, or there is none
 abbrev pub leading_whitespace : List Segment → Bool
 leading_whitespace [] = true
 leading_whitespace (g ∷ gs) = is_blank_or_comment g.kind || is_newline g.kind
 
--- only blanks stand before, up to the nearest newline or the start of the text
+-- only blanks and comments come before, back to the nearest newline or the start of the text
 abbrev pub start_of_line : List Segment → Bool
 start_of_line [] = true
 start_of_line (g ∷ gs) = is_newline g.kind || (is_blank_or_comment g.kind && start_of_line gs)
@@ -47,15 +47,15 @@ start_of_line (g ∷ gs) = is_newline g.kind || (is_blank_or_comment g.kind && s
 abbrev pub comments_in : List Segment → ℕ
 comments_in gs = count_by (λ g. is_comment g.kind) gs
 
--- where the segment's token lies
+-- the place of the segment's token
 abbrev pub place_of : Segment → Location
 place_of g = record { start = g.first.begin; end = g.last.end; line = g.first.line }
 
--- the place after a character
+-- the empty place at the end of a character, on its line
 abbrev pub place_after : Spot → Location
 place_after last = record { start = last.end; end = last.end; line = last.line }
 
--- an error of the lexer has no place of its own
+-- a token with its place and its flags; an error of the lexer has no place of its own
 abbrev pub lexeme : List Segment → Segment → Result TokenValue PreprocessorError → Lexeme
 lexeme before g (Ok v) = Ok (record {
   value = v;
@@ -65,12 +65,12 @@ lexeme before g (Ok v) = Ok (record {
 })
 lexeme before g (Err e) = Err (e, nowhere)
 
--- a blank is no item
+-- the item of a segment; a blank or a comment has none
 abbrev pub item_at : List Segment → Segment → Kind → List Item
 item_at before g (item r) = record { item = lexeme before g r; comments = comments_in before } ∷ []
 item_at before g _ = []
 
--- the newline that ends a last line which has none
+-- a newline at the end of the text, if the last item isn't a newline
 abbrev pub final_newline : List Segment → List Item
 final_newline [] = []
 final_newline (g ∷ gs) =
@@ -85,25 +85,25 @@ final_newline (g ∷ gs) =
       comments = comments_in (g ∷ gs);
     } ∷ []
 
--- the items of a text, by its characters after the phases: those of its segments, each by what stands
--- before it, and that of its end
+-- The items of a text, by its characters after the phases: those of its segments, each by the segments before it, and
+-- the newline at its end, if one is added.
 abbrev pub items_of : List Spot → List Item
 items_of ss =
     flat_map (λ s. item_at s.before s.here s.here.kind) (surrounded (segments ss))
     ++ final_newline (reverse (segments ss))
 
--- where the item of a segment stands, an error too
+-- the place of a segment's item, an error too; a blank or a comment has none
 abbrev pub places_at : Segment → Kind → List Location
 places_at g blank = []
 places_at g comment = []
 places_at g (item r) = place_of g ∷ []
 
--- where the newline stands that ends a last line which has none
+-- the place of the newline at the end of the text, if one is added
 abbrev pub final_place : List Segment → List Location
 final_place [] = []
 final_place (g ∷ gs) = if start_of_line (g ∷ gs) then [] else place_after g.last ∷ []
 
--- where the items of a text stand, errors too: one place for each item
+-- the places of the items of a text, errors too: one place for each item
 abbrev pub places_of : List Spot → List Location
 places_of ss = flat_map (λ g. places_at g g.kind) (segments ss) ++ final_place (reverse (segments ss))
 

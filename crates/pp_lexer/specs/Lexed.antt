@@ -1,4 +1,4 @@
--- What a lexer stands for, and what a call of `next` gives.
+-- The state of a lexer, and what a call of `next` gives.
 use Rattle.std.specs.Prelude.{◌≡◌, Bool, true, false, ◌⊎◌, IsTrue, nat_lt, List, [], ◌∷◌, map, Option, Some, None, Ok}
 use Rattle.std.specs.Prelude.{Err, MatchBool}
 use Rattle.pp_lexer.specs.declared.lexer.char_iterator.Spot.{Spot}
@@ -8,13 +8,13 @@ use Rattle.pp_lexer.specs.PreprocessorError.{out_of_memory}
 use Rattle.pp_lexer.specs.Location.{nowhere}
 use Rattle.pp_lexer.specs.Items.{Lexeme, Item, items_of, comments_of, places_of}
 
--- an item, and whether a comment stands before it that was passed as a blank
+-- an item, and whether a comment before it was passed as a blank
 pub record Seen : Type 0 where
   pub item : Lexeme
   pub had_comments : Bool
 
--- the items to come, whether comments were passed so far and will have been at the end, whether memory was refused,
--- where the item given last stands, and where those to come do
+-- The items to come; whether comments were passed so far, and whether any will have been at the end; whether memory ran
+-- out; the place of the item given last, and the places of those to come.
 pub record Lexed : Type 0 where
   pub rest : List Seen
   pub had_comments : Bool
@@ -48,17 +48,17 @@ abbrev pub after_first_item : List Seen → List Seen
 after_first_item [] = []
 after_first_item (s ∷ ss) = ss
 
--- whether comments stand before the first item, or before the end
+-- whether comments were passed before the first item to come, or before the end if there is none
 abbrev pub comments_before : List Seen → Bool → Bool
 comments_before [] at_end = at_end
 comments_before (s ∷ ss) at_end = s.had_comments
 
--- where the first item to come stands, or where the last one did
+-- the place of the first item to come; if there is none, that of the item given last
 abbrev pub first_place : List Location → Location → Location
 first_place [] last = last
 first_place (place ∷ places) last = place
 
--- where the items after it stand
+-- the places of the items after it
 abbrev pub places_after_first : List Location → List Location
 places_after_first [] = []
 places_after_first (place ∷ places) = places
@@ -82,14 +82,15 @@ abbrev pub first_takes_memory : List Seen → Bool
 first_takes_memory [] = false
 first_takes_memory (s ∷ ss) = lexeme_takes_memory s.item
 
--- an item that takes memory was refused it, and the lexer gives nothing more
+-- The first item to come takes memory, and the allocation failed: `next` gives `OutOfMemory`, and nothing more from
+-- then on.
 pub record IsRefused (old : Lexed) (answer : Option Lexeme) (new : Lexed) : Type 0 where
   pub takes_memory : IsTrue (first_takes_memory old.rest)
   pub item : answer ≡ Some (Err out_of_memory)
   pub comments : new.had_comments ≡ comments_before old.rest old.at_end
   pub spent : new.spent ≡ true
 
--- the first item to come, or the end
+-- `next` gives the first item to come, or the end
 pub record IsGiven (old : Lexed) (answer : Option Lexeme) (new : Lexed) : Type 0 where
   pub item : answer ≡ first_item old.rest
   pub state : new ≡ after_first old

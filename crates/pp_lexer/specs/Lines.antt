@@ -22,13 +22,14 @@ pub record Piece : Type 0 where
 abbrev pub piece : ℕ → Piece
 piece c = if is_line_break c then record { char = 10; bytes = 1 } else record { char = c; bytes = len_utf8 c }
 
--- from the left each pair is one newline, and each other line feed or carriage return is one
+-- from left to right each pair is one newline, and so is each other line feed or carriage return
 abbrev pub pieces : List ℕ → List Piece
 pieces [] = []
 pieces (c ∷ []) = piece c ∷ []
 pieces (c ∷ d ∷ cs) = if is_pair c d then record { char = 10; bytes = 2 } ∷ pieces cs else piece c ∷ pieces (d ∷ cs)
 
--- a line is one more than the newlines before it, and a stretch ends after all the bytes up to here
+-- The line of a character is one more than the number of newlines before it. Its stretch ends after all bytes up to and
+-- with its own.
 abbrev pub placed : Surrounded Piece → Placed
 placed s = record {
   char = s.here.char;

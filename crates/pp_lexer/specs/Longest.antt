@@ -10,7 +10,7 @@ longest_within P cs (suc n) = if P (take (suc n) cs) then suc n else longest_wit
 unfoldable pub longest : (List ℕ → Bool) → List ℕ → ℕ
 longest P cs = longest_within P cs (length cs)
 
--- how many characters at the front pass
+-- the number of characters at the front that pass, up to the first one that doesn't
 abbrev pub front_len : (ℕ → Bool) → List ℕ → ℕ
 front_len p [] = 0
 front_len p (c ∷ cs) = if p c then suc (front_len p cs) else 0

@@ -1,5 +1,5 @@
--- What a number is worth, by its spelling and the characters after it: GLSL ES 3.20, sections 4.1.3 and 4.1.4. What the
--- language's types can't hold, as 64-bit literals, is an error.
+-- The value of a number, by its spelling and the characters after it: GLSL ES 3.20, sections 4.1.3 and 4.1.4. What the
+-- language's types can't hold, such as a literal of 64 bits, is an error.
 use Rattle.std.specs.Prelude.{ℕ, ◌+◌, ◌^◌, pos, Bool, not, ◌&&◌, ◌||◌, ◌==◌, nat_lt, if◌then◌else◌, List, [], ◌∷◌}
 use Rattle.std.specs.Prelude.{Option, Some, None, Ok, Err, length, take, drop, map, filter, ok_or, option_map}
 use Rattle.std.specs.List.{list_all, list_any}
@@ -33,14 +33,14 @@ is_u c = (c == 117) || (c == 85)
 abbrev pub is_s : ℕ → Bool
 is_s c = (c == 115) || (c == 83)
 
--- the letter of a width that is not supported, which is never taken: `l` for 64 bits, another for 16
+-- the error of a letter for a width that isn't supported: `l` for 64 bits, another for 16; the letter is never taken
 abbrev pub width_refusal : (ℕ → Bool) → List ℕ → Option PreprocessorError
 width_refusal is_short after =
     if begins_with is_l after then Some NotSupported64BitLiteral
     else if begins_with is_short after then Some NotSupported16BitLiteral
     else None
 
--- how many characters a suffix takes that stands here or not
+-- the number of characters that a suffix takes: 1 if it is here, and 0 otherwise
 abbrev pub suffix_len : (ℕ → Bool) → List ℕ → ℕ
 suffix_len is_suffix after = if begins_with is_suffix after then 1 else 0
 
@@ -58,7 +58,7 @@ is_float w = list_any (λ c. is_point c || (not (begins_hex w) && is_e c)) w
 
 -- Floats
 
--- the number without its `x`, and with a small `e`
+-- the number without `x` and `X`, and with each `E` as `e`
 abbrev pub float_text : List ℕ → List ℕ
 float_text w = map (λ c. if is_e c then 101 else c) (filter (λ c. not (is_x c)) w)
 
@@ -96,7 +96,7 @@ base_of w = if begins_hex w then 16 else if begins_octal w then 8 else 10
 abbrev pub digits_of : List ℕ → List ℕ
 digits_of w = if begins_hex w then drop 2 w else w
 
--- what one digit or more write, where all are digits of the base and it is below 2^64
+-- the number that these write, if there is at least one, all are digits of the base, and it is below 2^64
 abbrev pub whole : ℕ → List ℕ → Option ℕ
 whole base [] = None
 whole base (c ∷ cs) =
@@ -123,6 +123,6 @@ integer_outcome w after = record {
 abbrev pub number_outcome : List ℕ → List ℕ → Outcome
 number_outcome w after = if is_float w then float_outcome w after else integer_outcome w after
 
--- the longest number here, with what stands after it
+-- the outcome of the longest number here, by the characters after it
 unfoldable pub number_at : List ℕ → Outcome
 number_at cs = number_outcome (take (longest is_number cs) cs) (drop (longest is_number cs) cs)

@@ -1,4 +1,4 @@
--- What stands at a place of a text: a token's value, or an error.
+-- What begins at a place of a text: a token's value, or an error.
 use Rattle.std.specs.Prelude.{◌≡◌, ℕ, Bool, true, false, ◌⊎◌, Result, Ok, Err, IsErr}
 use Rattle.std.specs.declared.alloc.AllocError.{AllocError}
 use Rattle.pp_lexer.specs.declared.lexer.item.TokenValue.{TokenValue}
@@ -9,7 +9,7 @@ use Rattle.pp_lexer.specs.LexerToken.{holds_memory}
 abbrev pub Answer : Type 0
 Answer = Result TokenValue PreprocessorError
 
--- the value or the error, and how many characters it takes
+-- the value or the error, and the number of characters that it takes
 pub record Outcome : Type 0 where
   pub value : Answer
   pub taken : ℕ
@@ -19,6 +19,6 @@ abbrev pub takes_memory : Answer → Bool
 takes_memory (Ok value) = holds_memory value
 takes_memory (Err error) = false
 
--- the answer is given, or it takes memory and there was none
+-- the answer is given; or it takes memory, and the allocation failed
 abbrev pub IsGiven : Result Answer AllocError → Answer → Type 0
 IsGiven given answer = (given ≡ Ok answer) ⊎ (IsErr given × (takes_memory answer ≡ true))

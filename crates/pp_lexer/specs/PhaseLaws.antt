@@ -23,7 +23,7 @@ ends_in_break [] = false
 ends_in_break (c ∷ []) = is_line_break c
 ends_in_break (c ∷ d ∷ cs) = ends_in_break (d ∷ cs)
 
--- A pair that no line break stands before is one newline.
+-- A pair with no line break right before it is one newline.
 abbrev pub PairsCountOnce : Type 0
 PairsCountOnce =
     (front back : List ℕ) (c d : ℕ)
@@ -32,7 +32,7 @@ PairsCountOnce =
     → count_by is_newline (lines (front ++ (c ∷ d ∷ back)))
     ≡ count_by is_newline (lines front) + 1 + count_by is_newline (lines back)
 
--- A line is one more than the newlines before it.
+-- The line of a character is one more than the number of newlines before it.
 abbrev pub LinesCountNewlines : Type 0
 LinesCountNewlines =
     (cs : List ℕ) (n : ℕ) (p : Placed)
@@ -52,21 +52,22 @@ pub record LinesNeverFall (source : List ℕ) : Type 0 where
 abbrev pub SourcesNeverFall : Type 0
 SourcesNeverFall = (source : List ℕ) → IsUtf8 source → LinesNeverFall source
 
--- Where one character's stretch ends the next one's begins. From this place on each has room for its character,
--- and all end within so many bytes.
+-- Each stretch begins where the one before it ends, the first at `at`. Each has room for its character, and the last
+-- one ends within `total` bytes.
 abbrev pub StretchesFollow : ℕ → ℕ → List Placed → Type 0
 StretchesFollow at total [] = at ≤ total
 StretchesFollow at total (p ∷ ps) = (at + len_utf8 p.char ≤ p.end) × StretchesFollow p.end total ps
 
--- a backslash and a newline stand last
+-- the last two characters are a backslash and a newline
 abbrev pub ends_in_continuation : List Placed → Bool
 ends_in_continuation [] = false
 ends_in_continuation (p ∷ []) = false
 ends_in_continuation (p ∷ q ∷ []) = is_backslash p && is_newline q
 ends_in_continuation (p ∷ q ∷ r ∷ ps) = ends_in_continuation (q ∷ r ∷ ps)
 
--- The stretches cut a source into consecutive parts from its first byte on, and up to its last, except where a
--- continuation stands last. What such a continuation takes is left over in the list, unless an open comment holds it.
+-- The stretches cut a source into consecutive parts from its first byte on. They reach its last byte: in phase 5
+-- always, and after it unless the source ends in a continuation, whose bytes are left over if no open comment takes
+-- them.
 pub record StretchesTile (source : List ℕ) : Type 0 where
   pub lines_follow : StretchesFollow 0 (length source) (lines_of source)
   pub lines_end : last_end 0 (lines_of source) ≡ length source

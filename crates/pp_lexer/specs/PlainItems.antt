@@ -19,7 +19,7 @@ use Rattle.pp_lexer.specs.Lexed.{Seen, Lexed, first_item, after_first}
 abbrev pub without_suffix : List ℕ → List ℕ
 without_suffix w = take (length w - 1) w
 
--- the value of a word of this form that is spelled so
+-- the value of a word of this form with this spelling
 abbrev pub value_of : Form → List ℕ → TokenValue
 value_of Identifier w = Ident w
 value_of (IntegerForm n) w = Integer (record { value = n; signed = true; width = pos 32 })
@@ -29,7 +29,7 @@ value_of SuffixedForm w = Float (record { text = without_suffix w; width = pos 3
 value_of (PunctForm p) w = Punct p
 value_of HashForm w = Hash
 
--- the token that it is
+-- the token of a word
 abbrev pub token_of : PlainItem → Token
 token_of item = record {
   value = value_of item.form item.spelling.now;
@@ -75,12 +75,12 @@ abbrev pub is_newline_lexeme : Lexeme → Bool
 is_newline_lexeme (Ok token) = is_newline (segments.item (Ok token.value))
 is_newline_lexeme (Err fault) = false
 
--- a newline is the first item to come
+-- the first item to come is a newline
 abbrev pub begins_newline : List Seen → Bool
 begins_newline [] = false
 begins_newline (s ∷ rest) = is_newline_lexeme s.item
 
--- it was taken
+-- the first item to come is a newline, and it was taken
 pub record IsNewlineTaken (old new : Lexed) : Type 0 where
   pub unspent : old.spent ≡ false
   pub is : begins_newline old.rest ≡ true

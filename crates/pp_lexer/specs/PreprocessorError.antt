@@ -1,4 +1,4 @@
--- The names of the errors, and the one error that says nothing of the source.
+-- The names of the errors, and the one error that the source isn't to blame for.
 use Rattle.std.specs.Prelude.{ℕ, List, codes, Bool, false}
 use Rattle.pp_lexer.specs.TokenValue.{holds_memory}
 use Rattle.pp_lexer.specs.Location.{nowhere}
@@ -48,7 +48,7 @@ name_of DivisionByZero = codes "DivisionByZero"
 name_of RemainderByZero = codes "RemainderByZero"
 name_of OutOfMemory = codes "OutOfMemory"
 
--- the error where an allocation was refused, and its place
+-- the error of a failed allocation, and its place
 abbrev pub out_of_memory : PreprocessorError × Location
 out_of_memory = (OutOfMemory, nowhere)
 

@@ -56,12 +56,12 @@ is_punctuation w = is_hash w || is_punctuator w
 abbrev pub punctuation_value : List ℕ → Option TokenValue
 punctuation_value w = if is_hash w then Some Hash else option_map Punct (punct_of w)
 
--- such a word is a token of that many characters; without one a bad character takes up to two more
+-- a punctuator or a `#` is a token of `n` characters; if there is none, a bad character takes up to two more
 abbrev pub punctuation_outcome : ℕ → Option TokenValue → Outcome
 punctuation_outcome n None = record { value = Err UnexpectedCharacter; taken = 3 }
 punctuation_outcome n (Some v) = record { value = Ok v; taken = n }
 
--- what stands where neither an identifier nor a number begins: the longest punctuator or `#`, or a bad character
+-- what begins here, if neither an identifier nor a number does: the longest punctuator or `#`, or a bad character
 unfoldable pub punctuation_at : List ℕ → Outcome
 punctuation_at cs =
     punctuation_outcome (longest is_punctuation cs) (punctuation_value (take (longest is_punctuation cs) cs))

@@ -1,4 +1,4 @@
--- What the reader of characters stands for: the characters after the phases, each with its line and its place.
+-- The state of the reader of characters: the characters after the phases, each with its line and its place.
 use Rattle.std.specs.Prelude.{◌≡◌, ℕ, zero, suc, ◌+◌, List, [], ◌∷◌, Option, Some, None}
 use Rattle.std.specs.Char.{len_utf8}
 use Rattle.pp_lexer.specs.Cursor.{Placed}
@@ -9,7 +9,8 @@ pub record Reading : Type 0 where
   pub rest : List Spot
   pub last : Spot
 
--- the characters with where they begin, where the first one begins here
+-- The characters with their places. The first begins at `at`, and each other where the stretch before it ends. A
+-- character ends as many bytes further on as it has in UTF-8.
 abbrev pub spots : ℕ → List Placed → List Spot
 spots at [] = []
 spots at (p ∷ ps) = record { c = p.char; line = p.line; begin = at; end = at + len_utf8 p.char } ∷ spots p.end ps
@@ -22,7 +23,7 @@ abbrev pub spots_after_first : List Spot → List Spot
 spots_after_first [] = []
 spots_after_first (s ∷ ss) = ss
 
--- the first of these characters, and those after it
+-- `spot` is the first character of `all`, and `rest` are those after it
 pub record IsAhead (spot : Spot) (rest all : List Spot) : Type 0 where
   pub first : Some spot ≡ first_of all
   pub after : rest ≡ spots_after_first all

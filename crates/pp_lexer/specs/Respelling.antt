@@ -1,5 +1,5 @@
--- Values that can be spelled, and what a lexer reads in a text that spells them: the
--- tokens of GLSL ES 3.20, section 3.6.
+-- Values that can be spelled, and what a lexer reads in a text that spells them: the tokens of GLSL ES 3.20, section
+-- 3.6.
 use Rattle.std.specs.Prelude.{◌≡◌, ℕ, ◌<◌, ◌^◌, pos, true, ⊤, List, [], ◌∷◌, ◌++◌, map, Result, Ok, Err, All}
 use Rattle.std.specs.Prelude.{encode_utf8_all}
 use Rattle.std.specs.Str.{IsUtf8, all_scalars}
@@ -28,7 +28,7 @@ IsName text = (is_identifier text ≡ true) × (all_scalars text ≡ true)
 abbrev pub IsWhole : IntegerLiteral → Type 0
 IsWhole i = (i.value < 2 ^ 64) × (i.width ≡ pos 32)
 
--- a finished text of a float, with a point or an exponent, of the one width that the lexer gives
+-- the text of a float, with a point or an exponent, of the one width that the lexer gives
 abbrev pub IsReal : FloatLiteral → Type 0
 IsReal f = (is_float_text f.text ≡ true) × (is_float f.text ≡ true) × (f.width ≡ pos 32)
 
@@ -42,7 +42,7 @@ IsSpellable (Version v) = ⊥
 IsSpellable (Extension e) = ⊥
 IsSpellable (Pragma p) = ⊥
 
--- the same value as the lexer gives it; a directive is no value of the lexer, which gives the `#` at its front
+-- the value as the lexer gives it; the lexer has no value for a directive, but gives the `#` at its front
 abbrev pub lexer_value : TokenValue → LexerTokenValue
 lexer_value (Ident name) = LexerIdent name
 lexer_value (Integer i) = LexerInteger i
@@ -67,13 +67,13 @@ ending [] = []
 ending (v ∷ vs) = NewLine ∷ []
 
 -- The spellings of values, with one space between each two, are read back as the same values in the same order, and a
--- newline after them. No item is an error.
+-- newline after them if there are any. No item is an error.
 abbrev pub SpellingsAreReadBack : Type 0
 SpellingsAreReadBack =
     (values : List TokenValue) → All IsSpellable values
     → read_values (encode_utf8_all (spelled_text values)) ≡ map Ok (map lexer_value values ++ ending values)
 
--- a value that the lexer gave can be spelled, if it is no newline and no `#`
+-- the value is a newline or a `#`, or it can be spelled
 abbrev pub CanBeSpelled : LexerTokenValue → Type 0
 CanBeSpelled Hash = ⊤
 CanBeSpelled NewLine = ⊤
@@ -82,7 +82,7 @@ CanBeSpelled (LexerInteger i) = IsSpellable (Integer i)
 CanBeSpelled (LexerFloat f) = IsSpellable (Float f)
 CanBeSpelled (LexerPunct p) = IsSpellable (Punct p)
 
--- an error has no spelling
+-- the same of a value that was read; nothing is asked of an error
 abbrev pub IsSpelled : Result LexerTokenValue PreprocessorError → Type 0
 IsSpelled (Ok value) = CanBeSpelled value
 IsSpelled (Err fault) = ⊤

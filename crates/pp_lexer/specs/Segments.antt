@@ -12,18 +12,19 @@ pub data Kind : Type 0 where
   comment : Kind
   item : Result TokenValue PreprocessorError → Kind
 
--- what the segment is, its first character and its last one
+-- a segment: its kind, its first character and its last one
 pub record Segment : Type 0 where
   pub kind : Kind
   pub first : Spot
   pub last : Spot
 
--- the last of the characters, which stand after this one
+-- the last of these characters, or the one before them if there are none
 abbrev pub last_of : Spot → List Spot → Spot
 last_of s [] = s
 last_of s (t ∷ ts) = last_of t ts
 
--- A blank is a segment alone. A carriage return stands for a comment: after the phases no other is left.
+-- A blank is a segment by itself. A carriage return is the mark of a comment: the phases leave no other. Any other
+-- character begins a word, or is a bad one.
 abbrev pub kind_of : Spot → List Spot → Kind
 kind_of s ss = if is_blank s.c then (if s.c == 13 then comment else blank) else item (word_at (letters (s ∷ ss))).value
 
@@ -34,7 +35,7 @@ taken_by s ss = if is_blank s.c then 1 else (word_at (letters (s ∷ ss))).taken
 abbrev pub segment_at : Spot → List Spot → Segment
 segment_at s ss = record { kind = kind_of s ss; first = s; last = last_of s (take (taken_by s ss) (s ∷ ss)) }
 
--- the first segment, and the segments of what stands after it: at most this many
+-- the first segment and those of the characters after it, at most `n` in all
 abbrev pub segments_within : ℕ → List Spot → List Segment
 segments_within zero ss = []
 segments_within (suc n) [] = []

@@ -1,4 +1,4 @@
--- What is said of each error.
+-- The sentence of each error.
 use Rattle.std.specs.Prelude.{ℕ, List, [], ◌++◌, codes, if◌then◌else◌}
 use Rattle.std.specs.Fmt.{decimal}
 use Rattle.std.specs.Str.{encode_utf8_all}
@@ -48,11 +48,11 @@ plain_sentence DivisionByZero = codes "division by zero"
 plain_sentence RemainderByZero = codes "remainder by zero"
 plain_sentence OutOfMemory = codes "out of memory"
 
--- what an error holds: the text of a token, between backquotes
+-- the text of the token that an error holds, after a space and between backquotes; other errors hold none
 abbrev pub quoted : PreprocessorError → List ℕ
 quoted (UnexpectedToken v) = codes " `" ++ (encode_utf8_all (item_text v) ++ codes "`")
 quoted _ = []
 
--- what is said of an error, as UTF-8: its sentence, with what it holds
+-- the sentence of an error with the token that it holds, as UTF-8
 abbrev pub sentence_of : PreprocessorError → List ℕ
 sentence_of error = plain_sentence error ++ quoted error

@@ -9,7 +9,7 @@ use Rattle.pp_lexer.specs.Punctuators.{punctuator}
 use Rattle.pp_lexer.specs.declared.token.TokenValue.TheVariants.{Ident, Integer, Float, Punct, Version, Extension}
 use Rattle.pp_lexer.specs.declared.token.TokenValue.TheVariants.{Pragma}
 
--- the decimal digits of an integer, and a `u` where it is unsigned
+-- the decimal digits of an integer, and a `u` if it is unsigned
 abbrev pub integer_literal : IntegerLiteral → List ℕ
 integer_literal i = decimal i.value ++ (if i.signed then [] else codes "u")
 

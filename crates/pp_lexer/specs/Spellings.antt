@@ -1,4 +1,4 @@
--- Sets of spellings, said segment by segment: the characters of a segment, and the set of what may follow them.
+-- Sets of spellings, built from left to right: what the first characters may be, and the set of what may follow them.
 use Rattle.std.specs.Prelude.{ℕ, Bool, true, false, ◌&&◌, ◌||◌, List, [], ◌∷◌, Option, Some, None}
 
 -- the empty spelling alone
@@ -24,7 +24,7 @@ maybe p tail cs = tail cs || one p tail cs
 abbrev pub optional : (List ℕ → Bool) → List ℕ → Bool
 optional P cs = nothing cs || P cs
 
--- what stands after the first character
+-- the characters after the first one
 abbrev pub after_first : List ℕ → List ℕ
 after_first [] = []
 after_first (c ∷ cs) = cs

@@ -1,4 +1,4 @@
--- The characters of a source, once the phases are done.
+-- The characters of a source after the phases.
 use Rattle.std.specs.Prelude.{ℕ, List, length}
 use Rattle.std.specs.Str.{chars}
 use Rattle.pp_lexer.specs.Lines.{lines}

@@ -10,7 +10,7 @@ use Rattle.pp_lexer.specs.Outcome.{Outcome}
 use Rattle.pp_lexer.specs.Punctuators.{is_punctuation, punctuation_value, punctuation_outcome}
 use Rattle.pp_lexer.specs.Spellings.{nothing, one}
 
--- what stands between words: space, tab, vertical tab, form feed, and the carriage return that marks a comment
+-- the characters between words: space, tab, vertical tab, form feed, and the carriage return that marks a comment
 abbrev pub is_blank : ℕ → Bool
 is_blank c = (c == 32) || ((c == 9) || ((c == 11) || ((c == 12) || (c == 13))))
 
@@ -22,7 +22,7 @@ is_newline_word = one (λ c. c == 10) nothing
 unfoldable pub is_word : List ℕ → Bool
 is_word w = is_newline_word w || (is_identifier w || (is_number w || is_punctuation w))
 
--- what a word is worth, with what stands after it; no word at all is a bad character
+-- the value or the error of a word, by the characters after it; no word at all is a bad character
 abbrev pub word_outcome : List ℕ → List ℕ → Outcome
 word_outcome w after =
     if is_newline_word w then record { value = Ok NewLine; taken = 1 }
@@ -30,6 +30,6 @@ word_outcome w after =
     else if is_number w then number_outcome w after
     else punctuation_outcome (length w) (punctuation_value w)
 
--- what stands at a place that holds no blank: the longest word, or a bad character
+-- what begins here, if no blank does: the longest word, or a bad character
 unfoldable pub word_at : List ℕ → Outcome
 word_at cs = word_outcome (take (longest is_word cs) cs) (drop (longest is_word cs) cs)

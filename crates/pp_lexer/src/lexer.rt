@@ -514,8 +514,8 @@ impl<'a> Lexer<'a> {
         self.place
     }
 
-    /// The next item without its memory, if it is a word of plain text: an identifier, a decimal or hexadecimal
-    /// number or a punctuator of ASCII characters that no line continuation cuts. Else it returns `None` and takes no
+    /// The next item without its memory, if it is a word of plain text: an identifier, a decimal or hexadecimal number
+    /// or a punctuator of ASCII characters that no line continuation cuts. Otherwise it returns `None` and takes no
     /// item: at a newline, a `#`, an error and the end, and after an `OutOfMemory`. `next` returns these. Comments
     /// before the next item may have been passed then, which [`Lexer::had_comments`] says.
     #[inline(always)]
@@ -568,7 +568,7 @@ impl<'a> Lexer<'a> {
     }
 
     /// Passes the next item if it is a newline of plain text, with no space or comment before it, and returns whether
-    /// it did. Else it changes nothing.
+    /// it did. Otherwise it changes nothing.
     #[inline(always)]
     pub fn pass_newline(&mut self) -> bool
         ensures { PassesNewline self.old result self.new }

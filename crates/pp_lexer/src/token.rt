@@ -169,7 +169,7 @@ pub enum PreprocessorError {
     /// A `#` in live text is not the first on its line, or is in a directive or in the content of
     /// an added definition.
     UnexpectedHash,
-    /// A directive ends before its name.
+    /// A directive ends before its name, or within the parameters of a `#define`.
     UnexpectedNewLine,
     /// The arguments of a macro call have no closing `)`, or an expression is incomplete.
     UnexpectedEndOfInput,
@@ -290,7 +290,7 @@ impl Eq for Tokens {
 pub struct Version {
     /// The tokens after the word `version`, unexpanded.
     pub tokens: Tokens,
-    /// Whether no directive and no ordinary token was read before it.
+    /// Whether no directive and no ordinary token of live text was read before it.
     pub is_first_directive: bool,
     /// Whether a comment was read before its line ended.
     pub has_comments_before: bool,
@@ -302,7 +302,7 @@ pub struct Version {
 pub struct Extension {
     /// The tokens after the word `extension`, unexpanded.
     pub tokens: Tokens,
-    /// Whether an ordinary token was read before it.
+    /// Whether an ordinary token of live text was read before it.
     pub has_non_directive_before: bool,
 }
 

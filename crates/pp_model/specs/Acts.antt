@@ -1,5 +1,5 @@
--- What a token or a directive line of a source comes to: what the table of Moves says of it is done to the reader
--- (GLSL ES 3.20, section 3.4, and docs/RULES.md, Directives 1 to 14).
+-- What a token or a directive's line of a source does: the reader is changed as the table of Moves says (GLSL ES 3.20,
+-- section 3.4, and docs/RULES.md, Directives 1 to 14).
 use Rattle.std.specs.Prelude.{ℕ, ◌+◌, ◌-◌, Bool, ◌∷◌, take, drop, length, Option, Some, None, option_map, is_some}
 use Rattle.pp_lexer.specs.declared.token.PreprocessorError.TheVariants.{UnfinishedBlock}
 use Rattle.pp_model.specs.Definitions.{with_change}
@@ -15,7 +15,7 @@ use Rattle.pp_model.specs.declared.outcome.Outcome.TheVariants as outcome
 use Rattle.pp_model.specs.declared.step.Step.{Step}
 use Rattle.pp_model.specs.declared.step.Step.TheVariants as step
 
--- a step, and the reader after it; a fault leaves the reader where it is, since nothing is said of what comes after it
+-- a step, and the reader after it; a fault leaves the reader at its position, since what comes after one is left open
 pub record Acted : Type 0 where
   pub step : Step
   pub after : SourceReader
@@ -26,20 +26,20 @@ pause_at after = record { step = step.Passed; after = after }
 abbrev pub outcome_at : Outcome → SourceReader → Acted
 outcome_at outcome after = record { step = step.Given outcome; after = after }
 
--- so many items further on
+-- the reader this many items further on
 abbrev pub advanced_by : ℕ → SourceReader → SourceReader
 advanced_by count reader = record reader { position = reader.position + count }
 
--- after the directive's line
+-- the reader after the directive's line
 abbrev pub after_line : SourceReader → SourceReader
 after_line reader = advanced_by (2 + line_length (drop 2 (drop reader.position reader.items))) reader
 
--- the block line at the reader's position is a condition, which holds or not
+-- the reader after the block line at its position, once the condition of that line was read and holds or not
 abbrev pub decided : SourceReader → Bool → SourceReader
 decided reader holds =
     record (after_line reader) { truths = record { position = reader.position; holds = holds } ∷ reader.truths }
 
--- at the end each block that is open gives its fault, the innermost first
+-- at the end each block that is still to be reported gives its fault, the innermost first
 abbrev pub end_by : Option Block → SourceReader → Acted
 end_by (Some block) reader =
     let after = record reader { unfinished = reader.unfinished - 1 } in
@@ -49,8 +49,8 @@ end_by None reader = outcome_at outcome.End reader
 abbrev pub end_at : SourceReader → Acted
 end_at reader = end_by (innermost (take reader.unfinished (blocks_at reader.items (length reader.items)))) reader
 
--- What an effect does to the reader, which takes so many items. The other effects do no more: which blocks are open
--- follows from the lines that were passed, and from their conditions.
+-- What an effect does to the reader, if this many items are taken. An effect without an equation of its own only takes
+-- them: which blocks are open follows from the lines that were passed, and from their conditions.
 abbrev pub effect_on : Effect → ℕ → SourceReader → Acted
 effect_on (gives token) taken reader = outcome_at (outcome.Token token) (advanced_by taken reader)
 effect_on (gives_item value word) taken reader =
@@ -72,7 +72,7 @@ effect_on _ taken reader = pause_at (advanced_by taken reader)
 abbrev pub perform : Move → SourceReader → Acted
 perform move reader = effect_on move.effect move.taken reader
 
--- what is asked of the innermost block
+-- the facts of a block for the table of Moves
 abbrev pub facts_of : SourceReader → Block → BlockFacts
 facts_of reader block = record {
   are_surroundings_live = are_surroundings_live reader.items reader.truths block;
@@ -83,7 +83,7 @@ facts_of reader block = record {
 abbrev pub facts_here : SourceReader → Option BlockFacts
 facts_here reader = option_map (facts_of reader) (innermost (blocks_at reader.items reader.position))
 
--- what stands at the reader's position comes to what the table says of it
+-- what the table of Moves says of the item at the reader's position is done to the reader
 abbrev pub act : SourceReader → Acted
 act reader =
     let rest = drop reader.position reader.items in

@@ -61,7 +61,7 @@ pub record KeepsMarksApart {R : Type 0} (I : Reading R) (A : Answers) : Type 0 w
       → HasApartMarks (with_macro m line arguments f).list
   pub item : (o : Taken) (e f : Expander R) → Emits I A e o f → HasApartMarks e.list → HasApartMarks f.list
 
--- A list of tokens is read from a list that holds no mark.
+-- The reading of a list of tokens begins with a list in which the marks are apart.
 abbrev pub StartsApart : Type 0
 StartsApart =
     (tokens : List Read) (visible : Definitions) (hidden : List Name)

@@ -1,4 +1,4 @@
--- Laws of blocks: of a block's branches at most one is live, and dead text comes to no token and no definition.
+-- Laws of blocks: of a block's branches at most one is live, and dead text gives no token and no definition.
 use Rattle.std.specs.Prelude.{◌≡◌, ℕ, ◌≤◌, ⊤, true, false, List, [], ◌∷◌, ◌++◌, length, take}
 use Rattle.pp_lexer.specs.declared.token.Location.{Location}
 use Rattle.pp_lexer.specs.declared.token.Token.{Token}
@@ -10,14 +10,14 @@ use Rattle.pp_model.specs.declared.definition.Named.{Named}
 use Rattle.pp_model.specs.declared.outcome.Outcome.TheVariants as outcome
 use Rattle.pp_model.specs.declared.step.Step.TheVariants as step
 
--- no mark stands after an `#else`; one that does is a fault where it stands
+-- no mark comes after an `#else`; one that does is a fault at its own place
 abbrev pub ElseIsLast : List BlockLine → Type 0
 ElseIsLast [] = ⊤
 ElseIsLast (mark ∷ []) = ⊤
 ElseIsLast (mark ∷ next ∷ later) = (is_else mark.part ≡ false) × ElseIsLast (next ∷ later)
 
--- Of a block's marks at most one is chosen: the first, after which none of its partings stands, or that
--- after which so many of them stand.
+-- Of a block's marks at most one is chosen: mark 0 is its first line, and mark `k` is the last of its first `k`
+-- partings.
 abbrev pub OneBranch : Type 0
 OneBranch =
     (truths : Truths) (block : Block) (k n : ℕ)
@@ -28,7 +28,7 @@ OneBranch =
     → is_last_chosen truths block.first (take n block.partings) ≡ true
     → k ≡ n
 
--- After a branch that was taken none is: the next mark is not chosen.
+-- After a branch that was taken no other is: the next mark is not chosen.
 abbrev pub NoneAfterTaken : Type 0
 NoneAfterTaken =
     (truths : Truths) (block : Block) (mark : BlockLine)
@@ -44,6 +44,6 @@ pub record GivesNothing (r : SourceReader) (a : Acted) : Type 0 where
   pub same_definitions : a.after.definitions ≡ r.definitions
   pub same_lines : a.after.line_offset ≡ r.line_offset
 
--- What stands in dead text gives nothing, but for errors and the end.
+-- What is in dead text gives nothing, except for errors and the end.
 abbrev pub DeadTextGivesNothing : Type 0
 DeadTextGivesNothing = (r : SourceReader) → is_live r.items r.truths r.position ≡ false → GivesNothing r (act r)

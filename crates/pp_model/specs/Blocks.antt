@@ -24,13 +24,13 @@ part_of d.Else = Some part.Else
 part_of d.Endif = Some part.Closes
 part_of _ = None
 
--- the block line that stands at the position, if one does
+-- the block line at the position, if there is one
 abbrev pub line_at : ℕ → Sight → Option BlockLine
 line_at position (sight.Directive directive word) =
     option_map (λ part. record { position = position; word = word; part = part }) (part_of directive)
 line_at position _ = None
 
--- the lines that open, part or close blocks among these items, of which the first has this position
+-- the lines that open, part or close blocks among these items, if the first item has this position
 abbrev pub block_lines : ℕ → List Seen → List BlockLine
 block_lines position [] = []
 block_lines position (s ∷ rest) = cons_option (line_at position (sight_of (s ∷ rest))) (block_lines (position + 1) rest)
@@ -43,19 +43,19 @@ abbrev pub is_else : Part → Bool
 is_else part.Else = true
 is_else _ = false
 
--- The lines that part a block, and no inner one, or none if the block is closed: what the line does, if so many inner
--- blocks are open before it, and `rest` says the same of the later lines.
+-- The lines that part a block and no inner one, or none if the block is closed: this line, before which `inner` inner
+-- blocks are open, and the later ones, for which `rest` says the same.
 abbrev pub parted_by : Part → BlockLine → ℕ → (ℕ → Option (List BlockLine)) → Option (List BlockLine)
 parted_by part.Opens line inner rest = rest (inner + 1)
 parted_by part.Closes line inner rest = if inner == 0 then None else rest (inner - 1)
 parted_by _ line inner rest = if inner == 0 then option_map (λ lines. line ∷ lines) (rest inner) else rest inner
 
--- the lines that part a block in which so many inner ones are open, or none if one of these lines closes it
+-- the lines that part a block in which `inner` inner ones are open, or none if one of these lines closes it
 abbrev pub partings_of : ℕ → List BlockLine → Option (List BlockLine)
 partings_of inner [] = Some []
 partings_of inner (line ∷ later) = parted_by line.part line inner (λ deeper. partings_of deeper later)
 
--- A block that is open: its first line, and the lines that part it so far. All of these are its branch marks.
+-- A block that is open: its first line, and the lines that part it so far. Together these are its marks.
 pub record Block : Type 0 where
   pub first : BlockLine
   pub partings : List BlockLine
@@ -83,15 +83,15 @@ innermost blocks = slice_get blocks (length blocks - 1)
 abbrev pub Truths : Type 0
 Truths = List Truth
 
--- whether the condition at a position holds, where it was read
+-- whether the condition at a position holds, if it was read
 abbrev pub truth_at : Truths → ℕ → Option Bool
 truth_at truths position = option_map (λ t. t.holds) (find (λ t. t.position == position) truths)
 
--- a mark's own condition holds; an `#else` has none
+-- a mark's own condition was read and holds; an `#else` has none, and counts as one that holds
 abbrev pub holds_at : Truths → BlockLine → Bool
 holds_at truths mark = is_else mark.part || unwrap_or (truth_at truths mark.position) false
 
--- a mark's own condition was read and is false; an `#else` has none
+-- a mark's own condition was read and is false; an `#else` has none, and counts as false
 abbrev pub fails_at : Truths → BlockLine → Bool
 fails_at truths mark = is_else mark.part || not (unwrap_or (truth_at truths mark.position) true)
 
@@ -101,7 +101,7 @@ is_last_chosen truths mark [] = holds_at truths mark
 is_last_chosen truths mark (later ∷ marks) = fails_at truths mark && is_last_chosen truths later marks
 
 -- A position is live if in each block that is open there the latest mark is chosen. The blocks around a block are open
--- at its first line too, with the same latest marks; so that line is live where its block's branches are.
+-- at its first line too, with the same latest marks; so its surroundings are live if that line is.
 abbrev pub is_live : List Seen → Truths → ℕ → Bool
 is_live source truths position =
     list_all (λ block. is_last_chosen truths block.first block.partings) (blocks_at source position)
@@ -110,7 +110,7 @@ is_live source truths position =
 abbrev pub are_surroundings_live : List Seen → Truths → Block → Bool
 are_surroundings_live source truths block = is_live source truths block.first.position
 
--- a branch of the block was taken: a condition of it holds
+-- a branch of the block was taken: one of its conditions was read and holds
 abbrev pub has_taken_branch : Truths → Block → Bool
 has_taken_branch truths block =
     list_any (λ mark. unwrap_or (truth_at truths mark.position) false) (block.first ∷ block.partings)

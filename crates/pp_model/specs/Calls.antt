@@ -32,8 +32,8 @@ abbrev pub is_comma : TokenValue → Bool
 is_comma (Punct Comma) = true
 is_comma _ = false
 
--- where a token stands among the parentheses of a call: it closes the call, so many inner ones are open after it, or it
--- opens one too many
+-- the position of a token among the parentheses of a call: it closes the call, or `n` inner ones are open after it, or
+-- it opens one too many
 pub data Nesting : Type 0 where
   closes : Nesting
   within : ℕ → Nesting
@@ -48,7 +48,7 @@ nesting n value =
     else if is_right_paren value then (if n == 0 then closes else within (n - 1))
     else within n
 
--- the tokens between the parentheses of a call, and where the closing one stands
+-- the tokens between the parentheses of a call, and the place of the closing one
 pub record Gathered : Type 0 where
   pub tokens : List Read
   pub closing : Location
@@ -56,8 +56,8 @@ pub record Gathered : Type 0 where
 abbrev pub before : Read → Result Gathered Fault → Result Gathered Fault
 before read rest = rest >>= λ gathered. Ok (record gathered { tokens = read ∷ gathered.tokens })
 
--- The tokens that are taken up to the matching `)`, or the fault that is met before it; `last` is where the last token
--- stands that was taken.
+-- The tokens that are taken up to the matching `)`, or the fault that is met before it, while `n` inner parentheses are
+-- open. `last` is the place of the token taken last.
 pub data Gathers {R : Type 0} (I : Reading R)
     : ℕ → Location → Expander R → Result Gathered Fault → Expander R → Type 0 where
   closed : (n : ℕ) (last : Location) (read : Read) (e f : Expander R) (g : Result Gathered Fault)
@@ -82,7 +82,7 @@ pub data Gathers {R : Type 0} (I : Reading R)
       → g ≡ Err fault
       → Gathers I n last e g f
 
--- tokens cut at the commas that stand outside inner parentheses: the first piece, and the others
+-- tokens cut at the commas outside of inner parentheses: the first piece, and the others
 pub record Pieces : Type 0 where
   pub first : List Read
   pub others : List (List Read)
@@ -115,7 +115,7 @@ misfit parameters arguments =
     else if nat_lt (length arguments) (length parameters) then Some TooFewDefineArguments
     else None
 
--- a call whose `)` has been taken: where its `(` stands, its arguments, and what is defined and open then
+-- a call whose `)` has been taken: the place of its `(`, its arguments, and what is defined and open then
 pub record Site : Type 0 where
   pub paren : Location
   pub arguments : List (List Read)
@@ -131,18 +131,18 @@ site_of I expander paren tokens =
       open_around = masked_names expander;
     }
 
--- what a call of a definition may come to: its arguments, each expanded alone, or a fault
+-- what a call of a definition may give: its arguments, each expanded alone, or a fault
 abbrev pub Answers : Type 1
 Answers = Definition → Site → Result (List (List Read)) Fault → Type 0
 
--- what stands after the name of a function-like macro: no call, but what was found there; or a call, with the line of
--- its `)`; or the fault of a call
+-- what follows the name of a function-like macro: no call, but what was taken in place of its `(`; or the fault of a
+-- call; or a call, with the line of its `)`
 pub data Called : Type 0 where
   no_call : Taken → Called
   refused : Fault → Called
   fits : List (List Read) → ℕ → Called
 
--- where a `(` was taken, its place
+-- the place of what was taken, if it is a `(`
 abbrev pub paren_at : Taken → Option Location
 paren_at (taken.Token read) = if is_left_paren read.token.value then Some read.token.location else None
 paren_at _ = None
@@ -153,18 +153,18 @@ called_by line (Err fault) = refused fault
 
 pub data Calls {R : Type 0} (I : Reading R) (A : Answers) (definition : Definition)
     : Expander R → Called → Expander R → Type 0 where
-  -- no `(` is found
+  -- no `(` is taken
   alone : (o : Taken) (e f : Expander R) (c : Called)
       → Takes I e o f → paren_at o ≡ None
       → c ≡ no_call o
       → Calls I A definition e c f
-  -- the arguments do not end
+  -- the search for the end of the arguments meets a fault
   broken : (o : Taken) (paren : Location) (fault : Fault) (e f g : Expander R) (c : Called)
       → Takes I e o f → paren_at o ≡ Some paren
       → Gathers I 0 paren f (Err fault) g
       → c ≡ refused fault
       → Calls I A definition e c g
-  -- the arguments come to lists of tokens, or to a fault
+  -- the call gives its expanded arguments, or a fault
   whole : (o : Taken) (paren : Location) (gathered : Gathered) (answer : Result (List (List Read)) Fault)
       (e f g : Expander R) (c : Called)
       → Takes I e o f → paren_at o ≡ Some paren

@@ -1,4 +1,4 @@
--- A token of the lexer as a token of the preprocessed source, or as one that is not wanted where it stands.
+-- A token of the lexer as a token of the preprocessed source, or as one that isn't allowed at its position.
 use Rattle.std.specs.Prelude.{Bool, true, false, Option, Some, None, Result, Ok, Err}
 use Rattle.pp_lexer.specs.declared.lexer.item.Token.{Token as LexerToken}
 use Rattle.pp_lexer.specs.declared.lexer.item.TokenValue.{TokenValue as LexerTokenValue}
@@ -46,7 +46,7 @@ conversion_at place (LexerPunct p) = Ok (record { value = Punct p; location = pl
 conversion_at place Hash = Err (UnexpectedHash, place)
 conversion_at place NewLine = Err (UnexpectedNewLine, place)
 
--- the token with its value and place; a number sign is refused
+-- the token with its value and place; a `#` or a newline is refused
 abbrev pub conversion : LexerToken → Result Token Fault
 conversion token = conversion_at token.location token.value
 
@@ -54,6 +54,6 @@ abbrev pub refusal_of : Result Token Fault → Fault
 refusal_of (Ok token) = (UnexpectedToken token.value, token.location)
 refusal_of (Err fault) = fault
 
--- the fault of a token that stands where it is not wanted
+-- the fault of a token that isn't allowed at its position
 abbrev pub refused_token : LexerToken → Fault
 refused_token token = refusal_of (conversion token)

@@ -1,5 +1,5 @@
--- What a `#define` line says (GLSL ES 3.20, section 3.4, and docs/RULES.md, Directives 5).
--- Faults come in the order of reading.
+-- What a `#define` line says (GLSL ES 3.20, section 3.4, and docs/RULES.md, Directives 5). Faults come in the order of
+-- reading.
 use Rattle.std.specs.Prelude.{Bool, true, false, not, ◌&&◌, if◌then◌else◌, List, [], ◌∷◌, ◌++◌, drop, Result, Ok, Err}
 use Rattle.pp_lexer.specs.Lexed.{Seen}
 use Rattle.pp_lexer.specs.Items.{Lexeme}
@@ -23,7 +23,7 @@ new_parameter names location name =
     if is_in name names then Err (DuplicateParameter, location) else Ok (names ++ name ∷ [])
 
 abbrev mutual
-  -- after a parameter stands `)`, or a comma and one more
+  -- after a parameter comes `)`, or a comma and one more
   pub after_parameter : Location → List Name → List Seen → Result Parameters Fault
   after_parameter word names [] = Err (UnexpectedEndOfInput, word)
   after_parameter word names (s ∷ rest) = s.item >>= λ token.
@@ -31,13 +31,13 @@ abbrev mutual
       else if parts_parameters token.value then after_comma word names rest
       else Err (refused_token token)
 
-  -- after a comma stands a parameter
+  -- after a comma comes a parameter
   pub after_comma : Location → List Name → List Seen → Result Parameters Fault
   after_comma word names [] = Err (UnexpectedEndOfInput, word)
   after_comma word names (s ∷ rest) = s.item >>= λ token.
       name_of token >>= new_parameter names token.location >>= λ more. after_parameter word more rest
 
--- after the `(` stands `)`, or a first parameter
+-- after the `(` comes `)`, or a first parameter
 abbrev pub parameters : Location → List Seen → Result Parameters Fault
 parameters word [] = Err (UnexpectedEndOfInput, word)
 parameters word (s ∷ rest) = s.item >>= λ token.
@@ -48,12 +48,12 @@ abbrev pub is_attached_paren : Lexeme → Bool
 is_attached_paren (Ok token) = opens_parameters token.value && not token.leading_whitespace
 is_attached_paren (Err fault) = false
 
--- a `(` stands directly after the name
+-- a `(` comes directly after the name
 abbrev pub has_parameters : List Seen → Bool
 has_parameters [] = false
 has_parameters (s ∷ rest) = is_attached_paren s.item
 
--- the definition after the name
+-- the definition on the line after the name, or its first fault
 abbrev pub definition_at : Location → List Seen → Result Definition Fault
 definition_at word rest =
     if has_parameters rest

@@ -4,7 +4,7 @@ use Rattle.pp_lexer.specs.declared.token.Token.{Token}
 use Rattle.pp_lexer.specs.Spelling.{values_of}
 use Rattle.pp_model.specs.Names.{Name, is_same_name}
 
--- what a macro's name stands for: the parameters, each at its position, and the tokens of the body
+-- a macro: whether it is function-like, its parameters, each at its position, and the tokens of its body
 pub record Definition : Type 0 where
   pub function_like : Bool
   pub parameters : List Name
@@ -14,15 +14,16 @@ pub record Definition : Type 0 where
 abbrev pub Definitions : Type 0
 Definitions = Name → Option Definition
 
--- the name stands for this, or for nothing, and all other names stay
+-- the name has this definition, or none, and all other names keep theirs
 abbrev pub with_change : Definitions → Name → Option Definition → Definitions
 with_change definitions name change = λ other. if is_same_name other name then change else definitions other
 
--- a macro without parameters
+-- the object-like macro with this body
 abbrev pub object_like : List Token → Definition
 object_like body = record { function_like = false; parameters = []; body = body }
 
--- the two may stand for the same name: the places of the body's tokens do not count
+-- The two say the same: they have the same kind, the same parameters in the same order, and bodies with the same
+-- values. The places of the body's tokens don't count.
 pub record IsSameDefinition (old new : Definition) : Type 0 where
   pub kind : old.function_like ≡ new.function_like
   pub parameters : old.parameters ≡ new.parameters

@@ -18,7 +18,7 @@ abbrev pub with_macro : {R : Type 0} → Opening → ℕ → List (List Read) �
 with_macro m line arguments expander =
     record expander { list = macro_before m.name m.definition line arguments expander.list }
 
--- The next item: a token that opens no macro, an error or the end. `A` says what calls come to.
+-- The next item: a token that opens no macro, an error or the end. `A` says what calls give.
 pub data Emits {R : Type 0} (I : Reading R) (A : Answers) : Expander R → Taken → Expander R → Type 0 where
   -- what opens no macro is the item
   itself : (o : Taken) (e f : Expander R) → Takes I e o f → opening I f o ≡ None → Emits I A e o f
@@ -28,7 +28,7 @@ pub data Emits {R : Type 0} (I : Reading R) (A : Answers) : Expander R → Taken
       → m.definition.function_like ≡ false
       → Emits I A (with_macro m m.token.location.line [] f) o h
       → Emits I A e o h
-  -- the name of a function-like macro without a call is the item; what was found after it comes next
+  -- the name of a function-like macro without a call is the item; what was taken in place of its `(` comes next
   name_alone : (x y o : Taken) (m : Opening) (e f g h : Expander R)
       → Takes I e x f → opening I f x ≡ Some m
       → m.definition.function_like ≡ true
@@ -50,7 +50,7 @@ pub data Emits {R : Type 0} (I : Reading R) (A : Answers) : Expander R → Taken
       → Emits I A (with_macro m line arguments g) o h
       → Emits I A e o h
 
--- a list with this before it, where there is one
+-- the list with this before it, or the fault in place of the list
 abbrev pub first_before : {A : Type 0} → A → Result (List A) Fault → Result (List A) Fault
 first_before first rest = rest >>= λ others. Ok (first ∷ others)
 
@@ -70,7 +70,7 @@ pub data Collects {R : Type 0} (I : Reading R) (A : Answers) : Expander R → Re
       → out ≡ first_before read rest
       → Collects I A e out
 
--- what a list of tokens comes to alone, where these definitions are visible and these names are open around
+-- what a list of tokens expands to alone, if these definitions are visible and these names are open around
 abbrev pub Alones : Type 1
 Alones = List Read → Definitions → List Name → Result (List Read) Fault → Type 0
 
@@ -89,24 +89,24 @@ pub data Each (deeper : Alones) (visible : Definitions) (hidden : List Name)
       → out ≡ first_before expanded rest
       → Each deeper visible hidden (argument ∷ arguments) out
 
--- what calls come to: a wrong number of arguments is refused, and any other call comes to what `Fitting` says
+-- what calls give: a wrong number of arguments is a fault, and any other call gives what `Fitting` says
 abbrev pub answers_by : (Site → Result (List (List Read)) Fault → Type 0) → Answers
 answers_by Fitting definition site out =
     MatchOption (misfit definition.parameters site.arguments)
     (Fitting site out)
     (λ error. out ≡ Err (error, site.paren))
 
--- what a list of tokens comes to alone, where calls come to this
+-- what a list of tokens expands to alone, if calls have these answers
 abbrev pub alone_by : Answers → Alones
 alone_by A tokens visible hidden out = Collects argument_reading A (reading_of tokens visible hidden) out
 
--- what the arguments of a call come to, where arguments may be read inside each other so many levels deeper
+-- what the arguments of a call give, if arguments may be expanded inside one another this many levels deeper
 abbrev pub ExpandsArguments : ℕ → Site → Result (List (List Read)) Fault → Type 0
 ExpandsArguments zero site out = out ≡ Err (RecursionLimitReached, site.paren)
 ExpandsArguments (suc levels) site out =
     Each (alone_by (answers_by (ExpandsArguments levels))) site.visible site.open_around site.arguments out
 
--- what calls come to, where arguments may be read inside each other so many levels deeper
+-- what calls give, if arguments may be expanded inside one another this many levels deeper
 abbrev pub answers_at : ℕ → Answers
 answers_at levels = answers_by (ExpandsArguments levels)
 
@@ -114,6 +114,6 @@ answers_at levels = answers_by (ExpandsArguments levels)
 abbrev pub Alone : ℕ → Alones
 Alone levels = alone_by (answers_at levels)
 
--- argument expansions inside each other
+-- how many levels deep arguments may be expanded inside one another
 unfoldable pub expansion_limit : ℕ
 expansion_limit = 128

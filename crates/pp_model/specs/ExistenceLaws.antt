@@ -1,5 +1,5 @@
 -- Laws of expansion, of reading and of runs: each step has an outcome. They ask that finitely many names are defined,
--- as in each state of a run. If there were endless names, each defined as the next one, macros would open for ever.
+-- as in each state of a run. With endless names, each defined as the next one, macros would open for ever.
 use Rattle.std.specs.Prelude.{◌≡◌, ℕ, Bool, true, false, List, [], ◌∷◌, Option, Some, Result}
 use Rattle.pp_lexer.specs.Lexed.{Seen}
 use Rattle.pp_lexer.specs.declared.token.Location.{Location}
@@ -33,7 +33,7 @@ pub record IsFinite (definitions : Definitions) : Type 0 where
   pub names : List Name
   pub among : (name : Name) (definition : Definition) → definitions name ≡ Some definition → is_in name names ≡ true
 
--- A reader passes something next.
+-- A reader gives something next.
 abbrev pub AReading : {R : Type 0} → Reading R → Type 0
 AReading {R} I = (r : R) → IsFinite (I.visible r) → (x : Taken) × (t : R) × I.Reads r x t
 
@@ -56,7 +56,7 @@ abbrev pub AnArgument : Alones → Type 0
 AnArgument deeper = (tokens : List Read) (visible : Definitions) (hidden : List Name) → IsFinite visible
     → (x : Result (List Read) Fault) × deeper tokens visible hidden x
 
--- After the name of a function-like macro a call is found, none, or a fault.
+-- The search for a call after the name of a function-like macro finds a call, none, or a fault.
 abbrev pub ACall : {R : Type 0} → Reading R → Answers → Type 0
 ACall {R} I A = (definition : Definition) (e : Expander R) → IsFinite (I.visible e.reader)
     → (x : Called) × (f : Expander R) × Calls I A definition e x f
@@ -74,7 +74,7 @@ abbrev pub AnOperand : Answers → Type 0
 AnOperand A = (kind : LineKind) (directive : Location) (e : Expander Listed) → IsFinite e.reader.visible
     → (x : Result Bool Fault) × (f : Expander Listed) × Operand kind directive A e x f
 
--- A line whose value is wanted has a list of words, with an ending.
+-- The line of an `#if`, `#elif` or `#line` has a list of words, with an ending.
 abbrev pub ALine : Answers → Type 0
 ALine A = (kind : LineKind) (directive : Location) (e : Expander Listed) → IsFinite e.reader.visible
     → (words : Words) × LineWords kind directive A e words
@@ -98,7 +98,7 @@ abbrev pub RunDefinesFinitelyMany : Answers → Type 0
 RunDefinesFinitelyMany A = (source : List Seen) (e : Expander SourceReader) → IsReached A source e
     → IsFinite e.reader.definitions
 
--- In this state these tokens come, one after another, and then this, which is an error or the end.
+-- From this state these tokens are given, one after another, and then this outcome, which is an error or the end.
 pub data Ends (A : Answers) : Expander SourceReader → List Token → Outcome → Type 0 where
   last : (o : Outcome) (tokens : List Token) (e f : Expander SourceReader)
       → Gives A e o f

@@ -1,4 +1,4 @@
--- Laws of expansion: each step of it has one outcome, and leaves one state.
+-- Laws of expansion: each step of it has at most one outcome, and leaves one state.
 use Rattle.std.specs.Prelude.{◌≡◌, ℕ, List, Bool, Result}
 use Rattle.pp_lexer.specs.declared.token.Location.{Location}
 use Rattle.pp_model.specs.Names.{Name}
@@ -12,15 +12,15 @@ use Rattle.pp_model.specs.declared.read.Read.{Read}
 use Rattle.pp_model.specs.declared.read.Taken.{Taken}
 use Rattle.pp_model.specs.declared.word.LineKind.{LineKind}
 
--- A reader passes one outcome, and one reader is after it.
+-- A reader gives at most one outcome, and one reader is after it.
 abbrev pub OneReads : {R : Type 0} → Reading R → Type 0
 OneReads {R} I = (r : R) (x y : Taken) (s t : R) → I.Reads r x s → I.Reads r y t → (x ≡ y) × (s ≡ t)
 
--- A taking has one outcome.
+-- A taking has at most one outcome.
 abbrev pub OneTaking : {R : Type 0} → Reading R → Type 0
 OneTaking {R} I = (x y : Taken) (e f g : Expander R) → Takes I e x f → Takes I e y g → (x ≡ y) × (f ≡ g)
 
--- The search for the end of a call gathers one list of tokens, or meets one fault.
+-- The search for the end of a call gathers at most one list of tokens, or meets one fault.
 abbrev pub OneGathering : {R : Type 0} → Reading R → Type 0
 OneGathering {R} I =
     (n : ℕ) (last : Location) (x y : Result Gathered Fault) (e f g : Expander R)
@@ -28,7 +28,7 @@ OneGathering {R} I =
     → Gathers I n last e y g
     → (x ≡ y) × (f ≡ g)
 
--- A call at a site comes to one list of arguments, or to one fault.
+-- A call at a site gives at most one list of arguments, or one fault.
 abbrev pub OneAnswer : Answers → Type 0
 OneAnswer A =
     (definition : Definition) (site : Site) (x y : Result (List (List Read)) Fault)
@@ -36,7 +36,7 @@ OneAnswer A =
     → A definition site y
     → x ≡ y
 
--- After the name of a function-like macro stands one call, or none.
+-- The search for a call after the name of a function-like macro has at most one outcome.
 abbrev pub OneCall : {R : Type 0} → Reading R → Answers → Type 0
 OneCall {R} I A =
     (definition : Definition) (x y : Called) (e f g : Expander R)
@@ -44,15 +44,15 @@ OneCall {R} I A =
     → Calls I A definition e y g
     → (x ≡ y) × (f ≡ g)
 
--- An expander has one next item.
+-- An expander has at most one next item.
 abbrev pub OneItem : {R : Type 0} → Reading R → Answers → Type 0
 OneItem {R} I A = (x y : Taken) (e f g : Expander R) → Emits I A e x f → Emits I A e y g → (x ≡ y) × (f ≡ g)
 
--- An expander has one list of items, or one first fault.
+-- An expander has at most one list of items, or one first fault.
 abbrev pub OneList : {R : Type 0} → Reading R → Answers → Type 0
 OneList {R} I A = (x y : Result (List Read) Fault) (e : Expander R) → Collects I A e x → Collects I A e y → x ≡ y
 
--- An argument alone comes to one list of tokens, or to one fault.
+-- An argument alone expands to at most one list of tokens, or one fault.
 abbrev pub OneArgument : Alones → Type 0
 OneArgument deeper =
     (tokens : List Read) (visible : Definitions) (hidden : List Name) (x y : Result (List Read) Fault)
@@ -60,7 +60,7 @@ OneArgument deeper =
     → deeper tokens visible hidden y
     → x ≡ y
 
--- Several arguments, each alone, come to one list, or to one fault.
+-- Several arguments, each alone, expand to at most one list of lists, or one fault.
 abbrev pub OneEach : Alones → Type 0
 OneEach deeper =
     (visible : Definitions) (hidden : List Name) (arguments : List (List Read)) (x y : Result (List (List Read)) Fault)
@@ -68,7 +68,7 @@ OneEach deeper =
     → Each deeper visible hidden arguments y
     → x ≡ y
 
--- The operand of a `defined` has one answer, or one fault.
+-- The operand of a `defined` has at most one answer, or one fault.
 abbrev pub OneOperand : Answers → Type 0
 OneOperand A =
     (kind : LineKind) (directive : Location) (x y : Result Bool Fault) (e f g : Expander Listed)
@@ -76,7 +76,7 @@ OneOperand A =
     → Operand kind directive A e y g
     → (x ≡ y) × (f ≡ g)
 
--- A line comes to one list of words, with one ending.
+-- A line has at most one list of words, with one ending.
 abbrev pub OneLine : Answers → Type 0
 OneLine A =
     (kind : LineKind) (directive : Location) (x y : Words) (e : Expander Listed)

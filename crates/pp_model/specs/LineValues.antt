@@ -1,5 +1,6 @@
--- What an `#if`, `#elif` or `#line` line comes to (GLSL ES 3.20, section 3.4, and docs/RULES.md, Expressions 3 to 7 and
--- Directives 13). Trees, their values and the first fault of an expression are those of pp_expression.
+-- The value of an `#if`, `#elif` or `#line` line, or its first fault (GLSL ES 3.20, section 3.4, and docs/RULES.md,
+-- Expressions 3 to 7 and Directives 13). Trees, their values and the first fault of an expression are those of
+-- pp_expression.
 use Rattle.std.specs.Prelude.{◌≡◌, ◌≢◌, ℕ, ℤ, pos, negsuc, ◌-◌, ◌^◌, nat_lt, Bool, not, if◌then◌else◌, List, [], length}
 use Rattle.std.specs.Prelude.{drop, slice_get, map, Option, Some, None, option_map, option_and_then, unwrap_or, Result}
 use Rattle.std.specs.Prelude.{Ok, Err}
@@ -31,7 +32,7 @@ use Rattle.pp_model.specs.declared.word.LineKind.TheVariants.{Condition, LineNum
 use Rattle.pp_model.specs.declared.word.Word.{Word}
 use Rattle.pp_model.specs.declared.word.Word.TheVariants.{Plain, Defined}
 
--- what a word is to the grammar of expressions
+-- what a word is in the grammar of expressions
 abbrev pub symbol_of_value : TokenValue → Symbol
 symbol_of_value (Integer number) = symbol.Number number.value
 symbol_of_value (Punct punct) = symbol.Punct punct
@@ -45,16 +46,16 @@ symbol_of (Defined location (Err fault)) = symbol.Fault
 abbrev pub line_of : Words → Line
 line_of words = record { symbols = map symbol_of words.words; ending = option_map (λ fault. kind.Unread) words.ending }
 
--- the word with which so many words of the line end
+-- the first of the last `left` words of the line
 abbrev pub word_from_end : ℕ → Words → Option Word
 word_from_end left words = slice_get words.words (length words.words - left)
 
--- the fault of a word that can't stand where it does; a `defined` is reported as the identifier that it begins with
+-- the fault of a word that isn't allowed at its position; a `defined` is reported as the identifier that it begins with
 abbrev pub unwanted_word : Word → Fault
 unwanted_word (Plain token) = unexpected token
 unwanted_word (Defined location answer) = (UnexpectedToken (Ident defined_name), location)
 
--- the fault of a `defined` with its operand
+-- the fault of a `defined`'s operand, if it has one
 abbrev pub operand_fault : Word → Option Fault
 operand_fault (Defined location (Err fault)) = Some fault
 operand_fault _ = None
@@ -63,7 +64,7 @@ operand_fault _ = None
 abbrev pub ended_early : Location → Fault
 ended_early directive = (UnexpectedEndOfInput, directive)
 
--- The first fault of an expression, with its place: faults of arithmetic and of the end stand at the directive's word.
+-- The first fault of an expression, with its place: faults of arithmetic and of the end are at the directive's word.
 abbrev pub placed_fault : Location → Words → ExpressionFault → ℕ → Fault
 placed_fault directive words kind.IntegerOverflow left = (IntegerOverflow, directive)
 placed_fault directive words kind.DivisionByZero left = (DivisionByZero, directive)
@@ -75,20 +76,21 @@ placed_fault directive words kind.Unread left = unwrap_or words.ending (ended_ea
 placed_fault directive words kind.Operand left =
     unwrap_or (option_and_then operand_fault (word_from_end left words)) (ended_early directive)
 
--- an expression alone on its line, of whose value something is reported: nothing may stand after it
+-- what is reported of the value of an expression that is alone on its line, or its first fault; a word after it is a
+-- fault
 abbrev pub alone_on_line : {A : Type 0} → Location → Words → (ℤ → A) → Result Value Found → Result A Fault
 alone_on_line directive words result (Ok v) =
     option_map_or (λ word. Err (unwanted_word word)) (word_from_end v.left words) (Ok (result v.value))
 alone_on_line directive words result (Err found) = Err (placed_fault directive words found.kind found.left)
 
--- The same by the evaluation of the expression.
+-- The same, by the evaluation of the line's expression.
 pub record IsAlone {A : Type 0} (directive : Location) (words : Words) (report : ℤ → A)
     (result : Result A Fault) : Type 0 where
   pub evaluation : Result Value Found
   pub evaluated : Evaluates (line_of words) evaluation
   pub is : result ≡ alone_on_line directive words report evaluation
 
--- The condition of an `#if` or `#elif`: it holds where its value isn't 0.
+-- The condition of an `#if` or `#elif`: it holds if its value isn't 0.
 pub record IsCondition (A : Answers) (directive : Location) (tokens : List Token) (definitions : Definitions)
     (result : Result Bool Fault) : Type 0 where
   pub words : Words
@@ -106,7 +108,8 @@ as_line_number (negsuc n) = None
 abbrev pub words_after : ℕ → Words → Words
 words_after left words = record words { words = drop (length words.words - left) words.words }
 
--- What the words of a `#line` come to. A second expression after the line number is only read.
+-- The number that the words of a `#line` give, or their first fault. A second expression after the line number has no
+-- effect unless it has a fault.
 pub data Numbers (directive : Location) (words : Words) : Result ℕ Fault → Type 0 where
   faulty : (found : Found) (result : Result ℕ Fault)
       → Evaluates (line_of words) (Err found)
@@ -131,12 +134,12 @@ pub data Numbers (directive : Location) (words : Words) : Result ℕ Fault → T
       → result ≡ alone_on_line directive (words_after v.left words) (λ value. n) second
       → Numbers directive words result
 
--- the first fault of a `#line`, without the number that may be before it
+-- the number or the first fault of a `#line`, without the number that may be before the fault
 abbrev pub without_number : Result ℕ LineFault → Result ℕ Fault
 without_number (Ok number) = Ok number
 without_number (Err refused) = Err refused.fault
 
--- the line number that a `#line` gives
+-- the line number that a `#line` gives, or its first fault
 pub record IsLineNumber (A : Answers) (directive : Location) (tokens : List Token) (definitions : Definitions)
     (result : Result ℕ Fault) : Type 0 where
   pub words : Words

@@ -28,7 +28,7 @@ pub data WordReading : Type 0 where
 abbrev pub unexpected : Token → Fault
 unexpected token = (UnexpectedToken token.value, token.location)
 
--- an unknown identifier is 0, signed and 64 bits wide; in a `#line` it is refused
+-- an identifier that opens no macro is 0, signed and 64 bits wide; in a `#line` it is refused
 abbrev pub unknown_name : LineKind → Token → WordReading
 unknown_name Condition token =
     word (record { value = Integer (record { value = 0; signed = true; width = pos 64 }); location = token.location })
@@ -41,13 +41,13 @@ reading_of_value kind token _ = word token
 abbrev pub reading : LineKind → Token → WordReading
 reading kind token = reading_of_value kind token token.value
 
--- the fault of what stands where a part of `defined` is wanted; the end's is at the directive's word
+-- the fault of what was taken in place of a part of `defined`; that of the end is at the directive's word
 abbrev pub unwanted_part : Location → Taken → Fault
 unwanted_part directive (taken.Token read) = unexpected read.token
 unwanted_part directive (taken.Fault f) = f
 unwanted_part directive taken.End = (UnexpectedEndOfInput, directive)
 
--- the same of a token that was read as a word
+-- the same of a token of the expanded line
 abbrev pub unwanted_reading : Token → WordReading → Fault
 unwanted_reading token operator = unexpected token
 unwanted_reading token (word w) = unexpected w
@@ -66,7 +66,7 @@ abbrev pub name_in : Taken → Option Name
 name_in (taken.Token read) = name_in_value read.token.value
 name_in _ = None
 
--- a token was taken whose value is so
+-- a token was taken whose value passes
 abbrev pub has_value : (TokenValue → Bool) → Taken → Bool
 has_value test (taken.Token read) = test read.token.value
 has_value test _ = false
@@ -74,12 +74,13 @@ has_value test _ = false
 abbrev pub is_defined : Expander Listed → Name → Bool
 is_defined e name = is_some (e.reader.visible name)
 
--- the answer, if what was read is a `)`, or else the fault of that
+-- the answer, if a `)` was read, and otherwise the fault of what was read
 abbrev pub closed_by : LineKind → Location → Bool → Taken → Result Bool Fault
 closed_by kind directive answer o =
     if has_value is_right_paren o then Ok answer else Err (unwanted_closing kind directive o)
 
--- what the operand of a `defined` comes to after its `(`: the name is taken and not looked up, the `)` is read expanded
+-- what the operand of a `defined` gives after its `(`: the name is taken and not looked up, and the `)` is read with
+-- expansion
 pub data InParentheses (kind : LineKind) (directive : Location) (A : Answers)
     : Expander Listed → Result Bool Fault → Expander Listed → Type 0 where
   no_name : (o : Taken) (e f : Expander Listed) (r : Result Bool Fault)
@@ -94,7 +95,7 @@ pub data InParentheses (kind : LineKind) (directive : Location) (A : Answers)
       → r ≡ closed_by kind directive (is_defined g n) x
       → InParentheses kind directive A e r g
 
--- what the operand of a `defined` comes to: a name, alone or in parentheses. The name or the `(` is taken and not
+-- what the operand of a `defined` gives: it is a name, alone or in parentheses. The name or the `(` is taken and not
 -- looked up.
 pub data Operand (kind : LineKind) (directive : Location) (A : Answers)
     : Expander Listed → Result Bool Fault → Expander Listed → Type 0 where
@@ -123,7 +124,7 @@ pub record Words : Type 0 where
 abbrev pub word_before : Word → Words → Words
 word_before w rest = record rest { words = w ∷ rest.words }
 
--- The words that the rest of a line comes to. After a `defined` at fault nothing is read.
+-- The words of the rest of a line, after expansion. After a `defined` whose operand has a fault nothing is read.
 pub data LineWords (kind : LineKind) (directive : Location) (A : Answers) : Expander Listed → Words → Type 0 where
   ended : (e f : Expander Listed) (ws : Words)
       → Emits line_reading A e taken.End f

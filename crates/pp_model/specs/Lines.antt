@@ -1,6 +1,6 @@
 -- The rest of a directive's line: the items after its word, up to the line's NewLine (docs/RULES.md, Directives 3 to 7,
--- 9, 10, 13 and 14). The items of a text always have that NewLine. Where a list ends without it, the line ends there
--- too; a token that is wanted there is refused at the word.
+-- 9, 10, 13 and 14). The items of a text always have that NewLine. If a list ends without it, the line ends there too;
+-- a token that is expected there is `UnexpectedEndOfInput` at the word.
 use Rattle.std.specs.Prelude.{ℕ, ◌+◌, Bool, false, if◌then◌else◌, List, [], ◌∷◌, drop, Option, None, ok_or, Result, Ok}
 use Rattle.std.specs.Prelude.{Err}
 use Rattle.std.specs.Option.{option_or}
@@ -22,7 +22,7 @@ abbrev pub ends_line : Lexeme → Bool
 ends_line (Ok token) = is_newline token.value
 ends_line (Err fault) = false
 
--- how many items the rest of the line has, with its NewLine
+-- the number of items of the rest of the line, with its NewLine
 abbrev pub line_length : List Seen → ℕ
 line_length [] = 0
 line_length (s ∷ rest) = if ends_line s.item then 1 else 1 + line_length rest
@@ -32,37 +32,37 @@ abbrev pub line_fault : List Seen → Option Fault
 line_fault [] = None
 line_fault (s ∷ rest) = if ends_line s.item then None else option_or (result_err s.item) (line_fault rest)
 
--- the line's tokens, or the first error or number sign among them
+-- the line's tokens, or the first error or `#` among them
 abbrev pub line_tokens : List Seen → Result (List Token) Fault
 line_tokens [] = Ok []
 line_tokens (s ∷ rest) =
     if ends_line s.item then Ok []
     else (s.item >>= λ token. conversion token >>= λ first. first_before first (line_tokens rest))
 
--- whether a comment stands anywhere before the line's end
+-- whether a comment was passed as a blank anywhere in the text before the line's end
 abbrev pub comments_before_end : List Seen → Bool
 comments_before_end [] = false
 comments_before_end (s ∷ rest) = if ends_line s.item then s.had_comments else comments_before_end rest
 
--- the token that comes first, or what is wrong where one is wanted
+-- the first token, or the fault if there is none
 abbrev pub first_token : Location → List Seen → Result LexerToken Fault
 first_token word [] = Err (UnexpectedEndOfInput, word)
 first_token word (s ∷ rest) = s.item
 
--- the token's name, or what is wrong where one is wanted
+-- the name of an identifier, or the fault of any other token
 abbrev pub name_of : LexerToken → Result Name Fault
 name_of token = ok_or (identifier_of token.value) (refused_token token)
 
--- the name that comes first
+-- the first token as a name with its place, or the fault
 abbrev pub first_name : Location → List Seen → Result Placed Fault
 first_name word rest =
     first_token word rest >>= λ token. name_of token >>= λ name. Ok (record { name = name; location = token.location })
 
--- nothing stands before the end of the line
+-- the line ends here, or the first token before its end is the fault
 abbrev pub ended_line : Location → List Seen → Result (Unit {0}) Fault
 ended_line word rest =
     first_token word rest >>= λ token. if is_newline token.value then Ok tt else Err (refused_token token)
 
--- a name alone on the line
+-- a name alone on the line, or the fault
 abbrev pub only_name : Location → List Seen → Result Name Fault
 only_name word rest = first_name word rest >>= λ first. ended_line word (drop 1 rest) >>= λ end. Ok first.name

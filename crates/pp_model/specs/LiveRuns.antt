@@ -1,4 +1,4 @@
--- Runs that take nothing from dead text: whatever stands there gives no token, defines nothing and numbers no line.
+-- Runs that take nothing from dead text: what is there gives no token, defines nothing and numbers no line.
 use Rattle.std.specs.Prelude.{◌≡◌, false, List, Option, Some, None}
 use Rattle.pp_lexer.specs.declared.token.Token.{Token}
 use Rattle.pp_model.specs.Blocks.{is_live}
@@ -20,12 +20,12 @@ pub record IsWithoutEffect (r : SourceReader) (o : Option Outcome) (t : SourceRe
   pub same_definitions : t.definitions ≡ r.definitions
   pub same_lines : t.line_offset ≡ r.line_offset
 
--- one token or line of the source, which is without effect if it stands in dead text
+-- one token or line of the source, which is without effect if it is in dead text
 pub record LiveSteps (A : Answers) (r : SourceReader) (o : Option Outcome) (t : SourceReader) : Type 0 where
   pub steps : Steps A r o t
   pub in_dead_text : is_live r.items r.truths r.position ≡ false → IsWithoutEffect r o t
 
--- what reading gives next, where no step takes anything from dead text
+-- what reading gives next, if no step takes anything from dead text
 pub data LiveReads (A : Answers) : SourceReader → Taken → SourceReader → Type 0 where
   here : (o : Outcome) (x : Taken) (r t : SourceReader)
       → LiveSteps A r (Some o) t
@@ -40,13 +40,13 @@ pub data LiveReads (A : Answers) : SourceReader → Taken → SourceReader → T
 abbrev pub live_reading : Answers → Reading SourceReader
 live_reading A = record (source_reading A) { Reads = LiveReads A }
 
--- the next item, without its paint, and the state after it, where nothing is taken from dead text
+-- the next item, without its paint, and the state after it, if nothing is taken from dead text
 pub record GivesLive (A : Answers) (e : Expander SourceReader) (o : Outcome) (f : Expander SourceReader) : Type 0 where
   pub taken : Taken
   pub emits : Emits (live_reading A) A e taken f
   pub is : o ≡ item_of taken
 
--- No reply of a run, and no definition or line number that it uses, comes from dead text, but for errors and the end:
+-- No reply of a run comes from dead text, except for errors and the end, and no definition or line number that it uses:
 -- each run is one in which no step takes anything from there.
 abbrev pub RunsAreLive : Answers → Type 0
 RunsAreLive A =

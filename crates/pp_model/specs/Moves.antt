@@ -25,55 +25,56 @@ use Rattle.pp_model.specs.declared.directive.Directive.TheVariants as d
 use Rattle.pp_model.specs.declared.sight.Sight.{Sight}
 use Rattle.pp_model.specs.declared.sight.Sight.TheVariants as sight
 
--- what a line that parts or closes the innermost block asks of it
+-- the facts of the innermost block on which a line that parts or closes it depends
 pub record BlockFacts : Type 0 where
   pub are_surroundings_live : Bool
   pub has_taken_branch : Bool
   pub has_else : Bool
 
 pub data Effect : Type 0 where
-  -- a token of the text is given,
+  -- gives a token of the text
   gives : Token → Effect
-  -- or an item, whose value depends on whether live text stands before it, and whether it is the first directive,
+  -- gives an item, whose value depends on whether live text comes before it, and on whether it is the first directive
   gives_item : (Bool → Bool → TokenValue) → Location → Effect
-  -- or a fault, or at the end first the fault of each block that is open;
+  -- gives a fault; or at the end of the source the fault of each block that is open, and then the end
   fails : Fault → Effect
   ends : Effect
-  -- nothing;
+  -- gives nothing
   passes : Effect
-  -- a name is defined, or is no more;
+  -- defines a name, or takes its definition away
   defines : Named → Effect
   undefines : Name → Effect
-  -- a block opens, live as it says of a name that is defined or isn't, or by the condition of these tokens, or unread;
+  -- opens a block: with a condition on whether a name is defined, with the condition of these tokens, or unread
   opens_where : (Bool → Bool) → Location → Name → Effect
   opens_if : Location → List Token → Effect
   opens_unread : Location → Effect
-  -- the innermost block comes to its `#else`, or to an `#elif` that is skipped, or has a condition, or it closes;
+  -- parts the innermost block by its `#else`, by an `#elif` that is skipped, or by an `#elif` with a condition; or
+  -- closes it
   parts : Effect
   skips_branch : Effect
   parts_if : Location → List Token → Effect
   closes : Effect
-  -- or lines are numbered anew.
+  -- numbers the lines after it anew
   renumbers : Location → List Token → Effect
 
--- what is done, and how many items are taken
+-- the effect, and the number of items that are taken
 pub record Move : Type 0 where
   pub effect : Effect
   pub taken : ℕ
 
--- after a fault nothing is said of how many items are taken
+-- a fault; what is taken with it doesn't count, since what comes after it is left open
 abbrev pub failing : Fault → Move
 failing fault = record { effect = fails fault; taken = 0 }
 
 abbrev pub passing : ℕ → Move
 passing count = record { effect = passes; taken = count }
 
--- a line with this value or fault, and these items after its word
+-- a line with this value or fault, if these items come after its word
 abbrev pub line_move : {A : Type 0} → Result A Fault → (A → Effect) → List Seen → Move
 line_move (Ok value) effect after = record { effect = effect value; taken = line_length after }
 line_move (Err fault) effect after = failing fault
 
--- a line that is skipped, but for the lexer's errors
+-- a line that is skipped, except for the lexer's errors
 abbrev pub skip_move : Effect → List Seen → Move
 skip_move effect line = option_map_or failing (line_fault line) (record { effect = effect; taken = line_length line })
 
@@ -91,7 +92,7 @@ extension_item tokens has_text is_first = Extension (record { tokens = tokens; h
 abbrev pub pragma_item : List Entry → Bool → Bool → TokenValue
 pragma_item tokens has_text is_first = Pragma (record { tokens = tokens })
 
--- an `#elif` of the block: it is skipped where it can't be the first branch to be taken
+-- an `#elif` of the innermost block; it is skipped if its branch can't be the first one that is taken
 abbrev pub elif_move : Option BlockFacts → Location → List Seen → Move
 elif_move None word after = failing (ElifOutsideOfBlock, word)
 elif_move (Some block) word after =
@@ -99,7 +100,7 @@ elif_move (Some block) word after =
     else if not block.are_surroundings_live || block.has_taken_branch then skip_move skips_branch after
     else line_move (line_tokens after) (parts_if word) after
 
--- an `#else` of the block, once its line has ended
+-- an `#else` of the innermost block, if its line ends as it must
 abbrev pub else_effect : Option BlockFacts → Location → Effect
 else_effect None word = fails (ElseOutsideOfBlock, word)
 else_effect (Some block) word = if block.has_else then fails (MoreThanOneElse, word) else parts
@@ -107,20 +108,20 @@ else_effect (Some block) word = if block.has_else then fails (MoreThanOneElse, w
 abbrev pub else_move : Option BlockFacts → Location → List Seen → Move
 else_move block word after = line_move (ended_line word after) (λ end. else_effect block word) after
 
--- the `#endif` of the block
+-- an `#endif` of the innermost block; in dead surroundings its line is skipped
 abbrev pub endif_move : Option BlockFacts → Location → List Seen → Move
 endif_move None word after = failing (EndifOutsideOfBlock, word)
 endif_move (Some block) word after =
     if block.are_surroundings_live then line_move (ended_line word after) (λ end. closes) after
     else skip_move closes after
 
--- A directive in live or in dead text, where these items stand after its word. Those that part and close blocks act in
--- dead text too;
+-- A directive in live or in dead text, if these items come after its word. The directives that part and close blocks
+-- act in dead text too.
 abbrev pub directive_move : Bool → Option BlockFacts → Directive → Location → List Seen → Move
 directive_move live block d.Elif word after = elif_move block word after
 directive_move live block d.Else word after = else_move block word after
 directive_move live block d.Endif word after = endif_move block word after
--- in live text each other directive acts;
+-- In live text each other directive acts.
 directive_move true block d.Define word after = line_move (defined_on word after) defines after
 directive_move true block d.Undef word after = line_move (only_name word after) undefines after
 directive_move true block d.If word after = line_move (line_tokens after) (opens_if word) after
@@ -132,14 +133,14 @@ directive_move true block d.Version word after = item_move (version_item (commen
 directive_move true block d.Extension word after = item_move extension_item word after
 directive_move true block d.Pragma word after = item_move pragma_item word after
 directive_move true block d.Unknown word after = failing (UnknownDirective, word)
--- in dead text a block is opened unread, after an unknown word the line is dead text, and each other line is skipped.
+-- In dead text a block is opened unread; after an unknown word the line is dead text; each other line is skipped.
 directive_move false block d.If word after = skip_move (opens_unread word) after
 directive_move false block d.Ifdef word after = skip_move (opens_unread word) after
 directive_move false block d.Ifndef word after = skip_move (opens_unread word) after
 directive_move false block d.Unknown word after = passing 0
 directive_move false block _ word after = skip_move passes after
 
--- what stands in front, in live or in dead text, where the innermost block is this
+-- what is at the front of these items does this, in live or in dead text, if these are the facts of the innermost block
 abbrev pub move_at : Bool → Option BlockFacts → Sight → List Seen → Move
 move_at live block sight.End rest = record { effect = ends; taken = 0 }
 move_at live block sight.NewLine rest = passing 1

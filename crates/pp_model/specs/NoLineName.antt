@@ -1,4 +1,4 @@
--- `__LINE__` is never seen: each taken outcome, and each item, is another.
+-- `__LINE__` is never given: whatever is taken, and each item, is something else.
 use Rattle.std.specs.Prelude.{◌≡◌, ℕ, Bool, false, List, All, IfSome, Result, IfOk}
 use Rattle.pp_lexer.specs.declared.token.Location.{Location}
 use Rattle.pp_model.specs.Names.{Name, is_identifier, line_name}
@@ -25,7 +25,7 @@ HoldsNoLineName e = IfSome e.held (λ o. is_line_name o ≡ false)
 abbrev pub AreNoLineNames : List Read → Type 0
 AreNoLineNames tokens = All (λ read. is_identifier line_name read.token.value ≡ false) tokens
 
--- Where no `__LINE__` is held, no step of expansion shows one or leaves one held.
+-- If no `__LINE__` is held, no step of expansion gives one or leaves one held.
 pub record ShowsNoLineName {R : Type 0} (I : Reading R) (A : Answers) : Type 0 where
   pub taking : (o : Taken) (e f : Expander R)
       → Takes I e o f
@@ -48,7 +48,7 @@ pub record ShowsNoLineName {R : Type 0} (I : Reading R) (A : Answers) : Type 0 w
       → HoldsNoLineName e
       → IfOk items AreNoLineNames
 
--- No `__LINE__` is among what a list of tokens comes to alone.
+-- No `__LINE__` is among the tokens that a list of tokens expands to alone.
 abbrev pub AloneShowsNoLineName : Type 0
 AloneShowsNoLineName =
     (level : ℕ) (tokens : List Read) (visible : Definitions) (hidden : List Name) (items : Result (List Read) Fault)

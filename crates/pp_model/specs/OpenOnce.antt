@@ -15,7 +15,7 @@ use Rattle.pp_model.specs.RunStates.{IsReached}
 use Rattle.pp_model.specs.declared.read.Read.{Read}
 use Rattle.pp_model.specs.declared.read.Taken.{Taken}
 
--- The states that expansion passes: what is taken leaves one, and so does each macro that opens.
+-- The states that expansion passes: taking something leads to one, and so does each macro that opens.
 pub data Passes {R : Type 0} (I : Reading R) (A : Answers) : Expander R → Expander R → Type 0 where
   here : (e f : Expander R) → f ≡ e → Passes I A e f
   -- something is taken: to be looked up, or in the search for a call
@@ -26,7 +26,7 @@ pub data Passes {R : Type 0} (I : Reading R) (A : Answers) : Expander R → Expa
       → m.definition.function_like ≡ false
       → Passes I A (with_macro m m.token.location.line [] f) g
       → Passes I A e g
-  -- a name has no call, and what was found after it is held
+  -- a name has no call, and what was taken in place of its `(` is held
   name_alone : (x y : Taken) (m : Opening) (e f g h : Expander R)
       → Takes I e x f → opening I f x ≡ Some m
       → m.definition.function_like ≡ true
@@ -45,12 +45,12 @@ pub data Passes {R : Type 0} (I : Reading R) (A : Answers) : Expander R → Expa
 abbrev pub IsOpenOnce : {R : Type 0} → Expander R → Type 0
 IsOpenOnce e = AreApart (masked_names e)
 
--- In no state that a run passes a macro is open twice.
+-- In no state that a run passes is a macro open twice.
 abbrev pub RunOpensOnce : Answers → Type 0
 RunOpensOnce A = (source : List Seen) (e f : Expander SourceReader) → IsReached A source e
     → Passes (source_reading A) A e f → IsOpenOnce f
 
--- Nor in one that a list of tokens passes that is read alone, where none is open twice around it.
+-- The same of each state that the reading of a list of tokens alone passes, if no name is open twice around it.
 abbrev pub ListOpensOnce : Reading Listed → Answers → Type 0
 ListOpensOnce I A = (tokens : List Read) (visible : Definitions) (hidden : List Name) (f : Expander Listed)
     → AreApart hidden → Passes I A (reading_of tokens visible hidden) f → IsOpenOnce f

@@ -20,7 +20,7 @@ abbrev pub is_one_of : List Name → TokenValue → Bool
 is_one_of names (Ident name) = is_in name names
 is_one_of names _ = false
 
--- a token that is taken where these names are open: one of them is painted, and what was painted stays so
+-- a token that is taken while these names are open: an identifier among them is painted, and what was painted stays so
 abbrev pub painted_among : List Name → Read → Read
 painted_among names read = record read { painted = read.painted || is_one_of names read.token.value }
 

@@ -13,8 +13,8 @@ use Rattle.pp_model.specs.declared.read.Taken.{Taken}
 use Rattle.pp_model.specs.declared.read.Taken.TheVariants as taken
 use Rattle.pp_model.specs.declared.splice.Entry.{Entry}
 
--- A kind of reader: what it gives next, which definitions it sees, what `__LINE__` shows for a line, unless the number
--- is out of range, and which names never open where it is read.
+-- A kind of reader: what it gives next, which definitions it sees, which number `__LINE__` shows for a line, unless
+-- that is out of range, and which names never open a macro in it.
 pub record Reading (R : Type 0) : Type 1 where
   pub Reads : R → Taken → R → Type 0
   pub visible : R → Definitions
@@ -33,7 +33,7 @@ pub record Expander (R : Type 0) : Type 0 where
 abbrev pub masked_names : {R : Type 0} → Expander R → List Name
 masked_names expander = open_names expander.list ++ expander.hidden
 
--- a token that opens a macro: its name, and what that stands for
+-- a token that opens a macro, with its name and its definition
 pub record Opening : Type 0 where
   pub token : Token
   pub name : Name
@@ -46,7 +46,8 @@ opening_of I expander read (Ident name) =
     (I.visible expander.reader name)
 opening_of I expander read _ = None
 
--- When a taken identifier opens a macro: it is defined now, and not painted.
+-- The macro that a taken token opens, if it opens one: it is an identifier that is defined now, not painted, and not
+-- reserved in the reader.
 abbrev pub opening : {R : Type 0} → Reading R → Expander R → Taken → Option Opening
 opening I expander (taken.Token read) = opening_of I expander read read.token.value
 opening I expander _ = None
@@ -56,7 +57,7 @@ pub record Listed : Type 0 where
   pub tokens : List Read
   pub visible : Definitions
 
--- a list of tokens, where these names never open: its tokens in order, and then the end
+-- a list of tokens, in which these names never open a macro: its tokens in order, and then the end
 abbrev pub listed_reading : (Name → Bool) → Reading Listed
 listed_reading is_reserved = record {
   Reads =
@@ -76,7 +77,7 @@ argument_reading = listed_reading (λ name. false)
 abbrev pub line_reading : Reading Listed
 line_reading = listed_reading (λ name. is_same_name name defined_name)
 
--- the start of reading these tokens, where these names are open around
+-- the start of reading these tokens, if these names are open around
 abbrev pub reading_of : List Read → Definitions → List Name → Expander Listed
 reading_of tokens visible hidden =
     record { held = None; list = []; reader = record { tokens = tokens; visible = visible }; hidden = hidden }

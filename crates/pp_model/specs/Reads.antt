@@ -21,8 +21,8 @@ use Rattle.pp_model.specs.declared.step.Step.TheVariants as step
 abbrev pub shown_line : SourceReader → ℕ → Option ℕ
 shown_line reader line = as_line_number (pos line +ℤ reader.line_offset)
 
--- One token or line of the source: it gives something, or nothing. `A` says what calls in
--- `#if` and `#line` lines come to.
+-- One token or line of the source: it gives something, or nothing. `A` says what calls in `#if`, `#elif` and `#line`
+-- lines give.
 pub data Steps (A : Answers) : SourceReader → Option Outcome → SourceReader → Type 0 where
   -- it gives nothing
   passes : (o : Option Outcome) (r t : SourceReader)
@@ -49,7 +49,7 @@ pub data Steps (A : Answers) : SourceReader → Option Outcome → SourceReader 
       → IsSameDefinition old named.definition
       → o ≡ None → t ≡ (act r).after
       → Steps A r o t
-  -- a `#define` that says something else
+  -- a `#define` that says something else: a fault, and the old definition stays
   redefines : (named : Named) (old : Definition) (o : Option Outcome) (r t : SourceReader)
       → (act r).step ≡ step.Defines named
       → r.definitions named.name ≡ Some old
@@ -62,19 +62,19 @@ pub data Steps (A : Answers) : SourceReader → Option Outcome → SourceReader 
       → IsCondition A word tokens r.definitions (Ok holds)
       → o ≡ None → t ≡ decided r holds
       → Steps A r o t
-  -- an `#if` or `#elif` whose condition is at fault
+  -- an `#if` or `#elif` whose condition has a fault
   undecided : (word : Location) (tokens : List Token) (fault : Fault) (o : Option Outcome) (r t : SourceReader)
       → (act r).step ≡ step.Condition word tokens
       → IsCondition A word tokens r.definitions (Err fault)
       → o ≡ Some (outcome.Fault fault) → t ≡ r
       → Steps A r o t
-  -- a `#line`: what it adds to later lines is its number, less the line of its word
+  -- a `#line`: it adds to later lines its number less the line of its word
   renumbers : (word : Location) (tokens : List Token) (n : ℕ) (o : Option Outcome) (r t : SourceReader)
       → (act r).step ≡ step.LineNumber word tokens
       → IsLineNumber A word tokens r.definitions (Ok n)
       → o ≡ None → t ≡ record (after_line r) { line_offset = pos n -ℤ pos word.line }
       → Steps A r o t
-  -- a `#line` at fault
+  -- a `#line` with a fault
   unnumbered : (word : Location) (tokens : List Token) (fault : Fault) (o : Option Outcome) (r t : SourceReader)
       → (act r).step ≡ step.LineNumber word tokens
       → IsLineNumber A word tokens r.definitions (Err fault)
@@ -89,7 +89,7 @@ pub data Reads (A : Answers) : SourceReader → Taken → SourceReader → Type 
       → Reads A r x t
   later : (x : Taken) (r s t : SourceReader) → Steps A r None s → Reads A s x t → Reads A r x t
 
--- the source as a reader: `#line` moves the lines that are shown
+-- the source as a reader: `#line` changes the lines that `__LINE__` shows
 abbrev pub source_reading : Answers → Reading SourceReader
 source_reading A = record {
   Reads = Reads A;

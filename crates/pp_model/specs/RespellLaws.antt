@@ -1,4 +1,4 @@
--- That plain output, spelled with single spaces and preprocessed afresh, gives the same values.
+-- The law that ordinary output, spelled with single spaces and preprocessed afresh, gives the same values.
 use Rattle.std.specs.Prelude.{◌≡◌, ℕ, ◌<◌, ◌^◌, ◌-◌, true, List, [], ◌∷◌, length, All, Option, Some, None, ⊤}
 use Rattle.std.specs.List.{filter_map}
 use Rattle.std.specs.Str.{IsUtf8, encode_utf8_all}
@@ -17,7 +17,7 @@ use Rattle.pp_model.specs.declared.outcome.Outcome.TheVariants as outcome
 abbrev pub IsText : List ℕ → Type 0
 IsText bytes = IsUtf8 bytes × (length bytes < 2 ^ 32 - 1)
 
--- the content that a call adds, if any, is such a text
+-- the content that a call adds, if it adds one, is such a text
 abbrev pub HasText : Call → Type 0
 HasText (add_define name content) = IsText content
 HasText next = ⊤
@@ -55,7 +55,7 @@ pub record GivesValues (A : Answers) (text : List ℕ) (values : List TokenValue
 abbrev pub IsReadAfresh : Answers → List TokenValue → Type 0
 IsReadAfresh A values = GivesValues A (encode_utf8_all (spelled_text values)) values
 
--- Where all tokens that a run gives are plain, the text that spells them gives the same values.
+-- If all tokens that a run gives are ordinary, the text that spells them gives the same values.
 abbrev pub RunsAreReadAfresh : Answers → Type 0
 RunsAreReadAfresh A =
     (text : List ℕ) (calls : List Call) (replies : List Reply)

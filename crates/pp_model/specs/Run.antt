@@ -1,4 +1,4 @@
--- Runs: lists of calls of `add_define` and `next`, with what they answer (docs/RULES.md, "Runs").
+-- Runs: lists of calls of `add_define` and `next`, with the replies to them (docs/RULES.md, "Runs").
 use Rattle.std.specs.Prelude.{◌≡◌, ℕ, Bool, true, false, if◌then◌else◌, List, [], map, ◌∷◌, Some, None, Result, Ok, Err}
 use Rattle.std.specs.Prelude.{◌<◌, ◌^◌, ◌-◌, length, ⊤}
 use Rattle.std.specs.Str.{chars}
@@ -44,7 +44,7 @@ HasRoom called.Next = ⊤
 abbrev pub items_of : List ℕ → List Seen
 items_of text = map seen (lexer.items_of (spots_of text))
 
--- the tokens of an added content, without its newlines, or the first error or number sign in it
+-- the tokens of an added content, without its newlines, or the first error or `#` in it
 abbrev pub content_tokens : List Seen → Result (List Token) Fault
 content_tokens [] = Ok []
 content_tokens (s ∷ rest) =
@@ -55,7 +55,7 @@ content_tokens (s ∷ rest) =
 abbrev pub start : List Seen → Expander SourceReader
 start source = record { held = None; list = []; reader = reader_at_start source; hidden = [] }
 
--- the name stands for these tokens from now on
+-- the name is the object-like macro with these tokens as its body from now on
 abbrev pub with_added : Name → List Token → Expander SourceReader → Expander SourceReader
 with_added name tokens e =
     record e {
@@ -75,17 +75,18 @@ ends_run _ = false
 abbrev pub Comings : Type 1
 Comings = Expander SourceReader → Outcome → Expander SourceReader → Type 0
 
--- the next item, without its paint, and the state after it, where calls come to this
+-- the next item, without its paint, and the state after it, if calls have these answers
 pub record Gives (A : Answers) (e : Expander SourceReader) (o : Outcome) (f : Expander SourceReader) : Type 0 where
   pub taken : Taken
   pub emits : Emits (source_reading A) A e taken f
   pub is : o ≡ item_of taken
 
--- what comes next by the definitions, where calls come to this
+-- what comes next by the definitions, if calls have these answers
 abbrev pub by_rules : Answers → Comings
 by_rules A = Gives A
 
--- What the calls answer, where this comes next, up to and with the first error item: after that nothing is said.
+-- The replies to the calls, if `C` says what comes next. They end with the first error item: the replies after it are
+-- left open.
 pub data Runs (C : Comings) : Expander SourceReader → List Call → List Reply → Type 0 where
   done : (e : Expander SourceReader) (replies : List Reply) → replies ≡ [] → Runs C e [] replies
   added : (name content : List ℕ) (tokens : List Token) (e : Expander SourceReader) (calls : List Call)
@@ -111,6 +112,6 @@ pub data Runs (C : Comings) : Expander SourceReader → List Call → List Reply
       → replies ≡ reply.Given (outcome.Fault fault) ∷ []
       → Runs C e (next ∷ calls) replies
 
--- the run of a source: arguments may be read inside each other up to the limit
+-- the run of a source: arguments may be expanded inside one another up to the limit
 abbrev pub IsRun : List ℕ → List Call → List Reply → Type 0
 IsRun text calls replies = Runs (by_rules (answers_at expansion_limit)) (start (items_of text)) calls replies

@@ -16,7 +16,7 @@ use Rattle.pp_model.specs.declared.outcome.Outcome.{Outcome}
 use Rattle.pp_model.specs.declared.outcome.Outcome.TheVariants as outcome
 use Rattle.pp_model.specs.declared.read.Taken.TheVariants as taken
 
--- one call in a state, what it answers, and the state after it; of the state after an error item nothing is said
+-- one call in a state, its reply, and the state after it; a `next` that gives an error item is left out
 pub data AnswersIn (C : Comings) : Expander SourceReader → Call → Reply → Expander SourceReader → Type 0 where
   adds : (name content : List ℕ) (tokens : List Token) (call : Call) (answer : Reply) (e f : Expander SourceReader)
       → content_tokens (items_of content) ≡ Ok tokens

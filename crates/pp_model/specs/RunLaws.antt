@@ -1,4 +1,4 @@
--- Laws of reading a source, and of runs: each has one outcome, and a name that is defined is not redefined.
+-- Laws of reading a source, and of runs: each has at most one outcome, and a name that is defined is not redefined.
 use Rattle.std.specs.Prelude.{◌≡◌, ℕ, Bool, List, Option, Some, None, Result}
 use Rattle.pp_expression.specs.declared.symbol.Value.{Value}
 use Rattle.pp_expression.specs.declared.symbol.Found.{Found}
@@ -22,11 +22,11 @@ use Rattle.pp_model.specs.declared.outcome.Outcome.{Outcome}
 use Rattle.pp_model.specs.declared.outcome.Outcome.TheVariants as outcome
 use Rattle.pp_model.specs.declared.step.Step.TheVariants as step
 
--- A line has one value, or one first fault.
+-- A line has at most one value or first fault.
 abbrev pub OneEvaluation : Type 0
 OneEvaluation = (line : Line) (x y : Result Value Found) → Evaluates line x → Evaluates line y → x ≡ y
 
--- The condition of an `#if` or `#elif` holds or not, or has one fault.
+-- The condition of an `#if` or `#elif` has at most one outcome: it holds, it doesn't, or it has a fault.
 abbrev pub OneCondition : Answers → Type 0
 OneCondition A =
     (directive : Location) (tokens : List Token) (definitions : Definitions) (x y : Result Bool Fault)
@@ -34,7 +34,7 @@ OneCondition A =
     → IsCondition A directive tokens definitions y
     → x ≡ y
 
--- The words of a `#line` come to one number, or to one fault.
+-- The words of a `#line` give at most one number or fault.
 abbrev pub OneNumber : Type 0
 OneNumber =
     (directive : Location) (words : Words) (x y : Result ℕ Fault)
@@ -42,7 +42,7 @@ OneNumber =
     → Numbers directive words y
     → x ≡ y
 
--- A `#line` passes one number, or one fault.
+-- A `#line` gives at most one number or fault.
 abbrev pub OneLineNumber : Answers → Type 0
 OneLineNumber A =
     (directive : Location) (tokens : List Token) (definitions : Definitions) (x y : Result ℕ Fault)
@@ -50,7 +50,7 @@ OneLineNumber A =
     → IsLineNumber A directive tokens definitions y
     → x ≡ y
 
--- One token or line of a source passes one outcome, or nothing, and one reader is after it.
+-- One token or line of a source has at most one outcome, which may be nothing, and one reader after it.
 abbrev pub OneStep : Answers → Type 0
 OneStep A =
     (r : SourceReader) (x y : Option Outcome) (s t : SourceReader)
@@ -70,15 +70,15 @@ OneReplies A =
 abbrev pub OneRun : Type 0
 OneRun = (text : List ℕ) (calls : List Call) (x y : List Reply) → IsRun text calls x → IsRun text calls y → x ≡ y
 
--- A name that is defined is defined again: the same gives nothing, something else is a
--- fault, and the old definition stays.
+-- A name that is defined is defined again: the same definition gives nothing, another is a fault, and the old one
+-- stays.
 pub record Redefined (named : Named) (old : Definition) (r : SourceReader) (o : Option Outcome)
     (t : SourceReader) : Type 0 where
   pub repeated : IsSameDefinition old named.definition → o ≡ None
   pub refused : (IsSameDefinition old named.definition → ⊥) → o ≡ Some (outcome.Fault (DefineRedefined, named.location))
   pub same_definitions : t.definitions ≡ r.definitions
 
--- A `#define` of a name that is defined is held against the old definition.
+-- A `#define` of a name that is defined is compared with the old definition.
 abbrev pub RedefinitionIsChecked : Answers → Type 0
 RedefinitionIsChecked A =
     (named : Named) (old : Definition) (r t : SourceReader) (o : Option Outcome)

@@ -19,8 +19,8 @@ use Rattle.pp_model.specs.declared.outcome.Outcome.TheVariants as outcome
 use Rattle.pp_model.specs.declared.read.Taken.{Taken}
 use Rattle.pp_model.specs.declared.read.Taken.TheVariants as taken
 
--- Definitions that are added, and items that are given, lead from one state to another; error items too, after
--- which a run says nothing more.
+-- Definitions that are added, and items that are given, lead from one state to another. Error items do so too, though a
+-- run ends with its first one.
 pub data LeadsTo (A : Answers) : Expander SourceReader → Expander SourceReader → Type 0 where
   nowhere : (e f : Expander SourceReader) → f ≡ e → LeadsTo A e f
   adding : (name : Name) (tokens : List Token) (e f : Expander SourceReader)
@@ -52,7 +52,7 @@ RunShowsNoLineName A =
     → Runs (by_rules A) (start source) calls replies
     → All (λ given. gives_line_name given ≡ false) replies
 
--- After an end that was given nothing is left, whatever is added.
+-- After the end was given, nothing but the end is given, whatever is added.
 abbrev pub EndStays : Answers → Type 0
 EndStays A =
     (source : List Seen) (x : Taken) (e f g h : Expander SourceReader)
@@ -70,7 +70,7 @@ gives_item (reply.Given outcome.End) = false
 gives_item (reply.Refused fault) = false
 gives_item reply.Added = false
 
--- After the end, wherever it stands among the replies of a run, no reply is an item.
+-- After the end, wherever it is among the replies of a run, no reply is an item.
 abbrev pub RunEndsForGood : Answers → Type 0
 RunEndsForGood A =
     (source : List Seen) (calls : List Call) (former later : List Reply)

@@ -1,5 +1,5 @@
--- What stands at a position of a source: text or a directive (GLSL ES 3.20, section 3.4, and
--- docs/RULES.md, Directives 1 and 2).
+-- What is at a position of a source: text or a directive (GLSL ES 3.20, section 3.4, and docs/RULES.md, Directives 1
+-- and 2).
 use Rattle.std.specs.Prelude.{ℕ, Bool, true, false, ◌&&◌, if◌then◌else◌, List, [], ◌∷◌, Option, Some, None, option_map}
 use Rattle.std.specs.Prelude.{unwrap_or, Result, Ok, Err, codes}
 use Rattle.std.specs.List.{find}
@@ -23,7 +23,7 @@ directives =
     (codes "error", d.Error) ∷ (codes "line", d.Line) ∷
     (codes "version", d.Version) ∷ (codes "extension", d.Extension) ∷ (codes "pragma", d.Pragma) ∷ []
 
--- what a directive's word says
+-- the directive of a word, or an unknown one
 unfoldable pub directive_of : Name → Directive
 directive_of name = unwrap_or (option_map (λ row. row.1) (find (λ row. is_same_name name row.0) directives)) d.Unknown
 
@@ -32,12 +32,12 @@ abbrev pub sight_from : {A : Type 0} → (A → Sight) → Result A Fault → Si
 sight_from see (Ok value) = see value
 sight_from see (Err fault) = sight.Fault fault
 
--- what stands after the number sign of a directive: its word, or the end of the line, or neither
+-- what comes after the `#` of a directive: its word, or the end of the line, or neither
 abbrev pub named_directive : LexerToken → Option Name → Sight
 named_directive token (Some name) = sight.Directive (directive_of name) token.location
 named_directive token None = if is_newline token.value then sight.Lone else sight.NoWord (refused_token token)
 
--- a number sign begins a directive where only blanks stand before it on its line
+-- A `#` begins a directive if only blanks come before it on its line.
 abbrev pub token_sight : LexerToken → List Seen → Sight
 token_sight token rest =
     if is_newline token.value then sight.NewLine
@@ -48,12 +48,12 @@ token_sight token rest =
     else sight.Hash token.location)
     else sight_from sight.Token (conversion token)
 
--- what stands first among these items
+-- what is at the front of these items
 abbrev pub sight_of : List Seen → Sight
 sight_of [] = sight.End
 sight_of (s ∷ rest) = sight_from (λ token. token_sight token rest) s.item
 
--- a directive, also a number sign without a word
+-- a directive with a word, or a `#` that is alone on its line
 abbrev pub is_directive : Sight → Bool
 is_directive (sight.Directive word location) = true
 is_directive sight.Lone = true
@@ -67,7 +67,7 @@ abbrev pub is_directive_hash : Lexeme → Bool
 is_directive_hash (Ok token) = is_hash token.value && token.start_of_line
 is_directive_hash (Err fault) = false
 
--- how many items are needed to see it
+-- the number of items at the front that show it
 abbrev pub least_items : Sight → ℕ
 least_items sight.End = 0
 least_items sight.Lone = 2

@@ -28,7 +28,7 @@ reader_at_start source = record {
   unfinished = length (blocks_at source (length source));
 }
 
--- a directive stands among these items
+-- there is a directive among these items
 abbrev pub has_directive : List Seen → Bool
 has_directive [] = false
 has_directive (s ∷ rest) = is_directive (sight_of (s ∷ rest)) || has_directive rest
@@ -37,24 +37,24 @@ has_directive (s ∷ rest) = is_directive (sight_of (s ∷ rest)) || has_directi
 abbrev pub earlier_on_line : List Seen → ℕ → List Seen
 earlier_on_line source position = take_while (λ s. not (ends_line s.item)) (reverse (take position source))
 
--- the position is on the line of a directive, after its number sign
+-- the position is on the line of a directive, after its `#`
 abbrev pub is_on_directive_line : List Seen → ℕ → Bool
 is_on_directive_line source position = list_any (λ s. is_directive_hash s.item) (earlier_on_line source position)
 
--- a live token of the text stands at the position
+-- a live token of the text is at the position
 abbrev pub is_live_text : List Seen → Truths → ℕ → Bool
 is_live_text source truths position =
     is_text (sight_of (drop position source))
     && not (is_on_directive_line source position)
     && is_live source truths position
 
--- a live token of the text stands before the position
+-- a live token of the text comes before the position
 abbrev pub has_live_text_before : List Seen → Truths → ℕ → Bool
 has_live_text_before source truths zero = false
 has_live_text_before source truths (suc position) =
     is_live_text source truths position || has_live_text_before source truths position
 
--- no directive stands before the position, and no live token of the text
+-- no directive and no live token of the text comes before the position
 abbrev pub is_first_directive : List Seen → Truths → ℕ → Bool
 is_first_directive source truths position =
     not (has_directive (take position source) || has_live_text_before source truths position)

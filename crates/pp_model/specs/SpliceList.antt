@@ -17,7 +17,7 @@ after_marks [] = []
 after_marks (End mark ∷ entries) = after_marks entries
 after_marks (Plain read ∷ entries) = Plain read ∷ entries
 
--- the names whose end marks lie in the list: these macros are open
+-- the names whose end marks are in the list: these macros are open
 abbrev pub open_names : List Entry → List Name
 open_names [] = []
 open_names (End mark ∷ entries) = mark.name ∷ open_names entries

@@ -22,7 +22,7 @@ line_number location (Some n) =
     }))
 line_number location None = taken.Fault (LineOverflow, location)
 
--- `__LINE__` becomes a number at once: from the line of the outermost open macro, or else from its own
+-- `__LINE__` becomes a number at once: from the line of the outermost open macro, or otherwise from its own
 abbrev pub shown_token : (ℕ → Option ℕ) → List Entry → Read → Taken
 shown_token shown_line after read =
     if is_identifier line_name read.token.value
@@ -48,7 +48,7 @@ pub data Fetches {R : Type 0} (I : Reading R) : Expander R → Taken → Expande
       → o ≡ shown_token (I.shown_line e.reader) rest read
       → f ≡ record e { list = rest }
       → Fetches I e o f
-  -- what the reader gives, where the list holds no token
+  -- what the reader gives, if the list holds no token
   read : (x o : Taken) (reader : R) (e f : Expander R)
       → e.held ≡ None
       → after_marks e.list ≡ []
@@ -57,7 +57,7 @@ pub data Fetches {R : Type 0} (I : Reading R) : Expander R → Taken → Expande
       → f ≡ record e { list = []; reader = reader }
       → Fetches I e o f
 
--- What is taken: what comes first, and an identifier is painted whose name is open then, here or around.
+-- What is taken: what comes first, painted if it is an identifier whose name is open then, here or around.
 pub record Takes {R : Type 0} (I : Reading R) (e : Expander R) (o : Taken) (f : Expander R) : Type 0 where
   pub first : Taken
   pub fetches : Fetches I e first f

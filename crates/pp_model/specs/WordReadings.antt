@@ -12,13 +12,13 @@ reading_named (Operator token) = line.operator
 reading_named (Word token) = line.word token
 reading_named (Refused fault) = line.fault fault
 
--- an operator is the token itself
+-- the token of an operator is the token that was read
 abbrev pub IsOf : Token → WordReading → Type 0
 IsOf token (Operator operator) = operator ≡ token
 IsOf token (Word word) = ⊤
 IsOf token (Refused fault) = ⊤
 
--- the fault of what was read as a word where a part of `defined` is wanted
+-- the fault of what was read in place of a part of `defined`
 abbrev pub unwanted_read : WordReading → Fault
 unwanted_read (Operator token) = unexpected token
 unwanted_read (Word word) = unexpected word

@@ -12,8 +12,8 @@ use pp_lexer::token::{Location, PreprocessorError, Token, TokenValue};
 
 /// The token with its value and place.
 ///
-/// A number sign is no token of the preprocessed source: it is `UnexpectedHash` at its place. A
-/// newline has no result, since each caller handles it as a separator. It allocates nothing.
+/// A `#` is no token of the preprocessed source: it is `UnexpectedHash` at its place. A newline has no result, since
+/// each caller handles it as a separator. It allocates nothing.
 pub fn convert_lexer_token(token: lexer::Token) -> Result<Token, (PreprocessorError, Location)>
     requires { token.value ≢ NewLine }
     ensures is { result ≡ conversion token }
@@ -31,7 +31,7 @@ pub fn convert_lexer_token(token: lexer::Token) -> Result<Token, (PreprocessorEr
     Ok(Token { value, location })
 }
 
-/// Returns the fault of a token where it isn't allowed.
+/// Returns the fault of a token that isn't allowed at its position.
 pub fn refused_token(token: lexer::Token) -> Fault
     ensures { result ≡ refused_token token }
 {

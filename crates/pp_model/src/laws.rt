@@ -19,13 +19,13 @@ ghost use Rattle.pp_model.specs.RunLaws.{OneEvaluation, OneCondition, OneLineNum
 ghost use Rattle.pp_model.specs.RunStates.{RunKeepsMarksApart, RunShowsNoLineName, EndStays, RunEndsForGood};
 ghost use Rattle.std.specs.Prelude.{ℕ};
 
-/// A list of tokens passes at most one outcome next.
+/// A list of tokens gives at most one outcome next.
 pub fn one_reading()
     ensures argument { OneReads argument_reading }
     ensures line { OneReads line_reading }
 {}
 
-/// At most one outcome is taken from an expander, and it leaves one expander.
+/// At most one outcome is taken from an expander, and one state is after it.
 pub fn one_taking()
     ensures argument { OneTaking argument_reading }
     ensures line { OneTaking line_reading }
@@ -37,7 +37,7 @@ pub fn one_gathering()
     ensures line { OneGathering line_reading }
 {}
 
-/// After the name of a function-like macro there is one call, or none.
+/// The search for a call after the name of a function-like macro has at most one outcome.
 pub fn one_call()
     ensures argument { (level : ℕ) → OneCall argument_reading (answers_at level) }
     ensures line { (level : ℕ) → OneCall line_reading (answers_at level) }
@@ -105,7 +105,7 @@ pub fn one_line_value()
     ensures line_number { (level : ℕ) → OneLineNumber (answers_at level) }
 {}
 
-/// A token or line of a source has at most one outcome, and reading the source passes at most one outcome next.
+/// A token or line of a source has at most one outcome, and reading the source gives at most one outcome next.
 pub fn one_source_reading()
     ensures step { (level : ℕ) → OneStep (answers_at level) }
     ensures reading { (level : ℕ) → OneReads (source_reading (answers_at level)) }
@@ -163,7 +163,7 @@ pub fn respell()
     ensures { (level : ℕ) → RunsAreReadAfresh (answers_at level) }
 {}
 
-/// A list of tokens passes something next.
+/// A list of tokens gives something next.
 pub fn a_reading()
     ensures argument { AReading argument_reading }
     ensures line { AReading line_reading }

@@ -76,7 +76,7 @@ fn unnumbered(fault: Fault) -> LineFault
     }
 }
 
-// The fault of a word where the grammar doesn't allow it.
+// The fault of a word that the grammar doesn't allow at its position.
 fn unwanted_word(alloc: Global, word: &Word) -> Result<Fault, AllocError>
     ensures { IfOk result (λ fault. fault ≡ unwanted_word word.now) }
 {

@@ -125,7 +125,7 @@ pub fn reading_of(kind: LineKind, token: Token) -> WordReading
     }
 }
 
-/// Returns the fault of what was read as a word where `defined` needs its operand or a parenthesis.
+/// Returns the fault of what was read in place of the operand or of a parenthesis of a `defined`.
 pub fn unwanted_reading(read: WordReading) -> Fault
     ensures { result ≡ unwanted_read read }
 {

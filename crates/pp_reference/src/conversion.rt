@@ -54,7 +54,7 @@ pub fn conversion(alloc: Global, token: &lexer::Token) -> Result<Token, Halt>
     Ok(convert_lexer_token(copy)?)
 }
 
-/// The fault of a token where it isn't allowed.
+/// The fault of a token that isn't allowed at its position.
 pub fn refused_token(alloc: Global, token: &lexer::Token) -> Result<Fault, Stop>
     ensures { IfOk result (λ fault. fault ≡ spec.refused_token token.now) }
 {

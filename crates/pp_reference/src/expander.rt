@@ -57,12 +57,12 @@ pub struct Site {
     pub arguments: ReadLists,
 }
 
-/// What follows the name of a macro with parameters.
+/// What follows the name of a function-like macro.
 #[derive(Drop)]
 pub enum AfterName {
     /// No `(`.
     NoCall,
-    /// A call that does not end.
+    /// A call with a fault before its `)`.
     Broken(Fault),
     /// A call.
     Whole(Site),
@@ -82,7 +82,7 @@ pub struct MacroCall {
 pub enum Turn {
     /// An item.
     Item(Taken),
-    /// A macro without parameters was replaced.
+    /// An object-like macro was replaced.
     Replaced,
     /// A call was gathered.
     Called(MacroCall),
@@ -186,7 +186,7 @@ fn is_one_of(names: &[Text], value: &TokenValue) -> bool
     }
 }
 
-/// A token that is taken while these names are open, painted if it is one of them.
+/// A token that is taken while these names are open, painted if it is an identifier among them.
 fn painted_among(names: &[Text], read: Read) -> Read
     ensures { result ≡ painted_among names.now read }
 {
@@ -208,7 +208,7 @@ fn taken_among(names: &[Text], taken: Taken) -> Taken
     }
 }
 
-/// The turn at the name of a macro with parameters. `found` is what follows the name.
+/// The turn at the name of a function-like macro. `found` is what follows the name.
 fn turn_after_name(taken: Taken, opening: Opening, found: AfterName) -> Turn
     ensures { result ≡ turn_after_name taken opening found }
 {
@@ -418,7 +418,7 @@ impl<R: Reader> Expander<R> {
         }
     }
 
-    /// Looks for a call after the name of a macro with parameters.
+    /// Looks for a call after the name of a function-like macro.
     fn find_call(&mut self, budget: &mut Budget) -> Result<AfterName, Stop>
         ensures finds { IfOk result (λ found. Finds R.reading (seen R.state self.old) found
             (seen R.state self.new)) }
@@ -479,7 +479,7 @@ impl<R: Reader> Expander<R> {
         }
     }
 
-    /// Replaces a macro without parameters.
+    /// Replaces an object-like macro.
     fn replace(&mut self, opening: Opening) -> Result<(), AllocError>
         ensures { OnOk result (seen R.state self.new
             ≡ with_macro opening opening.token.location.line [] (seen R.state self.old)) }

@@ -79,7 +79,7 @@ pub fn with_first(first: Token, rest: TokenList) -> Result<TokenList, Stop>
     Ok(tokens)
 }
 
-/// The line's tokens, or the first error or number sign among them.
+/// The line's tokens, or the first error or `#` among them.
 pub fn line_tokens(alloc: Global, items: &[SourceItem]) -> Result<TokenList, Halt>
     ensures { Meets result (spec.line_tokens items.now) }
 {

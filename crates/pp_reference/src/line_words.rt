@@ -23,7 +23,7 @@ use pp_model::read::{Read, Taken};
 use pp_model::word::{LineKind, Word, WordReading, Words, reading_of, unwanted_reading};
 use std::alloc::{AllocError, Global};
 
-/// The fault of an item where `defined` needs its operand or a parenthesis.
+/// The fault of what was taken in place of the operand or of a parenthesis of a `defined`.
 fn unwanted_word(kind: LineKind, directive: Location, taken: Taken) -> Fault
     ensures { result ≡ unwanted_closing kind directive taken }
 {
@@ -34,7 +34,7 @@ fn unwanted_word(kind: LineKind, directive: Location, taken: Taken) -> Fault
     }
 }
 
-/// The name of an identifier, or the fault of anything else where `defined` needs a name.
+/// The name of an identifier, or the fault of anything else that was taken in place of the name of a `defined`.
 fn name_or_fault(directive: Location, taken: Taken) -> Result<Text, Fault>
     ensures { MatchResult result (λ name. name_in taken ≡ Some name)
         (λ fault. (name_in taken ≡ None) × (fault ≡ unwanted_part directive taken)) }

@@ -68,7 +68,7 @@ pub fn items_of(alloc: Global, text: &str) -> Result<Vec<SourceItem>, Stop>
     }
 }
 
-// The tokens of an added content, or the first error or number sign in it.
+// The tokens of an added content, or the first error or `#` in it.
 fn content_tokens(alloc: Global, items: &[SourceItem]) -> Result<TokenList, Halt>
     ensures { Meets result (spec.content_tokens items.now) }
 {

@@ -9,28 +9,28 @@ use Rattle.pp_expression.specs.Lines.{Line, Reads}
 use Rattle.pp_expression.specs.inner.Parsing.{IsFault}
 use Rattle.pp_expression.specs.inner.Pending.{Awaits, HasOperand}
 
--- where an evaluation of the whole line stands
+-- how far an evaluation of the whole line has got, in each state
 abbrev pub Stands : Line → State → Evaluator → Type 0
 Stands whole state.OperandWanted evaluator = Awaits whole evaluator.pending evaluator.line
 Stands whole (state.OperandRead number) evaluator = HasOperand 9 whole evaluator.pending evaluator.line number
 Stands whole (state.Ended number) evaluator = Reads 0 0 whole evaluator.line number
 
--- Why an evaluation of the whole line has no value: a fault that the line may have, where every operand that is
--- finished before has a value, or memory.
+-- Why an evaluation of the whole line has no value: a fault that the line may have and before which every finished
+-- operand has a value, or memory that ran out.
 abbrev pub IsHalt : Line → Halt → Type 0
 IsHalt whole (halt.Fault found) = IsFault 0 whole found
 IsHalt whole (halt.Refused error) = ⊤
 
--- Whatever whole line is evaluated: where the old evaluator stands at the first state, the new one stands at the state
--- that comes of it, or the evaluation has no value.
+-- For every whole line: if the old evaluator has got as far as the first state says, the new one has got as far as the
+-- next state says, or the evaluation has no value.
 abbrev pub Leads : State → Evaluator → Result State Halt → Evaluator → Type 0
 Leads from old result new =
     (whole : Line)
     → Stands whole from old
     → MatchResult result (λ to. Stands whole to new) (IsHalt whole)
 
--- Whatever whole line is evaluated: where an operand was read, an operand of the level and of the value that comes of
--- it was read, or the evaluation has no value.
+-- For every whole line: if an operand of the level and of this value was read, an operand of the level and of the value
+-- that results was read after it, or the evaluation has no value.
 abbrev pub Computes : ℕ → ℤ → Evaluator → Result ℤ Halt → Evaluator → Type 0
 Computes level number old result new =
     (whole : Line) → HasOperand level whole old.pending old.line number

@@ -34,7 +34,7 @@ binary_at line = next line >>= λ ahead. Ok (binary_sign_of ahead)
 abbrev pub sign_at : Line → Result (Option Unary) ExpressionFault
 sign_at line = next line >>= λ ahead. Ok (sign_of ahead)
 
--- what comes next where an operand without an operator in front is wanted
+-- the operand that comes next, if it has no operator in front
 abbrev pub atom_at : Line → Result (Option ℕ) ExpressionFault
 atom_at line = next line >>= atom_of
 
@@ -42,32 +42,32 @@ atom_at line = next line >>= atom_of
 abbrev pub closing_at : Line → Result (Unit {0}) ExpressionFault
 closing_at line = next line >>= closing
 
--- an answer, or the fault with where it is found
+-- an answer, or the fault with the place at which it is found
 abbrev pub located : {A : Type 0} → ℕ → Result A ExpressionFault → Result A Found
 located left (Ok answer) = Ok answer
 located left (Err kind) = Err (record { kind = kind; left = left })
 
--- every operand that is finished before the end of the front has a value
+-- every operand that ends before the end of the front has a value
 abbrev pub HaveValues : Front → Type 0
 HaveValues Here = ⊤
 HaveValues (InGroup front) = HaveValues front
 HaveValues (InPrefix operator front) = HaveValues front
 HaveValues (InInfix operator left front) = HasValue left × HaveValues front
 
--- so has the operand after which the fault is found, if one is
+-- the operand after which the fault is found, if there is one, has a value too
 abbrev pub IsAfterValue : {level : ℕ} {line : Line} {left order : ℕ} {kind : ExpressionFault}
     → Fails level line left order kind → Type 0
 IsAfterValue (unread_after tree rest kind tight begins fits is) = HasValue tree
 IsAfterValue (unclosed tree rest ahead kind begins fits is over out) = HasValue tree
 IsAfterValue _ = ⊤
 
--- A fault that the line may have, where every operand that is finished before has a value.
+-- A fault that the line may have, and before which every finished operand has a value.
 pub record IsMet (level : ℕ) (line : Line) (left order : ℕ) (kind : ExpressionFault) : Type 0 where
   pub possible : Possible level line left order kind
   pub front : HaveValues possible.front
   pub operand : IsAfterValue possible.fails
 
--- the same of a fault and where it is found
+-- the same of a fault and the place at which it is found
 pub record IsFault (level : ℕ) (line : Line) (found : Found) : Type 0 where
   pub order : ℕ
   pub met : IsMet level line found.left order found.kind

@@ -25,8 +25,8 @@ abbrev pub operation : Operator → ℤ → Result ℤ ExpressionFault
 operation (operator.Prefix unary) right = unary_value unary right
 operation (operator.Infix binary left) right = binary_value binary left right
 
--- how many symbols there are from the one at which an operator is computed, where the line is
--- what comes after its right operand
+-- the number of symbols from the one at which an operator is computed to the end, if the line is what comes after its
+-- right operand
 abbrev pub computed_at : Operator → Line → ℕ
 computed_at op line = if nat_lt (operator_level op) 9 then length line.symbols else length line.symbols + 1
 
@@ -40,12 +40,12 @@ abbrev pub outer : List Pending → List Pending
 outer [] = []
 outer (inner ∷ around) = around
 
--- the level of the right operand that an operator wants
+-- the level of an operator's right operand
 abbrev pub right_level : Operator → ℕ
 right_level (operator.Prefix unary) = 10
 right_level (operator.Infix binary left) = level_of binary + 1
 
--- the level of the operand that is wanted within what is pending
+-- the level of the operand that is expected within what is pending
 abbrev pub wanted_in : List Pending → ℕ
 wanted_in [] = 0
 wanted_in (pending.Group ∷ around) = 0
@@ -61,8 +61,8 @@ pub record IsTaken (level : ℕ) (op : Operator) (old new : List Pending) : Type
   pub taken : old ≡ pending.Operator op ∷ new
   pub tight : level ≤ operator_level op
 
--- An expression of the level is wanted before the line around. It begins with a left operand of this value and its
--- operator, and the right operand is wanted before the inner line.
+-- An expression of the level is expected at the front of the line `around`. It begins with a left operand of this value
+-- and its operator, and the right operand is expected at the front of the inner line.
 pub record IsRightOf (level : ℕ) (binary : Binary) (left : ℤ) (around inner : Line) : Type 0 where
   pub from_operator : Line
   pub binds : level ≤ level_of binary
@@ -70,8 +70,8 @@ pub record IsRightOf (level : ℕ) (binary : Binary) (left : ℤ) (around inner 
   pub stands : binary_at from_operator ≡ Ok (Some binary)
   pub after : inner ≡ after_next from_operator
 
--- An expression of the level is wanted before the line around. It begins with what is pending, and what stands within
--- that is wanted before the inner line.
+-- An expression of the level is expected at the front of the line `around`. It begins with what is pending, and what is
+-- within that is expected at the front of the inner line.
 abbrev pub Enters : ℕ → Pending → Line → Line → Type 0
 Enters level pending.Group around inner =
     (next around ≡ Ok (Some (symbol.Punct mark.LeftParen))) × (inner ≡ after_next around)
@@ -79,15 +79,14 @@ Enters level (pending.Operator (operator.Prefix unary)) around inner =
     (sign_at around ≡ Ok (Some unary)) × (inner ≡ after_next around)
 Enters level (pending.Operator (operator.Infix binary left)) around inner = IsRightOf level binary left around inner
 
--- The whole line was read up to the line, where an operand is wanted, and what is pending
--- is what that operand stands in.
+-- The whole line was read up to the line, at whose front an operand is expected within what is pending.
 abbrev pub Awaits : Line → List Pending → Line → Type 0
 Awaits whole [] line = line ≡ whole
 Awaits whole (inner ∷ around) line =
     (start : Line) × Awaits whole around start × Enters (wanted_in around) inner start line
 
--- The whole line was read up to the line. An operand was wanted within what is pending, and one of this value stands
--- there, whose operators bind at least as tightly as the level, and no operator after it binds tighter than those.
+-- The whole line was read up to the line. An operand was expected within what is pending, and one of this value was
+-- read: its operators bind at least as tightly as the level, and no operator after it binds tighter than those.
 pub record HasOperand (level : ℕ) (whole : Line) (pending : List Pending) (line : Line) (number : ℤ) : Type 0 where
   -- where the operand begins
   pub start : Line

@@ -9,7 +9,7 @@ use Rattle.pp_lexer.specs.Comments.{replaced}
 use Rattle.pp_lexer.specs.inner.Readers.{placed_from}
 use Rattle.pp_lexer.specs.Reading.{spots}
 
--- the characters of a text after the phases, where its first one has this line and begins at this byte
+-- the characters of a text after the phases, if its first one has this line and begins at this byte
 unfoldable pub spots_from : ℕ → ℕ → List ℕ → List Spot
 spots_from line at text = spots at (replaced (at + length text) (continued (placed_from line at (pieces (chars text)))))
 

@@ -39,7 +39,7 @@ small_e c = if is_e c then 101 else c
 abbrev pub float_power : List ℕ → Bool
 float_power = maybe is_sign (one is_decimal digits)
 
--- what the digits write when they follow those of n, where all are digits of the base and it is below 2^64
+-- the number that the digits write after those of n, if all are digits of the base and it is below 2^64
 abbrev pub whole_after : ℕ → ℕ → List ℕ → Option ℕ
 whole_after base n ds =
     if list_all (λ c. is_digit c base) ds && nat_lt (digits_value_after base n ds) (2 ^ 64)

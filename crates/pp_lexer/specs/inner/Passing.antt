@@ -1,4 +1,4 @@
--- A lexer in the midst of a text: what it has passed, as far as the items to come depend on it.
+-- A lexer in the midst of a text: those facts of what it has passed on which the items to come depend.
 use Rattle.std.specs.Prelude.{◌≡◌, Bool, true, false, ◌||◌, ◌⊎◌, IsTrue, IsErr, if◌then◌else◌, List, [], ◌∷◌, ◌++◌}
 use Rattle.std.specs.Prelude.{Option, Result, Ok, Err}
 use Rattle.std.specs.List.{list_any}
@@ -73,12 +73,12 @@ comments_at_end f r = f.had_comments || list_any (λ g. is_comment g.kind) (segm
 abbrev pub newline_places : Flags → Spot → List Location
 newline_places f last = if f.start_of_line then [] else place_after last ∷ []
 
--- where the items of the segments stand, after this character
+-- the places of the items of the segments, after this character
 abbrev pub places_from : Flags → Spot → List Segment → List Location
 places_from f last [] = newline_places f last
 places_from f last (g ∷ gs) = places_at g g.kind ++ places_from (passed f g.kind) g.last gs
 
--- where the items to come stand
+-- the places of the items to come
 abbrev pub places_left : Flags → Reading → List Location
 places_left f r = places_from f r.last (segments r.rest)
 
@@ -98,7 +98,7 @@ pub record IsPlaced (f : Flags) (r : Reading) (old : Location) (g : Flags) (q : 
   pub place : new ≡ first_place (places_left f r) old
   pub rest : places_left g q ≡ places_after_first (places_left f r)
 
--- memory was refused, where the first item needs it
+-- the first item needs memory, and it ran out
 pub record IsLexRefused (f : Flags) (r : Reading) (g : Flags)
     (answer : Result (Option Lexeme) AllocError) : Type 0 where
   pub value : IsErr answer

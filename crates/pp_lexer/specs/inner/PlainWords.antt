@@ -83,7 +83,7 @@ before_equals c =
     else if c == 61 then Some EqualEqual else if c == 33 then Some NotEqual
     else None
 
--- the punctuator of a character twice, where that is no equals sign
+-- the punctuator of a character twice, if it is no equals sign
 abbrev pub doubled : ℕ → Option Punctuator
 doubled c =
     if c == 43 then Some Increment else if c == 45 then Some Decrement
@@ -92,19 +92,19 @@ doubled c =
     else if c == 60 then Some LeftShift else if c == 62 then Some RightShift
     else None
 
--- the text ends there, or goes on with an ASCII byte that is no backslash and fails
+-- the text ends at this place, or goes on with an ASCII byte that is no backslash and doesn't pass
 abbrev pub Stops : (ℕ → Bool) → List ℕ → ℕ → Type 0
 Stops P text at =
     at < length text
     → (slice_index text at < 128) × ((slice_index text at == 92) ≡ false) × (P (slice_index text at) ≡ false)
 
--- one of the two letters stands there, and the number ends after it
+-- one of the two letters is at this place, and the number ends after it
 pub record IsSuffixed (small capital : ℕ) (text : List ℕ) (at : ℕ) : Type 0 where
   pub within : at < length text
   pub letter : ((slice_index text at == small) || (slice_index text at == capital)) ≡ true
   pub stops : Stops continues_number text (at + 1)
 
--- the text begins with `0x`, and goes on
+-- the text begins with `0x` or `0X`, and goes on
 pub record BeginsHex (text : List ℕ) : Type 0 where
   pub more : 2 < length text
   pub zero : slice_index text 0 ≡ 48
@@ -115,7 +115,7 @@ pub record BeginsSign (text : List ℕ) : Type 0 where
   pub some : 0 < length text
   pub sign : is_sign (slice_index text 0) ≡ true
 
--- so many bytes at the front are characters of one line, wherever the text stands in a source
+-- the first `n` bytes are characters of one line, wherever in a source the text is
 abbrev pub IsFront : List ℕ → ℕ → Type 0
 IsFront text n =
     (line at : ℕ)
@@ -124,7 +124,7 @@ IsFront text n =
 abbrev pub is_newline_value : TokenValue → Bool
 is_newline_value value = is_newline (item (Ok value))
 
--- such a word stands at the front of the text, and takes that many bytes, wherever the text stands in a source
+-- the text begins with a word of this value, which takes this many bytes, wherever in a source the text is
 pub record IsPlainWord (text : List ℕ) (value : TokenValue) (taken : ℕ) : Type 0 where
   pub some : 0 < taken
   pub within : taken ≤ length text
@@ -139,7 +139,7 @@ pub record IsPlainWord (text : List ℕ) (value : TokenValue) (taken : ℕ) : Ty
 abbrev pub IsFirstWord : List ℕ → Word → Type 0
 IsFirstWord text w = IsPlainWord text (value_of w.form (take w.taken text)) w.taken
 
--- a newline stands at the front of the text, and takes that many bytes, wherever the text stands in a source
+-- the text begins with a newline, which takes this many bytes, wherever in a source the text is
 pub record IsPlainNewline (text : List ℕ) (taken : ℕ) : Type 0 where
   pub some : 0 < taken
   pub within : taken ≤ length text
@@ -149,7 +149,7 @@ pub record IsPlainNewline (text : List ℕ) (taken : ℕ) : Type 0 where
       ≡ record { c = 10; line = line; begin = at; end = at + 1 }
       ∷ spots_from (line + 1) (at + taken) (drop taken text)
 
--- a comment stands at the front of the text, and takes that many bytes, wherever the text stands in a source
+-- The text begins with a comment, which takes so many bytes and has so many newlines, wherever in a source the text is.
 pub record IsPlainComment (text : List ℕ) (comment : Comment) : Type 0 where
   pub within : comment.taken ≤ length text
   pub cut : IsCharBoundary text comment.taken
@@ -159,13 +159,13 @@ pub record IsPlainComment (text : List ℕ) (comment : Comment) : Type 0 where
       ≡ record { c = 13; line = line; begin = at; end = at + 1 }
       ∷ spots_from (line + comment.newlines) (at + comment.taken) (drop comment.taken text)
 
--- the next item is given, or memory was refused, or all is as it was
+-- the next item is given, or memory ran out, or nothing changed
 abbrev pub IsPlainLexed : Flags → Reading → Result (Option Lexeme) AllocError → Flags → Reading → Type 0
 IsPlainLexed f r answer g q =
     MatchResult answer
     (λ o. MatchOption o ((g ≡ f) × (q ≡ r)) (λ item. IsLexed f r (Ok (Some item)) g q))
     (λ e. IsLexed f r (Err e) g q)
 
--- a newline is given, or all is as it was
+-- a newline is given, or nothing changed
 abbrev pub IsNewlineLexed : Flags → Reading → Option Lexeme → Flags → Reading → Type 0
 IsNewlineLexed f r answer g q = MatchOption answer ((g ≡ f) × (q ≡ r)) (λ item. IsLexed f r (Ok (Some item)) g q)

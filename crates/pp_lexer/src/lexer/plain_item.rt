@@ -10,7 +10,7 @@ use crate::lexer::plain::Form;
 use crate::token::{Float, Integer, Location, Text};
 use std::alloc::{AllocError, Global};
 
-/// A word of plain text with its place: a token but for the memory that its value takes.
+/// A word of plain text with its place: a token without the memory that its value takes.
 #[derive(Clone, Copy)]
 pub struct PlainItem<'a> {
     /// What the word is.
@@ -38,7 +38,7 @@ pub fn without_suffix(spelling: &str) -> &str
     &spelling[..spelling.len() - 1]
 }
 
-// The text that is spelled so.
+// The text with this spelling.
 #[inline(always)]
 fn ascii_text(alloc: Global, spelling: &str) -> Result<Text, AllocError>
     requires { IsAscii spelling.now }
@@ -47,8 +47,8 @@ fn ascii_text(alloc: Global, spelling: &str) -> Result<Text, AllocError>
     Ok(Text::from(String::from_str(alloc, spelling)?))
 }
 
-/// The value of a word of this form that is spelled so. The error is that the text of an identifier or of a float
-/// could not be allocated.
+/// The value of a word of this form with this spelling. The error is that the text of an identifier or of a float could
+/// not be allocated.
 #[inline(always)]
 pub fn plain_value(alloc: Global, form: Form, spelling: &str) -> Result<TokenValue, AllocError>
     requires { IsAscii spelling.now }

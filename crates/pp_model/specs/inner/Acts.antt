@@ -27,6 +27,6 @@ after_word reader = drop 2 (items_left reader)
 abbrev pub block_here : SourceReader → Option Block
 block_here reader = innermost (blocks_at reader.items reader.position)
 
--- what a directive's line does to the reader at its number sign
+-- what a directive's line does to the reader at its `#`
 abbrev pub perform_line : Move → SourceReader → Acted
 perform_line move reader = perform (taking_more 2 move) reader

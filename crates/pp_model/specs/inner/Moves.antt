@@ -4,10 +4,10 @@ use Rattle.std.specs.Option.{option_map_or}
 use Rattle.pp_model.specs.Calls.{Fault}
 use Rattle.pp_model.specs.Moves.{Effect, Move, failing}
 
--- a line that is skipped, by the fault that the lexer finds on it
+-- a line that is skipped, by the lexer's first error on it, if there is one
 abbrev pub skip_by : Option Fault → Effect → ℕ → Move
 skip_by found effect taken = option_map_or failing found (record { effect = effect; taken = taken })
 
--- so many items more, a directive's number sign and its word among them
+-- the same with this many items more, such as a directive's `#` and its word
 abbrev pub taking_more : ℕ → Move → Move
 taking_more count move = record move { taken = count + move.taken }

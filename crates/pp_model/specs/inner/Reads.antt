@@ -6,7 +6,7 @@ use Rattle.pp_model.specs.SourceReader.{SourceReader}
 use Rattle.pp_model.specs.Acts.{after_line}
 use Rattle.pp_model.specs.declared.definition.Named.{Named}
 
--- the reader after a `#line` of this number whose word stands here
+-- the reader after a `#line` of this number, whose word is here
 abbrev pub after_line_number : SourceReader → Location → ℕ → SourceReader
 after_line_number reader word n = record (after_line reader) { line_offset = pos n -ℤ pos word.line }
 

@@ -1,4 +1,4 @@
--- Parts of what stands at a position of a source, under names of their own.
+-- Parts of what is at a position of a source, under names of their own.
 use Rattle.std.specs.Prelude.{ℕ, Bool, if◌then◌else◌, List, Result, codes}
 use Rattle.std.specs.Str.{chars}
 use Rattle.pp_lexer.specs.Items.{Lexeme}
@@ -18,7 +18,7 @@ use Rattle.pp_model.specs.declared.sight.Sight.TheVariants as sight
 unfoldable pub is_word : Name → List ℕ → Bool
 is_word name text = is_same_name name (chars text)
 
--- what a directive's word says, word by word
+-- the directive of a word, word by word
 abbrev pub directive_by_words : Name → Directive
 directive_by_words name =
     if is_word name (codes "define") then d.Define
@@ -36,7 +36,7 @@ directive_by_words name =
     else if is_word name (codes "pragma") then d.Pragma
     else d.Unknown
 
--- what stands after the number sign of a directive
+-- what comes after the `#` of a directive
 abbrev pub directive_sight : Result LexerToken Fault → Sight
 directive_sight = sight_from (λ word. named_directive word (identifier_of word.value))
 

@@ -9,7 +9,7 @@ use Rattle.pp_model.specs.LineWords.{closed_by, is_defined}
 use Rattle.pp_model.specs.declared.read.Taken.{Taken}
 use Rattle.pp_model.specs.declared.word.LineKind.{LineKind}
 
--- what a `defined` comes to after its `(` and the name
+-- what a `defined` gives after its `(` and the name
 pub record Closes (kind : LineKind) (directive : Location) (A : Answers) (n : Name)
     (e : Expander Listed) (r : Result Bool Fault) (f : Expander Listed) : Type 0 where
   pub found : Taken

@@ -1,4 +1,4 @@
--- What the plain program gives of a step: what the definitions say, or nothing.
+-- What the plain program gives for a step: what the definitions say, or a stop.
 use Rattle.std.specs.Prelude.{◌≡◌, ◌⊎◌, ◌+◌, ◌≤◌, length, ℕ, Bool, List, Option, Some, None, Result, Ok, Err, ⊤}
 use Rattle.pp_lexer.specs.declared.token.Location.{Location}
 use Rattle.pp_lexer.specs.declared.token.PreprocessorError.TheVariants.{DefineRedefined}
@@ -19,13 +19,13 @@ use Rattle.pp_model.specs.declared.step.Step.TheVariants as step
 use Rattle.pp_reference.specs.declared.stop.Halt.{Halt}
 use Rattle.pp_reference.specs.declared.stop.Halt.TheVariants as halt
 
--- a step and the reader after it are those wanted, or the fault is, which leaves the reader where it is
+-- the step and the reader after it are those of the definitions, or so is the fault; nothing is asked of a stop
 abbrev pub ActsAs : Result Step Halt → Acted → SourceReader → Type 0
 ActsAs (Ok step) wanted after = wanted ≡ record { step = step; after = after }
 ActsAs (Err (halt.Fault fault)) wanted after = wanted ≡ fault_at fault after
 ActsAs (Err (halt.Stop stop)) wanted after = ⊤
 
--- a line whose value is wanted stands at the position: its number sign and its word
+-- if a step asks for the value of a line, the line's `#` and its word are at the position
 abbrev pub HasLine : Step → ReaderState → Type 0
 HasLine (step.Condition word tokens) state = state.position + 2 ≤ length state.items
 HasLine (step.LineNumber word tokens) state = state.position + 2 ≤ length state.items
@@ -35,7 +35,7 @@ abbrev pub HasLineIfOk : Result Step Halt → ReaderState → Type 0
 HasLineIfOk (Ok step) state = HasLine step state
 HasLineIfOk (Err h) state = ⊤
 
--- what a `#define` of a name comes to after its line, where the name stood for this
+-- what a `#define` of a name gives after its line, if the name had this definition before
 abbrev pub Defining : Named → Option Definition → SourceReader → Option Outcome → SourceReader → Type 0
 Defining named None r o t = (o ≡ None) × (t ≡ after_define named r)
 Defining named (Some old) r o t =
@@ -48,7 +48,7 @@ abbrev pub DecidesBy : Result Bool Fault → SourceReader → Option Outcome →
 DecidesBy (Ok holds) r o t = (o ≡ None) × (t ≡ decided r holds)
 DecidesBy (Err fault) r o t = (o ≡ Some (outcome.Fault fault)) × (t ≡ r)
 
--- what the line of a condition comes to
+-- what the line of a condition gives
 pub record Deciding (A : Answers) (word : Location) (tokens : List Token) (r : SourceReader) (o : Option Outcome)
     (t : SourceReader) : Type 0 where
   pub result : Result Bool Fault
@@ -59,7 +59,7 @@ abbrev pub RenumbersBy : Location → Result ℕ Fault → SourceReader → Opti
 RenumbersBy word (Ok n) r o t = (o ≡ None) × (t ≡ after_line_number r word n)
 RenumbersBy word (Err fault) r o t = (o ≡ Some (outcome.Fault fault)) × (t ≡ r)
 
--- what a `#line` comes to
+-- what a `#line` gives
 pub record Renumbering (A : Answers) (word : Location) (tokens : List Token) (r : SourceReader) (o : Option Outcome)
     (t : SourceReader) : Type 0 where
   pub result : Result ℕ Fault

@@ -1,4 +1,4 @@
--- What the plain program's reader of a source keeps, and the reader of the definitions that it stands for.
+-- What the plain program's reader of a source keeps, and the reader of the definitions that this is.
 use Rattle.std.specs.Prelude.{ℕ, ℤ, List}
 use Rattle.pp_lexer.specs.Lexed.{Seen}
 use Rattle.pp_reference.specs.inner.Changes.{meaning_of}
@@ -6,7 +6,7 @@ use Rattle.pp_model.specs.Blocks.{Truths}
 use Rattle.pp_model.specs.SourceReader.{SourceReader}
 use Rattle.pp_reference.specs.declared.definitions.Change.{Change}
 
--- the same with the changes of the definitions in place of the map that they come to
+-- a reader of a source, with the changes of the definitions in place of the map that they give
 pub record ReaderState : Type 0 where
   pub items : List Seen
   pub position : ℕ

@@ -1,4 +1,4 @@
--- What the plain program's expanders stand for, and what one turn of an expander comes to.
+-- The expander of the definitions that each expander of the plain program is, and what one turn of an expander does.
 use Rattle.std.specs.Prelude.{◌≡◌, true, false, [], List, Option, Some, None, Result, Ok, Err}
 use Rattle.pp_lexer.specs.declared.token.Location.{Location}
 use Rattle.pp_model.specs.Reading.{Reading, Expander, Opening, opening}
@@ -17,11 +17,11 @@ use Rattle.pp_model.specs.declared.read.Read.{Read}
 use Rattle.pp_model.specs.declared.read.Taken.{Taken}
 use Rattle.pp_model.specs.declared.read.Taken.TheVariants as taken
 
--- the expander, where this is what its reader stands for
+-- the expander of the definitions, if `state` gives its reader
 abbrev pub seen : {R S : Type 0} → (R → S) → declared.Expander R → Expander S
 seen state e = record { held = e.held; list = e.list.items; reader = state e.reader; hidden = e.hidden.items }
 
--- a `(` is taken, or what stands in its place is held
+-- a `(` is taken, or what was taken in its place is held
 pub data TakesParen {S : Type 0} (I : Reading S) : Expander S → Option Location → Expander S → Type 0 where
   none : (o : Taken) (p : Option Location) (e f g : Expander S)
       → Takes I e o f → paren_at o ≡ None
@@ -33,7 +33,7 @@ pub data TakesParen {S : Type 0} (I : Reading S) : Expander S → Option Locatio
       → p ≡ Some paren
       → TakesParen I e p f
 
--- what stands after the name of a macro with parameters, before its arguments are expanded
+-- what follows the name of a function-like macro, before its arguments are expanded
 pub data Finds {S : Type 0} (I : Reading S) : Expander S → AfterName → Expander S → Type 0 where
   nothing : (c : AfterName) (e f : Expander S) → TakesParen I e None f → c ≡ NoCall → Finds I e c f
   broken : (paren : Location) (fault : Fault) (c : AfterName) (e f g : Expander S)
@@ -49,7 +49,7 @@ pub data Finds {S : Type 0} (I : Reading S) : Expander S → AfterName → Expan
       → c ≡ Whole site
       → Finds I e c g
 
--- the turn at the name of a macro with parameters, where this stands after it
+-- the turn at the name of a function-like macro, if this follows it
 abbrev pub turn_after_name : Taken → Opening → AfterName → Turn
 turn_after_name given m NoCall = Item given
 turn_after_name given m (Broken fault) = Item (taken.Fault fault)
@@ -69,8 +69,7 @@ pub data TurnsAt {S : Type 0} (I : Reading S) (given : Taken) (m : Opening)
       → t ≡ turn_after_name given m c
       → TurnsAt I given m e t f
 
--- One turn: an item, a macro without parameters that was replaced, or a call that was
--- gathered and is yet to be replaced.
+-- One turn: an item, an object-like macro that was replaced, or a call that was gathered and is still to be replaced.
 pub data Turns {S : Type 0} (I : Reading S) : Expander S → Turn → Expander S → Type 0 where
   itself : (o : Taken) (t : Turn) (e f : Expander S)
       → Takes I e o f → opening I f o ≡ None

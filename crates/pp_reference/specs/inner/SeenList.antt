@@ -1,4 +1,4 @@
--- What the plain program's readers of lists stand for.
+-- The readers of the definitions that the plain program's readers of lists are.
 use Rattle.pp_reference.specs.inner.Changes.{meaning_of}
 use Rattle.pp_model.specs.Reading.{Listed}
 use Rattle.pp_reference.specs.declared.reader.ArgumentReader.{ArgumentReader}

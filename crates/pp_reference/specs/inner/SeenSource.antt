@@ -1,4 +1,4 @@
--- What the plain program's reader of a source stands for, and what one call of it comes to.
+-- The reader of the definitions that the plain program's reader of a source is, and what one call of it does.
 use Rattle.std.specs.Prelude.{◌≡◌, ℕ, Bool, true, false, List, Ok, Err}
 use Rattle.std.specs.Str.{chars}
 use Rattle.pp_lexer.specs.Items.{Lexeme}
@@ -20,7 +20,7 @@ use Rattle.pp_reference.specs.declared.stop.Halt.TheVariants as halt
 abbrev pub source_state : Source → SourceReader
 source_state source = reader_of source.reader
 
--- memory for an item was refused
+-- the error is that memory ran out
 abbrev pub is_out_of_memory : PreprocessorError → Bool
 is_out_of_memory OutOfMemory = true
 is_out_of_memory _ = false
@@ -29,7 +29,7 @@ abbrev pub is_refused : Lexeme → Bool
 is_refused (Ok token) = false
 is_refused (Err fault) = is_out_of_memory fault.0
 
--- what one call answers, and the state after it
+-- the reply to one call, and the state after it
 pub data Replying (A : Answers) : Expander SourceReader → Call → Reply → Expander SourceReader → Type 0 where
   added : (name content : List ℕ) (tokens : List Token) (e f : Expander SourceReader) (r : Reply)
       → content_tokens (items_of content) ≡ Ok tokens
@@ -46,7 +46,7 @@ pub data Replying (A : Answers) : Expander SourceReader → Call → Reply → E
       → r ≡ reply.Given o
       → Replying A e next r f
 
--- what is refused of a content, or nothing is said
+-- the reply to a content that is refused with this fault; a stop has no reply
 abbrev pub RefusedBy : Halt → Reply → Type 0
 RefusedBy (halt.Fault fault) r = r ≡ reply.Refused fault
 RefusedBy (halt.Stop stop) r = ⊥
