@@ -157,7 +157,7 @@ fn write_output(rt: &HostRuntime, file: Option<&str>, output: &str) -> Result<()
     }
 }
 
-// Coloured if the standard error is a terminal and `NO_COLOR` isn't set, else plain.
+// Coloured if the standard error is a terminal and `NO_COLOR` isn't set, and otherwise plain.
 fn style_of(rt: &HostRuntime) -> Style {
     if rt.stderr().is_terminal() && env::var(rt, "NO_COLOR").is_err() {
         Style::Coloured

@@ -211,7 +211,7 @@ fn define_and_read(
     run.read(items, texts)
 }
 
-// Adds the definitions of GLSL and of the command line, without those that the command line takes back.
+// Adds the definitions of GLSL and of the command line, without those that a later `-U` undoes.
 fn define(
     alloc: Global,
     arguments: &Arguments<'_>,

@@ -1,4 +1,4 @@
--- What `-D` and `-U` leave of the definitions before a source.
+-- The definitions before a source that `-D` and `-U` leave.
 use Rattle.std.specs.Prelude.{ℕ, Bool, false, List, [], ◌∷◌, ◌++◌, if◌then◌else◌, nat_eq}
 use Rattle.std.specs.Cmp.Lexicographic.{pointwise}
 use Rattle.std.specs.List.{list_any}

@@ -1,4 +1,4 @@
--- Columns: how many characters a line has before a place, and one.
+-- Columns: one more than the number of characters before a place on its line.
 use Rattle.std.specs.Prelude.{ℕ, Bool, ◌+◌, ◌&&◌, nat_lt, nat_le, if◌then◌else◌, List, [], ◌∷◌, take}
 use Rattle.pp_lexer.specs.Lines.{is_line_break}
 
@@ -6,7 +6,7 @@ use Rattle.pp_lexer.specs.Lines.{is_line_break}
 abbrev pub is_later_byte : ℕ → Bool
 is_later_byte b = nat_le 128 b && nat_lt b 192
 
--- the column after one byte more: a line end begins anew, and each first byte is one character
+-- the column after one more byte: a line break starts again at 1, and the first byte of each character counts as one
 abbrev pub column_past : ℕ → ℕ → ℕ
 column_past column b = if is_line_break b then 1 else if is_later_byte b then column else column + 1
 
@@ -15,6 +15,6 @@ abbrev pub column_after : ℕ → List ℕ → ℕ
 column_after column [] = column
 column_after column (b ∷ bs) = column_after (column_past column b) bs
 
--- the column of a place of a text, that many bytes from its start
+-- the column of a place in a text, this many bytes from its start
 abbrev pub column_at : List ℕ → ℕ → ℕ
 column_at text offset = column_after 1 (take offset text)

@@ -1,4 +1,4 @@
--- The definitions before a source, as they are checked and added.
+-- How the definitions before a source are checked and added.
 use Rattle.std.specs.Prelude.{◌≡◌, ℕ, ◌-◌, ◌^◌, ◌<◌, false, List, [], ◌∷◌, length, Ok, ⊤}
 use Rattle.std.specs.List.{list_any}
 use Rattle.std.specs.Str.{chars}
@@ -14,27 +14,27 @@ use Rattle.glslpp_parts.specs.Changes.{Definition}
 use Rattle.glslpp_parts.specs.Reading.{IsReadAs}
 use Rattle.glslpp_parts.specs.Texts.{Texts, padded, with_content}
 
--- a text that is read as one name, which is the text itself
+-- a text that the lexer reads as one name, which is the text itself
 pub record IsName (text : List ℕ) : Type 0 where
   pub short : length text < 2 ^ 32 - 1
   pub read : IsReadAs (Ident (chars text)) text
 
--- no line ends in it
+-- the content has no line break
 abbrev pub IsOneLine : List ℕ → Type 0
 IsOneLine content = list_any is_line_break content ≡ false
 
--- a `-D` of a name with a content of one line, or a `-U` of a name
+-- a `-D` of a name with a content without line breaks, or a `-U` of a name
 abbrev pub IsDefinable : Change → Type 0
 IsDefinable (Define name content) = IsName name.now × IsOneLine content.now
 IsDefinable (Undefine name) = IsName name.now
 
--- the failure is no refusal of memory
+-- the failure isn't that memory ran out
 abbrev pub IsTold : Failure → Type 0
 IsTold (Told text) = ⊤
 IsTold OutOfMemory = ⊥
 
--- A definition is added as `add_define` does it. Its content is behind blanks, by which its places are told from those
--- of the source.
+-- A definition is added as `add_define` does it. Blanks are put before its content, so that places in it differ from
+-- those in the source.
 pub record IsWithDefinition (d : Definition) (texts : Texts) (old : Preprocessing)
     (texts' : Texts) (new : Preprocessing) : Type 0 where
   pub added : IsAdded old d.0.now (padded texts d.1.now) (Ok tt) new

@@ -1,4 +1,4 @@
--- What each item of a source adds to what is printed.
+-- What each item of a source adds to the output.
 use Rattle.std.specs.Prelude.{◌≡◌, ◌⊎◌, ℕ, Bool, true, false, List, Option, Some, None, unwrap_or}
 use Rattle.std.specs.Str.{encode_utf8_all}
 use Rattle.pp_lexer.specs.ItemText.{item_text}
@@ -10,14 +10,15 @@ use Rattle.glslpp_parts.specs.declared.layout.Gap.TheVariants.{Nothing}
 use Rattle.glslpp_parts.specs.Layout.{Laid, on_line, with_directive}
 use Rattle.glslpp_parts.specs.Reading.{IsTextOf}
 
--- the form, the words on their lines, and where the last word ends in the source if its text is from there
+-- the form of the output, the words on their lines, and the end in the source of the last word, if its text is from
+-- there
 pub record Printed : Type 0 where
   pub form : Form
   pub laid : Laid
   pub end : Option ℕ
 
--- A token's word is put on the line: a text that is read again as its value. No space is left out before it but where
--- it begins in the source at the end of the word before.
+-- A token's word is put on the line: a text that is read again as the token's value. The space before it is left out
+-- only if the token begins in the source at the end of the word before.
 pub record PutsWord (old : Printed) (token : Token) (line : ℕ) (new : Printed) : Type 0 where
   pub gap : Gap
   pub word : List ℕ
@@ -31,8 +32,8 @@ pub record PutsDirective (old : Printed) (token : Token) (line : ℕ) (new : Pri
   pub laid : new.laid ≡ with_directive old.laid line (encode_utf8_all (item_text token.value))
   pub end : new.end ≡ None
 
--- Of an ordinary token, or of a directive: what is printed by the form, where a token that a macro gives is on the line
--- of the call.
+-- What an ordinary token (`true`) or a directive (`false`) adds, by the form of the output. A token of a macro goes on
+-- the line of the call.
 abbrev pub Puts : Form → Bool → Printed → Token → Option ℕ → Printed → Type 0
 Puts Lines true old token call new = PutsWord old token (unwrap_or call token.location.line) new
 Puts Compact true old token call new = PutsWord old token old.laid.line new

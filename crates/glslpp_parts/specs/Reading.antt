@@ -1,4 +1,4 @@
--- What a lexer has ahead of it, and what it reads of a token's text.
+-- The values that a lexer still gives, and the value that it reads from a token's text.
 use Rattle.std.specs.Prelude.{◌≡◌, ℕ, ◌⊎◌, true, List, [], ◌∷◌, map, Result, Ok}
 use Rattle.pp_lexer.specs.declared.lexer.item.TokenValue.{TokenValue as LexerTokenValue}
 use Rattle.pp_lexer.specs.declared.lexer.item.TokenValue.TheVariants.{NewLine}
@@ -21,7 +21,7 @@ abbrev pub as_signed : TokenValue → TokenValue
 as_signed (Integer i) = Integer (record i { signed = true })
 as_signed value = value
 
--- A text that is written for a value which the lexer can give: read again, it's that value, or the same number as an
+-- The text for a value. If the lexer can give the value, the text, read again, is that value, or the same number as an
 -- `int`.
 abbrev pub IsTextOf : TokenValue → List ℕ → Type 0
 IsTextOf value text = IsSpellable value → (IsReadAs value text ⊎ IsReadAs (as_signed value) text)

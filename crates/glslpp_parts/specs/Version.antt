@@ -1,4 +1,4 @@
--- The version that a source says in its first tokens: GLSL ES 3.20, section 3.4.
+-- The version that the first tokens of a source name: GLSL ES 3.20, section 3.4.
 use Rattle.std.specs.Prelude.{ℕ, Bool, true, false, not, ◌&&◌, ◌||◌, ◌==◌, nat_le, List, [], ◌∷◌, ◌++◌, map, Option}
 use Rattle.std.specs.Prelude.{Some, None, Result, Ok, codes, nat_eq, if◌then◌else◌, unwrap_or, option_map}
 use Rattle.std.specs.Cmp.Lexicographic.{pointwise}
@@ -32,7 +32,7 @@ abbrev pub number_of : Read → Option ℕ
 number_of (Ok (Integer i)) = Some i.value
 number_of read = None
 
--- what comes after empty lines
+-- what is left after newlines are passed over
 abbrev pub after_newlines : List Read → List Read
 after_newlines [] = []
 after_newlines (read ∷ reads) = if is_newline read then after_newlines reads else read ∷ reads
@@ -51,17 +51,17 @@ abbrev pub numbered : List Read → Option Version
 numbered [] = None
 numbered (read ∷ reads) = option_map (λ n. record { number = n; profile = profile_of reads }) (number_of read)
 
--- the word `version`, and then these
+-- the version, if the word `version` is first
 abbrev pub after_hash : List Read → Option Version
 after_hash [] = None
 after_hash (read ∷ reads) = if is_word (codes "version") read then numbered reads else None
 
--- the `#` of a `#version`, and then its word
+-- the version, if the `#` of a `#version` is first
 abbrev pub version_line : List Read → Option Version
 version_line [] = None
 version_line (read ∷ reads) = if is_hash read then after_hash reads else None
 
--- what the first line that isn't empty says, or else version 100
+-- the version that the first line that isn't empty names, and otherwise version 100
 abbrev pub version_of : List Read → Version
 version_of reads = unwrap_or (version_line (after_newlines reads)) (record { number = 100; profile = Unnamed })
 
@@ -72,7 +72,7 @@ is_profile Core Core = true
 is_profile Compatibility Compatibility = true
 is_profile wanted profile = false
 
--- GLSL ES: by its profile, or as the version that has no profile
+-- GLSL ES: the profile is `es`, or the number is 100
 abbrev pub is_es : Version → Bool
 is_es v = is_profile Es v.profile || (v.number == 100)
 
@@ -89,11 +89,11 @@ abbrev pub said_of : Change → List ℕ × Option (List ℕ)
 said_of (Define name content) = (name.now, Some content.now)
 said_of (Undefine name) = (name.now, None)
 
--- what changes say, as texts: a name and its content, or a name that is taken back
+-- the changes as texts: a name with its content, or a name that is undefined
 abbrev pub said : List Change → List (List ℕ × Option (List ℕ))
 said changes = map said_of changes
 
--- a name with the content 1, if it is defined
+-- a name with the content 1, if the name is defined
 abbrev pub as_one : Bool → List ℕ → List (List ℕ × Option (List ℕ))
 as_one is_defined name = if is_defined then (name, Some (codes "1")) ∷ [] else []
 

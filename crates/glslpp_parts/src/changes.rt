@@ -11,14 +11,14 @@ use std::alloc::{AllocError, Global};
 pub enum Change<'a> {
     /// A macro's name and content.
     Define(&'a str, &'a str),
-    /// The name of a macro whose definitions are taken back.
+    /// The name of a macro that is undefined.
     Undefine(&'a str),
 }
 
 /// A macro that is defined before a source: its name and its content.
 pub type Definition<'a> = (&'a str, &'a str);
 
-/// Returns the definitions that no later `-U` takes back, in order.
+/// Returns the definitions that no later `-U` undoes, in order.
 pub fn kept_definitions<'a>(
     alloc: Global,
     changes: &[Change<'a>],
@@ -32,7 +32,7 @@ pub fn kept_definitions<'a>(
     Ok(definitions)
 }
 
-// Appends the definition of a change, unless one of the later changes takes it back.
+// Appends the definition of a change, unless one of the later changes undoes it.
 fn push_kept<'a>(
     change: Change<'a>,
     later: &[Change<'a>],
@@ -50,7 +50,7 @@ fn push_kept<'a>(
     }
 }
 
-// Whether one of the changes takes the name back.
+// Whether one of the changes is a `-U` of the name.
 fn is_taken_back(name: &str, changes: &[Change<'_>]) -> bool
     ensures { result ≡ list_any (takes_back name.now) changes.now }
 {

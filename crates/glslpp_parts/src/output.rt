@@ -104,7 +104,7 @@ impl<'a> Output<'a> {
         self.layout.push_word(line, Gap::Space, word.as_str())
     }
 
-    // No gap before a word that directly follows the last word in the source, else a space.
+    // No gap before a word that directly follows the last word in the source, and otherwise a space.
     fn gap_before(&self, place: Location) -> Gap
         ensures { result ≡ Gap.Nothing → self.now.end ≡ Some place.start }
     {

@@ -1,4 +1,4 @@
--- The definitions of a caller in C, and the calls of the preprocessor that they stand for.
+-- The definitions that a caller in C passes, and the calls of the preprocessor that they stand for.
 use Rattle.std.specs.Prelude.{ℕ, ◌+◌, ◌-◌, min, max, List, [], ◌∷◌, ◌++◌}
 use Rattle.std.specs.Prelude.{replicate, slice_range, Result, Ok, Err}
 use Rattle.pp_model.specs.Calls.{Fault}
@@ -9,7 +9,7 @@ use Rattle.pp_rs.specs.declared.token.Token.{Token}
 use Rattle.pp_c.specs.Numbers.{error_number}
 use Rattle.pp_c.specs.declared.items.Definition.{Definition}
 
--- a part of the words
+-- so many bytes of the words, from a start
 abbrev pub part_of : List ℕ → ℕ → ℕ → List ℕ
 part_of words start count = slice_range words start (start + count)
 
@@ -19,13 +19,13 @@ name_in words definition = part_of words definition.name_start definition.name_l
 abbrev pub content_in : List ℕ → Definition → List ℕ
 content_in words definition = part_of words definition.content_start definition.content_length
 
--- the call that adds it
+-- the call that adds the definition
 abbrev pub adding : List ℕ → Definition → Call
 adding words definition = add_define (name_in words definition) (content_in words definition)
 
--- The calls for definitions in these words, if there are so many of `next` in all, the last of which gives the end, and
--- so many were made: before a definition is added, `next` is called until so many items were given as it says, or the
--- end was.
+-- The calls for definitions with these words, if `next` is called `all` times in the whole run, the last of which gives
+-- the end, and `made` times so far. Before a definition is added, `next` is called until as many items were given as
+-- the definition's `after` says, or the end was.
 abbrev pub calls_from : List ℕ → ℕ → ℕ → List Definition → List Call
 calls_from words all made [] = replicate (all - made) next
 calls_from words all made (definition ∷ definitions) =
@@ -41,7 +41,7 @@ with_answer definition error place = record definition {
   line = place.line;
 }
 
--- with what its content is answered: nothing, or its first error
+-- with the reply to its content: no error, or the first one
 abbrev pub with_fault : Definition → Result (List Token) Fault → Definition
 with_fault definition (Ok tokens) = with_answer definition 0 nowhere
 with_fault definition (Err fault) = with_answer definition (error_number fault.0) fault.1

@@ -12,8 +12,8 @@ use Rattle.pp_c.specs.Entries.{Entry, bare}
 use Rattle.pp_c.specs.Numbers.{bit_if, new_line_kind, hash_kind}
 use Rattle.pp_c.specs.Tokens.{item_at, leaf_entry, error_entry, place_entry}
 
--- the bits of a token: 16 if it is first on its line, or after a blank or a comment, and 32 if only these are before it
--- on its line
+-- the bits of a token: 16 if it is first on its line, or follows a blank or a comment; 32 if nothing but blanks and
+-- comments is before it on its line
 abbrev pub lexer_flags : Token → ℕ
 lexer_flags t = bit_or (bit_if t.leading_whitespace 16) (bit_if t.start_of_line 32)
 
@@ -26,22 +26,22 @@ lexer_entry place flags (Integer i) = leaf_entry place flags 0 (integer i)
 lexer_entry place flags (Float f) = leaf_entry place flags 0 (float f.text f.width)
 lexer_entry place flags (Punct p) = leaf_entry place flags 0 (punct p)
 
--- an item: a token, or an error, which holds where it stands
+-- an item: a token, or an error with its true place as a child
 abbrev pub lexeme_entries : Result Token Fault → Location → List Entry
 lexeme_entries (Ok t) place = lexer_entry t.location (lexer_flags t) t.value ∷ []
 lexeme_entries (Err fault) place = error_entry fault.1 1 fault.0 ∷ place_entry place ∷ []
 
--- items that stand at these places, after one that stands at the last
+-- items with these places, after an item with the last place
 abbrev pub lexed_entries : List Seen → List Location → Location → List Entry
 lexed_entries [] places last = []
 lexed_entries (s ∷ rest) places last =
     lexeme_entries s.item (first_place places last) ++
     lexed_entries rest (places_after_first places) (first_place places last)
 
--- the items that are left
+-- the entries of the items that are left
 abbrev pub entries_left : Lexed → List Entry
 entries_left lexer = lexed_entries lexer.rest lexer.places lexer.place
 
--- all items of a text
+-- the entries of all items of a text
 abbrev pub lexer_entries : List ℕ → List Entry
 lexer_entries text = entries_left (start_of (spots_of text))

@@ -1,4 +1,4 @@
--- The numbers of include/pp.h: what an item is, which error it is, and what else is said of it.
+-- The numbers of include/pp.h: the kinds of items, the errors, and the flags of tokens.
 use Rattle.std.specs.Prelude.{ℕ, bit_or, Bool, if◌then◌else◌}
 use Rattle.pp_rs.specs.Entry.{Leaf, ident, integer, float, punct, version, extension, pragma}
 use Rattle.pp_rs.specs.declared.token.PreprocessorError.{PreprocessorError}
@@ -158,14 +158,14 @@ punctuator_number Caret = 58
 punctuator_number Ampersand = 59
 punctuator_number Question = 60
 
--- the number of an error's item, and of the place that it holds
+-- the kind of an error, and of the place that it holds as a child
 abbrev pub error_kind : ℕ
 error_kind = 0
 
 abbrev pub place_kind : ℕ
 place_kind = 1
 
--- the number of a token
+-- the kind of a token
 abbrev pub kind_of : Leaf → ℕ
 kind_of (ident text) = 2
 kind_of (integer i) = 3
@@ -175,7 +175,7 @@ kind_of (extension before) = 6
 kind_of pragma = 7
 kind_of (punct p) = punctuator_number p
 
--- the numbers of a newline and of a number sign, which the lexer alone gives
+-- the kinds of a newline and of a number sign, which only the lexer gives
 abbrev pub new_line_kind : ℕ
 new_line_kind = 8
 
@@ -186,8 +186,8 @@ hash_kind = 9
 abbrev pub bit_if : Bool → ℕ → ℕ
 bit_if condition bit = if condition then bit else 0
 
--- the bits of a token: 1 for an integer without a suffix `u`; of a `#version` 2 if it is before all other directives
--- and tokens, and 4 if a comment is before it; 8 for an `#extension` after an ordinary token
+-- the bits of a token: 1 for an integer without a suffix `u`; 2 for a `#version` before all other directives and
+-- tokens, and 4 for one after a comment; 8 for an `#extension` after an ordinary token
 abbrev pub flags_of : Leaf → ℕ
 flags_of (integer i) = bit_if i.signed 1
 flags_of (version first comments) = bit_or (bit_if first 2) (bit_if comments 4)

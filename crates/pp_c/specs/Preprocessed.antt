@@ -19,12 +19,12 @@ use Rattle.pp_c.specs.declared.items.Definition.{Definition}
 use Rattle.pp_c.specs.declared.items.Item.{Item}
 use Rattle.pp_c.specs.declared.items.Sizes.{Sizes}
 
--- an item of the preprocessor: a token, or an error with where it stands in the source
+-- an item of the preprocessor: a token, or an error with its true place in the source
 pub data Given : Type 0 where
   token : Token → Given
   error : Fault → Location → Given
 
--- how it is written
+-- the entries of an item
 abbrev pub given_entries : Given → List Entry
 given_entries (token t) = token_entries t.location t.value
 given_entries (error fault place) = error_entries fault.0 fault.1 place
@@ -32,21 +32,21 @@ given_entries (error fault place) = error_entries fault.0 fault.1 place
 abbrev pub entries_of : List Given → List Entry
 entries_of given = flat_map given_entries given
 
--- what comes of `next` in a run: these items up to and with the first error, or the end after all of them
+-- the replies of `next` in a run: the items up to and with the first error, or all of them and then the end
 abbrev pub outcomes_of : List Given → List Outcome
 outcomes_of [] = outcome.End ∷ []
 outcomes_of (token t ∷ given) = outcome.Token t ∷ outcomes_of given
 outcomes_of (error fault place ∷ given) = outcome.Fault fault ∷ []
 
--- the replies that are no answers to `add_define`
+-- the replies to `next`, without those to `add_define`
 abbrev pub replies_to_next : List Reply → List Outcome
 replies_to_next [] = []
 replies_to_next (reply.Given o ∷ replies) = o ∷ replies_to_next replies
 replies_to_next (reply.Added ∷ replies) = replies_to_next replies
 replies_to_next (reply.Refused fault ∷ replies) = replies_to_next replies
 
--- Where errors stand, all of them, also after the first: one of the lexer where the first of those stands that were not
--- given before, and any other at the place in its item. At the end all of the lexer's were given.
+-- The places of all errors, also after the first: an error is the first of the lexer's errors that was not given
+-- before, at its true place, or any error at the place in its item. At the end all errors of the lexer were given.
 pub data ErrorsStand : List Given → List ErrorAt → Type 0 where
   none : (given : List Given) (left : List ErrorAt)
       → given ≡ []
@@ -66,13 +66,13 @@ pub data ErrorsStand : List Given → List ErrorAt → Type 0 where
       → ErrorsStand rest left
       → ErrorsStand given left
 
--- the tokens of a directive's line are ordinary
+-- the tokens inside a directive's item are ordinary
 abbrev pub GivenHoldsOrdinary : Given → Type 0
 GivenHoldsOrdinary (token t) = HoldsOrdinary t.value
 GivenHoldsOrdinary (error fault place) = ⊤
 
--- These are the items of a source to its end, with each definition added at its number: up to and with the first error
--- those of the run.
+-- These are all the items of a source, with each definition added when its number of items was given: up to and with
+-- the first error, those of the run.
 pub record AreItemsOf (source words : List ℕ) (definitions : List Definition) (given : List Given) : Type 0 where
   pub replies : List Reply
   pub run : IsRun source (calls_from words (length given + 1) 0 definitions) replies
@@ -80,8 +80,8 @@ pub record AreItemsOf (source words : List ℕ) (definitions : List Definition) 
   pub places : ErrorsStand given (lexer_errors source)
   pub holds : Each GivenHoldsOrdinary given
 
--- Entries take so much room. If it is there, their items are written over the front of the memory for items, their
--- texts over that for texts, and the rest of both stays.
+-- The entries take this much room. If there is room for all, their items are written over the front of the memory for
+-- items and their texts over the front of that for texts, and the rest of both stays.
 pub record AreWritten (entries : List Entry) (items items_after : List Item) (texts texts_after : List ℕ)
     (sizes : Sizes) : Type 0 where
   pub room : sizes ≡ room_of entries

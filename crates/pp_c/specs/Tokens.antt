@@ -1,4 +1,4 @@
--- How tokens and errors are written: the entries of each.
+-- The entries of tokens and errors.
 use Rattle.std.specs.Prelude.{ℕ, ℤ, pos, ◌+◌, bit_or, List, [], ◌∷◌, map, length, Option, Some, None}
 use Rattle.std.specs.List.{filter}
 use Rattle.std.specs.Str.{encode_utf8_all}
@@ -13,7 +13,7 @@ use Rattle.pp_c.specs.Entries.{Entry, bare, with_text, in_32_bits}
 use Rattle.pp_c.specs.Numbers.{error_number, error_kind, place_kind, kind_of, flags_of}
 use Rattle.pp_c.specs.declared.items.Item.{Item}
 
--- an item at a place, of a kind, with flags, of which no more is said
+-- an item with a place, a kind and flags, and 0 in all its other fields
 abbrev pub item_at : Location → ℕ → ℕ → Item
 item_at place kind flags = record {
   kind = kind;
@@ -28,13 +28,13 @@ item_at place kind flags = record {
   value = 0;
 }
 
--- the width of a number in bits
+-- the width of a number in bits, or 0
 abbrev pub width_of : Leaf → ℤ
 width_of (integer i) = i.width
 width_of (float text width) = width
 width_of leaf = pos 0
 
--- the value of an integer
+-- the value of an integer, or 0
 abbrev pub value_of : Leaf → ℕ
 value_of (integer i) = i.value
 value_of leaf = 0
@@ -51,7 +51,7 @@ abbrev pub entry_with : Item → Option (List ℕ) → Entry
 entry_with item None = bare item
 entry_with item (Some text) = with_text item (encode_utf8_all text)
 
--- one token, without the tokens that it holds: at a place, with flags beside its own, and with so many children
+-- one token, without the tokens inside it: with a place, flags beside its own, and a number of children
 abbrev pub leaf_entry : Location → ℕ → ℕ → Leaf → Entry
 leaf_entry place flags children leaf =
     entry_with (record (item_at place (kind_of leaf) (bit_or flags (flags_of leaf))) {
@@ -67,7 +67,7 @@ line_of value = filter is_outermost (inner value)
 abbrev pub held_entry : Held → Entry
 held_entry token = leaf_entry token.location 0 0 token.leaf
 
--- a token, and after it the tokens of its line, which are its children
+-- a token, and after it, as its children, the tokens of its directive's line
 abbrev pub token_entries : Location → TokenValue → List Entry
 token_entries place value =
     leaf_entry place 0 (in_32_bits (length (line_of value))) (leaf_of value) ∷
@@ -78,17 +78,17 @@ abbrev pub carried_entries : Location → PreprocessorError → List Entry
 carried_entries place (UnexpectedToken value) = token_entries place value
 carried_entries place error = []
 
--- an error at the place in its item, with so many children
+-- an error with the place in its item and a number of children
 abbrev pub error_entry : Location → ℕ → PreprocessorError → Entry
 error_entry place children error =
     bare (record (item_at place error_kind 0) { error = error_number error; children = children })
 
--- where it stands in the source
+-- the true place of an error in the source
 abbrev pub place_entry : Location → Entry
 place_entry place = bare (item_at place place_kind 0)
 
--- An error at the place in its item, and after it its children: where it stands in the source, and the token that it
--- carries.
+-- an error with the place in its item, and after it its children: its true place in the source, and the token that it
+-- carries
 abbrev pub error_entries : PreprocessorError → Location → Location → List Entry
 error_entries error place true_place =
     error_entry place (in_32_bits (1 + length (carried_entries place error))) error ∷

@@ -1,4 +1,4 @@
--- What only says how far a body has come: no definition here has to be believed.
+-- Definitions that only say how far a function's body has got: none of them has to be believed.
 pub mod Kinds
 pub mod Taking
 pub mod Making

@@ -44,7 +44,7 @@ pub struct Definition {
     pub content_length: u64,
     /// After how many items it is added. Items that belong to another item don't count.
     pub after: u64,
-    /// Written: 0 if it was added, else the error of its content.
+    /// Written: 0 if it was added, and otherwise the error of its content.
     pub error: u32,
     /// Written: the byte offset in the content at which that error begins.
     pub start: u32,
@@ -110,7 +110,7 @@ pub(crate) const LEADING_WHITESPACE: u32 = 16;
 /// A token of the lexer with only blanks and comments before it on its line.
 pub(crate) const START_OF_LINE: u32 = 32;
 
-/// The bit if the condition holds, else 0.
+/// The bit if the condition holds, and otherwise 0.
 pub(crate) fn bit_if(condition: bool, bit: u32) -> u32
     ensures { result ≡ bit_if condition bit }
 {

@@ -1,4 +1,4 @@
--- Whether a comment stands before the end of a line, as the lexer says it where the line was read.
+-- Whether a comment is before the end of a line, as the lexer says it once the line was read.
 use Rattle.std.proofs.Common.{◌≡◌, ◌≢◌, Bool, true, false, if◌then◌else◌, List, [], ◌∷◌, drop, Option, Some, None, Result, Ok, Err, refl}
 use Rattle.pp_lexer.specs.Items.{Lexeme}
 use Rattle.pp_lexer.specs.Lexed.{Seen, comments_before}

@@ -1,4 +1,4 @@
--- In the items of a text each line ends: after a token or an error that ends no line more stands.
+-- In the items of a text each line ends: an item that doesn't end its line is followed by another.
 use Rattle.std.proofs.Common.{◌≡◌, ◌≢◌, ◌∙◌, Bool, true, false, List, [], ◌∷◌, ◌++◌, sym, ap, refl, subst}
 use Rattle.pp_lexer.specs.declared.lexer.char_iterator.Spot.{Spot}
 use Rattle.pp_lexer.specs.declared.lexer.Flags.{Flags}

@@ -1,4 +1,4 @@
--- The tokens of a line are ordinary in an item that holds them.
+-- The tokens of a line are still ordinary in an item that holds them.
 use Rattle.std.proofs.Common.{List, [], ◌∷◌, All, IsTrue}
 use Rattle.std.proofs.lemmas.List.Elements.{All-nil, All-cons, All-head, All-tail, All-append}
 use Rattle.pp_lexer.specs.Entry.{Entry}

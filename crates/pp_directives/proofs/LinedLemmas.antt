@@ -1,4 +1,5 @@
--- In the items of a text the number sign of a directive stands first, or after a NewLine: neither a token nor an error stands before it on its line.
+-- In the items of a text the number sign of a directive is first, or directly follows a NewLine: neither a token nor an
+-- error is before it on its line.
 use Rattle.std.proofs.Common.{◌≡◌, ◌∙◌, ℕ, zero, suc, Bool, true, false, ◌&&◌, List, [], ◌∷◌, ◌++◌, drop, refl, sym, ap, subst}
 use Rattle.std.specs.Prelude.{Result, Ok, Err}
 use Rattle.pp_lexer.specs.declared.lexer.char_iterator.Spot.{Spot}

@@ -1,4 +1,4 @@
--- What reading makes of the errors of the lexer that were not reported yet.
+-- What reading does to the errors of the lexer that were not reported yet.
 use Rattle.std.proofs.Common.{◌≡◌, List, [], ◌∷◌, map, refl, subst, Result}
 use Rattle.pp_lexer.specs.Items.{Item, items_of, places_of}
 use Rattle.pp_lexer.specs.ItemLaws.{StandAt}

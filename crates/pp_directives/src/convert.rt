@@ -25,7 +25,7 @@ pub fn convert_lexer_token_to_step(token: lexer::Token) -> Step<Token>
     convert_lexer_token(token).map_err(StepExit::Error)
 }
 
-/// The token that a word of plain text is. The error is that its text could not be allocated.
+/// The token of a word of plain text. The error is that its text could not be allocated.
 #[inline(always)]
 pub fn word_token(alloc: Global, item: PlainItem<'_>) -> Result<Token, AllocError>
     requires no_hash { item.form ≢ Hash }

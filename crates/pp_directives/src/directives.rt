@@ -76,7 +76,7 @@ fn is_item(directive: Directive) -> bool {
     )
 }
 
-// What a directive that gives nothing comes to, as one that may give an item.
+// The result of a directive that gives nothing, as that of one that may give an item.
 fn without_item(acted: Result<(), Halt>) -> Result<Option<Token>, Halt>
     ensures is { result ≡ without_item acted }
     ensures holds { IfOk result (λ given. IfSome given (λ token. HoldsOrdinary token.value)) }
@@ -582,7 +582,7 @@ impl<'a> DirectiveProcessor<'a> {
     }
 
     /// The next word of plain text before memory is taken for it, if it is in live text and neither defined nor
-    /// `__LINE__`. Else nothing is taken.
+    /// `__LINE__`. Otherwise nothing changes.
     #[inline(always)]
     pub fn next_word(&mut self) -> Option<PlainItem<'a>>
         ensures { GivesWord self.old result self.new }
@@ -599,7 +599,7 @@ impl<'a> DirectiveProcessor<'a> {
         Some(item)
     }
 
-    /// Passes a newline of plain text, if one comes first, and returns whether it did. Else all is as it was.
+    /// Passes a newline of plain text, if one comes first, and returns whether it did. Otherwise it changes nothing.
     #[inline(always)]
     pub fn pass_newline(&mut self) -> bool
         ensures { PausesAtNewline self.old result self.new }

@@ -23,7 +23,7 @@ use pp_model::read::Read;
 use pp_model::word::{LineKind, Word, WordReading, Words, reading_of, unwanted_reading};
 use std::alloc::{AllocError, Global};
 
-// A line that is read: the macros that are open, and the rest of its tokens.
+// A line that is being read: the open macros, and the rest of its tokens.
 #[derive(Drop)]
 struct LineExpander<'a> {
     expander: Expander,

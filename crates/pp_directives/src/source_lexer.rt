@@ -76,7 +76,7 @@ impl<'a> SourceLexer<'a> {
         place
     }
 
-    /// The next token before memory is taken for it, if it is a word of plain text. Else all is as it was.
+    /// The next token before memory is taken for it, if it is a word of plain text. Otherwise no token is taken.
     #[inline(always)]
     pub fn next_plain(&mut self) -> Option<PlainItem<'a>>
         ensures { GivesPlain self.old result self.new }
@@ -98,7 +98,8 @@ impl<'a> SourceLexer<'a> {
         self.lexer.next_unknown(names)
     }
 
-    /// Passes the next token if it is a newline of plain text, and returns whether it did. Else it changes nothing.
+    /// Passes the next token if it is a newline of plain text, and returns whether it did. Otherwise it changes
+    /// nothing.
     #[inline(always)]
     pub fn pass_newline(&mut self) -> bool
         ensures { PassesNewline self.old result self.new }

@@ -16,7 +16,7 @@ is_ordinary_leaf (version first comments) = false
 is_ordinary_leaf (extension before) = false
 is_ordinary_leaf pragma = false
 
--- the tokens that the value holds are ordinary
+-- every token inside the value is ordinary
 abbrev pub HoldsOrdinary : TokenValue → Type 0
 HoldsOrdinary value = All (λ entry. IsTrue (is_ordinary_leaf entry.leaf)) (inner value)
 

@@ -21,7 +21,7 @@ Item = Result Token Fault
 abbrev pub Step : Type 0 → Type 0
 Step T = Result T StepExit
 
--- an answer as that of a step
+-- a result as a step
 abbrev pub as_step : {T : Type 0} → Result T Fault → Step T
 as_step (Ok value) = Ok value
 as_step (Err fault) = Err (Error fault)
@@ -30,7 +30,7 @@ abbrev pub is_out_of_memory : PreprocessorError → Bool
 is_out_of_memory OutOfMemory = true
 is_out_of_memory _ = false
 
--- the step says that memory was refused
+-- the step is an error that says that memory ran out
 abbrev pub wants_memory : {T : Type 0} → Step T → Bool
 wants_memory (Err (Error fault)) = is_out_of_memory fault.0
 wants_memory _ = false

@@ -1,5 +1,5 @@
--- The errors of the lexer in a source, each with where it stands: an item of it says (0, 0,
--- line 1) (docs/RULES.md, Tokens 7).
+-- The errors of the lexer in a source, each with its true place. An error item itself says (0, 0, line 1)
+-- (docs/RULES.md, Tokens 7).
 use Rattle.std.specs.Prelude.{ℕ, List, [], ◌∷◌, Ok, Err}
 use Rattle.pp_lexer.specs.Items.{Lexeme, places_of}
 use Rattle.pp_lexer.specs.Lexed.{Seen}
@@ -8,17 +8,17 @@ use Rattle.pp_lexer.specs.declared.token.Location.{Location}
 use Rattle.pp_model.specs.Run.{items_of}
 use Rattle.pp_macros.specs.Item.{Fault}
 
--- an error item, and where it stands
+-- an error item, and its true place
 pub record ErrorAt : Type 0 where
   pub item : Fault
   pub place : Location
 
--- an item that stands here, where it is an error, before others
+-- the item at this place, if it is an error, before later errors
 abbrev pub error_before : Lexeme → Location → List ErrorAt → List ErrorAt
 error_before (Ok token) place later = later
 error_before (Err fault) place later = record { item = fault; place = place } ∷ later
 
--- the errors among items that stand at these places
+-- the errors among items with these places
 abbrev pub errors_among : List Seen → List Location → List ErrorAt
 errors_among [] places = []
 errors_among (s ∷ rest) [] = []

@@ -89,7 +89,7 @@ pub enum Taken {
     Call(MacroCall),
 }
 
-/// An expander: open macros, and a step that was taken too early and is held.
+/// An expander: the open macros, and a step that was taken in the search for a `(` and is held.
 #[derive(Drop)]
 pub struct Expander {
     alloc: Global,
@@ -256,7 +256,7 @@ impl Expander {
         step
     }
 
-    // The step that is held, or else the next one of the frames or the reader.
+    // The step that is held or, if none is, the next one of the frames or the reader.
     fn fetch(&mut self, lexer: &mut dyn MeLexer) -> Step<Read>
         ensures steps { StepsFetching self.old (reader lexer.old) result self.new
             (reader lexer.new) }

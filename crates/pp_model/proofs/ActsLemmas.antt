@@ -1,4 +1,4 @@
--- What a token or a directive comes to: what holds of each kind of step holds of all that stand in a source.
+-- What a token or a directive does: what holds of each kind of step holds of all items of a source.
 use Rattle.std.proofs.Common.{Bool, true, false, ℕ, ◌≤◌, List, Option, None, arith}
 use Rattle.pp_lexer.specs.declared.token.Location.{Location}
 use Rattle.pp_lexer.specs.declared.token.Token.{Token}

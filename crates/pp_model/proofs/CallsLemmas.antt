@@ -1,4 +1,4 @@
--- The search for a call's arguments, and the call, have one outcome, where the reader and the answers have.
+-- The search for a call's arguments, and the call, have one outcome if the reader and the answers have one.
 use Rattle.std.proofs.Common.{◌≡◌, ◌∙◌, ℕ, sym, Option, Some, None}
 use Rattle.std.specs.Prelude.{Result, Ok, Err}
 use Rattle.pp_lexer.specs.declared.token.Location.{Location}

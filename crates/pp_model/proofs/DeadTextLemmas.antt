@@ -1,4 +1,4 @@
--- What stands in dead text gives no token, defines nothing and numbers no line.
+-- Dead text gives no token, defines nothing and numbers no line.
 use Rattle.std.proofs.Common.{◌≡◌, ◌∙◌, Bool, true, false, refl, sym, ap, Option, Some, None}
 use Rattle.pp_model.specs.Sights.{sight_of}
 use Rattle.pp_model.specs.Blocks.{Block, is_live}

@@ -1,4 +1,4 @@
--- The next item of an expander, its items up to the end, and an argument alone have one outcome, where the reader has.
+-- The next item of an expander, its items up to the end, and an argument alone have one outcome if the reader has one.
 use Rattle.std.proofs.Common.{◌≡◌, ◌∙◌, true, false, [], sym, Option, Some, None}
 use Rattle.pp_model.specs.Reading.{Reading, Expander, Opening, opening}
 use Rattle.pp_model.specs.Taking.{Takes}

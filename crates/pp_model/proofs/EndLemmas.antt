@@ -1,4 +1,4 @@
--- Where an expander over a source gave the end, it gives nothing else, whatever is added to the definitions.
+-- Once an expander over a source gave the end, it gives nothing else, no matter what is added to the definitions.
 use Rattle.std.proofs.Common.{◌≡◌, ◌∙◌, ℕ, Bool, true, false, List, [], ◌∷◌, refl, sym, ap, Option, Some, None}
 use Rattle.std.specs.Prelude.{Result, Ok, Err}
 use Rattle.pp_lexer.specs.declared.token.Location.{Location}

@@ -1,4 +1,4 @@
--- What holds of each token among items holds of the tokens of a line, and of the body that a `#define` line says.
+-- What holds of each token among items holds of the tokens of a line, and of the body that a `#define` line gives.
 use Rattle.std.proofs.Common.{Bool, true, false, if◌then◌else◌, List, [], ◌∷◌}
 use Rattle.std.specs.Prelude.{⊤, IfOk, Result, Ok, Err}
 use Rattle.std.specs.List.{AllByRecursion as Each}

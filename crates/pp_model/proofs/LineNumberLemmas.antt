@@ -1,4 +1,4 @@
--- What the words of a `#line` come to, by what an evaluation gave.
+-- The value of the words of a `#line`, from the result of an evaluation.
 use Rattle.std.proofs.Common.{◌≡◌, ◌≢◌, ◌∙◌, ℕ, Option, Some, None, Result, Ok, Err, refl, ap, sym}
 use Rattle.pp_expression.specs.declared.symbol.Value.{Value}
 use Rattle.pp_expression.specs.declared.symbol.Found.{Found}

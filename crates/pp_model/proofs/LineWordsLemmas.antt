@@ -1,4 +1,4 @@
--- A line comes to one list of words, with one ending.
+-- A line gives one list of words, with one ending.
 use Rattle.std.proofs.Common.{◌≡◌, ◌∙◌, ℕ, Bool, sym}
 use Rattle.std.specs.Prelude.{Result, Ok, Err}
 use Rattle.pp_lexer.specs.declared.token.Location.{Location}

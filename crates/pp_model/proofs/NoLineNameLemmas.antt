@@ -1,4 +1,4 @@
--- No `__LINE__` is taken, gathered or given, where none is held.
+-- No `__LINE__` is taken, gathered or given if none is held.
 use Rattle.std.proofs.Common.{◌≡◌, ◌∙◌, ℕ, zero, suc, Bool, true, false, List, [], refl, ap, sym, Option, Some, None}
 use Rattle.std.specs.Prelude.{IfOk, Result, Ok, Err}
 use Rattle.std.proofs.lemmas.List.Elements.{All-nil, All-cons}

@@ -1,4 +1,4 @@
--- A step of reading a source has one outcome, and so has reading, where the answers have.
+-- A step of reading a source has one outcome, and so has reading, if the answers have one.
 use Rattle.std.proofs.Common.{◌≡◌, ◌∙◌, ap, sym, subst, Option, Some, None, ◌⊎◌, inl, inr}
 use Rattle.std.specs.Prelude.{ℕ, Bool, Result, Ok, Err}
 use Rattle.pp_lexer.specs.declared.token.Location.{Location}

@@ -1,4 +1,4 @@
--- A `#define` of a name that is defined leaves the definitions, and is a fault where it says something else.
+-- A `#define` of a name that is defined leaves the definitions as they are, and is a fault if it says something else.
 use Rattle.std.proofs.Common.{◌≡◌, ◌∙◌, refl, ap, Option, Some, None, inl, inr}
 use Rattle.pp_model.specs.Definitions.{Definition, Definitions}
 use Rattle.pp_model.specs.Calls.{Answers}

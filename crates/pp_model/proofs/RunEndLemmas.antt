@@ -1,4 +1,4 @@
--- After the end a run gives no item, whatever is added.
+-- After the end a run gives no item, no matter what is added.
 use Rattle.std.proofs.Common.{◌≡◌, ◌∙◌, false, List, [], ◌∷◌, ◌++◌, refl, ap, sym}
 use Rattle.std.specs.Prelude.{All}
 use Rattle.std.proofs.lemmas.List.Elements.{All-nil, All-cons}

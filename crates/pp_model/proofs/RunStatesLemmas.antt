@@ -1,4 +1,4 @@
--- In no state of a run a macro is open twice, and no reply is a `__LINE__`.
+-- In no state of a run is a macro open twice, and no reply is a `__LINE__`.
 use Rattle.std.proofs.Common.{◌≡◌, ◌∙◌, false, List, [], refl, ap}
 use Rattle.std.specs.Prelude.{All}
 use Rattle.std.proofs.lemmas.List.Elements.{All-nil, All-cons}

@@ -1,4 +1,4 @@
--- Where reading a source gave the end, it gives nothing else.
+-- Once reading a source gave the end, it gives nothing else.
 use Rattle.std.proofs.Common.{◌≡◌, ◌∙◌, Bool, true, false, take, drop, length, refl, sym, ap, subst, Option, Some, None}
 use Rattle.pp_lexer.specs.declared.token.Location.{Location}
 use Rattle.pp_model.specs.Calls.{Answers}

@@ -1,4 +1,4 @@
--- The run of a text in which only plain tokens stand, and a newline after them: it gives the tokens, and then the end.
+-- The run of a text of ordinary tokens with a newline after them: it gives the tokens, and then the end.
 use Rattle.std.proofs.Common.{◌≡◌, ◌∙◌, ◌⊎◌, inl, inr, ℕ, zero, suc, pos, ◌+◌, Bool, true, false, ◌||◌, if◌then◌else◌, List, [], ◌∷◌, ◌++◌, length, take, drop, map, refl, ap, sym, Option, Some, None, arith}
 use Rattle.std.specs.Prelude.{Result, Ok, Err, unwrap_or}
 use Rattle.std.specs.List.{AllByRecursion as Each, cons_option, list_all}

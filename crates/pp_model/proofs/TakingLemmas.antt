@@ -1,4 +1,4 @@
--- A taking has one outcome, where its reader has.
+-- Taking has one outcome if its reader has one.
 use Rattle.std.proofs.Common.{◌≡◌, ◌∙◌, [], ◌∷◌, ap, sym}
 use Rattle.pp_model.specs.Painting.{taken_among}
 use Rattle.pp_model.specs.Reading.{Reading, Expander, masked_names, argument_reading, line_reading}

@@ -1,4 +1,4 @@
--- Texts are the same where their characters are.
+-- Texts are the same if their characters are.
 use Rattle.std.proofs.Common.{◌≡◌}
 use Rattle.std.specs.Str.{chars}
 use Rattle.std.proofs.lemmas.Str.{chars-IsAscii}

@@ -8,18 +8,18 @@ use Rattle.pp_rs.specs.Spelling.{spelled_text, values_of}
 use Rattle.pp_rs.specs.TokenValue.{is_ordinary}
 use Rattle.pp_rs.specs.Output.{AllOrdinary, begins_ordinary, lines_of}
 
--- ordinary tokens, or one item that is no ordinary token
+-- one or more ordinary tokens, or one item that isn't an ordinary token
 abbrev pub IsLine : List Token → Type 0
 IsLine [] = ⊥
 IsLine (t ∷ ts) = MatchBool (is_ordinary t.value) (AllOrdinary ts) (ts ≡ [])
 
--- of two neighbours, one is no line of ordinary tokens
+-- no two neighbours are both lines of ordinary tokens
 abbrev pub AreApart : List (List Token) → Type 0
 AreApart [] = ⊤
 AreApart (line ∷ []) = ⊤
 AreApart (line ∷ other ∷ lines) = ((begins_ordinary line && begins_ordinary other) ≡ false) × AreApart (other ∷ lines)
 
--- the tokens in a row, cut into lines that are as long as can be
+-- the tokens in their order, cut into lines that are as long as possible
 pub record IsCut (tokens : List Token) (lines : List (List Token)) : Type 0 where
   pub whole : flat_map (λ line. line) lines ≡ tokens
   pub each : All IsLine lines

@@ -1,4 +1,4 @@
--- What the end of a run says of its source and of its output
+-- What the end of a run says about the run's source and output
 use Rattle.std.specs.Prelude.{◌≡◌, ◌≢◌, ℕ, ◌-◌, ◌^◌, ◌<◌, ◌≤◌, ◌⊎◌, List, ◌++◌, length, Option, Result, Ok, Err, IsOk}
 use Rattle.std.specs.Prelude.{IsErr, IsUtf8, ⊤}
 use Rattle.std.specs.Io.KnownBytes.{Appends}
@@ -26,7 +26,9 @@ pub record IsAccepted (definition : Definition) : Type 0 where
 abbrev pub IsRefused : Definition → Type 0
 IsRefused definition = (2 ^ 32 - 1 ≤ length definition.1.now) ⊎ IsErr (tokens_of definition)
 
--- a run that gets beyond its source was given one, and one that refuses it has the cause
+-- A run that ends well, is stopped by an error, or fails at a definition or at writing has read bytes that can be
+-- preprocessed. A run that refuses its input has the cause. A failed read and a lack of memory say nothing about the
+-- bytes.
 abbrev pub FitsSource : Result RunEnd RunFault → List ℕ → Type 0
 FitsSource (Ok _) bytes = IsSource bytes
 FitsSource (Err ReadFailed) bytes = ⊤
@@ -45,24 +47,24 @@ IsBeforeOutput BadWord = ⊤
 IsBeforeOutput WriteFailed = ⊥
 IsBeforeOutput OutOfMemory = ⊥
 
--- a run is stopped by an error of the source, and never by a refusal of memory
+-- a run is stopped only by an error of the source, never because memory ran out
 abbrev pub IsStoppedBySource : RunEnd → Type 0
 IsStoppedBySource Done = ⊤
 IsStoppedBySource (Stopped error location) = error ≢ WantOfMemory
 
--- of a run that came to this end, the output of its tokens was written
+-- tokens with this end are a run, and their output was written
 pub record IsPrinted (IsRun : List Token → RunEnd → Type 0) (end : RunEnd) (old new : Option (List ℕ)) : Type 0 where
   pub tokens : List Token
   pub run : IsRun tokens end
   pub written : Appends old new (output tokens)
 
--- whatever tokens come after these, the output begins with these lines
+-- the output begins with these lines, no matter which tokens come after these
 abbrev pub BeginOutput : List Token → List (List ℕ) → Type 0
 BeginOutput tokens lines =
     (more : List Token)
     → (left : List (List ℕ)) × (output_lines (tokens ++ more) ≡ lines ++ left)
 
--- of a run whose first tokens are known, lines that begin its output were written, and nothing else
+-- some tokens come first of the run; lines that begin its output were written, and nothing else
 pub record IsBegun (AreFirst : List Token → Type 0) (old new : Option (List ℕ)) : Type 0 where
   pub tokens : List Token
   pub first : AreFirst tokens

@@ -1,5 +1,5 @@
--- The run of a source: which tokens come of it after the definitions that were added, and how
--- it ends. Only this file says so.
+-- The run of a source: which tokens it gives after the definitions were added, and how it ends. No other file of this
+-- crate says so.
 use Rattle.std.specs.Prelude.{◌≡◌, ℕ, List, [], ◌∷◌, Result, Ok}
 use Rattle.std.specs.Borrow.{Bor}
 use Rattle.std.specs.Str.{chars}
@@ -23,7 +23,7 @@ tokens_of definition = content_tokens (items_of definition.1.now)
 abbrev pub start_of : List ℕ → State
 start_of source = start (items_of source)
 
--- definitions that are added in order, each to the state after the one before it, make one state another
+-- the definitions, added in order, lead from the first state to the second
 pub data Adds : State → List Definition → State → Type 0 where
   none : (state : State) (definitions : List Definition) (after : State)
       → definitions ≡ []
@@ -36,7 +36,7 @@ pub data Adds : State → List Definition → State → Type 0 where
       → definitions ≡ definition ∷ rest
       → Adds state definitions after
 
--- what comes at the end
+-- the outcome at the end of a run
 abbrev pub last_outcome : RunEnd → Outcome
 last_outcome Done = outcome.End
 last_outcome (Stopped error location) = outcome.Fault (error, location)
@@ -50,13 +50,13 @@ pub record AreFirstFrom (state : State) (tokens : List Token) : Type 0 where
 abbrev pub EndsFrom : State → List Token → RunEnd → Type 0
 EndsFrom state tokens end = IsRunFrom state tokens (last_outcome end)
 
--- these tokens come first of a source, where these definitions were added
+-- these tokens come first of a source, once these definitions were added
 pub record AreFirstOf (source : List ℕ) (definitions : List Definition) (tokens : List Token) : Type 0 where
   pub state : State
   pub adds : Adds (start_of source) definitions state
   pub first : AreFirstFrom state tokens
 
--- the run of a source, where these definitions were added, gives these tokens, and then comes to this end
+-- the run of a source, once these definitions were added, gives these tokens, and then ends so
 pub record IsRunOf (source : List ℕ) (definitions : List Definition) (tokens : List Token) (end : RunEnd) : Type 0 where
   pub state : State
   pub adds : Adds (start_of source) definitions state

@@ -69,8 +69,8 @@ pub fn status(end: &Result<RunEnd, RunFault>) -> u8
 }
 
 /// Returns the line that the program prints on its standard error, without LF: empty if all was printed, `error NAME
-/// START END` for an error in the source, with its place in byte offsets, and else `pp_print: ` with a description of
-/// the fault. Fails only if an allocation fails.
+/// START END` for an error in the source, with its place in byte offsets, and otherwise `pp_print: ` with a description
+/// of the fault.
 pub fn message(alloc: Global, end: &Result<RunEnd, RunFault>) -> Result<String, AllocError>
     ensures { IfOk result (λ line. string_bytes line ≡ message_of end.now) }
 {

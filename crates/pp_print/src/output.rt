@@ -75,7 +75,7 @@ fn print_rest<W: Sink>(
     Ok(RunEnd::Done)
 }
 
-// Takes the words of plain text that come next into the line, as they stand in the source.
+// Takes the words of plain text that come next into the line, spelled as in the source.
 #[inline(never)]
 fn push_words(
     alloc: Global,

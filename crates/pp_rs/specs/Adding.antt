@@ -9,8 +9,8 @@ use Rattle.pp_rs.specs.Comes.{State}
 use Rattle.pp_macros.specs.Item.{Fault}
 use Rattle.pp_rs.specs.Kept.{Preprocessing, Stands, is_spent, most_items, errors_left, error_place}
 
--- Each state that the preprocessor stood for is now one in which the name stands for a macro of these tokens.
--- Where nothing was left, nothing is.
+-- For each state that the preprocessor stood for, it now stands for that state with the name defined as a macro with
+-- these tokens. If nothing was left to give, nothing is.
 pub record IsWithAdded (name : Name) (tokens : List Token) (old new : Preprocessing) : Type 0 where
   pub stands : (state : State) → Stands old state → Stands new (with_added name tokens state)
   pub spent : is_spent new ≡ is_spent old
@@ -18,12 +18,12 @@ pub record IsWithAdded (name : Name) (tokens : List Token) (old new : Preprocess
   pub errors : errors_left new ≡ errors_left old
   pub place : error_place new ≡ error_place old
 
--- What a call answers, and the preprocessor after it.
+-- What a call returns, and the preprocessor after it.
 pub data IsAdded (old : Preprocessing) (name content : List ℕ) (answer : Result (Unit {0}) Fault)
     (new : Preprocessing) : Type 0 where
-  -- memory was refused
+  -- memory ran out
   refused : answer ≡ Err out_of_memory → new ≡ old → IsAdded old name content answer new
-  -- the first lexer's error or number sign of the content
+  -- the first error of the lexer or number sign in the content
   faulty : (fault : Fault)
       → content_tokens (items_of content) ≡ Err fault
       → answer ≡ Err fault

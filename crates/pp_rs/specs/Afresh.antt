@@ -1,4 +1,4 @@
--- Plain output, spelled with single spaces and preprocessed afresh (docs/RULES.md, "Runs").
+-- Ordinary tokens that a run gives, spelled with single spaces and preprocessed afresh (docs/RULES.md, "Runs").
 use Rattle.std.specs.Prelude.{◌≡◌, ◌<◌, ◌^◌, ◌-◌, ℕ, List, All, length}
 use Rattle.std.specs.Str.{encode_utf8_all}
 use Rattle.pp_lexer.specs.Spelling.{spelled_text, values_of}
@@ -8,7 +8,7 @@ use Rattle.pp_model.specs.RespellLaws.{IsText, HasText, given_tokens, IsReadAfre
 use Rattle.pp_model.specs.Run.{Call, IsRun}
 use Rattle.pp_model.specs.declared.call.Reply.{Reply}
 
--- the tokens' text, with single spaces between them
+-- the text of the tokens, with single spaces between them
 abbrev pub text_of : List Token → List ℕ
 text_of tokens = encode_utf8_all (spelled_text (values_of tokens))
 
@@ -23,6 +23,6 @@ pub record IsOutput (tokens : List Token) : Type 0 where
   pub given : given_tokens replies ≡ tokens
   pub room : length (text_of tokens) < 2 ^ 32 - 1
 
--- the tokens' text gives tokens of the same values and then the end
+-- the text of the tokens gives tokens of the same values, and then the end
 abbrev pub AreReadAfresh : List Token → Type 0
 AreReadAfresh tokens = IsReadAfresh (answers_at expansion_limit) (values_of tokens)

@@ -22,24 +22,24 @@ first_error [] = None
 first_error (Ok token ∷ items) = first_error items
 first_error (Err fault ∷ items) = Some fault
 
--- an error, or the end where there is none
+-- the error, or the end if there is none
 abbrev pub error_or_end : Option Fault → Outcome
 error_or_end None = outcome.End
 error_or_end (Some fault) = outcome.Fault fault
 
--- Up to and with their first error item these are the items that come from the state, all of them where none is an
--- error. After an error nothing is said.
+-- Up to and with the first error item these are the items that come from the state; if none is an error, they are all
+-- of them, up to the end. This says nothing of items after an error.
 abbrev pub AreItemsFrom : State → List Item → Type 0
 AreItemsFrom state items = IsRunFrom state (tokens_before_error items) (error_or_end (first_error items))
 
--- all items, or none where memory was refused before
+-- all items, or none if memory had run out before
 abbrev pub AreItemsOf : Preprocessing → List Item → Type 0
 AreItemsOf old items =
     MatchBool (is_spent old) (items ≡ []) ((state : State) → Stands old state → AreItemsFrom state items)
 
--- What items report of the lexer's errors: one of the lexer is the first that was not reported yet, and
--- stands where that says; any other stands at its own place. Before them so many were unreported, and the
--- last error stood there; after them so.
+-- How items report the errors of the lexer. An error item is either the first error of the lexer that was not reported
+-- yet, with its true place, or another error, which is at its own place. `left` and `after` are the errors that were
+-- not reported before and after the items, `place` and `last` the place of the last error before and after them.
 pub data Reports : List Item → List ErrorAt → Location → List ErrorAt → Location → Type 0 where
   none : (items : List Item) (left after : List ErrorAt) (place last : Location)
       → items ≡ []
@@ -61,19 +61,19 @@ pub data Reports : List Item → List ErrorAt → Location → List ErrorAt → 
       → items ≡ Err first ∷ rest
       → Reports items left place after last
 
--- the same of a preprocessor before them and after them
+-- the same, for the preprocessor before the items and after them
 abbrev pub AreReported : Preprocessing → List Item → Preprocessing → Type 0
 AreReported old items new = Reports items (errors_left old) (error_place old) (errors_left new) (error_place new)
 
--- Up to and with their first error item these items came from the state; if none of them is an error, the preprocessor
--- stands for the state after them, unless memory was refused for the next one. After an error nothing is said.
+-- Up to and with the first error item these items came from the state. If none of them is an error, the preprocessor
+-- stands for the state after them, unless memory ran out for the next one. This says nothing of items after an error.
 abbrev pub HaveComeFrom : State → List Item → Option Fault → Preprocessing → Type 0
 HaveComeFrom state items None new =
     (after : State) × Gives state (tokens_before_error items) after × (is_spent new ≡ false → Stands new after)
 HaveComeFrom state items (Some fault) new = IsRunFrom state (tokens_before_error items) (outcome.Fault fault)
 
--- These items came, one after another, and the preprocessor goes on after them, unless memory was refused: for the next
--- one, or before the first, and then there are none.
+-- These items came, one after another. If memory had run out before, there are none. After them the preprocessor stands
+-- for the state that follows, unless an item was an error or memory ran out for the next one.
 pub record HaveCome (old : Preprocessing) (items : List Item) (new : Preprocessing) : Type 0 where
   pub none : is_spent old ≡ true → items ≡ []
   pub came : is_spent old ≡ false
@@ -82,14 +82,14 @@ pub record HaveCome (old : Preprocessing) (items : List Item) (new : Preprocessi
   pub holds : All ItemHoldsOrdinary items
   pub reports : is_spent new ≡ false → AreReported old items new
 
--- these items came and were put at the list's end
+-- these items came and were appended to the list
 pub record AreAppended (old : Preprocessing) (before items : List Item) (new : Preprocessing) : Type 0 where
   pub more : List Item
   pub are_last : items ≡ before ++ more
   pub came : HaveCome old more new
 
--- All items that were left, and what they reported: nothing is left after them, and memory
--- was not refused for one of them.
+-- All items that were left, and what they reported. Nothing is left after them, memory didn't run out for one of them,
+-- and if it hadn't before, each error of the lexer is reported.
 pub record AreAll (old : Preprocessing) (items : List Item) (new : Preprocessing) : Type 0 where
   pub items_of : AreItemsOf old items
   pub holds : All ItemHoldsOrdinary items
@@ -98,13 +98,13 @@ pub record AreAll (old : Preprocessing) (items : List Item) (new : Preprocessing
   pub reports : AreReported old items new
   pub reports_all : is_spent old ≡ false → errors_left new ≡ []
 
--- all items that were left were put at the list's end
+-- all items that were left were appended to the list
 pub record AreAllAppended (old : Preprocessing) (before items : List Item) (new : Preprocessing) : Type 0 where
   pub more : List Item
   pub are_last : items ≡ before ++ more
   pub all : AreAll old more new
 
--- These items came and were given up, and the preprocessor goes on after them.
+-- some items came and were dropped, and this is the preprocessor after them
 pub record IsGivenUp (old new : Preprocessing) : Type 0 where
   pub items : List Item
   pub came : HaveCome old items new

@@ -16,7 +16,7 @@ State = Expander SourceReader
 abbrev pub source_rules : Reading SourceReader
 source_rules = source_reading (answers_at expansion_limit)
 
--- this comes next in the state, and the other is after it
+-- this outcome comes next in the state, and `after` is the state after it
 abbrev pub Comes : State → Outcome → State → Type 0
 Comes state outcome after = by_rules (answers_at expansion_limit) state outcome after
 
@@ -32,7 +32,7 @@ pub data Gives : State → List Token → State → Type 0 where
       → tokens ≡ token ∷ rest
       → Gives state tokens after
 
--- from this state these tokens come, and then this
+-- from this state these tokens come, and then this outcome
 pub record IsRunFrom (state : State) (tokens : List Token) (last : Outcome) : Type 0 where
   pub before : State
   pub gives : Gives state tokens before

@@ -1,6 +1,6 @@
--- What a preprocessor keeps: the states of a run that it stands for, whether memory was refused, how much is left,
--- which errors of the lexer were not reported yet, and where the error stands that was given last. Nothing here has to
--- be believed. Contracts of public calls say what holds of `Stands`, `is_spent`, `most_items`, `errors_left` and
+-- What a preprocessor keeps: the states of a run that it stands for, whether memory ran out, how much is left, which
+-- errors of the lexer were not reported yet, and the place of the error that was given last. Nothing here has to be
+-- believed. Contracts of public calls say what holds of `Stands`, `is_spent`, `most_items`, `errors_left` and
 -- `error_place`, and no proof of a caller looks into them.
 use Rattle.std.specs.Prelude.{Bool, if◌then◌else◌, ℕ, List}
 use Rattle.pp_lexer.specs.declared.token.Location.{Location}
@@ -15,30 +15,29 @@ use Rattle.pp_macros.specs.inner.Source.{Source, unreported_of}
 use Rattle.pp_rs.specs.inner.Stands.{StandsFor}
 use Rattle.pp_macros.specs.inner.Unreported.{unreported_with}
 
--- the macros that are open with what is held, the source after them, whether memory was refused,
--- and where the last error stands
+-- the open macros with what is held, the source after them, whether memory ran out, and the place of the last error
 pub record Preprocessing : Type 0 where
   pub expander : kept.Expander
   pub source : Source
   pub spent : Bool
   pub place : Location
 
--- a state of a run that it stands for
+-- the preprocessor stands for this state of a run
 unfoldable pub Stands : Preprocessing → Expander SourceReader → Type 0
 Stands p state = StandsFor p.expander p.source state
 
--- memory for an item was refused
+-- memory for an item ran out
 unfoldable pub is_spent : Preprocessing → Bool
 is_spent p = p.spent
 
--- no more items come than this
+-- a bound of how many items still come
 unfoldable pub most_items : Preprocessing → ℕ
 most_items p = if p.spent then 0 else work_of expansion_limit p.expander (of_source p.source)
 
--- the errors of the lexer that were not reported yet, each with where it stands
+-- the errors of the lexer that were not reported yet, each with its true place
 unfoldable pub errors_left : Preprocessing → List ErrorAt
 errors_left p = unreported_with p.expander.held (unreported_of p.source)
 
--- where the error stands that was given last
+-- the true place of the error that was given last
 unfoldable pub error_place : Preprocessing → Location
 error_place p = p.place

@@ -1,4 +1,4 @@
--- Which branches of a block are live, once its lines were read (GLSL ES 3.20, section 3.4, and
+-- Which branches of a block are live, once the lines of the block were read (GLSL ES 3.20, section 3.4, and
 -- docs/RULES.md, Directives 7 to 11).
 use Rattle.std.specs.Prelude.{◌≡◌, ℕ, ◌≤◌, ◌<◌, true, List, take, drop, length, Some, option_map}
 use Rattle.std.specs.List.{AllByRecursion as Each}
@@ -13,8 +13,7 @@ use Rattle.pp_model.specs.Sights.{sight_of}
 use Rattle.pp_model.specs.SourceReader.{SourceReader}
 use Rattle.pp_model.specs.declared.block.Part.TheVariants as part
 
--- Of a block's marks one is chosen: its first line, after which no parting stands, or the
--- line after which so many stand.
+-- A mark of the block is chosen: mark 0 is its first line, and mark k the k-th `#elif` or `#else` line after it.
 pub record IsChosen (truths : Truths) (block : Block) (mark : ℕ) : Type 0 where
   pub stands : mark ≤ length block.partings
   pub chosen : is_last_chosen truths block.first (take mark block.partings) ≡ true
@@ -29,13 +28,13 @@ AtMostOneIsChosen truths block =
 abbrev pub OneIsChosen : Truths → Block → Type 0
 OneIsChosen truths block = ((mark : ℕ) × IsChosen truths block mark) × AtMostOneIsChosen truths block
 
--- the `#endif` of the block stands at the position
+-- the `#endif` of the block is at the position
 pub record EndsAt (source : List Seen) (position : ℕ) (block : Block) : Type 0 where
   pub line : option_map (λ line. line.part) (line_at position (sight_of (drop position source))) ≡ Some part.Closes
   pub open_there : innermost (blocks_at source position) ≡ Some block
 
--- What was read of blocks: at most one mark of each is chosen, and just one of a block that was read to its `#endif`,
--- has an `#else` and begins in live text.
+-- At most one mark of each block that was read is chosen. Exactly one is if the block was read up to and with its
+-- `#endif`, has an `#else` and begins in live text.
 pub record HasLiveBranches (reader : SourceReader) : Type 0 where
   pub at_most_one : (position : ℕ)
       → position ≤ reader.position
@@ -47,7 +46,7 @@ pub record HasLiveBranches (reader : SourceReader) : Type 0 where
       → are_surroundings_live reader.items reader.truths block ≡ true
       → OneIsChosen reader.truths block
 
--- in each state of a run of a text
+-- this holds in each state of a run of a text
 abbrev pub RunHasLiveBranches : Answers → Type 0
 RunHasLiveBranches A =
     (text : List ℕ) (e : Expander SourceReader)

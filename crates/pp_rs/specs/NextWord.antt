@@ -9,13 +9,13 @@ use Rattle.pp_rs.specs.Comes.{State, Comes}
 use Rattle.pp_rs.specs.Kept.{Preprocessing, Stands, is_spent, most_items, errors_left, error_place}
 use Rattle.pp_rs.specs.Preprocessing.{IsNextItem}
 
--- this state stands, and what comes next of it comes next of the other
+-- the preprocessor stands for a state, and what comes next in that state also comes next in this one
 pub record StandsBetween (new : Preprocessing) (state : State) : Type 0 where
   pub between : State
   pub stands : Stands new between
   pub comes : (outcome : Outcome) (after : State) → Comes between outcome after → Comes state outcome after
 
--- nothing was given, and all that was to come comes still
+-- nothing was given, and everything that was to come still comes
 pub record IsPassed (old new : Preprocessing) : Type 0 where
   pub item : (state : State) → Stands old state → StandsBetween new state
   pub spent : is_spent new ≡ is_spent old

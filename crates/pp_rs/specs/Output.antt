@@ -16,8 +16,8 @@ abbrev pub begins_ordinary : List Token → Bool
 begins_ordinary [] = false
 begins_ordinary (t ∷ ts) = is_ordinary t.value
 
--- a token in front of lines: it goes to the first of them where both it and the line's first token are ordinary,
--- and else is a line by itself
+-- A token in front of lines. It joins the first line if both it and that line's first token are ordinary; otherwise it
+-- is a line by itself.
 abbrev pub put_before : Token → List (List Token) → List (List Token)
 put_before t [] = (t ∷ []) ∷ []
 put_before t (line ∷ lines) =
@@ -28,7 +28,7 @@ abbrev pub lines_of : List Token → List (List Token)
 lines_of [] = []
 lines_of (t ∷ ts) = put_before t (lines_of ts)
 
--- the characters of a line: spelled tokens, or a directive item
+-- the characters of a line: its ordinary tokens, spelled, or the directive's item
 abbrev pub line_text : List Token → List ℕ
 line_text [] = []
 line_text (t ∷ ts) = if is_ordinary t.value then spelled_text (values_of (t ∷ ts)) else item_text t.value
@@ -41,6 +41,6 @@ output_lines tokens = map (λ line. encode_utf8_all (line_text line)) (lines_of 
 abbrev pub written_lines : List (List ℕ) → List ℕ
 written_lines lines = flat_map (λ line. line ++ (10 ∷ [])) lines
 
--- all the bytes that are printed of tokens
+-- all the bytes that are printed for the tokens
 abbrev pub output : List Token → List ℕ
 output tokens = written_lines (output_lines tokens)

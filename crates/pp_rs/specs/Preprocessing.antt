@@ -8,18 +8,18 @@ use Rattle.pp_macros.specs.Held.{AnswerHoldsOrdinary}
 use Rattle.pp_macros.specs.Item.{Fault, Item, is_out_of_memory}
 use Rattle.pp_rs.specs.Kept.{Preprocessing, Stands, is_spent, most_items, errors_left, error_place}
 
--- the answer is that memory was refused
+-- the answer is the error that memory ran out
 abbrev pub is_refusal : Option Item → Bool
 is_refusal (Some (Err fault)) = is_out_of_memory fault.0
 is_refusal _ = false
 
--- the outcome that an answer says
+-- the outcome of an answer
 abbrev pub outcome_of : Option Item → Outcome
 outcome_of (Some (Ok token)) = outcome.Token token
 outcome_of (Some (Err fault)) = outcome.Fault fault
 outcome_of None = outcome.End
 
--- nothing is said of the state after an error
+-- the preprocessor stands for this state; after an error this says nothing
 abbrev pub GoesOn : Option Item → Preprocessing → State → Type 0
 GoesOn (Some (Err fault)) new state = ⊤
 GoesOn _ new state = Stands new state
@@ -30,13 +30,13 @@ pub record Emitted (answer : Option Item) (state : State) (new : Preprocessing) 
   pub emits : Comes state (outcome_of answer) after
   pub goes_on : GoesOn answer new after
 
--- after an item fewer come, and after the end none
+-- the bound of the items to come falls with each item, and is 0 after the end
 abbrev pub IsLessLeft : Option Item → Preprocessing → Preprocessing → Type 0
 IsLessLeft (Some item) old new = most_items new < most_items old
 IsLessLeft None old new = most_items new ≡ 0
 
--- Where an error stands that is given: an error of the lexer where the first of them stands that were not reported yet,
--- and it is reported now; any other at its own place.
+-- The true place of an error that is given. If it is the first error of the lexer that was not reported yet, this is
+-- that error's true place, and it is reported now. Otherwise it is the place in the item.
 pub data IsErrorAt (fault : Fault) (old new : Preprocessing) : Type 0 where
   of_lexer : errors_left old ≡ record { item = fault; place = error_place new } ∷ errors_left new
       → IsErrorAt fault old new
@@ -44,18 +44,18 @@ pub data IsErrorAt (fault : Fault) (old new : Preprocessing) : Type 0 where
       → errors_left new ≡ errors_left old
       → IsErrorAt fault old new
 
--- a token reports no error, and at the end each was reported
+-- A token reports no error. At the end each error of the lexer was reported.
 abbrev pub ReportsError : Option Item → Preprocessing → Preprocessing → Type 0
 ReportsError (Some (Err fault)) old new = IsErrorAt fault old new
 ReportsError (Some (Ok token)) old new = (errors_left new ≡ errors_left old) × (error_place new ≡ error_place old)
 ReportsError None old new = (errors_left old ≡ []) × (errors_left new ≡ []) × (error_place new ≡ error_place old)
 
--- memory for an item to come was refused
+-- memory for the next item ran out
 pub record IsRefusedItem (answer : Option Item) (new : Preprocessing) : Type 0 where
   pub item : answer ≡ Some (Err out_of_memory)
   pub spent : is_spent new ≡ true
 
--- what comes next is given, or the end, in each state that the preprocessor stands for
+-- the answer is what comes next, an item or the end, in each state that the preprocessor stands for
 pub record IsGivenItem (old : Preprocessing) (answer : Option Item) (new : Preprocessing) : Type 0 where
   pub item : (state : State) → Stands old state → Emitted answer state new
   pub no_refusal : is_refusal answer ≡ false
@@ -63,8 +63,8 @@ pub record IsGivenItem (old : Preprocessing) (answer : Option Item) (new : Prepr
   pub reports : ReportsError answer old new
   pub spent : is_spent new ≡ false
 
--- One call of `next`: once memory was refused, it gives nothing for good and changes nothing. Each item lowers what is
--- left, so a refusal comes only where something is.
+-- One call of `next`. Once memory has run out, each call gives `None` and changes nothing. Each item lowers the bound
+-- of what is left, so memory runs out only if something is left.
 pub record IsNextItem (old : Preprocessing) (answer : Option Item) (new : Preprocessing) : Type 0 where
   pub gives :
       MatchBool (is_spent old)

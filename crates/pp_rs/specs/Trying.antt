@@ -12,22 +12,22 @@ abbrev pub tried : Result (Unit {0}) Fault → Result (Unit {0}) AddError
 tried (Ok added) = Ok added
 tried (Err fault) = Err (Refused (placed fault))
 
--- What a call answers, and the preprocessor after it.
+-- What a call returns, and the preprocessor after it.
 pub data IsTried (old : Preprocessing) (name content : List ℕ) (answer : Result (Unit {0}) AddError)
     (new : Preprocessing) : Type 0 where
-  -- the content is too long, and nothing is changed
+  -- the content is too long, and nothing changes
   too_long : 2 ^ 32 - 1 ≤ length content
       → answer ≡ Err TooLong
       → new ≡ old
       → IsTried old name content answer new
-  -- else it is as `add_define`
+  -- otherwise the call does what `add_define` does
   short : (added : Result (Unit {0}) Fault)
       → length content < 2 ^ 32 - 1
       → IsAdded old name content added new
       → answer ≡ tried added
       → IsTried old name content answer new
 
--- what is said of an error, as UTF-8
+-- the message of an error, as UTF-8
 abbrev pub add_sentence : AddError → List ℕ
 add_sentence TooLong = codes "the content is too long"
 add_sentence (Refused e) = codes "in the content: " ++ placed_sentence e

@@ -50,7 +50,7 @@ fn main(rt: HostRuntime) -> io::Result<()> {
     answer(&rt, rt.alloc(), source.as_str(), &words)
 }
 
-// Prints what is answered to the words, or to a sheet.
+// Prints what the words, or a sheet, return.
 fn answer<'a>(
     rt: &impl Print,
     alloc: Global,

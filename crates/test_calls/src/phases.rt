@@ -11,7 +11,7 @@ fn show(rt: &impl Print, item: (char, u32), offset: usize) -> io::Result<()> {
     println!(rt; "{code} {line} {offset}")
 }
 
-// What `CharsAndLine` has left, after the offset that it stands at.
+// The offset of a `CharsAndLine`, and what it has left.
 fn lines_left(rt: &impl Print, mut reader: CharsAndLine<'_>) -> io::Result<()> {
     println!(rt; "from {}", reader.get_current_offset())?;
     for _ in 0..u64::MAX {

@@ -36,7 +36,7 @@ pub(crate) struct Session<'a> {
 }
 
 impl<'a> Session<'a> {
-    /// Nothing was done yet. Of a source that is too long it has none.
+    /// Nothing was done yet. A source that is too long counts as the empty one.
     pub(crate) fn new(alloc: Global, source: &'a str) -> Session<'a> {
         let source = if source.len() < SOURCE_LIMIT {
             source
@@ -53,7 +53,7 @@ impl<'a> Session<'a> {
         }
     }
 
-    /// Lets a name stand for a content.
+    /// Defines a name with a content.
     pub(crate) fn add(
         &mut self,
         rt: &impl Print,
@@ -80,7 +80,7 @@ impl<'a> Session<'a> {
         Ok(())
     }
 
-    /// Asks for one item. Answers whether there was one.
+    /// Asks for one item. Returns whether there was one.
     pub(crate) fn next(&mut self, rt: &impl Print) -> io::Result<bool> {
         self.calls.push(Call::Next)?;
         match self.pp.next() {
@@ -120,7 +120,7 @@ impl<'a> Session<'a> {
         }
     }
 
-    /// Puts all items that are left at the end of a list: those that came before a refusal are shown too.
+    /// Appends all items that are left to a list: if memory runs out, those that came before are shown too.
     pub(crate) fn append(&mut self, rt: &impl Print) -> io::Result<()> {
         let mut items = Vec::new(self.alloc);
         let ended = append_all(&mut self.pp, &mut items);
@@ -138,7 +138,7 @@ impl<'a> Session<'a> {
         drain(&mut self.pp);
     }
 
-    /// Asks for all items that are left, and shows each error with the place where it stands in the source.
+    /// Asks for all items that are left, and shows each error with its true place in the source.
     pub(crate) fn errors(&mut self, rt: &impl Print) -> io::Result<()> {
         for _ in 0..u64::MAX {
             let Some(given) = self.pp.next() else {
@@ -149,7 +149,7 @@ impl<'a> Session<'a> {
         Ok(())
     }
 
-    /// Spells the tokens that were given, where all of them are ordinary.
+    /// Spells the tokens that were given, if all of them are ordinary.
     pub(crate) fn spell(&self, rt: &impl Print) -> io::Result<()> {
         if !self.tokens.iter().all(|token| token.is_ordinary()) {
             return println!(rt; "not all are ordinary");
@@ -160,7 +160,7 @@ impl<'a> Session<'a> {
         }
     }
 
-    /// Says whether the text of the tokens that were given gives them again, where all of them are ordinary.
+    /// Says whether the text of the tokens that were given gives them again, if all of them are ordinary.
     pub(crate) fn afresh(&self, rt: &impl Print) -> io::Result<()> {
         if !self.tokens.iter().all(|token| token.is_ordinary()) {
             return println!(rt; "not all are ordinary");

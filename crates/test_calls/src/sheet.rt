@@ -5,7 +5,7 @@ use crate::session::Session;
 use std::alloc::{AllocError, Global};
 use std::io;
 
-/// Makes the calls of each case of a sheet, and prints the sheet with what they answer.
+/// Makes the calls of each case of a sheet, and prints the sheet with what they return.
 pub(crate) fn read(rt: &impl Print, alloc: Global, sheet: &str) -> io::Result<()> {
     for case in sheet.split("\n\n") {
         make_calls(rt, alloc, case)?;
@@ -22,7 +22,7 @@ fn make_calls(rt: &impl Print, alloc: Global, case: &str) -> io::Result<()> {
     done
 }
 
-// Prints the lines of a case with what its words answer.
+// Prints the lines of a case with what its words return.
 fn answer<'a>(
     rt: &impl Print,
     alloc: Global,
@@ -51,7 +51,7 @@ fn source_of(alloc: Global, case: &str) -> Result<String, AllocError> {
     Ok(source)
 }
 
-// Adds `N TEXT`: the text so many times.
+// Adds `N TEXT`: the text, N times.
 fn add_times(source: &mut String, text: &str) -> Result<(), AllocError> {
     let Some((count, text)) = text.split_once(' ') else {
         return Ok(());
@@ -62,7 +62,7 @@ fn add_times(source: &mut String, text: &str) -> Result<(), AllocError> {
     Ok(())
 }
 
-// Adds the characters that a text stands for.
+// Adds the characters of a text with escapes.
 fn add_text(source: &mut String, text: &str) -> Result<(), AllocError> {
     let mut is_escaped = false;
     for c in text.chars() {

@@ -24,7 +24,7 @@ fn print_lexer_item(
     println!(rt; "{} comments={comments}", shown.as_str())
 }
 
-// Prints the next item of a lexer. Answers whether there was one.
+// Prints the next item of a lexer. Returns whether there was one.
 fn print_next(rt: &impl Print, alloc: Global, items: &mut Lexer<'_>) -> io::Result<bool> {
     match items.next() {
         Some(item) => {
@@ -48,7 +48,7 @@ fn lexer_items(rt: &impl Print, alloc: Global, items: &mut Lexer<'_>) -> io::Res
     println!(rt; "None again={again} comments={}", items.had_comments())
 }
 
-/// The items of a `Lexer`, each with whether a comment was passed and where it stands.
+/// The items of a `Lexer`, each with whether a comment was passed, and with its true place.
 pub(crate) fn lexer(rt: &impl Print, alloc: Global, source: &str) -> io::Result<()> {
     if source.len() < SOURCE_LIMIT {
         let mut items = Lexer::new(alloc, source);

@@ -18,7 +18,7 @@ pub(crate) struct Book {
 }
 
 impl Book {
-    /// A book of which nothing was read.
+    /// A book from which nothing was read.
     pub(crate) fn new(alloc: Global) -> Book {
         Book {
             alloc,
@@ -53,7 +53,7 @@ impl Book {
         println!(rt; "{} cases", self.cases)
     }
 
-    // Reads a line that is no heading and no name, or answers `false`.
+    // Reads a line that is no heading and no name, or returns `false`.
     fn takes(&mut self, line: &str) -> Result<bool, AllocError> {
         if line.is_empty() || line.starts_with("//") {
             return Ok(true);
@@ -65,7 +65,7 @@ impl Book {
         takes_part(alloc, case, line)
     }
 
-    // Ends the case that is open, if one is: says where it comes to something else.
+    // Ends the case that is open, if one is, and says if it gives something else than expected.
     fn end_case(&mut self, rt: &impl Print) -> io::Result<()> {
         if let Some(case) = self.case.take() {
             self.under_heading = self.under_heading.saturating_add(1);
@@ -75,7 +75,7 @@ impl Book {
         Ok(())
     }
 
-    // Ends the heading that is open, if one is, and prints how many cases stand under it.
+    // Ends the heading that is open, if one is, and prints how many cases are under it.
     fn end_heading(&mut self, rt: &impl Print) -> io::Result<()> {
         self.end_case(rt)?;
         if self.under_heading > 0 {
@@ -86,7 +86,7 @@ impl Book {
     }
 }
 
-// Reads a line of a case, or answers `false`.
+// Reads a line of a case, or returns `false`.
 fn takes_part(alloc: Global, case: &mut Case, line: &str) -> Result<bool, AllocError> {
     if line == "|" {
         case.add_line("")?;
@@ -106,7 +106,7 @@ fn takes_part(alloc: Global, case: &mut Case, line: &str) -> Result<bool, AllocE
     Ok(true)
 }
 
-// Reads `N TEXT`, the text so many times, or answers `false`.
+// Reads `N TEXT`, the text N times, or returns `false`.
 fn takes_times(case: &mut Case, text: &str) -> Result<bool, AllocError> {
     if let Some((count, text)) = text.split_once(' ') {
         if let Ok(times) = count.parse::<u32>() {
@@ -117,7 +117,7 @@ fn takes_times(case: &mut Case, text: &str) -> Result<bool, AllocError> {
     Ok(false)
 }
 
-// Reads `next` or `NAME=CONTENT`, or answers `false`.
+// Reads `next` or `NAME=CONTENT`, or returns `false`.
 fn takes_act(alloc: Global, case: &mut Case, act: &str) -> Result<bool, AllocError> {
     if let Some((name, content)) = act.split_once('=') {
         case.acts.push(Act::Add {
@@ -133,7 +133,7 @@ fn takes_act(alloc: Global, case: &mut Case, act: &str) -> Result<bool, AllocErr
     Ok(false)
 }
 
-// Lets the answers go on with these.
+// Appends these to the expected answers.
 fn more(alloc: Global, answers: &mut Option<String>, part: &str) -> Result<(), AllocError> {
     if let Some(text) = answers {
         text.push_str(", ")?;
@@ -143,7 +143,7 @@ fn more(alloc: Global, answers: &mut Option<String>, part: &str) -> Result<(), A
     Ok(())
 }
 
-// Reads what the case comes to, or answers `false`.
+// Reads what the case should give, or returns `false`.
 fn takes_answer(alloc: Global, case: &mut Case, line: &str) -> Result<bool, AllocError> {
     if let Some(part) = line.strip_prefix("= ") {
         more(alloc, &mut case.expected, part)?;
@@ -155,7 +155,7 @@ fn takes_answer(alloc: Global, case: &mut Case, line: &str) -> Result<bool, Allo
     Ok(true)
 }
 
-// Says what was found, where it is something else than what was wanted.
+// Says what was found, if it isn't what was expected.
 fn compare(
     rt: &impl Print,
     case: &Case,
@@ -170,7 +170,7 @@ fn compare(
     }
 }
 
-// Says where the preprocessor gives something else than it should.
+// Says if the preprocessor gives something else than it should.
 fn by_the_preprocessor(
     rt: &impl Print,
     alloc: Global,
@@ -204,7 +204,7 @@ fn by_the_preprocessor(
     )
 }
 
-// Says where the case comes to something else.
+// Says if the case gives something else than it should.
 fn check(rt: &impl Print, alloc: Global, case: &Case) -> io::Result<()> {
     if case.expected.is_none() {
         println!(rt; "{}: without what it comes to", case.name.as_str())?;

@@ -5,7 +5,7 @@ use std::alloc::{AllocError, Global};
 /// What is done before the items that are left are asked for.
 #[derive(Drop)]
 pub(crate) enum Act {
-    /// A name is made to stand for a content.
+    /// A name is defined with a content.
     Add {
         /// The name.
         name: String,
@@ -16,7 +16,7 @@ pub(crate) enum Act {
     Next,
 }
 
-/// A source, what is done with it, and what it comes to.
+/// A source, what is done with it, and what it should give.
 #[derive(Drop)]
 pub(crate) struct Case {
     /// What it shows.
@@ -25,7 +25,7 @@ pub(crate) struct Case {
     pub(crate) source: String,
     /// What is done before the items that are left are asked for.
     pub(crate) acts: Vec<Act>,
-    /// What it comes to, up to the end or its first error.
+    /// What it should give, up to the end or its first error.
     pub(crate) expected: Option<String>,
     /// What the preprocessor gives after the error.
     pub(crate) after: Option<String>,
@@ -54,7 +54,7 @@ impl Case {
         self.source.push_str(line)
     }
 
-    /// More of the last line, so many times.
+    /// A text appended to the last line, this many times.
     pub(crate) fn add_times(&mut self, times: u32, text: &str) -> Result<(), AllocError> {
         for _ in 0..times {
             self.source.push_str(text)?;
@@ -62,7 +62,7 @@ impl Case {
         Ok(())
     }
 
-    /// One more line of the content that was added last, or `false` where none was.
+    /// One more line of the content that was added last, or `false` if there is none.
     pub(crate) fn add_content_line(&mut self, line: &str) -> Result<bool, AllocError> {
         match self.acts.last_mut() {
             Some(Act::Add { content, .. }) => {

@@ -1,4 +1,4 @@
-//! What a case comes to: by the plain program, by the preprocessor's list of replies, and by its items one by one.
+//! What a case gives: by the plain program, by the preprocessor's list of replies, and by its items one by one.
 
 ghost use Rattle.std.specs.Prelude.{◌-◌, ◌^◌, ◌<◌, length};
 
@@ -10,10 +10,10 @@ use pp_rs::token::{Location, PreprocessorError};
 use std::alloc::{AllocError, Global};
 use test_shown::{have_room, item, joined, reply};
 
-// More steps than any source here wants.
+// More steps than any source here needs.
 const STEPS: u64 = 1_000_000;
 
-// More items than any source here comes to up to its first error.
+// More items than any source here gives up to its first error.
 const ITEMS: u32 = 100;
 
 fn call_of<'a>(act: &'a Act) -> Call<'a> {
@@ -47,7 +47,7 @@ fn shown(alloc: Global, replies: &[Reply]) -> Result<String, AllocError> {
     joined(alloc, &parts)
 }
 
-/// What the calls answer by the plain program, up to the end or the first error.
+/// What the calls give by the plain program, up to the end or the first error.
 pub(crate) fn by_the_plain_program(
     alloc: Global,
     source: &str,
@@ -109,7 +109,7 @@ fn put_item(alloc: Global, given: &PreprocessorItem, items: &mut Items) -> Resul
     items.push(item(alloc, given)?, given.is_err())
 }
 
-// What an added definition answers.
+// What adding a definition returns.
 fn put_addition(
     alloc: Global,
     answer: Result<(), (PreprocessorError, Location)>,
@@ -124,7 +124,7 @@ fn put_addition(
     items.push(text?, false)
 }
 
-// What an act answers.
+// What an act returns.
 fn act_on(
     alloc: Global,
     pp: &mut Preprocessor<'_>,
@@ -183,7 +183,7 @@ fn items_left(
     put_text(alloc, "None", items)
 }
 
-// The items of a source in which these acts are done.
+// The items of a source with these acts.
 fn put_items(alloc: Global, source: &str, acts: &[Act], items: &mut Items) -> Result<(), AllocError>
     requires { length source.now < 2 ^ 32 - 1 }
 {
@@ -206,7 +206,7 @@ fn act_in_order(
     items_left(alloc, pp, items)
 }
 
-/// What a case comes to by the preprocessor, item by item, past errors too.
+/// What a case gives by the preprocessor, item by item, past errors too.
 pub(crate) fn by_items(alloc: Global, case: &Case) -> Result<Items, AllocError> {
     let mut items = Items {
         first: Vec::new(alloc),

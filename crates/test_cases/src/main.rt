@@ -1,6 +1,6 @@
-//! Worked cases: reads a book of sources, each with what it comes to, from standard input, runs the plain program of
-//! the definitions and the preprocessor over each, and prints which come to something else, and how many stand under
-//! each heading. The book says at its head how it is written.
+//! Worked cases: reads a book of sources, each with what it should give, from standard input, runs the plain program of
+//! the definitions and the preprocessor over each, and prints which give something else, and how many are under each
+//! heading. The book says at its head how it is written.
 #![tactic(auto)]
 
 mod book;

@@ -41,8 +41,8 @@ pub fn joined(alloc: Global, parts: &[String]) -> Result<String, AllocError> {
     Ok(text)
 }
 
-/// An item of the lexer, with its place, and of a token its flags: of an identifier the text, of an
-/// integer its digits, of a float `Float` and its text, else the name of the variant.
+/// An item of the lexer, with its place and, for a token, its flags: the text of an identifier, the digits of an
+/// integer, `Float` and the text of a float, and otherwise the name of the variant.
 pub fn lexer_item(alloc: Global, item: &LexerItem) -> Result<String, AllocError> {
     let mut text = String::new(alloc);
     match item {
@@ -115,7 +115,7 @@ fn push_lexer_token(text: &mut String, token: &lexer::Token) -> Result<(), Alloc
     Ok(())
 }
 
-// A value of a preprocessed token, of which a directive item shows its name alone.
+// A value of a preprocessed token; a directive item shows its name alone.
 fn push_value(text: &mut String, value: &TokenValue) -> Result<(), AllocError> {
     match value {
         TokenValue::Ident(name) => text.push_str(name.as_str()),
@@ -156,7 +156,7 @@ fn push_held(text: &mut String, tokens: &Tokens) -> Result<(), AllocError> {
     text.push(']')
 }
 
-// A value, of which a directive item shows all its fields.
+// A value; a directive item shows all its fields.
 fn push_item_value(text: &mut String, value: &TokenValue) -> Result<(), AllocError> {
     match value {
         TokenValue::Version(version) => {

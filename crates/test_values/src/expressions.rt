@@ -7,7 +7,7 @@ use pp_rs::token::Punct;
 use std::alloc::{AllocError, Global};
 use std::test::Fail;
 
-/// The symbols of a line, how its reading ended, and what the expression at its front comes to.
+/// The symbols of a line, how its reading ended, and what the expression at its front gives.
 struct Row {
     line: &'static [Symbol],
     ending: Option<ExpressionFault>,
@@ -159,7 +159,7 @@ const ROWS: [Row; 14] = [
     },
 ];
 
-// The first row that comes to something else.
+// The first row that gives something else.
 fn difference(alloc: Global, rows: &[Row]) -> Result<Option<usize>, AllocError> {
     for (index, row) in rows.iter().enumerate() {
         if evaluate(alloc, row.line, row.ending)? != row.expected {
@@ -175,7 +175,7 @@ fn come_to_their_values_and_faults(rt: HostRuntime) -> Result<(), Fail> {
     Ok(())
 }
 
-// Symbols that stand before a 7, so many times, and others that stand after it.
+// Symbols before a 7, repeated, and others after it.
 struct Nested {
     before: &'static [Symbol],
     times: u32,
@@ -264,7 +264,7 @@ fn line_of(alloc: Global, nested: &Nested) -> Result<Vec<Symbol>, AllocError> {
     Ok(line)
 }
 
-// The first of these that comes to something else.
+// The first of these that gives something else.
 fn deep_difference(alloc: Global, rows: &[Nested]) -> Result<Option<usize>, AllocError> {
     for (index, row) in rows.iter().enumerate() {
         let line = line_of(alloc, row)?;

@@ -72,7 +72,7 @@ fn is_exit_copied(alloc: Global, exit: StepExit) -> bool {
     }
 }
 
-// Whether the text of the tokens gives them again; `None` if they aren't ordinary, or memory is refused.
+// Whether the text of the tokens gives them again; `None` if they aren't ordinary, or memory runs out.
 fn is_output(alloc: Global, tokens: &[Token]) -> Option<bool> {
     if !tokens.iter().all(|token| token.is_ordinary()) {
         return None;
@@ -99,7 +99,7 @@ fn exits_are_copied(rt: HostRuntime) -> Result<(), Fail> {
     Ok(())
 }
 
-// A name with a blank in it comes of no source, and its text gives two tokens.
+// No source gives a name with a blank in it, and its text gives two tokens.
 #[test]
 fn what_is_no_output_is_not_read_afresh(rt: HostRuntime) -> Result<(), Fail> {
     let mut tokens = Vec::new(rt.alloc());

@@ -6,8 +6,8 @@ use pp_rs::token::{Location, PlacedError, PreprocessorError};
 use std::alloc::{AllocError, Global};
 use std::io;
 
-/// Prints a line `FILE:LINE:COLUMN: error: SENTENCE` for each error of a source. The preprocessor
-/// goes on after each, but after `OutOfMemory`.
+/// Prints a line `FILE:LINE:COLUMN: error: SENTENCE` for each error of a source. The preprocessor goes on after each,
+/// except after `OutOfMemory`.
 pub fn print_errors(rt: &impl Print, alloc: Global, file: &str, source: &str) -> io::Result<()> {
     let Some(mut pp) = Preprocessor::try_new(alloc, source) else {
         return println!(rt; "{file}: error: the source is too long");

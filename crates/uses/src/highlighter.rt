@@ -62,7 +62,7 @@ impl<'a> Page<'a> {
         self.push_up_to(end)
     }
 
-    // Writes the source up to a byte, and marks what stands after another byte.
+    // Writes the source up to a byte, and marks what comes after another byte.
     fn mark(&mut self, start: usize, end: usize, class: &str) -> Result<(), AllocError> {
         if class.is_empty() {
             return self.push_up_to(end);

@@ -29,7 +29,7 @@ use std::{env, io};
 use variants::build_variants;
 use version::check_version;
 
-// A source with errors, of which each is told.
+// A source with errors, each of which is printed.
 const FAULTY: &str = "int a = 0x;\n#define F(x) x\n  F(1, 2) #\n#if )\n#endif\n";
 
 // The third example of the C standard, section 6.10.3.5. It says that its line is

@@ -40,7 +40,7 @@ fn push_item(text: &mut String, alloc: Global, token: &Token) -> Result<(), Plac
     Ok(())
 }
 
-// What has to stand between a text and the word after it.
+// The separator that is needed between a text and the word after it.
 fn separator(text: &str, word: &str) -> Option<char> {
     let last = text.chars().last()?;
     let first = word.chars().next()?;
@@ -60,7 +60,7 @@ fn is_of_word(c: char) -> bool {
     c.is_alphanumeric() || c == '_' || c == '.'
 }
 
-// Whether the character is a punctuator that no other begins or goes on with.
+// Whether the character is a punctuator that isn't part of any longer one.
 fn is_alone(c: char) -> bool {
     matches!(
         c,

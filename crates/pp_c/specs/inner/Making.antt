@@ -1,4 +1,4 @@
--- How far the calls of the preprocessor have come. No contract of a public call cites this.
+-- How far the calls of the preprocessor have got. No contract of a public call cites this.
 use Rattle.std.specs.Prelude.{◌≡◌, ℕ, ◌+◌, ◌-◌, ◌<◌, ◌≤◌, ◌^◌, max, Bool, true, false, if◌then◌else◌}
 use Rattle.std.specs.Prelude.{List, [], ◌∷◌, ◌++◌, map, length, drop, replicate}
 use Rattle.std.specs.Prelude.{Option, Some, None, option_map, is_some, MatchOption, Ok, Err, ⊤}
@@ -22,7 +22,7 @@ abbrev pub item_of : Given → Given_item
 item_of (token t) = Ok t
 item_of (error fault place) = Err fault
 
--- an error's place
+-- an error is at this place
 abbrev pub IsAt : Given → Location → Type 0
 IsAt (token t) place = ⊤
 IsAt (error fault at) place = at ≡ place
@@ -32,7 +32,7 @@ pub record GivesNext (old : Preprocessing) (answer : Option Given) (new : Prepro
   pub given : IsGivenItem old (option_map item_of answer) new
   pub placed : MatchOption answer ⊤ (λ given. IsAt given (error_place new))
 
--- these calls were made one after another, and this was answered to those of `next`
+-- these calls were made one after another, and those of `next` gave these answers
 pub data Made : Preprocessing → List Call → List (Option Given) → Preprocessing → Type 0 where
   none : (p q : Preprocessing) (calls : List Call) (answers : List (Option Given))
       → calls ≡ []
@@ -60,14 +60,14 @@ pub data Made : Preprocessing → List Call → List (Option Given) → Preproce
       → answers ≡ answer ∷ others
       → Made p calls answers r
 
--- what one call of `next` gave, and that it was written
+-- one call of `next` gave an answer, and an item was written
 pub record NextIsWritten (old new : Preprocessing) (output output_after : Output) (more : Bool) : Type 0 where
   pub answer : Option Given
   pub gives : GivesNext old answer new
   pub takes : MatchOption answer (output_after ≡ output) (λ given. Takes output (given_entries given) output_after)
   pub is_more : more ≡ is_some answer
 
--- the answers to `next`, with the end if it was given
+-- the answers of `next`, with the end if it was given
 abbrev pub answers_of : List Given → Bool → List (Option Given)
 answers_of given false = map Some given
 answers_of given true = map Some given ++ None ∷ []
@@ -76,7 +76,7 @@ answers_of given true = map Some given ++ None ∷ []
 abbrev pub made_of : Progress → ℕ
 made_of progress = progress.given + (if progress.has_ended then 1 else 0)
 
--- as all memory is
+-- the memory is smaller than 2^63, as all memory is
 pub record IsSmall (output : Output) : Type 0 where
   pub items : length output.items.now < 2 ^ 63
   pub texts : length output.texts.now < 2 ^ 63
@@ -90,13 +90,13 @@ pub record HasCome (start : Preprocessing) (output : Output) (calls : List Call)
   pub count : progress.given ≡ length given
   pub small : IsSmall output_after
 
--- items were given until there were so many, or to the end
+-- items were given until there were `count` of them, or up to the end
 pub record IsUntil (count : ℕ) (old new : Progress) : Type 0 where
   pub ended : old.has_ended ≡ true → new ≡ old
   pub reached : old.has_ended ≡ false → new.has_ended ≡ false → new.given ≡ max old.given count
   pub ends : old.has_ended ≡ false → new.has_ended ≡ true → (old.given ≤ new.given) × (new.given < count)
 
--- the same as far as it has come
+-- the same, but perhaps not finished yet
 pub record Approaches (count : ℕ) (old new : Progress) : Type 0 where
   pub ended : old.has_ended ≡ true → new ≡ old
   pub goes : old.has_ended ≡ false
@@ -104,7 +104,7 @@ pub record Approaches (count : ℕ) (old new : Progress) : Type 0 where
       → (old.given ≤ new.given) × (new.given ≤ max old.given count)
   pub ends : old.has_ended ≡ false → new.has_ended ≡ true → (old.given ≤ new.given) × (new.given < count)
 
--- what came before, with more calls of `next`
+-- what was done before, with more calls of `next`
 pub record GoesOn (old : Preprocessing) (output : Output) (progress : Progress) (new : Preprocessing)
     (output_after : Output) (progress_after : Progress) : Type 0 where
   pub fewer : made_of progress ≤ made_of progress_after
@@ -113,27 +113,27 @@ pub record GoesOn (old : Preprocessing) (output : Output) (progress : Progress) 
       → HasCome start first (calls ++ replicate (made_of progress_after - made_of progress) next)
       progress_after new output_after
 
--- items are given until there are so many
+-- items are given until there are at most `count` of them, or up to the end
 pub record GivesUntil (count : ℕ) (old : Preprocessing) (output : Output) (progress : Progress)
     (new : Preprocessing) (output_after : Output) (progress_after : Progress) : Type 0 where
   pub unspent : is_spent new ≡ false
   pub approaches : Approaches count progress progress_after
   pub goes : GoesOn old output progress new output_after progress_after
 
--- what is left was given, and then the end
+-- what was left was given, and then the end
 pub record GivesToEnd (old : Preprocessing) (output : Output) (new : Preprocessing)
     (output_after : Output) : Type 0 where
   pub more : List Given
   pub made : Made old (replicate (length more + 1) next) (map Some more ++ None ∷ []) new
   pub takes : Takes output (entries_of more) output_after
 
--- the same, if the end was not given before
+-- the same, if the end was not given before; nothing happens otherwise
 pub record HasRest (progress : Progress) (old : Preprocessing) (output : Output) (new : Preprocessing)
     (output_after : Output) : Type 0 where
   pub ended : progress.has_ended ≡ true → (new ≡ old) × (output_after ≡ output)
   pub rest : progress.has_ended ≡ false → GivesToEnd old output new output_after
 
--- items that were left, so far
+-- some of the items that were left were given
 pub record GivesRest (old : Preprocessing) (output : Output) (new : Preprocessing)
     (output_after : Output) : Type 0 where
   pub more : List Given
@@ -141,12 +141,12 @@ pub record GivesRest (old : Preprocessing) (output : Output) (new : Preprocessin
   pub takes : Takes output (entries_of more) output_after
   pub unspent : is_spent new ≡ false
 
--- there may be so many calls of `next` in all
+-- `next` may be called `all` times in the whole run
 pub record IsPossible (progress : Progress) (all : ℕ) : Type 0 where
   pub ended : progress.has_ended ≡ true → all ≡ progress.given + 1
   pub goes_on : progress.has_ended ≡ false → progress.given < all
 
--- the definitions before one were added, and what came before was given
+-- the definitions before the one at this index were added, and the items before it were given
 pub record HasAdded (start : Preprocessing) (first : Output) (words : List ℕ) (definitions : List Definition) (at : ℕ)
     (progress : Progress) (new : Preprocessing) (output_after : Output) : Type 0 where
   pub calls : List Call
@@ -162,7 +162,7 @@ pub record HasAll (start : Preprocessing) (output : Output) (words : List ℕ) (
   pub made : Made start (calls_from words (length given + 1) 0 definitions) (map Some given ++ None ∷ []) new
   pub takes : Takes output (entries_of given) output_after
 
--- one definition was added, or refused, which is written into it
+-- one definition was added or refused, and the reply is written into it
 pub record AddsOne (words : List ℕ) (definition definition_after : Definition)
     (old new : Preprocessing) : Type 0 where
   pub made : Made old (adding words definition ∷ []) [] new

@@ -1,4 +1,4 @@
--- How entries are written after those that came before. No contract of a public call cites this.
+-- How entries are written after those before them. No contract of a public call cites this.
 use Rattle.std.specs.Prelude.{◌≡◌, ℕ, ◌+◌, ◌≤◌, List, [], ◌∷◌, ◌++◌, take, drop, length}
 use Rattle.pp_c.specs.Entries.{Entry, bare, with_text, in_64_bits, items_from, texts_of}
 use Rattle.pp_rs.specs.Preorder.{leaf_of}
@@ -7,11 +7,11 @@ use Rattle.pp_c.specs.Tokens.{leaf_entry}
 use Rattle.pp_c.specs.declared.items.Sizes.{Sizes}
 use Rattle.pp_c.specs.declared.output.Output.{Output}
 
--- the list with others written over it from a place on
+-- the list, with others written over it from an index on
 abbrev pub written_over : {A : Type 0} → ℕ → List A → List A → List A
 written_over at more old = take at old ++ more ++ drop (at + length more) old
 
--- the room of one entry more
+-- the room with one more entry
 abbrev pub with_room : Sizes → Entry → Sizes
 with_room sizes (bare item) = record sizes { items = in_64_bits (sizes.items + 1) }
 with_room sizes (with_text item text) = record {
@@ -29,7 +29,7 @@ pub record HaveRoom (output : Output) (more : List Entry) : Type 0 where
   pub items : output.sizes.items + length more ≤ length output.items.now
   pub texts : output.sizes.texts + length (texts_of more) ≤ length output.texts.now
 
--- These entries are counted, and written after those that came before if there is room for all.
+-- These entries are counted. If there is room for all, they are written after those before them.
 pub record Takes (old : Output) (more : List Entry) (new : Output) : Type 0 where
   pub same_items : new.items.ghost_name ≡ old.items.ghost_name
   pub same_texts : new.texts.ghost_name ≡ old.texts.ghost_name

@@ -17,7 +17,7 @@ use Rattle.pp_macros.specs.declared.halt.Halt.{Halt}
 use Rattle.pp_directives.specs.declared.if_parser.IfParser.{IfParser}
 use Rattle.pp_directives.specs.declared.if_parser.LineExpander.{LineExpander}
 
--- the line is read
+-- the line is being read, with the parser's definitions
 abbrev pub IsReading : IfParser → LineExpander → Type 0
 IsReading parser line = IsOnLine parser.definitions.now line.expander line.lexer
 
@@ -26,7 +26,7 @@ abbrev pub GivesItem : IfParser → LineExpander → Result (Option Read) Halt �
 GivesItem parser old result new =
     ReadsItem parser.levels parser.definitions.now old.expander old.lexer result new.expander new.lexer
 
--- after a token less of the line is left
+-- if a token is given, less of the line is left after it
 abbrev pub TakesOff : IfParser → LineExpander → Result (Option Read) Halt → LineExpander → Type 0
 TakesOff parser old result new =
     IfOk result (λ found. IfSome found (λ read. IsWorkLess parser.levels old.expander old.lexer new.expander new.lexer))
@@ -36,13 +36,13 @@ abbrev pub GivesTaken : IfParser → LineExpander → Result (Option Read) Halt 
 GivesTaken parser old result new =
     ReadsTaken parser.levels parser.definitions.now old.expander old.lexer result new.expander new.lexer
 
--- the name of an identifier, or the fault of anything else where a part of `defined` is wanted
+-- the name of an identifier, or the fault of anything else, if a part of `defined` is needed here
 abbrev pub IsNameOrFault : Location → Option Read → Result Name Fault → Type 0
 IsNameOrFault directive found result =
     MatchResult result (λ name. name_in (taken_of_read found) ≡ Some name)
     (λ fault. (name_in (taken_of_read found) ≡ None) × (fault ≡ unwanted_part directive (taken_of_read found)))
 
--- what the operand of a `defined` comes to; the same after its `(`, and after that and the name
+-- what the operand of a `defined` gives; the same after its `(`; and after the `(` and the name
 abbrev pub GivesOperand : IfParser → LineExpander → Result Bool Halt → LineExpander → Type 0
 GivesOperand parser old result new =
     ReadsOperand parser.kind parser.directive parser.levels parser.definitions.now old.expander old.lexer
@@ -58,12 +58,12 @@ GivesClosed parser name old result new =
     ReadsClosed parser.kind parser.directive parser.levels parser.definitions.now name old.expander
     old.lexer result new.expander new.lexer
 
--- the words that the rest of the line comes to
+-- the words that the rest of the line gives
 abbrev pub AreWordsOf : IfParser → LineExpander → Words → Type 0
 AreWordsOf parser line words =
     LineWords parser.kind parser.directive (answers_at parser.levels) (expander_of line.expander line.lexer) words
 
--- the words that the whole line comes to
+-- the words that the whole line gives
 abbrev pub AreWordsOfLine : LineKind → Location → ℕ → List Token → List Defined → Words → Type 0
 AreWordsOfLine kind directive levels tokens definitions words =
     LineWords kind directive (answers_at levels) (reading_of (map unpainted tokens) (meaning_of definitions) []) words

@@ -1,4 +1,4 @@
--- The line of an `#if`, `#elif` or `#line` as it is read: the items that its tokens come to, one after another
+-- The line of an `#if`, `#elif` or `#line` as it is read: the items that its tokens give, one after another
 -- (docs/RULES.md, Expressions 1 and 2).
 use Rattle.std.specs.Prelude.{◌≡◌, ℕ, ◌≤◌, ◌<◌, true, List, [], Bool, Option, Some, None, option_map, Result, Ok, Err}
 use Rattle.std.specs.Prelude.{⊤}
@@ -25,7 +25,7 @@ use Rattle.pp_macros.specs.declared.halt.Halt.{Halt}
 use Rattle.pp_macros.specs.declared.halt.Halt.TheVariants as halt
 use Rattle.pp_macros.specs.declared.step.StepExit.TheVariants.{Error, Continue, Finished}
 
--- the definitions' expander of a line that is read
+-- the expander of the definitions for a line that is being read
 abbrev pub expander_of : kept.Expander → Listing → Expander Listed
 expander_of m l = record {
   held = option_map outcome_of_step m.held;
@@ -35,7 +35,7 @@ expander_of m l = record {
   hidden = [];
 }
 
--- what is held is a token or the end
+-- what is held, if anything is, is a token or the end
 abbrev pub IsHeld : Option (Step Read) → Type 0
 IsHeld None = ⊤
 IsHeld (Some (Ok read)) = ⊤
@@ -43,7 +43,7 @@ IsHeld (Some (Err Finished)) = ⊤
 IsHeld (Some (Err Continue)) = ⊥
 IsHeld (Some (Err (Error fault))) = ⊥
 
--- a line is read, with these definitions
+-- a line is being read, with these definitions
 pub record IsOnLine (definitions : List Defined) (m : kept.Expander) (l : Listing) : Type 0 where
   pub sound : IsSound m (of_list l)
   pub holds : IsHeld m.held
@@ -51,7 +51,7 @@ pub record IsOnLine (definitions : List Defined) (m : kept.Expander) (l : Listin
   pub unhidden : l.hidden ≡ []
   pub defined : l.definitions ≡ definitions
 
--- the line is read on, and no more of it is left
+-- the line is still being read, and no more of it is left than before
 pub record ReadsOn (levels : ℕ) (definitions : List Defined) (m : kept.Expander) (l : Listing) (n : kept.Expander)
     (k : Listing) : Type 0 where
   pub stands : IsOnLine definitions n k
@@ -61,8 +61,8 @@ pub record ReadsOn (levels : ℕ) (definitions : List Defined) (m : kept.Expande
 abbrev pub IsWorkLess : ℕ → kept.Expander → Listing → kept.Expander → Listing → Type 0
 IsWorkLess levels m l n k = work_of levels n (of_list k) < work_of levels m (of_list l)
 
--- What is read of a line: a value, after which the line is read on, or a fault, after which it isn't. Of a refusal of
--- memory nothing is said.
+-- What is read of a line: a value, after which the line is still being read, or a fault, after which nothing is known
+-- of it. If memory runs out, this says nothing.
 abbrev pub ReadsOfLine : {T : Type 0} → ℕ → List Defined → kept.Expander → Listing
     → (Result T Fault → Expander Listed → Type 0)
     → Result T Halt → kept.Expander → Listing → Type 0
@@ -92,7 +92,7 @@ abbrev pub ReadsTaken : ℕ → List Defined → kept.Expander → Listing → R
 ReadsTaken levels definitions m l =
     ReadsOfLine levels definitions m l (λ item f. Takes line_reading (expander_of m l) (taken_of_item item) f)
 
--- what the operand of a `defined` comes to; the same after its `(`, and after that and the name
+-- what the operand of a `defined` gives; the same after its `(`; and after the `(` and the name
 abbrev pub ReadsOperand : LineKind → Location → ℕ → List Defined → kept.Expander → Listing
     → Result Bool Halt → kept.Expander → Listing → Type 0
 ReadsOperand kind directive levels definitions m l =

@@ -18,7 +18,7 @@ use Rattle.pp_macros.specs.Held.{HoldsOrdinary}
 use Rattle.pp_macros.specs.Item.{Step}
 use Rattle.pp_lexer.specs.declared.token.Token.{Token}
 
--- the token that comes first is this word, which is no `#`, and it was taken
+-- the next token is this word, which is no `#`, and it was taken
 pub record TakesPlain (old : SourceLexed) (item : PlainItem) (new : SourceLexed) : Type 0 where
   pub unspent : old.spent ≡ false
   pub is : next_token old.rest ≡ Ok (Some (token_of item))
@@ -27,12 +27,12 @@ pub record TakesPlain (old : SourceLexed) (item : PlainItem) (new : SourceLexed)
   pub takes : HasTaken 1 old new
   pub errors : unreported_at new ≡ unreported_at old
 
--- a word of plain text, or no token was taken: comments before the first of them may have been passed
+-- a word of plain text was taken, or nothing was; but comments in front of the next token may have been passed
 abbrev pub GivesPlain : SourceLexed → Option PlainItem → SourceLexed → Type 0
 GivesPlain old answer new =
     MatchOption answer (new ≡ record old { had_comments = new.had_comments }) (λ item. TakesPlain old item new)
 
--- such a word, which is no identifier that is known
+-- such a word that isn't a known identifier
 pub record TakesUnknown (knows : List ℕ → Bool) (old : SourceLexed) (item : PlainItem) (new : SourceLexed)
     : Type 0 where
   pub takes : TakesPlain old item new
@@ -43,23 +43,23 @@ GivesUnknown knows old answer new =
     MatchOption answer (new ≡ record old { had_comments = new.had_comments })
     (λ item. TakesUnknown knows old item new)
 
--- a newline comes first, and it was taken
+-- the next token is a newline, and it was taken
 pub record TakesNewline (old new : SourceLexed) : Type 0 where
   pub unspent : old.spent ≡ false
   pub is : begins_newline old.rest ≡ true
   pub takes : HasTaken 1 old new
   pub errors : unreported_at new ≡ unreported_at old
 
--- a newline was passed, or all is as it was
+-- a newline was passed, or nothing changed
 abbrev pub PassesNewline : SourceLexed → Bool → SourceLexed → Type 0
 PassesNewline old answer new = MatchBool answer (TakesNewline old new) (new ≡ old)
 
--- one step of a source, which reports its errors
+-- one step of a source that reports the errors of its lexer
 pub record IsStep (old : Source) (step : Step Token) (new : Source) : Type 0 where
   pub reads : StepsSource old step new
   pub errors : StepReports step (unreported_of old) (unreported_of new)
 
--- a step at a word of plain text, or all is as it was
+-- a step at a word of plain text, or nothing changed
 abbrev pub StepsPlain : Source → Option (Step Token) → Source → Type 0
 StepsPlain old answer new = MatchOption answer (new ≡ old) (λ step. IsStep old step new)
 
@@ -75,10 +75,10 @@ pub record TakesWord (old : Source) (item : PlainItem) (new : Source) : Type 0 w
   pub holds : HoldsOrdinary (word_value item.form item.spelling.now)
   pub step : IsStep old (Ok (word_token item)) new
 
--- such a word, or all is as it was
+-- such a word, or nothing changed
 abbrev pub GivesWord : Source → Option PlainItem → Source → Type 0
 GivesWord old answer new = MatchOption answer (new ≡ old) (λ item. TakesWord old item new)
 
--- a newline is a pause, or all is as it was
+-- a newline was a pause, or nothing changed
 abbrev pub PausesAtNewline : Source → Bool → Source → Type 0
 PausesAtNewline old answer new = MatchBool answer (IsStep old (Err Continue) new) (new ≡ old)

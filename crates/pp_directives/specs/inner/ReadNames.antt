@@ -1,4 +1,4 @@
--- What was read of a line, as the definitions name it.
+-- What was read of a line, as values of the definitions.
 use Rattle.std.specs.Prelude.{List}
 use Rattle.pp_model.specs.DefineLines.{Parameters}
 use Rattle.pp_model.specs.Names.{Name}
@@ -14,6 +14,6 @@ as_placed first = record { name = first.name; location = first.location }
 abbrev pub as_named : DefineLine → Named
 as_named line = record { name = line.name; location = line.location; definition = line.define }
 
--- these parameters, after which the lexer stands here
+-- these parameters, with the items that are left after them
 abbrev pub parameters_to : List Name → SourceLexed → Parameters
 parameters_to names lexer = record { names = names; after = lexer.rest }

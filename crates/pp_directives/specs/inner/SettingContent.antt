@@ -1,4 +1,4 @@
--- What a content that is set makes of the source, before the answer of `add_define` is made of it.
+-- How setting a content changes the source, before `add_define` makes its answer of it.
 use Rattle.std.specs.Prelude.{◌≡◌, List, Some, Result, Ok, Err}
 use Rattle.pp_lexer.specs.declared.token.Token.{Token}
 use Rattle.pp_model.specs.Names.{Name}
@@ -9,13 +9,12 @@ use Rattle.pp_macros.specs.inner.Source.{Source}
 use Rattle.pp_macros.specs.declared.halt.Halt.{Halt}
 use Rattle.pp_macros.specs.declared.halt.Halt.TheVariants as halt
 
--- the name stands for a macro of these tokens in the source, of which nothing else changes
+-- the name is defined in the source as an object-like macro with these tokens, and nothing else changes
 pub record IsSetIn (name : Name) (tokens : List Token) (old new : Source) : Type 0 where
   pub definitions : IsChanged name (Some (object_like tokens)) old.definitions new.definitions
   pub others : new ≡ record old { definitions = new.definitions }
 
--- the name stands for the tokens of a content, and for what it stood for where the content
--- has a fault or memory is refused
+-- The name is defined with the tokens of the content. If the content has a fault or memory runs out, nothing changes.
 abbrev pub SetsContent : Name → Result (List Token) Fault → Source → Result (Unit {0}) Halt → Source → Type 0
 SetsContent name content old (Ok done) new = (tokens : List Token) × (content ≡ Ok tokens) × IsSetIn name tokens old new
 SetsContent name content old (Err (halt.Fault fault)) new = (content ≡ Err fault) × (new ≡ old)

@@ -1,4 +1,4 @@
--- What a directive does, where the source stands after its word or its number sign.
+-- What a directive does once its word or its number sign has been read.
 use Rattle.std.specs.Prelude.{◌≡◌, ◌≤◌, ◌+◌, Bool, false, not, if◌then◌else◌, List, length, Option, Some, None, Result}
 use Rattle.std.specs.Prelude.{Ok, Err, ⊤}
 use Rattle.pp_lexer.specs.Lexed.{Seen}
@@ -24,8 +24,8 @@ use Rattle.pp_macros.specs.declared.halt.Halt.{Halt}
 use Rattle.pp_macros.specs.declared.halt.Halt.TheVariants as halt
 use Rattle.pp_macros.specs.declared.step.StepExit.TheVariants.{Continue}
 
--- after a fault: nothing is said of how far the reader went, nor of which blocks are open and which names are defined,
--- but that no more items and blocks are left, and no more is defined
+-- All that is known after a fault: no more items and open blocks are left, no more names or tokens of bodies are
+-- defined, and memory didn't run out.
 pub record HasKept (old new : Source) : Type 0 where
   pub left : length new.rest + length new.blocks ≤ length old.rest + length old.blocks
   pub names : length new.definitions ≤ length old.definitions
@@ -37,7 +37,7 @@ RedefinesWith named None fault = ⊥
 RedefinesWith named (Some before) fault =
     (IsSameDefinition before named.definition → ⊥) × (fault ≡ (DefineRedefined, named.location))
 
--- the fault that an effect comes to, where these names are defined
+-- an effect has this fault, if these names are defined
 abbrev pub FailsWith : Effect → List Defined → Fault → Type 0
 FailsWith (fails wanted) definitions fault = fault ≡ wanted
 FailsWith (defines named) definitions fault = RedefinesWith named (meaning_of definitions named.name) fault
@@ -46,7 +46,8 @@ FailsWith (parts_if word tokens) definitions fault = Condition word tokens defin
 FailsWith (renumbers word tokens) definitions fault = LineNumber word tokens definitions (Err fault)
 FailsWith _ definitions fault = ⊥
 
--- a directive does what the move says, where this is the step that its value comes to, unless memory is refused
+-- A directive does what the move says: with a value, the step that shows it; with a fault, the fault of the move's
+-- effect. If memory runs out, this says nothing.
 abbrev pub ActsAs : {A : Type 0} → (A → Step Token) → Note → Move → Source → Result A Halt → Source → Type 0
 ActsAs shows note move old (Ok value) new = Makes note move old (shows value) new
 ActsAs shows note move old (Err (halt.Fault fault)) new = FailsWith move.effect old.definitions fault × HasKept old new
@@ -57,11 +58,12 @@ abbrev pub without_item : Result (Unit {0}) Halt → Result (Option Token) Halt
 without_item (Ok done) = Ok None
 without_item (Err halt) = Err halt
 
--- whether the condition of an `#ifdef` holds, or that of an `#ifndef`, of a name that is defined or isn't
+-- whether the condition holds of a name that is defined or isn't: that of an `#ifdef` if `wanted` is true, that of an
+-- `#ifndef` otherwise
 abbrev pub is_as : Bool → Bool → Bool
 is_as wanted is = if wanted then is else not is
 
--- after a directive's word, before it is noted: one that gives an item, one that gives nothing, and any
+-- after a directive's word, before it is noted: a directive that gives an item, one that gives nothing, and any
 abbrev pub ActsAsItem : Move → Source → Result Token Halt → Source → Type 0
 ActsAsItem move old result new = ActsAs (λ token. Ok token) unnoted move old result new
 
@@ -71,18 +73,18 @@ Acts move old result new = ActsAs (λ done. Err Continue) unnoted move old resul
 abbrev pub Gives : Move → Source → Result (Option Token) Halt → Source → Type 0
 Gives move old result new = ActsAs as_pause unnoted move old result new
 
--- after its number sign, where this is noted
+-- after a directive's number sign, with what is noted: a directive that gives nothing, and any
 abbrev pub ActsNoted : Note → Move → Source → Result (Unit {0}) Halt → Source → Type 0
 ActsNoted note move old result new = ActsAs (λ done. Err Continue) note move old result new
 
 abbrev pub GivesNoted : Note → Move → Source → Result (Option Token) Halt → Source → Type 0
 GivesNoted note move old result new = ActsAs as_pause note move old result new
 
--- what is noted, if this token is after the number sign
+-- what is noted, if this is the item after the number sign
 abbrev pub word_note : Bool → Result LexerToken Fault → Note
 word_note live first = note_at live (directive_sight first)
 
--- what a directive does after its number sign, if this token is after that, and then these items
+-- what a directive does after its number sign, if this token follows it, and then these items
 abbrev pub name_move : Bool → Option BlockFacts → LexerToken → Option Name → List Seen → Move
 name_move live block token (Some name) after =
     taking_more 1 (directive_move live block (directive_of name) token.location after)

@@ -1,4 +1,4 @@
--- The source before anything of it was read.
+-- The source before anything of it is read.
 use Rattle.std.specs.Prelude.{ℕ, List, [], None, false, pos}
 use Rattle.pp_lexer.specs.Items.{places_of}
 use Rattle.pp_lexer.specs.Lexed.{start_of}

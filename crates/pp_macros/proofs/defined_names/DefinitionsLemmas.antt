@@ -1,4 +1,4 @@
--- Names each of which has a definition or none.
+-- Lists of names, each with a definition or none.
 use Rattle.std.proofs.Common.{◌≡◌, ◌∙◌, ℕ, zero, suc, ◌+◌, ◌<◌, Bool, true, false, ◌||◌, if◌then◌else◌, List, [], ◌∷◌, ◌++◌, Bor, map, length, get_or, set, Option, Some, None, refl, sym, ap, arith, length-append, length-set}
 use Rattle.std.proofs.lemmas.List.{length-map, map-append, map-set}
 use Rattle.std.specs.Prelude.{option_map, sum_by, slice_get}

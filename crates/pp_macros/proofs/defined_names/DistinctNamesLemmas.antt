@@ -1,4 +1,4 @@
--- Names of which no two are alike.
+-- Lists of names of which no two are the same.
 use Rattle.std.proofs.Common.{◌≡◌, ◌∙◌, ℕ, ◌<◌, ◌≤◌, Bool, true, false, List, [], ◌∷◌, ◌++◌, length, get_or, take, Some, refl, sym, ap, arith, inl, inr}
 use Rattle.std.specs.Prelude.{is_some, position}
 use Rattle.std.specs.Cmp.Lexicographic.{bytes_decides}

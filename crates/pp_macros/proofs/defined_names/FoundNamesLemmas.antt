@@ -1,4 +1,4 @@
--- Names that differ, and where one of them is found.
+-- Names that differ, and the position at which each is found.
 use Rattle.std.proofs.Common.{◌≡◌, ◌∙◌, ℕ, zero, suc, ◌<◌, Bool, true, false, ◌||◌, List, [], ◌∷◌, ◌++◌, length, get_or, Some, None, refl, sym, ap, arith}
 use Rattle.std.specs.Prelude.{is_some, position}
 use Rattle.std.specs.Cmp.Lexicographic.{same_text, other_text}

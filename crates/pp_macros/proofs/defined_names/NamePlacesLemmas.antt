@@ -1,4 +1,4 @@
--- The table by whose places names are found, where a name comes or goes.
+-- The table that finds names, when a name is added or removed.
 use Rattle.std.proofs.Common.{◌≡◌, ◌∙◌, ◌≢◌, ℕ, ◌+◌, ◌<◌, ◌≤◌, Bool, true, false, List, [], ◌∷◌, ◌++◌, length, get_or, set, Option, Some, None, refl, sym, ap, arith, inl, inr, ◌⊎◌, if◌then◌else◌}
 use Rattle.std.specs.Prelude.{is_some, position}
 use Rattle.std.specs.Map.{lookup}

@@ -1,4 +1,4 @@
--- A step of a frame lowers the count of its steps, and keeps its name; and how many steps a frame has that opens.
+-- A step of a frame lowers the number of its steps and keeps its name; and how many steps a frame has when it opens.
 use Rattle.std.proofs.Common.{◌≡◌, ℕ, ◌+◌, ◌*◌, ◌<◌, ◌≤◌, Bool, true, false, List, [], ◌∷◌, length, refl, ap, arith, Option, Some, None, IfSome}
 use Rattle.pp_lexer.specs.declared.token.Token.{Token}
 use Rattle.pp_model.specs.declared.read.Read.{Read}

@@ -1,4 +1,4 @@
--- Open macros stay sound, also where calls are read over lines of the source; and so they are few.
+-- Open macros stay sound, even if calls are read over lines of the source; so only few are open.
 use Rattle.std.proofs.Common.{◌≡◌, inl, inr, ℕ, suc, ◌+◌, ◌≤◌, Bool, true, false, List, [], ◌∷◌, length, arith, refl, Option, Some, None, All, IfSome, Ok, Err}
 use Rattle.std.specs.Prelude.{IsSome, ◌||◌, Result}
 use Rattle.std.proofs.lemmas.List.Elements.{All-cons, All-nil}

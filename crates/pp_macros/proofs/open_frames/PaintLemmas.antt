@@ -1,4 +1,4 @@
--- A token that opens a macro is unpainted, so its name was not open where it was taken.
+-- A token that opens a macro is unpainted, so its name was not open when the token was taken.
 use Rattle.std.proofs.Common.{◌≡◌, ◌∙◌, Bool, true, false, List, sym, refl, ap, Option, Some, None}
 use Rattle.std.proofs.lemmas.Bool.{or_parts}
 use Rattle.std.proofs.lemmas.List.Folds.{list_any-append}

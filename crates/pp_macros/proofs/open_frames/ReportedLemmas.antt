@@ -1,4 +1,4 @@
--- Steps that were not refused memory. Taking and painting refuse none of their own.
+-- Steps in which memory didn't run out. Taking and painting need no memory of their own.
 use Rattle.std.proofs.Common.{◌≡◌, Bool, List, false, refl, Ok, Err}
 use Rattle.pp_model.specs.Names.{Name}
 use Rattle.pp_model.specs.declared.read.Read.{Read}

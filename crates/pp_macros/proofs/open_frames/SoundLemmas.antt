@@ -1,4 +1,4 @@
--- Open macros differ, and are defined: so they are at most as many as the names that are defined.
+-- Open macros differ and are defined, so there are at most as many as names that are defined.
 use Rattle.std.proofs.Common.{◌≡◌, suc, ◌≤◌, ◌||◌, Bool, true, false, if◌then◌else◌, List, [], ◌∷◌, length, refl, sym, ap, arith, All, IsSome}
 use Rattle.std.specs.Cmp.Lexicographic.{same_text, other_text}
 use Rattle.std.proofs.lemmas.List.Elements.{All-head, All-tail, All-cons}

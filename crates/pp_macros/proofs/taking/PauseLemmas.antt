@@ -1,4 +1,4 @@
--- A pause of an expander: what is taken and emitted after it is so before it.
+-- A pause of an expander: what is taken and emitted after it is also taken and emitted before it.
 use Rattle.std.proofs.Common.{◌≡◌, ◌∙◌, List, sym, Some, None}
 use Rattle.pp_model.specs.SpliceList.{after_marks}
 use Rattle.pp_model.specs.Reading.{Reading, Expander}

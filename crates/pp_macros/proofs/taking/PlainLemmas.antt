@@ -1,4 +1,4 @@
--- A list of tokens that give themselves comes to itself.
+-- A list of tokens that give themselves expands to itself.
 use Rattle.std.proofs.Common.{◌≡◌, ◌∙◌, sym, ap, take, drop, ◌-◌, le_trans, ◌||◌, ◌+◌, ◌≤◌, ℕ, Bool, true, false, not, ◌&&◌, List, [], ◌∷◌, length, refl, Option, Some, None, Ok}
 use Rattle.std.specs.Prelude.{if◌then◌else◌, is_none}
 use Rattle.std.proofs.lemmas.Bool.{and_parts, not-true}

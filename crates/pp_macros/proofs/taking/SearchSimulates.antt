@@ -1,4 +1,5 @@
--- Taking and searching over frames is taking and searching over the list that they stand for, for every kind of reader.
+-- Taking and searching over frames is taking and searching over the splice list that they stand for, for every kind of
+-- reader.
 use Rattle.std.proofs.Common.{◌≡◌, ◌∙◌, ◌++◌, inl, inr, true, false, ℕ, Bool, List, [], ◌∷◌, refl, sym, ap, subst, Option, Some, None}
 use Rattle.std.specs.Prelude.{if◌then◌else◌, Result, Ok, Err, option_map, unwrap_or, ⊤}
 use Rattle.pp_lexer.specs.declared.token.Location.{Location}

@@ -1,4 +1,4 @@
--- What a token becomes that is taken, and which macro it opens, over frames and over their list.
+-- What a token becomes when it is taken, and which macro it opens, over frames and over their splice list.
 use Rattle.std.proofs.Common.{◌≡◌, ◌∙◌, ℕ, List, ap, Option, Some, None}
 use Rattle.std.specs.Prelude.{if◌then◌else◌, unwrap_or}
 use Rattle.pp_lexer.specs.declared.token.Token.{Token}

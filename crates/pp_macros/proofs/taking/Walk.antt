@@ -1,4 +1,4 @@
--- What a proof by hand of a call is made of: the moves of the walk, and the parts of a loan.
+-- The parts of a proof by hand about a call: the moves of the walk, and the parts of a loan.
 pub use Rattle.std.proofs.Common.{ℕ, [], ◌∷◌, ◌++◌, refl, MutBor}
 pub use Rattle.std.proofs.raw_atomic.Walks.{proved}
 pub use base.Fraction.{full_share}

@@ -1,4 +1,4 @@
--- What stands in front of a directive's line.
+-- What is in front of the rest of a directive's line.
 use Rattle.std.proofs.Common.{◌≡◌, ◌∙◌, ℕ, suc, ◌+◌, Bool, true, false, List, [], ◌∷◌, take, refl, ap, None, arith}
 use Rattle.std.specs.Prelude.{Ok, Err}
 use Rattle.std.specs.List.{cons_option}

@@ -1,4 +1,4 @@
--- No effect but the end of a source ends a step.
+-- No effect except the end of a source gives the end.
 use Rattle.std.proofs.Common.{◌≡◌, inl, inr, ℕ, Bool, true, false, List, refl, Option, Some, None}
 use Rattle.std.specs.Prelude.{Err}
 use Rattle.pp_lexer.specs.declared.token.Location.{Location}

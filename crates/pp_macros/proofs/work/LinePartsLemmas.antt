@@ -1,4 +1,4 @@
--- What stands on a line, by the parts of it that have names of their own.
+-- What is on a line, by the parts of it that have names of their own.
 use Rattle.std.proofs.Common.{◌≡◌, List, Option, Some, None, Result, Ok, refl}
 use Rattle.std.specs.Prelude.{ok_or}
 use Rattle.pp_lexer.specs.declared.lexer.item.Token.{Token as LexerToken}

@@ -1,4 +1,4 @@
--- A directive takes at least as much as it adds, but for its number sign and its word.
+-- A directive takes at least as much as it adds, without its number sign and its word.
 use Rattle.std.proofs.Common.{◌≡◌, ℕ, ◌+◌, ◌≤◌, Bool, List, length, subst, arith, Option, Result, Ok, IfOk}
 use Rattle.pp_lexer.specs.Lexed.{Seen}
 use Rattle.pp_lexer.specs.declared.token.Location.{Location}

@@ -1,4 +1,4 @@
--- Items among which no line of a block stands, whatever stands after them.
+-- Items without a line of a block among them, no matter what follows them.
 use Rattle.std.proofs.Common.{◌≡◌, ◌∙◌, sym, ℕ, suc, ◌+◌, Bool, true, false, ◌&&◌, List, [], ◌∷◌, ◌++◌, length, ◌≤◌, take, refl, ap, Option, Some, None, arith}
 use Rattle.std.specs.Prelude.{Result, Ok, Err, if◌then◌else◌}
 use Rattle.std.specs.List.{cons_option}

@@ -1,4 +1,4 @@
--- The bound of what tokens make: how it compares, and that it falls.
+-- The bound of how much work tokens make: how it compares, and that it falls.
 use Rattle.std.proofs.Common.{◌≡◌, ℕ, zero, suc, ◌+◌, ◌*◌, ◌-◌, ◌<◌, ◌≤◌, List, [], ◌∷◌, length, arith, le_trans, lt_of_le_of_lt, lt_of_lt_of_le, ap, sym, refl, mul-le-mul}
 use Rattle.std.specs.Fn.{iterate}
 use Rattle.pp_macros.specs.inner.Reach.{growth, through, total, most_tokens, frame_steps, HasRoom, OpenedFalls}

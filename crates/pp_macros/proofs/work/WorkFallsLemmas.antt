@@ -1,4 +1,4 @@
--- How much is left of an expander with calls falls with each step, and where a frame opens after a call.
+-- What is left to do for an expander with calls falls with each step, and when a frame opens after a call.
 use Rattle.std.proofs.Common.{◌≡◌, ◌∙◌, ℕ, zero, suc, ◌+◌, ◌*◌, ◌-◌, ◌<◌, ◌≤◌, List, [], ◌∷◌, length, arith, le_trans, lt_of_le_of_lt, mul-le-mul, add-mul, one-mul, ap, subst, refl, Option, Some, None, All}
 use Rattle.std.proofs.lemmas.Option.{slice_get_within, get_or_from_slice_get}
 use Rattle.std.proofs.lemmas.List.Elements.{All-get_or}

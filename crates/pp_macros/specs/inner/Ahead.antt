@@ -4,12 +4,12 @@ use Rattle.pp_model.specs.declared.read.Read.{Read}
 use Rattle.pp_macros.specs.inner.Frames.{Frame, Advance, advance}
 use Rattle.pp_macros.specs.inner.Turns.{frame_move}
 
--- what a frame gives in its step: nothing where it pauses or is at its end
+-- what a frame gives in its step: nothing if it pauses or is at its end
 abbrev pub given_by : Option Advance → Option Read
 given_by (Some a) = a.gives
 given_by None = None
 
--- a frame after its step; one at its end stays
+-- a frame after its step; a frame at its end doesn't change
 abbrev pub frame_after : Frame → Option Advance → Frame
 frame_after f (Some a) = a.after
 frame_after f None = f
@@ -19,7 +19,7 @@ abbrev pub given_next : List Frame → Option Read
 given_next [] = None
 given_next (f ∷ fs) = given_by (advance f)
 
--- the frames after a step of the innermost, which is closed at its end
+-- the frames after a step of the innermost, which is closed if it is at its end
 abbrev pub frames_after : List Frame → List Frame
 frames_after [] = []
 frames_after (f ∷ fs) = (frame_move fs (advance f)).after

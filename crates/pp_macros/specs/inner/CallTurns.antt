@@ -1,4 +1,4 @@
--- One step of an expander with calls: a token is taken, and is given, or opens its macro, or begins a call that is
+-- One step of an expander with calls: a token is taken; it is given, opens its macro, or begins a call whose tokens are
 -- gathered (docs/RULES.md, Expansion 1 to 7 and 10).
 use Rattle.std.specs.Prelude.{◌≡◌, ◌⊎◌, if◌then◌else◌, Bool, false, true, [], ◌∷◌, Option, Some, None, Result, Ok, Err}
 use Rattle.std.specs.Prelude.{⊤}
@@ -20,17 +20,17 @@ use Rattle.pp_macros.specs.declared.calls.Taken.TheVariants as taken
 use Rattle.pp_macros.specs.declared.step.StepExit.{StepExit}
 use Rattle.pp_macros.specs.declared.step.StepExit.TheVariants.{Error, Continue}
 
--- a step is a `(`, with its place
+-- the place of the `(` that a step gives, if it gives one
 abbrev pub paren_of : Step Read → Option Location
 paren_of (Ok read) = if is_left_paren read.token.value then Some read.token.location else None
 paren_of (Err exit) = None
 
--- a step whose fault is that memory was refused
+-- a step whose error says that memory ran out
 abbrev pub is_out_of_memory_step : Step Read → Bool
 is_out_of_memory_step (Err (Error fault)) = is_out_of_memory fault.0
 is_out_of_memory_step _ = false
 
--- what is after the name of a function-like macro: no call, the fault of one, or one whose tokens are gathered
+-- what follows the name of a function-like macro: no call, a call with a fault, or a call whose tokens are gathered
 pub data Sought : Type 0 where
   no_call : Step Read → Sought
   refused : Fault → Sought
@@ -55,7 +55,7 @@ pub data Seeks : Expander → Reader → Sought → Expander → Reader → Type
       → c ≡ sought_by paren g
       → Seeks m r c p t
 
--- what is sought after a name that was taken
+-- what is done with what follows a name: without a call the name is given and what follows it is held
 abbrev pub Finds : Read → Name → Definition → Sought → Step Taken → Expander → Expander → Type 0
 Finds read name definition (no_call next) step n p =
     (step ≡ Ok (taken.Token read)) × (p ≡ record n { held = Some next })
@@ -97,12 +97,12 @@ pub data TurnsTo : Expander → Reader → Step Taken → Expander → Reader �
       → Finds read name definition c step p q
       → TurnsTo m r step q t
 
--- a token that is given holds ordinary tokens; the tokens of a call are its own matter
+-- a token that is given holds ordinary tokens; this says nothing of the tokens of a call
 abbrev pub TakenHoldsOrdinary : Taken → Type 0
 TakenHoldsOrdinary (taken.Token read) = HoldsOrdinary read.token.value
 TakenHoldsOrdinary (taken.Call call) = ⊤
 
--- something is taken, and not the end
+-- something is taken that isn't the end
 pub record TakesSomething (m : Expander) (r : Reader) : Type 0 where
   pub step : Step Read
   pub after : Expander
@@ -110,11 +110,11 @@ pub record TakesSomething (m : Expander) (r : Reader) : Type 0 where
   pub takes : StepsTaking m r step after reader
   pub goes : is_end step ≡ false
 
--- a turn that was refused memory, where something was taken
+-- a turn that ran out of memory, with something to take
 pub record IsRefusedTurn (m : Expander) (r : Reader) (step : Step Taken) : Type 0 where
   pub some : TakesSomething m r
   pub fault : step ≡ Err (Error out_of_memory)
 
--- a turn, unless memory is refused
+-- a turn, unless memory runs out
 abbrev pub TurnsOrRefuses : Expander → Reader → Step Taken → Expander → Reader → Type 0
 TurnsOrRefuses m r step n s = TurnsTo m r step n s ⊎ IsRefusedTurn m r step

@@ -5,7 +5,8 @@ use Rattle.pp_model.specs.declared.read.Read.{Read}
 use Rattle.pp_model.specs.Names.{Name}
 use Rattle.pp_model.specs.Definitions.{Definition}
 
--- the macro's name and what it stood for, where its parentheses stand, and what stands between them
+-- the macro's name, the definition it had when the call began, the places of its parentheses, and the tokens between
+-- them
 pub record MacroCall : Type 0 where
   pub name : Name
   pub definition : Definition

@@ -1,27 +1,27 @@
--- What the preprocessor keeps of the names that are defined: a list of them, in which no name stands twice.
+-- The names that are defined, as the preprocessor keeps them: a list of names with definitions.
 use Rattle.std.specs.Prelude.{◌≡◌, ℕ, ◌+◌, ◌≤◌, List, [], ◌∷◌, ◌++◌, length, Option, Some, None}
 use Rattle.pp_model.specs.Names.{Name}
 use Rattle.pp_model.specs.Definitions.{Definition, Definitions, with_change}
 use Rattle.pp_model.specs.inner.Definitions.{nothing_defined}
 
--- a name, and what it stands for
+-- a name and its definition
 pub record Defined : Type 0 where
   pub name : Name
   pub definition : Definition
 
--- a name, if it has a definition
+-- a list of the name with its definition, empty if it has none
 abbrev pub defined_as : Name → Option Definition → List Defined
 defined_as name None = []
 defined_as name (Some definition) = record { name = name; definition = definition } ∷ []
 
--- those of the names that have a definition, where each has its definition or none
+-- those of the names that have a definition; the second list says for each name its definition or that it has none
 abbrev pub defined_among : List Name → List (Option Definition) → List Defined
 defined_among [] definitions = []
 defined_among (name ∷ names) [] = []
 defined_among (name ∷ names) (definition ∷ definitions) =
     defined_as name definition ++ defined_among names definitions
 
--- what each name stands for
+-- the definition of each name, if it has one; the first in the list counts
 abbrev pub meaning_of : List Defined → Definitions
 meaning_of [] = nothing_defined
 meaning_of (d ∷ ds) = with_change (meaning_of ds) d.name (Some d.definition)
@@ -40,7 +40,8 @@ abbrev pub more_tokens : Option Definition → ℕ
 more_tokens None = 0
 more_tokens (Some definition) = length definition.body
 
--- the name stands for this from now on, or for nothing, and all other names stay
+-- The name has this definition from now on, or none, and all other names keep theirs. The list grows by no more than
+-- that.
 pub record IsChanged (name : Name) (change : Option Definition) (old new : List Defined) : Type 0 where
   pub meaning : meaning_of new ≡ with_change (meaning_of old) name change
   pub names : length new ≤ length old + more_names change

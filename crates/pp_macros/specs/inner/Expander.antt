@@ -1,4 +1,5 @@
--- An expander over a reader: open macros, and a step that was found too early and is held (docs/RULES.md, Expansion 5).
+-- An expander over a reader: the open macros, and a step that was taken in the search for a `(` and is held
+-- (docs/RULES.md, Expansion 5).
 use Rattle.std.specs.Prelude.{◌≡◌, Bool, false, true, ℕ, ⊤, List, [], Option, Some, None, Result, Ok, Err}
 use Rattle.pp_lexer.specs.declared.token.Location.{Location}
 use Rattle.pp_lexer.specs.declared.token.PreprocessorError.TheVariants.{IntegerOverflow, UnexpectedEndOfInput}
@@ -25,14 +26,14 @@ step_of_outcome (given.Token read) = Ok read
 step_of_outcome (given.Fault fault) = Err (Error fault)
 step_of_outcome given.End = Err Finished
 
--- the outcome that a step is; a pause is none
+-- the outcome of a step; a pause, which has none, counts as the end
 abbrev pub outcome_of_step : Step Read → Given
 outcome_of_step (Ok read) = given.Token read
 outcome_of_step (Err (Error fault)) = given.Fault fault
 outcome_of_step (Err Finished) = given.End
 outcome_of_step (Err Continue) = given.End
 
--- what a step of the frames or the reader is once it is taken
+-- a step of the frames or the reader, once it is taken: `__LINE__` becomes a number
 abbrev pub taken_as : Step Read → List Frame → Reader → Step Read
 taken_as (Ok read) frames reader = step_of_outcome (taken_in frames reader read)
 taken_as (Err exit) frames reader = Err exit
@@ -57,7 +58,7 @@ pub data StepsFetching : Expander → Reader → Step Read → Expander → Read
       → n.held ≡ None
       → StepsFetching m r step n s
 
--- one step of taking: an identifier is painted whose name is open, here or around
+-- one step of taking: an identifier whose name is open, here or around, is painted
 pub record StepsTaking (m : Expander) (r : Reader) (step : Step Read) (n : Expander) (s : Reader) : Type 0 where
   pub first : Step Read
   pub fetches : StepsFetching m r first n s
@@ -100,13 +101,13 @@ pub data GathersNext : ℕ → Location → Expander → Reader → Result Gathe
       → g ≡ Err fault
       → GathersNext k last m r g n s
 
--- what a search gives: as it must be, unless memory is refused
+-- what a search gives satisfies the predicate, unless memory runs out
 abbrev pub Satisfies : {A : Type 0} → Result A Halt → (Result A Fault → Type 0) → Type 0
 Satisfies (Ok value) P = P (Ok value)
 Satisfies (Err (halt.Fault fault)) P = P (Err fault)
 Satisfies (Err halt.OutOfMemory) P = ⊤
 
--- the tokens of a call whose `)` stands there
+-- the tokens of a call with the place of its `)`, or the fault
 abbrev pub gathered_to : List Read → Result Location Fault → Result Gathered Fault
 gathered_to tokens (Ok closing) = Ok (record { tokens = tokens; closing = closing })
 gathered_to tokens (Err fault) = Err fault

@@ -1,4 +1,4 @@
--- How a call goes on whose tokens were gathered: its arguments are expanded, and its frame opens
+-- What is done with a call once its tokens are gathered: its arguments are expanded, and its frame opens
 -- (docs/RULES.md, Expansion 7 to 9).
 use Rattle.std.specs.Prelude.{◌≡◌, ◌≤◌, ◌-◌, ℕ, false, List, [], ◌∷◌, ◌++◌, All, length, None, Result, Ok, Err, ⊤}
 use Rattle.pp_model.specs.declared.read.Read.{Read}
@@ -14,7 +14,7 @@ use Rattle.pp_macros.specs.inner.Reader.{Listing}
 use Rattle.pp_macros.specs.declared.halt.Halt.{Halt}
 use Rattle.pp_macros.specs.declared.halt.Halt.TheVariants as halt
 
--- where the call stands: what is defined there, and open
+-- the site of the call: the place of its `(`, its arguments, the definitions, and the names that are open around
 abbrev pub site_at : MacroCall → List Defined → List Name → Site
 site_at call definitions around =
     record {
@@ -24,12 +24,12 @@ site_at call definitions around =
       open_around = around;
     }
 
--- no argument of the call is longer than it may be
+-- no expanded argument of the call is longer than the bound
 abbrev pub AreOfCall : ℕ → List Defined → MacroCall → List (List Read) → Type 0
 AreOfCall levels definitions call arguments =
     All (λ argument. length argument ≤ most_alone (levels - 1) definitions (length call.tokens)) arguments
 
--- its frame is open, with arguments that it comes to, which are no longer than they may be
+-- the frame of the call is open, with its expanded arguments, none of them longer than the bound
 pub record IsOpened (levels : ℕ) (definitions : List Defined) (around : List Name) (call : MacroCall)
     (old new : Expander) : Type 0 where
   pub arguments : List (List Read)
@@ -37,7 +37,7 @@ pub record IsOpened (levels : ℕ) (definitions : List Defined) (around : List N
   pub least : AreOfCall levels definitions call arguments
   pub opens : new ≡ record old { frames = new_frame call.name call.closing.line call.definition arguments ∷ old.frames }
 
--- the frame opens, or the call has a fault; of a refusal of memory nothing is said
+-- The frame opens, or the call has this fault and nothing changes. If memory runs out, this says nothing.
 abbrev pub Finishes : ℕ → List Defined → List Name → MacroCall → Expander → Result (Unit {0}) Halt → Expander → Type 0
 Finishes levels definitions hidden call old (Ok done) new =
     IsOpened levels definitions (names_of old.frames ++ hidden) call old new
@@ -46,21 +46,21 @@ Finishes levels definitions hidden call old (Err (halt.Fault fault)) new =
     × (new ≡ old)
 Finishes levels definitions hidden call old (Err halt.OutOfMemory) new = ⊤
 
--- an argument alone, no longer than it may be
+-- an argument, expanded alone, is no longer than the bound for so many tokens
 abbrev pub IsShort : ℕ → List Defined → ℕ → List Read → Type 0
 IsShort levels definitions n out = length out ≤ most_alone levels definitions n
 
--- each argument, where none of them had more tokens than this
+-- each expanded argument is within the bound for n tokens, if no argument has more than n tokens
 abbrev pub AreShort : ℕ → List Defined → List (List Read) → List (List Read) → Type 0
 AreShort levels definitions arguments outs = (n : ℕ) → All (λ argument. length argument ≤ n) arguments
     → All (λ out. length out ≤ most_alone levels definitions n) outs
 
--- nothing is open or held, and the list is an argument where these definitions and names stand
+-- nothing is open or held, and the list is an argument with these definitions and these names hidden
 pub record IsAtStart (definitions : List Defined) (hidden : List Name) (m : Expander) (l : Listing) : Type 0 where
   pub idle : m ≡ record { held = None; frames = [] }
   pub argument : l ≡ record { tokens = l.tokens; definitions = definitions; hidden = hidden; is_line = false }
 
--- what a list comes to whose items are these, where it was read to its end
+-- these items, if the list was read to its end, or the fault
 abbrev pub read_to_end : List Read → Result (Unit {0}) Fault → Result (List Read) Fault
 read_to_end items (Ok done) = Ok items
 read_to_end items (Err fault) = Err fault

@@ -1,5 +1,5 @@
--- Frames: macros that are open, each with what is left of its body and its arguments
--- (docs/RULES.md, Expansion 4 and 9).
+-- Frames: macros that are open, each with what is left of its body and its arguments (docs/RULES.md, Expansion 4 and
+-- 9).
 use Rattle.std.specs.Prelude.{ℕ, List, [], ◌∷◌, map, Option, Some, None, unwrap_or, slice_get}
 use Rattle.pp_lexer.specs.declared.token.Token.{Token}
 use Rattle.pp_model.specs.declared.read.Read.{Read}
@@ -33,7 +33,7 @@ new_frame name line definition arguments = record {
   reading = None;
 }
 
--- what a frame gives, or nothing where it pauses, and the frame after it
+-- what a frame gives, or nothing if it pauses, and the frame after it
 pub record Advance : Type 0 where
   pub gives : Option Read
   pub after : Frame
@@ -41,24 +41,24 @@ pub record Advance : Type 0 where
 abbrev pub argument_at : List (List Read) → ℕ → List Read
 argument_at arguments k = unwrap_or (slice_get arguments k) []
 
--- a parameter in the body starts its argument, and pauses; another token of the body is given
+-- a parameter in the body starts its argument, which is a pause; any other token of the body is given
 abbrev pub body_token : Frame → Token → List Token → Option ℕ → Advance
 body_token f token rest None = record { gives = Some (unpainted token); after = record f { body = rest } }
 body_token f token rest (Some k) =
     record { gives = None; after = record f { body = rest; reading = Some (argument_at f.arguments k) } }
 
--- nothing where the body is at its end
+-- one step of the body, or nothing at its end
 abbrev pub advance_body : Frame → List Token → Option Advance
 advance_body f [] = None
 advance_body f (token ∷ rest) = Some (body_token f token rest (parameter_of f.parameters token.value))
 
--- the next token of the argument that is being read is given; its end pauses
+-- the next token of the argument that is being read is given; its end is a pause
 abbrev pub advance_reading : Frame → Option (List Read) → Option Advance
 advance_reading f (Some (read ∷ rest)) = Some (record { gives = Some read; after = record f { reading = Some rest } })
 advance_reading f (Some []) = Some (record { gives = None; after = record f { reading = None } })
 advance_reading f None = advance_body f f.body
 
--- one step of a frame, or nothing where it is at its end
+-- one step of a frame, or nothing if it is at its end
 abbrev pub advance : Frame → Option Advance
 advance f = advance_reading f f.reading
 

@@ -1,5 +1,5 @@
--- Steps of taking that give tokens that open no macro, or pause, the reader as it is: the tokens are put after those
--- before.
+-- Steps of taking that pause, or give a token that opens no macro, and leave the reader as it is. The tokens are put
+-- after those before.
 use Rattle.std.specs.Prelude.{◌≡◌, ◌&&◌, Bool, true, false, List, [], ◌∷◌, ◌++◌, None, Ok, Err, is_some, is_none}
 use Rattle.pp_model.specs.declared.read.Read.{Read}
 use Rattle.pp_macros.specs.inner.Ahead.{given_next}
@@ -30,11 +30,11 @@ pub data GivesEach (r : Reader) (m : Expander) (items : List Read) : Expander �
       → GivesOne r n some p more
       → GivesEach r m items p more
 
--- nothing is held, and a macro is open whose next step is a pause
+-- nothing is held, a macro is open, and the innermost frame gives no token next
 abbrev pub is_at_pause : Expander → Bool
 is_at_pause m = is_none m.held && (is_some (outermost_frame_line m.frames) && is_none (given_next m.frames))
 
--- any number of pauses of the frames, whatever is read after them
+-- any number of pauses of the frames, over every reader
 pub data PausesEach (m : Expander) : Expander → Type 0 where
   at_once : (n : Expander) → n ≡ m → PausesEach m n
   after : (n p : Expander)

@@ -1,5 +1,4 @@
--- An expander in which no macro is open, over a source: what it gives as it stands there
--- (docs/RULES.md, Expansion 1 to 3).
+-- An expander in which no macro is open, over a source: it gives a word as it is (docs/RULES.md, Expansion 1 to 3).
 use Rattle.std.specs.Prelude.{◌≡◌, ◌&&◌, not, is_some, Bool, [], Some, Ok, Err}
 use Rattle.pp_lexer.specs.declared.token.PreprocessorError.TheVariants.{LineOverflow}
 use Rattle.pp_lexer.specs.declared.token.Token.{Token}
@@ -18,13 +17,13 @@ use Rattle.pp_macros.specs.declared.step.StepExit.TheVariants.{Error}
 abbrev pub is_idle : Expander → Bool
 is_idle m = not (is_some m.held) && not (is_some (outermost_frame_line m.frames))
 
--- the word as it is taken is held
+-- the word is held as it is taken: `__LINE__` as a number
 pub record IsHeld (word : Token) (source : Source) (old new : Expander) : Type 0 where
   pub token : Read
   pub taken : taken_in [] (of_source source) (unpainted word) ≡ given.Token token
   pub holds : new ≡ record old { held = Some (Ok token) }
 
--- it is held, or `__LINE__` out of range
+-- the word is held, or it is `__LINE__` and its number is out of range
 abbrev pub HoldsWord : Token → Source → Expander → Step (Unit {0}) → Expander → Type 0
 HoldsWord word source old (Ok done) new = IsHeld word source old new
 HoldsWord word source old (Err exit) new =

@@ -1,4 +1,4 @@
--- How much is left to do of an expander with calls.
+-- How much an expander with calls still has to do.
 use Rattle.std.specs.Prelude.{ℕ, suc, ◌+◌, if◌then◌else◌, List, [], ◌∷◌, length, Option, Some, None, IsSome, ⊤}
 use Rattle.pp_model.specs.declared.read.Read.{Read}
 use Rattle.pp_model.specs.ApartMarks.{AreApart}
@@ -11,28 +11,28 @@ use Rattle.pp_macros.specs.inner.Reader.{Reader, of_source, of_list, definitions
 use Rattle.pp_macros.specs.inner.Reach.{work_in, frame_steps, most_tokens}
 use Rattle.pp_macros.specs.inner.Work.{most_reads, steps_left, is_end}
 
--- what comes of a reader at most, and what may still be defined there
+-- how many items and open blocks, or tokens, the reader has left: it gives no more, and defines no more names
 abbrev pub reads_left : Reader → ℕ
 reads_left (of_source source) = most_reads source
 reads_left (of_list list) = length list.tokens
 
--- no more names open over each other: those that are defined, those that may still be, and one that
--- was defined when its call began
+-- at most so many names are open over each other: those that are defined, those that may still be, and one that was
+-- defined when its call began
 abbrev pub most_open : Reader → ℕ
 most_open (of_source source) = length source.definitions + most_reads source + 1
 most_open (of_list list) = length list.definitions + 1
 
--- all bodies, and what is still to be defined, have no more tokens together
+-- at most so many tokens are in all bodies together, with those that are still to be defined
 abbrev pub most_bodies : Reader → ℕ
 most_bodies (of_source source) = body_tokens source.definitions + most_reads source
 most_bodies (of_list list) = body_tokens list.definitions
 
--- one step more of the innermost region
+-- the innermost region with one step more
 abbrev pub one_more : List ℕ → List ℕ
 one_more [] = 1 ∷ []
 one_more (s ∷ regions) = suc s ∷ regions
 
--- what is held is one more step of the innermost region, but for the end
+-- what is held is one more step of the innermost region, unless it is the end
 abbrev pub holding_step : Option (Step Read) → List ℕ → List ℕ
 holding_step None regions = regions
 holding_step (Some step) regions = if is_end step then regions else one_more regions
@@ -45,7 +45,7 @@ regions_of (f ∷ fs) reads = steps_left f ∷ regions_of fs reads
 abbrev pub regions : Expander → Reader → List ℕ
 regions m r = holding_step m.held (regions_of m.frames (reads_left r))
 
--- how much is left, where arguments may be read inside each other so many levels deeper
+-- how much is left, if arguments may be read inside each other so many levels deeper
 abbrev pub work_of : ℕ → Expander → Reader → ℕ
 work_of levels m r = work_in (frame_steps (most_bodies r) (most_open r) levels) (most_open r) (regions m r)
 
@@ -56,8 +56,8 @@ AreDefinedAbove definitions (x ∷ []) = ⊤
 AreDefinedAbove definitions (x ∷ y ∷ names) =
     IsSome (meaning_of definitions x) × AreDefinedAbove definitions (y ∷ names)
 
--- names that are open differ, and are defined: but the outermost may be undefined, where its call
--- was read over lines of the source
+-- No two open names are the same. All are defined but perhaps the outermost, whose call may have gone on over lines of
+-- the source that undefined it.
 pub record AreOpenSoundly (definitions : List Defined) (names : List Name) : Type 0 where
   pub apart : AreApart names
   pub defined : AreDefinedAbove definitions names
@@ -65,8 +65,8 @@ pub record AreOpenSoundly (definitions : List Defined) (names : List Name) : Typ
 abbrev pub IsSound : Expander → Reader → Type 0
 IsSound m r = AreOpenSoundly (definitions_of r) (names_of m.frames)
 
--- tokens that are read alone come to at most so many, where arguments may be read inside
--- each other so many levels deeper
+-- so many tokens, expanded alone, give at most this many, if arguments may be read inside each other so many levels
+-- deeper
 abbrev pub most_alone : ℕ → List Defined → ℕ → ℕ
 most_alone levels definitions n =
     most_tokens (frame_steps (body_tokens definitions) (length definitions + 1) levels) (length definitions + 1) n

@@ -1,4 +1,4 @@
--- What the reading of a part of a line gives, and where the lexer stands after it.
+-- What reading a part of a line gives, and how far the lexer is after it.
 use Rattle.std.specs.Prelude.{◌≡◌, ◌≢◌, ℕ, ◌≤◌, ◌<◌, Bool, false, if◌then◌else◌, not, List, [], ◌∷◌, length, drop}
 use Rattle.std.specs.Prelude.{Option, Some, None, Result, Ok, Err, ⊤, IsTrue, IfOk, IfSome}
 use Rattle.pp_lexer.specs.Lexed.{Seen}
@@ -16,18 +16,18 @@ use Rattle.pp_macros.specs.inner.SourceLexed.{SourceLexed}
 use Rattle.pp_macros.specs.declared.halt.Halt.{Halt}
 use Rattle.pp_macros.specs.declared.halt.Halt.TheVariants as halt
 
--- a value or a fault is that of the definitions
+-- A value or a fault is that of the definitions. If memory runs out, this says nothing.
 abbrev pub Meets : {A B : Type 0} → (A → B) → Result A Halt → Result B Fault → Type 0
 Meets shows (Ok value) wanted = wanted ≡ Ok (shows value)
 Meets shows (Err (halt.Fault fault)) wanted = wanted ≡ Err fault
 Meets shows (Err halt.OutOfMemory) wanted = ⊤
 
--- so many items were taken
+-- so many items were taken, and memory didn't run out
 pub record HasTaken (taken : ℕ) (old new : SourceLexed) : Type 0 where
   pub rest : new.rest ≡ drop taken old.rest
   pub spent : new.spent ≡ false
 
--- after a fault: nothing is said of how far the lexer went
+-- no more items are left than before, and memory didn't run out: all that is known after a fault
 pub record HasGoneOn (old new : SourceLexed) : Type 0 where
   pub rest : length new.rest ≤ length old.rest
   pub spent : new.spent ≡ false
@@ -38,28 +38,29 @@ TakesItems taken old (Ok value) new = HasTaken taken old new
 TakesItems taken old (Err (halt.Fault fault)) new = HasGoneOn old new
 TakesItems taken old (Err halt.OutOfMemory) new = ⊤
 
--- after a fault something was taken
+-- a fault takes at least one item
 abbrev pub FaultTakesSome : {A : Type 0} → Result A Halt → SourceLexed → SourceLexed → Type 0
 FaultTakesSome (Ok value) old new = ⊤
 FaultTakesSome (Err (halt.Fault fault)) old new = length new.rest < length old.rest
 FaultTakesSome (Err halt.OutOfMemory) old new = ⊤
 
--- memory is refused only where something is left
+-- memory runs out only if something is left
 abbrev pub RefusedWithin : {A : Type 0} → Result A Halt → List Seen → Type 0
 RefusedWithin (Ok value) rest = ⊤
 RefusedWithin (Err (halt.Fault fault)) rest = ⊤
 RefusedWithin (Err halt.OutOfMemory) rest = rest ≢ []
 
--- the token doesn't end its line
+-- there is a token, and it doesn't end its line
 abbrev pub IsWithinLine : Option LexerToken → Type 0
 IsWithinLine None = ⊥
 IsWithinLine (Some token) = is_newline token.value ≡ false
 
--- after a token that doesn't end its line something is left
+-- after a token that doesn't end its line, something is left
 abbrev pub LeavesSome : Option LexerToken → List Seen → Type 0
 LeavesSome token rest = IsWithinLine token → rest ≢ []
 
--- whether a comment stands before the end of a line whose first token was read, where this is known of what was read
+-- whether a comment is before the end of a line whose first token was read; if there is no such token, what was known
+-- before
 abbrev pub comments_after : Option Token → List Seen → Bool → Bool
 comments_after None rest before = before
 comments_after (Some token) rest before = comments_before_end rest
@@ -76,7 +77,7 @@ next_token (s ∷ rest) = as_next s.item
 abbrev pub some_token : Token → Result (Option Token) Fault
 some_token token = Ok (Some token)
 
--- a token of a line, or nothing where the line ends
+-- a token of a line, or nothing if the line ends
 abbrev pub line_token : Option LexerToken → Result (Option Token) Fault
 line_token None = Ok None
 line_token (Some token) = if is_newline token.value then Ok None else (conversion token >>= some_token)
@@ -105,11 +106,11 @@ abbrev pub line_goes_on : List Seen → Result Bool Fault
 line_goes_on [] = Ok false
 line_goes_on (s ∷ rest) = goes_on_after s.item
 
--- a line that is skipped, but for the lexer's errors
+-- a line that is skipped, except for the lexer's errors
 abbrev pub skipped_line : List Seen → Result (Unit {0}) Fault
 skipped_line rest = unless_fault (line_fault rest) (Ok tt)
 
--- the end of an `#endif` line, which is skipped where the block's surroundings are dead
+-- the end of an `#endif` line: it is skipped if the surroundings of the block are dead
 abbrev pub endif_end : Bool → Location → List Seen → Result (Unit {0}) Fault
 endif_end live_around word rest = if live_around then ended_line word rest else skipped_line rest
 

@@ -1,4 +1,4 @@
--- Names without a double, and the table by whose places each is found.
+-- Lists of names without doubles, and the hash table that finds each name.
 use Rattle.std.specs.Prelude.{◌≡◌, ℕ, ◌+◌, ◌-◌, ◌*◌, ◌%◌, ◌^◌, ◌<◌, ◌≤◌, ◌⊎◌, List, [], length, Option, Some, None}
 use Rattle.std.specs.Prelude.{fold, bit_and, bit_xor, position, slice_index_or, string_bytes}
 use Rattle.std.specs.Map.{lookup}
@@ -7,7 +7,7 @@ use Rattle.std.specs.declared.string.String.{String}
 use Rattle.pp_model.specs.Names.{Name, is_same_name}
 use Rattle.pp_macros.specs.declared.names.table.Place.{Place}
 
--- no two names are alike: each is found where it is
+-- no two names are the same: each is found at its own position
 abbrev pub AreDistinct : List Name → Type 0
 AreDistinct names = (k : ℕ) → k < length names → position (is_same_name (slice_index_or names k [])) names ≡ Some k
 
@@ -15,11 +15,11 @@ AreDistinct names = (k : ℕ) → k < length names → position (is_same_name (s
 abbrev pub hash_step : ℕ → ℕ → ℕ
 hash_step hash byte = (bit_xor hash byte * 0x01000193) % 2 ^ 32
 
--- the hash of a name, over its bytes; nothing depends on which function it is
+-- the hash of a name, over its bytes; no contract depends on which function it is
 unfoldable pub hash_of : Name → ℕ
 hash_of name = fold hash_step 0x811c9dc5 (encode_utf8_all name)
 
--- which place of a table comes so many places after the first of a hash
+-- the index of the place so many places after the first one of a hash
 abbrev pub place_index : List Place → ℕ → ℕ → ℕ
 place_index places hash after = bit_and (hash + after) (length places - 1)
 
@@ -29,22 +29,23 @@ no_place = record { hash = 0; number = 0 }
 abbrev pub place_after : List Place → ℕ → ℕ → Place
 place_after places hash after = slice_index_or places (place_index places hash after) no_place
 
--- the first places of the hash, so many, have names with numbers below this one
+-- the first so many places of the hash have names with numbers below this one
 abbrev pub AreTaken : List Place → ℕ → ℕ → ℕ → Type 0
 AreTaken places hash count number = (k : ℕ) → k < count → (place_after places hash k).number < number
 
--- all eight places of the hash have names that were there before
+-- all eight places of the hash have names with lower numbers
 abbrev pub IsCrowded : List Place → ℕ → ℕ → Type 0
 IsCrowded places hash number = AreTaken places hash 8 number
 
--- the name with this number has one of the eight places of its hash; names from before have those between
+-- the name with this number has one of the eight places of its hash; the places before that have names with lower
+-- numbers
 pub record IsPlaced (places : List Place) (hash number : ℕ) : Type 0 where
   pub after : ℕ
   pub near : after < 8
   pub here : place_after places hash after ≡ record { hash = hash; number = number }
   pub before : AreTaken places hash after number
 
--- the place is the first of the hash's eight that no name has, of so many names
+-- with so many names, the place is the first of the hash's eight that has none of them
 pub record IsFree (places : List Place) (hash count place : ℕ) : Type 0 where
   pub after : ℕ
   pub near : after < 8
@@ -53,13 +54,14 @@ pub record IsFree (places : List Place) (hash count place : ℕ) : Type 0 where
   pub free : count ≤ (place_after places hash after).number
   pub before : AreTaken places hash after count
 
--- a name with this hash and this number, if it has one, is found: at its place or else in the map of the others
+-- a name with this hash, and its number if it has one, is found: at its place or, if its eight places are taken, in the
+-- map of the others
 abbrev pub IsFound : List Place → ℕ → Option ℕ → Option ℕ → Type 0
 IsFound places hash other None = other ≡ None
 IsFound places hash other (Some number) =
     IsPlaced places hash number ⊎ (IsCrowded places hash number × (other ≡ Some number))
 
--- each of the names is found, and no other
+-- each of the names is found, and no other name
 abbrev pub FindsNames : {Z : Type 0} → List Place → List (String Z × ℕ) → List Name → Type 0
 FindsNames {Z} places others names = (name : Name)
     → IsFound places (hash_of name) (lookup (λ (key : String Z). is_same_name name (chars (string_bytes key))) others)

@@ -1,5 +1,5 @@
--- What is kept of the blocks that are open, and the blocks of the definitions that this stands for
--- (docs/RULES.md, Directives 7 to 11).
+-- What the source keeps of each open block, and which block of the definitions this stands for (docs/RULES.md,
+-- Directives 7 to 11).
 use Rattle.std.specs.Prelude.{◌≡◌, ℕ, ◌<◌, ◌-◌, Bool, true, false, not, ◌&&◌, ◌||◌, List, [], ◌∷◌, ◌++◌, length, take}
 use Rattle.std.specs.Prelude.{slice_get, Option, Some, None, option_map}
 use Rattle.std.specs.Option.{option_map_or}
@@ -14,7 +14,7 @@ use Rattle.pp_model.specs.declared.block.BlockLine.{BlockLine}
 -- was taken, whether it has an `#else`, and whether the branch that is being read is chosen.
 pub use Rattle.pp_macros.specs.declared.blocks.OpenBlock.{OpenBlock}
 
--- the innermost of the blocks that are open is the last one
+-- the innermost open block is the last one
 abbrev pub last_block : List OpenBlock → Option OpenBlock
 last_block blocks = slice_get blocks (length blocks - 1)
 
@@ -25,7 +25,7 @@ outer_blocks blocks = take (length blocks - 1) blocks
 abbrev pub with_last : (OpenBlock → OpenBlock) → List OpenBlock → List OpenBlock
 with_last change blocks = outer_blocks blocks ++ option_map_or (λ block. change block ∷ []) (last_block blocks) []
 
--- what the table of directives asks of the innermost block
+-- the facts of the innermost block that the table of directives uses
 abbrev pub kept_facts : OpenBlock → BlockFacts
 kept_facts block = record {
   are_surroundings_live = block.live_around;
@@ -41,18 +41,18 @@ abbrev pub is_live_in : Option OpenBlock → Bool
 is_live_in None = true
 is_live_in (Some block) = block.live_around && block.chosen
 
--- the same, if these blocks are open, and all text is dead for good or not
+-- the same, if these blocks are open, and if an `#elif` outside of all blocks made the rest dead
 abbrev pub is_live_among : Bool → List OpenBlock → Bool
 is_live_among dead_for_good blocks = not dead_for_good && is_live_in (last_block blocks)
 
--- a block that a line opens: in live text its condition holds or not, in dead text it is not read
+-- a block that a line opens: in live text its condition holds or doesn't, in dead text it isn't read
 abbrev pub block_opened : Location → Bool → OpenBlock
 block_opened word holds = record { word = word; live_around = true; taken = holds; with_else = false; chosen = holds }
 
 abbrev pub block_unread : Location → OpenBlock
 block_unread word = record { word = word; live_around = false; taken = false; with_else = false; chosen = false }
 
--- the block after its `#else`, whose branch is chosen where no other was taken
+-- the block after its `#else`: this branch is chosen if the surroundings are live and no other branch was taken
 abbrev pub block_parted : OpenBlock → OpenBlock
 block_parted block = record block { with_else = true; chosen = block.live_around && not block.taken }
 
@@ -60,7 +60,7 @@ block_parted block = record block { with_else = true; chosen = block.live_around
 abbrev pub block_skipped : OpenBlock → OpenBlock
 block_skipped block = record block { chosen = false }
 
--- the block after an `#elif` whose condition holds or not, where no branch was taken before
+-- the block after an `#elif` whose condition holds or doesn't, if no branch was taken before
 abbrev pub block_decided : OpenBlock → Bool → OpenBlock
 block_decided block holds = record block { taken = holds; chosen = holds }
 
@@ -68,7 +68,7 @@ block_decided block holds = record block { taken = holds; chosen = holds }
 abbrev pub skips_branches : OpenBlock → Bool
 skips_branches block = not block.live_around || block.taken
 
--- the branch marks of a block
+-- the lines of a block that begin its branches
 abbrev pub marks : Block → List BlockLine
 marks block = block.first ∷ block.partings
 
@@ -76,7 +76,7 @@ marks block = block.first ∷ block.partings
 abbrev pub all_fail : Truths → Block → Bool
 all_fail truths block = list_all (fails_at truths) (marks block)
 
--- All conditions of a block were read and are false just where its surroundings are live and no branch was taken.
+-- All conditions of a block were read and are false if and only if its surroundings are live and no branch was taken.
 abbrev pub IsSettled : Bool → Truths → Block → Type 0
 IsSettled live truths block = all_fail truths block ≡ live && not (has_taken_branch truths block)
 
@@ -88,10 +88,10 @@ pub record StandsForBlock (source : List Seen) (truths : Truths) (kept : OpenBlo
   pub chosen : is_branch_live truths block ≡ kept.chosen
   pub settled : IsSettled kept.live_around truths block
 
--- the blocks that are kept stand for these
+-- the kept blocks stand for these, one by one
 abbrev pub StandForBlocks : List Seen → Truths → List OpenBlock → List Block → Type 0
 StandForBlocks source truths kept blocks = AllZip (StandsForBlock source truths) kept blocks
 
--- each condition that was read stands before the position
+-- each condition that was read is before the position
 abbrev pub AreBefore : ℕ → Truths → Type 0
 AreBefore position truths = Each (λ truth. truth.position < position) truths

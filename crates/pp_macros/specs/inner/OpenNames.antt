@@ -16,25 +16,26 @@ last_first names positions = reverse (map (λ e. record { name = e.0; position =
 abbrev pub is_open : List Position → Name → Bool
 is_open positions name = list_any (λ p. is_same_name name p.name) positions
 
--- the position is that of the name, unless the name had one
+-- the name gets this position, unless it had one
 abbrev pub placed_at : Bool → Name → ℕ → List Position → List Position
 placed_at was_open name position positions =
     if was_open then positions else record { name = name; position = position } ∷ positions
 
--- a frame of this name opens at the position
+-- the positions after a frame of this name opens at this position
 abbrev pub after_opening : Name → ℕ → List Position → List Position
 after_opening name position positions = placed_at (is_open positions name) name position positions
 
--- the innermost frame, at this position, closes: so does the name that opened last, if this was its outermost frame
+-- the positions after the innermost frame, at this position, closes: the name opened last closes with it if this was
+-- its outermost frame
 abbrev pub after_closing : ℕ → List Position → List Position
 after_closing position [] = []
 after_closing position (p ∷ positions) = if p.position == position then positions else p ∷ positions
 
--- the outermost frame of each name, where the frames have these names, the innermost first
+-- the position of the outermost frame of each name, if the frames have these names, the innermost first
 abbrev pub outermost_positions : List Name → List Position
 outermost_positions [] = []
 outermost_positions (name ∷ names) = placed_at (is_in name names) name (length names) (outermost_positions names)
 
--- the names of the frames inside the outermost eight, where the frames have these names, the innermost first
+-- the names of the frames inside the outermost eight, if the frames have these names, the innermost first
 abbrev pub deeper_names : List Name → List Name
 deeper_names names = take (length names - 8) names

@@ -16,7 +16,7 @@ use Rattle.pp_macros.specs.inner.SourceLexed.{SourceLexed}
 use Rattle.pp_macros.specs.declared.halt.Halt.{Halt}
 use Rattle.pp_macros.specs.declared.halt.Halt.TheVariants as halt
 
--- whether the parameters end at the token, where a comma may stand too
+-- whether the parameters end at the token, which is the closing parenthesis or a comma
 abbrev pub parameter_end : LexerToken → Result Bool Fault
 parameter_end token =
     if closes_parameters token.value then Ok true
@@ -26,7 +26,7 @@ parameter_end token =
 abbrev pub ends_parameters : Location → List Seen → Result Bool Fault
 ends_parameters word rest = first_token word rest >>= parameter_end
 
--- the parameters with the one that comes first
+-- the parameters with the next one
 abbrev pub one_parameter : Location → List Name → List Seen → Result (List Name) Fault
 one_parameter word names rest =
     first_token word rest >>= λ token. parameter_here names token (identifier_of token.value)
@@ -39,7 +39,7 @@ opening_parameter token =
     if closes_parameters token.value then Ok None
     else (parameter_here [] token (identifier_of token.value) >>= some_names)
 
--- the first parameter, or nothing where there is none
+-- the first parameter, or nothing if there is none
 abbrev pub first_parameter : Location → List Seen → Result (Option (List Name)) Fault
 first_parameter word rest = first_token word rest >>= opening_parameter
 
@@ -47,13 +47,13 @@ abbrev pub alone : Option Name → Option (List Name)
 alone None = None
 alone (Some name) = Some (name ∷ [])
 
--- how the lexer stands after a value or a fault
+-- after a value or a fault the lexer has no more items left than before; if memory runs out, this says nothing
 abbrev pub GoesOnInLine : {A : Type 0} → Result A Halt → SourceLexed → SourceLexed → Type 0
 GoesOnInLine (Ok value) old new = HasGoneOn old new
 GoesOnInLine (Err (halt.Fault fault)) old new = HasGoneOn old new
 GoesOnInLine (Err halt.OutOfMemory) old new = ⊤
 
--- a macro with parameters, after its `(`
+-- the definition of a function-like macro, read after its `(`
 abbrev pub function_at : Location → List Seen → Result Definition Fault
 function_at word rest = parameters word rest >>= λ list. line_tokens list.after >>= λ body.
     Ok (record { function_like = true; parameters = list.names; body = body })

@@ -11,11 +11,11 @@ list_of tokens part = slice_range tokens part.start part.end
 abbrev pub lists_of : List Read → List Part → List (List Read)
 lists_of tokens parts = map (list_of tokens) parts
 
--- the parts are one after another, between these positions
+-- the parts follow one another, between these positions
 abbrev pub AreInOrder : ℕ → List Part → ℕ → Type 0
 AreInOrder from [] to = from ≤ to
 AreInOrder from (part ∷ parts) to = (from ≤ part.start) × (part.start ≤ part.end) × AreInOrder part.end parts to
 
--- what was put after these tokens
+-- what was appended to these tokens
 abbrev pub addition : List Read → List Read → List Read
 addition old new = drop (length old) new

@@ -7,12 +7,12 @@ use Rattle.pp_model.specs.Painting.{is_one_of}
 use Rattle.pp_model.specs.declared.read.Read.{Read}
 use Rattle.pp_macros.specs.inner.Defined.{Defined, meaning_of}
 
--- a value that gives itself where no macro is open, unless it is painted: no `__LINE__`, and no name that is defined
+-- a value that gives itself if no macro is open and it isn't painted: it isn't `__LINE__` or a name that is defined
 abbrev pub gives_itself : List Defined → TokenValue → Bool
 gives_itself definitions (Ident name) = not (is_same_name name line_name) && is_none (meaning_of definitions name)
 gives_itself definitions _ = true
 
--- a value that gives itself, with its paint, also where macros are open around it
+-- a value, painted or not, that gives itself even if macros with the hidden names are open around it
 abbrev pub is_plain_value : List Defined → List Name → Bool → TokenValue → Bool
 is_plain_value definitions hidden true value = not (is_identifier line_name value)
 is_plain_value definitions hidden false value = gives_itself definitions value && not (is_one_of hidden value)

@@ -1,4 +1,4 @@
--- What stands after the frames, as the interface object of a reader shows it.
+-- What comes after the frames: the reader, as its interface object shows it.
 use Rattle.std.specs.Prelude.{◌≡◌, ◌⊎◌, ℕ, pos, ◌+ℤ◌, Bool, ◌&&◌, if◌then◌else◌, List, [], ◌∷◌, Option, Some, None, Ok}
 use Rattle.std.specs.Prelude.{Err}
 use Rattle.pp_lexer.specs.PreprocessorError.{out_of_memory}
@@ -15,8 +15,8 @@ use Rattle.pp_macros.specs.inner.Source.{Source, unreported_of, StepsSource}
 use Rattle.pp_macros.specs.inner.Unreported.{StepReports}
 use Rattle.pp_macros.specs.declared.step.StepExit.TheVariants.{Error, Finished}
 
--- The tokens of an argument, or of the line of a directive, with what is defined there and the names that are open
--- around. Where a line is read, `defined` is an operator.
+-- The tokens of an argument or of a directive's line, with the definitions there and the names that are open around. On
+-- a line `defined` is an operator.
 pub record Listing : Type 0 where
   pub tokens : List Read
   pub definitions : List Defined
@@ -31,7 +31,7 @@ abbrev pub listed_step : List Read → Step Read
 listed_step [] = Err Finished
 listed_step (read ∷ tokens) = Ok read
 
--- the next token, or the end, unless memory is refused
+-- the next token, or the end, unless memory runs out
 abbrev pub StepsListed : Listing → Step Read → Listing → Type 0
 StepsListed old step new =
     ((step ≡ listed_step old.tokens) × (new ≡ record old { tokens = after_listed old.tokens }))
@@ -44,13 +44,13 @@ pub record ReadsSource (old : Source) (step : Step Read) (new : Source) : Type 0
   pub reports : StepReports given (unreported_of old) (unreported_of new)
   pub is : step ≡ unpainted_step given
 
--- one step of a reader, which stays of its kind
+-- one step of a reader: a source stays a source, a list a list
 abbrev pub Reads : Reader → Step Read → Reader → Type 0
 Reads (of_source old) step (of_source new) = ReadsSource old step new
 Reads (of_list old) step (of_list new) = StepsListed old step new
 Reads _ step _ = ⊥
 
--- the name never opens there
+-- the name never opens a macro there: it is `defined` on a line
 abbrev pub is_reserved : Listing → Name → Bool
 is_reserved list name = list.is_line && is_same_name name defined_name
 
@@ -59,7 +59,7 @@ abbrev pub hidden_of : Reader → List Name
 hidden_of (of_source source) = []
 hidden_of (of_list list) = list.hidden
 
--- the definitions that are seen there
+-- the definitions that open macros there
 abbrev pub visible : Reader → Definitions
 visible (of_source source) = meaning_of source.definitions
 visible (of_list list) = λ name. if is_reserved list name then None else meaning_of list.definitions name
@@ -69,7 +69,7 @@ abbrev pub shown_line : Reader → ℕ → Option ℕ
 shown_line (of_source source) line = as_line_number (pos line +ℤ source.line_offset)
 shown_line (of_list list) line = Some line
 
--- what is defined there, where a line is read `defined` too
+-- what is defined there; on a line this includes `defined`, if it is defined
 abbrev pub definitions_of : Reader → List Defined
 definitions_of (of_source source) = source.definitions
 definitions_of (of_list list) = list.definitions

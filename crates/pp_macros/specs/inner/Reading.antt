@@ -10,12 +10,12 @@ use Rattle.pp_macros.specs.Item.{Step}
 abbrev pub AllReadOrdinary : List Read → Type 0
 AllReadOrdinary reads = All (λ read. HoldsOrdinary read.token.value) reads
 
--- what a source gives, unpainted
+-- what a source gives is unpainted
 abbrev pub unpainted_step : Step Token → Step Read
 unpainted_step (Ok token) = Ok (unpainted token)
 unpainted_step (Err exit) = Err exit
 
--- what is taken where these names are open
+-- what is taken while these names are open
 abbrev pub painted_step : List Name → Step Read → Step Read
 painted_step names (Ok read) = Ok (painted_among names read)
 painted_step names (Err exit) = Err exit

@@ -16,7 +16,7 @@ use Rattle.pp_macros.specs.declared.calls.AfterName.TheVariants.{NoCall, Whole}
 use Rattle.pp_macros.specs.declared.halt.Halt.{Halt}
 use Rattle.pp_macros.specs.declared.halt.Halt.TheVariants as halt
 
--- no call: what was found is held
+-- no call: what was found in place of the `(` is held
 pub record FindsNothing (m : Expander) (r : Reader) (n : Expander) (s : Reader) : Type 0 where
   pub next : Step Read
   pub before : Expander
@@ -29,7 +29,7 @@ FindsBy m r (Ok (Whole paren g)) n s = Seeks m r (gathered paren g) n s
 FindsBy m r (Err (halt.Fault fault)) n s = Seeks m r (refused fault) n s
 FindsBy m r (Err halt.OutOfMemory) n s = ⊤
 
--- a token opens its macro or begins its call, or is given
+-- a token opens its macro, begins its call, or, if there is no call, is given
 pub data Enters (read : Read) (name : Name) (definition : Definition) : Expander → Reader → Step Taken → Expander
     → Reader
     → Type 0 where

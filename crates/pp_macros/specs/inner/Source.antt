@@ -22,10 +22,10 @@ use Rattle.pp_macros.specs.inner.SourceMoves.{Note, notes_text, notes_directive,
 use Rattle.pp_macros.specs.inner.Unreported.{Unreported, unreported}
 use Rattle.pp_macros.specs.declared.step.StepExit.TheVariants.{Error, Continue, Finished}
 
--- the items that are left and where they stand, where the error of the lexer stands that was read and not reported,
--- what is defined, the blocks that are open, the outermost first, what `#line` adds to a line, whether memory was
--- refused, whether a live token of the text was read so far, and a directive, and whether an `#elif` outside of all
--- blocks made all that follows dead
+-- the items that are left, with their places; the place of an error of the lexer that was read and not reported; what
+-- is defined; the open blocks, the outermost first; what `#line` adds to a line; whether memory ran out; whether a live
+-- token of the text was read so far, and whether a directive was; and whether an `#elif` outside of all blocks made all
+-- that follows dead
 pub record Source : Type 0 where
   pub rest : List Seen
   pub places : List Location
@@ -42,7 +42,7 @@ pub record Source : Type 0 where
 abbrev pub unreported_of : Source → Unreported
 unreported_of s = unreported s.rest s.places s.error_place
 
--- after so many items, of which this is remembered, where these blocks are open
+-- after so many items, with this remembered of them, and with these blocks open
 pub record IsAfter (taken : ℕ) (note : Note) (still_open : List OpenBlock) (old new : Source) : Type 0 where
   pub rest : new.rest ≡ drop taken old.rest
   pub blocks : new.blocks ≡ still_open
@@ -52,22 +52,22 @@ pub record IsAfter (taken : ℕ) (note : Note) (still_open : List OpenBlock) (ol
   pub has_directive : new.has_directive ≡ (notes_directive note || old.has_directive)
   pub dead_for_good : new.dead_for_good ≡ old.dead_for_good
 
--- after a fault: nothing is said of how far the reader went, nor of which blocks are open and which names are defined,
--- but that fewer items and blocks are left, and no more is defined
+-- All that is known after a fault: fewer items and open blocks are left, no more names or tokens of bodies are defined,
+-- and memory didn't run out.
 pub record IsAfterFault (old new : Source) : Type 0 where
   pub fewer : length new.rest + length new.blocks < length old.rest + length old.blocks
   pub names : length new.definitions ≤ length old.definitions
   pub tokens : body_tokens new.definitions ≤ body_tokens old.definitions
   pub spent : new.spent ≡ false
 
--- the innermost block was reported at the end
+-- after the innermost block was reported at the end: the outer blocks are still open
 pub record IsAfterBlock (old new : Source) : Type 0 where
   pub rest : new.rest ≡ old.rest
   pub definitions : new.definitions ≡ old.definitions
   pub blocks : new.blocks ≡ outer_blocks old.blocks
   pub spent : new.spent ≡ false
 
--- a `#define` of a name that stood for this
+-- a `#define` of a name that had this definition, or none
 abbrev pub DefinesOver : Named → Option Definition → ℕ → Note → Source → Step Token → Source → Type 0
 DefinesOver named None taken note old step new =
     (step ≡ Err Continue)
@@ -82,17 +82,17 @@ DefinesOver named (Some before) taken note old step new =
     × (step ≡ Err (Error (DefineRedefined, named.location)))
     × IsAfterFault old new)
 
--- at the end the innermost block is reported, or nothing is left
+-- at the end of the source the innermost open block is reported, or, if none is open, the end is given
 abbrev pub Ends : Option OpenBlock → Source → Step Token → Source → Type 0
 Ends (Some block) old step new = (step ≡ Err (Error (UnfinishedBlock, block.word))) × IsAfterBlock old new
 Ends None old step new = (step ≡ Err Finished) × (new ≡ old)
 
--- a pause after so many items, of which this is remembered, where these blocks are open
+-- a pause after so many items, with this remembered of them, and with these blocks open
 abbrev pub Pauses : ℕ → Note → List OpenBlock → Source → Step Token → Source → Type 0
 Pauses taken note blocks old step new =
     (step ≡ Err Continue) × IsAfter taken note blocks old new × (new.definitions ≡ old.definitions)
 
--- the condition of an `#if` or `#elif` with this word and these tokens holds or not, or is at fault
+-- the condition of an `#if` or `#elif` with this word and these tokens holds, doesn't hold, or has this fault
 abbrev pub Condition : Location → List Token → List Defined → Result Bool Fault → Type 0
 Condition word tokens definitions result =
     IsCondition (answers_at expansion_limit) word tokens (meaning_of definitions) result
@@ -102,7 +102,7 @@ abbrev pub LineNumber : Location → List Token → List Defined → Result ℕ 
 LineNumber word tokens definitions result =
     IsLineNumber (answers_at expansion_limit) word tokens (meaning_of definitions) result
 
--- a line with a condition: these blocks are then open, where it holds or not
+-- a line with a condition: the open blocks after it depend on whether the condition holds
 pub data Decides (word : Location) (tokens : List Token) (blocks : Bool → List OpenBlock) (taken : ℕ) (note : Note)
     (old : Source) (step : Step Token) (new : Source) : Type 0 where
   holds : (value : Bool)
@@ -161,12 +161,13 @@ HasEffect (renumbers word tokens) taken note old step new = Renumbers word token
 abbrev pub Makes : Note → Move → Source → Step Token → Source → Type 0
 Makes note move old step new = HasEffect move.effect move.taken note old step new
 
--- memory was refused, where something is left to read
+-- memory ran out, and something was left to read
 pub record IsRefusedStep (old : Source) (step : Step Token) : Type 0 where
   pub some_left : old.rest ≢ []
   pub fault : step ≡ Err (Error out_of_memory)
 
--- One step of a source. Of the source after a refusal of memory nothing is said, but that each further step is the end.
+-- One step of a source. Once memory has run out, each further step is the end; nothing else is known of the source
+-- then.
 abbrev pub StepsSource : Source → Step Token → Source → Type 0
 StepsSource old step new =
     MatchBool old.spent ((step ≡ Err Finished) × (new ≡ old))

@@ -1,4 +1,4 @@
--- What the lexer of a source stands for.
+-- The state of a source's lexer.
 use Rattle.std.specs.Prelude.{◌≡◌, Bool, false, List, [], ◌∷◌, Option, Some, None, Result, Ok, Err, ⊤}
 use Rattle.pp_lexer.specs.Lexed.{Seen, Lexed}
 use Rattle.pp_lexer.specs.declared.token.Location.{Location}
@@ -6,8 +6,8 @@ use Rattle.pp_lexer.specs.declared.lexer.item.Token.{Token as LexerToken}
 use Rattle.pp_macros.specs.declared.halt.Halt.{Halt}
 use Rattle.pp_macros.specs.inner.Unreported.{Unreported, unreported}
 
--- the items to come and where they stand, where the error stands that was read and not reported, whether comments were
--- passed so far and will have been at the end, and whether memory was refused
+-- the items to come, with their places; the place of an error that was read and not reported; whether comments were
+-- passed so far, and whether any will have been at the end; and whether memory ran out
 pub record SourceLexed : Type 0 where
   pub rest : List Seen
   pub places : List Location
@@ -16,7 +16,7 @@ pub record SourceLexed : Type 0 where
   pub at_end : Bool
   pub spent : Bool
 
--- a lexer of which nothing was read
+-- a lexer from which nothing was read
 abbrev pub beginning : Lexed → SourceLexed
 beginning l =
     record {

@@ -1,5 +1,5 @@
--- One step of the frames, or of the reader after them, and what a token that is taken becomes and opens (docs/RULES.md,
--- Expansion 1 to 4 and 10).
+-- One step of the frames, or of the reader after them; what a token becomes when it is taken, and which macro it opens
+-- (docs/RULES.md, Expansion 1 to 4 and 10).
 use Rattle.std.specs.Prelude.{◌≡◌, Bool, false, if◌then◌else◌, List, [], ◌∷◌, ◌++◌, Option, Some, None, Ok, Err, ◌⊎◌}
 use Rattle.std.specs.Prelude.{unwrap_or}
 use Rattle.pp_lexer.specs.PreprocessorError.{out_of_memory}
@@ -20,7 +20,7 @@ abbrev pub as_pause : {T : Type 0} → Option T → Step T
 as_pause (Some value) = Ok value
 as_pause None = Err Continue
 
--- the innermost frame steps; a frame at its end is closed, which frees its name, and pauses
+-- A step of the innermost frame. A frame at its end is closed, which frees its name; that step is a pause.
 pub record FrameMove : Type 0 where
   pub gives : Step Read
   pub after : List Frame
@@ -29,7 +29,7 @@ abbrev pub frame_move : List Frame → Option Advance → FrameMove
 frame_move fs (Some a) = record { gives = as_pause a.gives; after = a.after ∷ fs }
 frame_move fs None = record { gives = Err Continue; after = fs }
 
--- one step of the frames, or of the reader where there are none
+-- one step of the frames, or of the reader if there are none; a step of the frames may run out of memory
 abbrev pub Moves : List Frame → Reader → Step Read → List Frame → Reader → Type 0
 Moves [] old step after new = (after ≡ []) × Reads old step new
 Moves (f ∷ fs) old step after new = (new ≡ old)
@@ -61,6 +61,6 @@ abbrev pub macro_of_value : Reader → TokenValue → Option (Name × Definition
 macro_of_value reader (Ident name) = opened_by name (visible reader name)
 macro_of_value reader _ = None
 
--- the macro that a token opens: its name is defined, and it isn't painted
+-- the macro that a token opens, if its name is defined and it isn't painted
 abbrev pub macro_of : Reader → Read → Option (Name × Definition)
 macro_of reader read = if read.painted then None else macro_of_value reader read.token.value

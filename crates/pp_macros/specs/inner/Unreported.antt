@@ -9,7 +9,7 @@ use Rattle.pp_macros.specs.declared.halt.Halt.TheVariants as halt
 use Rattle.pp_macros.specs.declared.step.StepExit.{StepExit}
 use Rattle.pp_macros.specs.declared.step.StepExit.TheVariants.{Error, Continue, Finished}
 
--- where the error stands that was read, if one was, and the errors that are still to be read
+-- the place of the error that was read and not reported, if there is one, and the errors that are still to be read
 pub record Unreported : Type 0 where
   pub read : Option Location
   pub later : List ErrorAt
@@ -17,23 +17,23 @@ pub record Unreported : Type 0 where
 abbrev pub unreported : List Seen → List Location → Option Location → Unreported
 unreported rest places read = record { read = read; later = errors_among rest places }
 
--- a fault, where it is an error of the lexer that was read, before those that are still to be read
+-- the errors still to be read; before them the fault with its place, if it is an error of the lexer that was read
 abbrev pub with_read : Fault → Option Location → List ErrorAt → List ErrorAt
 with_read fault None later = later
 with_read fault (Some place) later = record { item = fault; place = place } ∷ later
 
--- A fault that reading comes to: where no error was unreported before, the fault is the first error that was still to
--- be read, or none of these was read.
+-- Reading meets a fault. If no error was read and unreported before, the fault is the first error that was still to be
+-- read, or none of these was read.
 abbrev pub IsMet : Fault → Unreported → Unreported → Type 0
 IsMet fault old new = old.read ≡ None → old.later ≡ with_read fault new.read new.later
 
--- a value reads no error
+-- A value reads no error. If memory runs out, this says nothing.
 abbrev pub Reports : {A : Type 0} → Result A Halt → Unreported → Unreported → Type 0
 Reports (Ok value) old new = new ≡ old
 Reports (Err (halt.Fault fault)) old new = IsMet fault old new
 Reports (Err halt.OutOfMemory) old new = ⊤
 
--- neither does a step that is no fault; of a refusal of memory nothing is said
+-- the same of a step that gives nothing: a pause or the end reads no error, and if memory runs out, this says nothing
 abbrev pub ExitReports : StepExit → Unreported → Unreported → Type 0
 ExitReports Continue old new = new ≡ old
 ExitReports Finished old new = new ≡ old
@@ -43,12 +43,12 @@ abbrev pub StepReports : {A : Type 0} → Step A → Unreported → Unreported �
 StepReports (Ok value) old new = new ≡ old
 StepReports (Err exit) old new = ExitReports exit old new
 
--- the errors that are still to be reported, where this is held: it may be one that was read
+-- the errors that are still to be reported if this is held: a fault that is held may be an error that was read
 abbrev pub unreported_with : {T : Type 0} → Option (Step T) → Unreported → List ErrorAt
 unreported_with (Some (Err (Error fault))) u = with_read fault u.read u.later
 unreported_with _ u = u.later
 
--- an error that was read and is unreported is held
+-- an error that was read and not reported is held: if no fault is held, there is none
 abbrev pub IsReportedBut : {T : Type 0} → Option (Step T) → Unreported → Type 0
 IsReportedBut (Some (Err (Error fault))) u = ⊤
 IsReportedBut _ u = u.read ≡ None

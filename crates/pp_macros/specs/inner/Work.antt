@@ -1,4 +1,4 @@
--- How much is left to do in a frame and in a source: numbers that each step lowers.
+-- How much a frame and a source still have to do: numbers that each step lowers.
 use Rattle.std.specs.Prelude.{ℕ, ◌+◌, ◌*◌, Bool, true, false, not, ◌&&◌, List, [], ◌∷◌, length, Option, Some, None, Err}
 use Rattle.pp_lexer.specs.declared.token.Token.{Token}
 use Rattle.pp_model.specs.declared.read.Read.{Read}
@@ -10,7 +10,8 @@ use Rattle.pp_macros.specs.Item.{Step, wants_memory}
 use Rattle.pp_macros.specs.inner.Source.{Source}
 use Rattle.pp_macros.specs.declared.step.StepExit.TheVariants.{Finished}
 
--- a token of a body takes one step; a parameter one more than its argument has tokens, and one for its own
+-- A token of a body takes one step. A parameter takes one step itself, one for each token of its argument, and one for
+-- the argument's end.
 abbrev pub token_steps : List (List Read) → Option ℕ → ℕ
 token_steps arguments None = 1
 token_steps arguments (Some k) = length (argument_at arguments k) + 2
@@ -29,15 +30,15 @@ reading_steps (Some tokens) = length tokens + 1
 abbrev pub steps_left : Frame → ℕ
 steps_left f = reading_steps f.reading + body_steps f.parameters f.arguments f.body
 
--- no more items and open blocks come of the source
+-- how many items and open blocks are left in the source: it gives no more
 abbrev pub most_reads : Source → ℕ
 most_reads source = length source.rest + length source.blocks
 
--- a macro that is still to open, with no argument, has at most so many steps
+-- how many steps a macro at most has that is still to open, if it has no arguments
 abbrev pub most_steps : Source → ℕ
 most_steps source = 2 * (body_tokens source.definitions + most_reads source) + 1
 
--- no more names are ever defined
+-- how many names are at most defined at any later time
 abbrev pub most_names : Source → ℕ
 most_names source = length source.definitions + most_reads source
 
@@ -45,6 +46,6 @@ abbrev pub is_end : {T : Type 0} → Step T → Bool
 is_end (Err Finished) = true
 is_end _ = false
 
--- reading goes on after each other step
+-- reading goes on after the step: it isn't the end, and memory didn't run out
 abbrev pub goes_on : {T : Type 0} → Step T → Bool
 goes_on step = not (is_end step) && not (wants_memory step)

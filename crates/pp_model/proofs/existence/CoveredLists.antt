@@ -1,5 +1,5 @@
--- Lists over which the property is known wherever taking leads; and how far taking may have led: less is left of the reader,
--- or such a list before it.
+-- Lists for which the property is known wherever taking leads; and how far taking may have led: less is left of the
+-- reader, or such a list comes before it.
 use Rattle.std.proofs.Common.{◌≡◌, ℕ, ◌+◌, ◌<◌, Bool, true, false, List, [], ◌∷◌, ◌++◌, length, refl, ap, Some, None}
 use Rattle.pp_model.specs.Names.{Name, is_same_name, is_in}
 use Rattle.pp_model.specs.SpliceList.{after_marks, open_names, macro_before}

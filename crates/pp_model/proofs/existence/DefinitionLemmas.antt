@@ -1,4 +1,5 @@
--- Definitions that are finitely many stay so where one is added or taken away; and two definitions say the same, or they don't.
+-- Finitely many definitions stay finitely many if one is added or removed; and two definitions say the same, or they
+-- don't.
 use Rattle.std.proofs.Common.{◌≡◌, Bool, true, false, ◌∷◌, refl, Some, None, ◌⊎◌, inl, inr}
 use Rattle.std.specs.Bool.{Decides}
 use Rattle.std.specs.Cmp.Lexicographic.{pointwise_decides, bytes_decides}

@@ -1,6 +1,7 @@
--- A property that follows from a turn holds of every expander whose reader is fine: by what is left of the reader; by how many
--- of the defined names are not open over the rest of the list, since a macro that opens there leaves one fewer over its body;
--- and by the length of the list, since a search that finds no call leaves a shorter one.
+-- A property that follows from a turn holds of every expander whose reader is fine. The proof goes by what is left of
+-- the reader; by how many of the defined names are not open over the rest of the list, since a macro that opens there
+-- leaves one fewer over its body; and by the length of the list, since a search that finds no call leaves a shorter
+-- one.
 use Rattle.std.proofs.Common.{ℕ, zero, suc, ◌≤◌, ◌<◌, List, [], ◌∷◌, ◌++◌, map, refl, arith, Option, Some, None}
 use Rattle.std.specs.Prelude.{slice_get, unwrap_or}
 use Rattle.pp_lexer.specs.declared.token.Token.{Token}

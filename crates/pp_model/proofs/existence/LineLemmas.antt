@@ -1,4 +1,4 @@
--- A line whose value is wanted has a list of words, whatever is on it.
+-- A line whose value is needed has a list of words, no matter what is on it.
 use Rattle.std.proofs.Common.{◌≡◌, Bool, true, false, [], ◌∷◌, refl, Option, Some, None}
 use Rattle.std.specs.Prelude.{Result, Ok, Err, is_ok}
 use Rattle.pp_lexer.specs.declared.token.Location.{Location}

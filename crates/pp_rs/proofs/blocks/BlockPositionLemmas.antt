@@ -1,4 +1,4 @@
--- Where the lines of blocks stand, and so the marks of the blocks that are open.
+-- Where the lines of blocks are, and so the marks of the open blocks.
 use Rattle.std.proofs.Common.{◌≡◌, ℕ, zero, suc, ◌+◌, ◌≤◌, ◌<◌, Bool, true, false, ◌&&◌, if◌then◌else◌, List, [], ◌∷◌, ◌++◌, length, take, refl, sym, subst, Option, Some, None, arith}
 use Rattle.std.specs.List.{AllByRecursion as Each, cons_option}
 use Rattle.pp_lexer.specs.Lexed.{Seen}

@@ -1,4 +1,4 @@
--- What each line of a block makes of the stack of the blocks that are open.
+-- What each line of a block does to the stack of the open blocks.
 use Rattle.std.proofs.Common.{◌≡◌, ◌∙◌, ℕ, Bool, true, false, ◌&&◌, ◌||◌, not, List, [], ◌∷◌, ◌++◌, take, refl, ap, sym, subst, arith}
 use Rattle.std.proofs.lemmas.Slice.Zip.{all_zipped_more}
 use Rattle.std.proofs.Math.Bool.{or-true}

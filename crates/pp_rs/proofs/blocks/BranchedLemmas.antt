@@ -1,4 +1,4 @@
--- What is known of each block that was open: where its marks stand to its `#else`, and whether one of them is chosen.
+-- What is known of each block that was open: where its marks are up to its `#else`, and whether one of them is chosen.
 use Rattle.std.proofs.Common.{◌≡◌, ◌∙◌, ℕ, zero, suc, ◌≤◌, ◌<◌, Bool, true, false, ◌&&◌, ◌||◌, not, List, [], ◌∷◌, ◌++◌, length, take, refl, ap, sym, subst, arith}
 use Rattle.std.specs.List.{AllByRecursion as Each, list_any}
 use Rattle.std.proofs.Math.Seq.{take-length}

@@ -1,4 +1,4 @@
--- The lines of blocks that stand before one of them, from the items before it.
+-- The lines of blocks before one of them, from the items before it.
 use Rattle.std.proofs.Common.{◌≡◌, ◌∙◌, ℕ, zero, suc, ◌+◌, ◌≤◌, Bool, true, false, List, [], ◌∷◌, ◌++◌, length, take, refl, ap, sym, subst, Option, Some, None, arith}
 use Rattle.std.specs.Prelude.{Ok, Err}
 use Rattle.std.proofs.lemmas.List.{take-take}

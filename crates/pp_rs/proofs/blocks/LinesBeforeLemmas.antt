@@ -1,4 +1,4 @@
--- The lines of blocks that stand before a position, and how the items after it add to them.
+-- The lines of blocks before a position, and how the items after it add to them.
 use Rattle.std.proofs.Common.{◌≡◌, ◌∙◌, ℕ, ◌+◌, List, [], ◌∷◌, ◌++◌, take, drop, refl, ap, sym, append-nil, append_assoc, Option, Some, None, arith}
 use Rattle.std.specs.List.{cons_option}
 use Rattle.std.proofs.Math.Seq.{take-add}

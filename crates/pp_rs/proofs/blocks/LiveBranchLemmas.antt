@@ -1,4 +1,5 @@
--- In each state of a run of a text at most one mark of each block is chosen, and just one where the block's `#endif` was read.
+-- In each state of a run of a text at most one mark of each block is chosen, and exactly one if the block's `#endif`
+-- was read, the block has an `#else`, and it begins in live text.
 use Rattle.std.proofs.Common.{◌∙◌, ℕ, zero, suc, ◌≤◌, ◌||◌, List, [], ◌∷◌, ap, subst, arith}
 use Rattle.std.specs.List.{AllByRecursion as Each}
 use Rattle.std.proofs.Math.Bool.{or-true}

@@ -1,4 +1,4 @@
--- What a step remembers of what it read, and what that is to a reader of the source.
+-- What a step remembers of what it read, and what that says about a reader of the source.
 use Rattle.std.proofs.Common.{◌≡◌, ◌≢◌, ◌∙◌, ℕ, suc, ◌+◌, Bool, true, false, ◌&&◌, ◌||◌, List, [], ◌∷◌, ◌++◌, take, drop, refl, ap, sym, subst, arith}
 use Rattle.std.proofs.lemmas.List.{drop-drop}
 use Rattle.pp_lexer.specs.Lexed.{Seen}

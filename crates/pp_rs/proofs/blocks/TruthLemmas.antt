@@ -1,4 +1,4 @@
--- A condition that is read says nothing of the marks that stand elsewhere.
+-- A condition that is read says nothing of the marks at other positions.
 use Rattle.std.proofs.Common.{◌≡◌, ◌≢◌, ◌∙◌, ℕ, ◌≤◌, ◌<◌, Bool, ◌&&◌, ◌||◌, List, [], ◌∷◌, refl, ap, Some, None, ne_eqb, eq-eqb, arith}
 use Rattle.std.specs.Prelude.{◌==◌, cond, find, option_map}
 use Rattle.std.specs.List.{AllByRecursion as Each, list_any, list_all}

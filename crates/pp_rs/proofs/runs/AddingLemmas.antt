@@ -1,4 +1,4 @@
--- What a definition that is added makes of a preprocessor.
+-- What adding a definition does to a preprocessor.
 use Rattle.std.proofs.Common.{◌≡◌, ◌∙◌, ℕ, ◌+◌, Bool, true, false, if◌then◌else◌, List, [], ◌∷◌, length, Option, Some, None, Ok, Err, IsSome, refl, ap, sym, subst}
 use Rattle.std.specs.Str.{chars}
 use Rattle.pp_lexer.specs.PreprocessorError.{out_of_memory}

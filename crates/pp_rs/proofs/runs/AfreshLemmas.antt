@@ -1,4 +1,4 @@
--- What comes of a text of which it is known that it gives these tokens.
+-- What follows for a text if it is known that it gives these tokens.
 use Rattle.std.proofs.Common.{ℕ, All, ◌≡◌, ◌∙◌, List, [], ◌∷◌, ◌++◌, append-nil, map, refl, ap, sym, subst, Option, Some, None, Ok, false, IsTrue}
 use Rattle.std.specs.Str.{IsUtf8, encode_utf8_all, chars}
 use Rattle.std.proofs.lemmas.Str.{encodes-chars}

@@ -1,4 +1,5 @@
--- A token of a source, where no macro is open: it is given at once, or is taken, held, and goes on from there.
+-- A token of a source, while no macro is open: it is given at once, or it is taken and held, and the expander goes on
+-- from there.
 use Rattle.std.proofs.Common.{◌≡◌, ◌∙◌, inl, inr, ℕ, Bool, true, not, [], ◌∷◌, List, refl, ap, sym, Option, Some, None, Ok, Err}
 use Rattle.std.specs.Prelude.{is_none}
 use Rattle.std.proofs.lemmas.Bool.{and_parts}

@@ -1,5 +1,5 @@
--- What a step of a preprocessor is to the runs of the definitions: what they give from the state after the step they give from
--- the state before it.
+-- What a step of a preprocessor means for the runs of the definitions: what they give from the state after the step
+-- they also give from the state before it.
 use Rattle.std.specs.Prelude.{◌≡◌, Ok, Err}
 use Rattle.pp_lexer.specs.declared.token.Token.{Token}
 use Rattle.pp_model.specs.Reading.{Expander}

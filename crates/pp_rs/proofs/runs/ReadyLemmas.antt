@@ -1,4 +1,4 @@
--- What is taken of a reader that wasn't refused memory leaves it so, and the end comes where nothing is left.
+-- Taking from a reader whose memory didn't run out leaves it so, and the end comes if nothing is left.
 use Rattle.std.proofs.Common.{◌≡◌, ◌∙◌, inl, inr, ℕ, Bool, true, false, if◌then◌else◌, List, [], ◌∷◌, refl, ap, sym, subst, Option, Some, None, Ok, Err}
 use Rattle.std.specs.Prelude.{Result, unwrap_or}
 use Rattle.pp_lexer.specs.declared.token.Location.{Location}

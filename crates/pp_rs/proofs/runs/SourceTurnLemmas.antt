@@ -1,4 +1,5 @@
--- A turn over a source, after which a call is finished: what holds after it, how much is left, and what it is to the definitions' expander.
+-- A turn over a source, after which a call is finished: what holds after it, how much is left, and what it means for
+-- the definitions' expander.
 use Rattle.std.proofs.Common.{◌≡◌, ◌∙◌, ◌⊎◌, inl, inr, ℕ, zero, suc, ◌-◌, ◌<◌, ◌≤◌, true, false, List, [], ◌∷◌, ◌++◌, length, refl, ap, sym, subst, arith, Option, Some, None, Ok, Err, All}
 use Rattle.pp_lexer.specs.PreprocessorError.{out_of_memory}
 use Rattle.pp_lexer.specs.declared.token.Token.{Token}

@@ -1,4 +1,4 @@
--- A turn over a source leaves its errors of the lexer unreported, but for the one that it gives.
+-- A turn over a source leaves its errors of the lexer unreported, except for the one that it gives.
 use Rattle.std.proofs.Common.{◌≡◌, ◌∙◌, ℕ, false, List, [], ◌∷◌, refl, ap, sym, subst, Option, Some, None, Result, Ok, Err}
 use Rattle.pp_lexer.specs.declared.token.Location.{Location}
 use Rattle.pp_lexer.specs.declared.token.Token.{Token}

@@ -1,4 +1,4 @@
--- A reader is spent only after a refusal of memory.
+-- A reader is spent only after memory ran out.
 use Rattle.std.proofs.Common.{◌≡◌, ◌∙◌, inl, inr, true, false, ap, ℕ, Bool, ◌⊎◌, List, Option, Some, None}
 use Rattle.std.specs.Prelude.{Err, MatchBool}
 use Rattle.pp_lexer.specs.declared.token.Location.{Location}

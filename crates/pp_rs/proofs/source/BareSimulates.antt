@@ -1,4 +1,4 @@
--- A number sign without a word after it: that it is passed is a step of the reader.
+-- A number sign without a word after it: passing it is a step of the reader.
 use Rattle.std.proofs.Common.{◌≡◌, ◌∙◌, ℕ, suc, ◌+◌, true, false, List, ◌∷◌, refl, ap, sym, subst, None, arith}
 use Rattle.std.specs.List.{cons_option}
 use Rattle.pp_lexer.specs.Lexed.{Seen}

@@ -1,4 +1,4 @@
--- Whether a directive stands before a position, by the items that stand there.
+-- Whether a directive is before a position, by the items before it.
 use Rattle.std.proofs.Common.{◌≡◌, ◌∙◌, ℕ, ◌+◌, Bool, true, false, ◌&&◌, ◌||◌, List, [], ◌∷◌, ◌++◌, take, drop, refl, ap, sym, subst, append-nil, append_assoc, Result, Ok, Err}
 use Rattle.std.proofs.Math.Bool.{or-false, or_assoc}
 use Rattle.std.proofs.Math.Seq.{take-add}

@@ -1,4 +1,4 @@
--- The end of a source, where each block that is still open is reported first, is one of its reader.
+-- The end of a source, at which each open block is reported first, is the end of its reader.
 use Rattle.std.proofs.Common.{◌≡◌, ◌∙◌, length, take, drop, ap, sym, Option, Some, None, arith, length-drop}
 use Rattle.std.specs.Prelude.{Err}
 use Rattle.std.proofs.lemmas.List.{take_all}

@@ -1,4 +1,4 @@
--- The end is seen where no item is left, and nowhere else.
+-- The end is seen if and only if no item is left.
 use Rattle.std.proofs.Common.{◌≡◌, Bool, true, false, List, [], ◌∷◌, refl, Option, Some, None}
 use Rattle.std.specs.Prelude.{Result, Ok, Err, if◌then◌else◌}
 use Rattle.pp_lexer.specs.Lexed.{Seen}

@@ -1,4 +1,4 @@
--- What each effect of a directive's line is to the source's reader: a step of it.
+-- Each effect of a directive's line is a step of the source's reader.
 use Rattle.std.proofs.Common.{◌≡◌, ◌∙◌, inl, inr, Bool, true, false, ◌&&◌, ◌||◌, not, ℕ, List, drop, refl, ap, sym, subst, Option, Some, None, is_some}
 use Rattle.std.specs.Prelude.{pos, ◌-ℤ◌, Ok, Err, option_map}
 use Rattle.pp_lexer.specs.declared.token.Location.{Location}

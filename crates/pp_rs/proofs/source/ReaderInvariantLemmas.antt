@@ -1,4 +1,5 @@
--- What each step of a source keeps of its reader, and each definition that is added, holds of the reader in each state of a run.
+-- What each step of a source, and each definition that is added, keeps for its reader holds of the reader in each state
+-- of a run.
 use Rattle.std.proofs.Common.{ℕ, List, [], sym, ap, subst, Option, Some, None}
 use Rattle.std.specs.Prelude.{Result, Ok, Err}
 use Rattle.pp_lexer.specs.Lexed.{Seen}

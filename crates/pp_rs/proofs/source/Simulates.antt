@@ -1,4 +1,4 @@
--- What a step of the preprocessor's source is to the definitions' reader of it.
+-- What a step of the preprocessor's source means for the definitions' reader of it.
 use Rattle.std.proofs.Common.{◌≡◌, false, Option, Some, None}
 use Rattle.std.specs.Prelude.{Ok, Err}
 use Rattle.pp_lexer.specs.declared.token.Token.{Token}

@@ -1,4 +1,5 @@
--- A line that is skipped adds no line of a block after its directive's word, whatever tokens and errors stand there.
+-- A line that is skipped adds no line of a block after its directive's word, no matter which tokens and errors are on
+-- it.
 use Rattle.std.proofs.Common.{◌≡◌, ◌∙◌, ℕ, ◌+◌, Bool, true, false, if◌then◌else◌, List, [], ◌∷◌, ◌++◌, take, drop, refl, ap, sym, subst, arith}
 use Rattle.pp_lexer.specs.Lexed.{Seen}
 use Rattle.pp_lexer.specs.declared.token.Location.{Location}

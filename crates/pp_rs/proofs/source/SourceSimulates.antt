@@ -1,4 +1,4 @@
--- Each step of the source that is kept is one of the reader that it stands for.
+-- Each step of the preprocessor's source is a step of the reader that it stands for.
 use Rattle.std.proofs.Common.{◌≡◌, ◌⊎◌, inl, inr, Bool, true, false, refl, subst}
 use Rattle.std.specs.Prelude.{Err, MatchBool}
 use Rattle.pp_lexer.specs.declared.token.Token.{Token}

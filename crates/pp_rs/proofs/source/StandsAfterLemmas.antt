@@ -1,4 +1,5 @@
--- The reader that a source stands for: whether its text is live, the innermost block there, and where it stands some items further on.
+-- The reader that a source stands for: whether its text is live, its innermost block, and its position some items
+-- further on.
 use Rattle.std.proofs.Common.{◌≡◌, ◌∙◌, ℕ, ◌+◌, ◌-◌, ◌≤◌, false, List, [], ◌∷◌, ◌++◌, length, take, drop, refl, ap, sym, subst, Option, Some, None, arith, append-nil, length-drop}
 use Rattle.std.proofs.lemmas.List.{drop-drop}
 use Rattle.std.specs.List.{slice_get}

@@ -1,4 +1,4 @@
--- After the line of a directive the source stands for its reader, whatever blocks are then open.
+-- After the line of a directive the source stands for its reader, no matter which blocks are then open.
 use Rattle.std.proofs.Common.{◌≡◌, ◌+◌, ◌≤◌, List, [], ◌∷◌, length, drop, refl, ap, sym, subst, Option, Some, None, arith}
 use Rattle.std.specs.List.{cons_option}
 use Rattle.pp_lexer.specs.Lexed.{Seen}

@@ -1,4 +1,4 @@
--- What the reader that a source stands for does at its position: the move that the source makes, and the step that this is.
+-- What the reader that a source stands for does at its position: the source's move, and the step for that move.
 use Rattle.std.proofs.Common.{◌≡◌, ◌∙◌, ℕ, ◌+◌, Bool, List, drop, refl, ap, sym, Option, Some, None}
 use Rattle.std.specs.Prelude.{Err, option_map}
 use Rattle.pp_lexer.specs.Lexed.{Seen}

@@ -1,4 +1,4 @@
--- Whether a live token of the text stands before a position, by the items that stand there.
+-- Whether a live token of the text is before a position, by the items before it.
 use Rattle.std.proofs.Common.{◌≡◌, ◌∙◌, ℕ, zero, suc, ◌+◌, ◌≤◌, Bool, true, false, ◌&&◌, ◌||◌, not, if◌then◌else◌, List, [], ◌∷◌, drop, refl, ap, sym, arith}
 use Rattle.pp_lexer.specs.Lexed.{Seen}
 use Rattle.pp_model.specs.Blocks.{Truths, is_live}

@@ -1,4 +1,4 @@
--- How far a list of calls has come. No contract of a public call cites this.
+-- The replies to calls, one after another. No contract of a public call cites this.
 use Rattle.std.specs.Prelude.{◌≡◌, false, List}
 use Rattle.pp_model.specs.Calls.{Fault}
 use Rattle.pp_model.specs.Run.{Call, Runs, next, ends_run}
@@ -9,8 +9,8 @@ use Rattle.pp_model.specs.declared.outcome.Outcome.TheVariants as outcome
 use Rattle.pp_rs.specs.Comes.{State, Comes}
 use Rattle.pp_rs.specs.Kept.{Preprocessing, Stands, is_spent}
 
--- What one call answers in each state that the preprocessor stood for. It stands for the state after it; of the state
--- after an error item nothing is said.
+-- What one call replies in each state that the preprocessor stood for. It then stands for the state after the call;
+-- after an error item nothing is known of it.
 pub data IsAnswered (old : Preprocessing) (call : Call) (answer : Reply) (new : Preprocessing) : Type 0 where
   goes_on : ends_run answer ≡ false
       → is_spent new ≡ false
@@ -23,6 +23,6 @@ pub data IsAnswered (old : Preprocessing) (call : Call) (answer : Reply) (new : 
       → ((state : State) → Stands old state → (after : State) × Comes state (outcome.Fault fault) after)
       → IsAnswered old call answer new
 
--- The replies to a list of calls, up to and with the first error item, in each state that the preprocessor stood for.
+-- the replies to a list of calls, up to and with the first error item, in each state that the preprocessor stood for
 abbrev pub AreReplies : Preprocessing → List Call → List Reply → Type 0
 AreReplies old calls replies = (state : State) → Stands old state → Runs Comes state calls replies

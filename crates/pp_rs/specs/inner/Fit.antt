@@ -1,4 +1,4 @@
--- What holds of an expander over a source between any two calls, unless memory was refused.
+-- What holds of an expander over a source between any two calls, unless memory ran out.
 use Rattle.std.specs.Prelude.{◌≡◌, false, List, [], Option, Some, Err, ⊤}
 use Rattle.pp_model.specs.declared.read.Read.{Read}
 use Rattle.pp_macros.specs.inner.Frames.{Frame}
@@ -15,12 +15,12 @@ abbrev pub NothingIn : Reader → Type 0
 NothingIn (of_source source) = (source.rest ≡ []) × (source.blocks ≡ [])
 NothingIn (of_list list) = ⊤
 
--- a source that was not refused memory
+-- memory of the source didn't run out
 abbrev pub IsReady : Reader → Type 0
 IsReady (of_source source) = source.spent ≡ false
 IsReady (of_list list) = ⊤
 
--- where the end is held, nothing is left
+-- if the end is held, nothing else is left
 abbrev pub EndIsLast : Option (Step Read) → List Frame → Reader → Type 0
 EndIsLast (Some (Err Finished)) frames r = (frames ≡ []) × NothingIn r
 EndIsLast _ frames r = ⊤
@@ -30,6 +30,6 @@ pub record IsFit (expander : Expander) (source : Source) : Type 0 where
   pub sound : IsSound expander (of_source source)
   pub last : EndIsLast expander.held expander.frames (of_source source)
 
--- each error of the lexer that was read was reported, but for one that is held
+-- each error of the lexer that was read was reported, except for one that is held
 abbrev pub IsReported : Expander → Source → Type 0
 IsReported expander source = IsReportedBut expander.held (unreported_of source)

@@ -1,4 +1,4 @@
--- The value of an item, places aside.
+-- The value of an item, without its place; an error keeps its own.
 use Rattle.std.specs.Prelude.{Result, Ok, Err}
 use Rattle.pp_lexer.specs.declared.token.TokenValue.{TokenValue}
 use Rattle.pp_macros.specs.Item.{Fault, Item}

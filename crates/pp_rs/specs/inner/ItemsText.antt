@@ -6,15 +6,15 @@ use Rattle.pp_lexer.specs.TokenValue.{is_ordinary}
 use Rattle.pp_lexer.specs.declared.token.Token.{Token}
 use Rattle.pp_lexer.specs.declared.token.TokenValue.{TokenValue}
 
--- what stands before an item in a line of ordinary tokens: a space, or the newline that ends the line
+-- what is written before an item if a line of ordinary tokens is begun: a space, or the newline that ends the line
 abbrev pub before_item : Bool → TokenValue → List ℕ
 before_item in_line value = if in_line then (if is_ordinary value then 32 ∷ [] else 10 ∷ []) else []
 
--- a directive ends its line
+-- what is written after an item: a directive ends its line
 abbrev pub after_item : TokenValue → List ℕ
 after_item value = if is_ordinary value then [] else 10 ∷ []
 
--- an item with what stands before and after it
+-- an item with what is written before and after it
 abbrev pub item_piece : Bool → TokenValue → List ℕ
 item_piece in_line value = before_item in_line value ++ (encode_utf8_all (item_text value) ++ after_item value)
 

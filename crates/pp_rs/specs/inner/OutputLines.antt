@@ -12,12 +12,12 @@ abbrev pub extended : Option (List ℕ) → List ℕ → List ℕ
 extended None word = word
 extended (Some line) word = line ++ (32 ∷ word)
 
--- the line that has been begun, if there is one
+-- the line that is begun, if there is one
 abbrev pub begun_line : Option (List ℕ) → List (List ℕ)
 begun_line None = []
 begun_line (Some line) = line ∷ []
 
--- the line that is begun after a token
+-- the line that is begun after a token, if there is one
 abbrev pub line_after : Option (List ℕ) → TokenValue → Option (List ℕ)
 line_after line value = if is_ordinary value then Some (extended line (encode_utf8_all (spelling value))) else None
 
@@ -25,7 +25,7 @@ line_after line value = if is_ordinary value then Some (extended line (encode_ut
 abbrev pub ended_lines : Option (List ℕ) → TokenValue → List (List ℕ)
 ended_lines line value = if is_ordinary value then [] else begun_line line ++ (encode_utf8_all (item_text value) ∷ [])
 
--- the lines that come of tokens after a line that has been begun
+-- the lines that tokens make after a line that is begun
 abbrev pub lines_from : Option (List ℕ) → List Token → List (List ℕ)
 lines_from line [] = begun_line line
 lines_from line (t ∷ ts) = ended_lines line t.value ++ lines_from (line_after line t.value) ts

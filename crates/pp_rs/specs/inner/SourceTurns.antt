@@ -1,4 +1,4 @@
--- One turn of the expander over a source, after which a call is finished at once (docs/RULES.md, Expansion 1 to 10).
+-- One turn of the expander over a source; a call is finished in the same turn (docs/RULES.md, Expansion 1 to 10).
 use Rattle.std.specs.Prelude.{◌≡◌, ◌⊎◌, ℕ, List, [], ◌++◌, Ok, Err}
 use Rattle.pp_lexer.specs.PreprocessorError.{out_of_memory}
 use Rattle.pp_lexer.specs.declared.token.Token.{Token}
@@ -17,7 +17,7 @@ use Rattle.pp_macros.specs.declared.calls.Taken.{Taken}
 use Rattle.pp_macros.specs.declared.calls.Taken.TheVariants as taken
 use Rattle.pp_macros.specs.declared.step.StepExit.TheVariants.{Error, Continue}
 
--- after a call its frame is open, which pauses, or its fault is given
+-- after a call its frame is open, which is a pause, or its fault is given
 pub data FollowsCall (levels : ℕ) (definitions : List Defined) (call : MacroCall) (old : Expander) (step : Step Token)
     (new : Expander) : Type 0 where
   opened : step ≡ Err Continue
@@ -29,7 +29,7 @@ pub data FollowsCall (levels : ℕ) (definitions : List Defined) (call : MacroCa
       → new ≡ old
       → FollowsCall levels definitions call old step new
 
--- what follows of a turn: a token is given without its paint
+-- what a turn gives: a token without its paint, a call that is finished, or an exit as it is
 abbrev pub FollowsTurn : ℕ → List Defined → Step Taken → Expander → Step Token → Expander → Type 0
 FollowsTurn levels definitions (Ok (taken.Token read)) old step new = (step ≡ Ok read.token) × (new ≡ old)
 FollowsTurn levels definitions (Ok (taken.Call call)) old step new = FollowsCall levels definitions call old step new
@@ -42,12 +42,12 @@ pub record TurnsSource (levels : ℕ) (old : Expander) (source : Source) (step :
   pub turns : TurnsTo old (of_source source) taken between (of_source after)
   pub follows : FollowsTurn levels after.definitions taken between step new
 
--- memory was refused, where something was taken
+-- memory ran out, and there was something to take
 pub record IsRefusedOver (old : Expander) (source : Source) (step : Step Token) : Type 0 where
   pub some : TakesSomething old (of_source source)
   pub fault : step ≡ Err (Error out_of_memory)
 
--- a turn, unless memory is refused
+-- a turn, unless memory runs out
 abbrev pub StepsOver : ℕ → Expander → Source → Step Token → Expander → Source → Type 0
 StepsOver levels old source step new after =
     TurnsSource levels old source step new after ⊎ IsRefusedOver old source step

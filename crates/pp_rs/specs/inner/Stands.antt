@@ -1,5 +1,5 @@
--- The state of a run that a preprocessor stands for. It keeps less: neither what was read, nor the list
--- into which its frames are spliced.
+-- The state of a run that a preprocessor stands for. The preprocessor keeps less than the state: neither what was read,
+-- nor the list into which its frames are spliced.
 use Rattle.std.specs.Prelude.{◌≡◌, ◌≢◌, ◌≤◌, true, false, ◌||◌, List, [], ◌++◌, length, take, drop, Option, Some, Err}
 use Rattle.std.specs.Prelude.{option_map, ⊤}
 use Rattle.pp_lexer.specs.Lexed.{Seen}
@@ -17,10 +17,10 @@ use Rattle.pp_macros.specs.inner.OpenBlocks.{last_block, is_live_in, StandForBlo
 use Rattle.pp_macros.specs.inner.Source.{Source}
 use Rattle.pp_macros.specs.declared.step.StepExit.TheVariants.{Error, Continue}
 
--- A reader of a source: what is left to read stands after its position, the lines of blocks are those before it and
--- those after it, and the blocks that are kept are those that are open there. It remembers whether a live token of the
--- text was read, and a directive. No number sign of a directive stands directly before its position; in live text the
--- position isn't on a directive's line, but at the end.
+-- The source and the reader of the definitions. What is left to read is what follows the reader's position; the lines
+-- of blocks are those before it and those after it; the kept blocks stand for those that are open there. The source
+-- remembers whether a live token of the text was read, and whether a directive was. No directive's number sign is
+-- directly before the position. In live text, unless the end is reached, the position isn't on a directive's line.
 pub record StandsForReader (source : Source) (reader : SourceReader) : Type 0 where
   pub rest : source.rest ≡ drop reader.position reader.items
   pub within : reader.position ≤ length reader.items
@@ -42,13 +42,13 @@ pub record StandsForReader (source : Source) (reader : SourceReader) : Type 0 wh
       → source.rest ≢ []
       → is_on_directive_line reader.items reader.position ≡ false
 
--- what is held comes next; after a fault that is held nothing is said of the reader, and a pause is never held
+-- What is held comes next. If a fault is held, this says nothing of the reader. A pause is never held.
 abbrev pub StandsForHeld : Option (Step Read) → Source → SourceReader → Type 0
 StandsForHeld (Some (Err (Error fault))) source reader = ⊤
 StandsForHeld (Some (Err Continue)) source reader = ⊥
 StandsForHeld _ source reader = StandsForReader source reader
 
--- an expander over it: the frames are its splice list
+-- an expander over the source: its frames are the splice list
 pub record StandsFor (expander : kept.Expander) (source : Source) (state : Expander SourceReader) : Type 0 where
   pub held : state.held ≡ option_map outcome_of_step expander.held
   pub list : state.list ≡ flat expander.frames
