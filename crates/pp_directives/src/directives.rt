@@ -36,7 +36,7 @@ use pp_lexer::token::{
     Extension, Location, Pragma, PreprocessorError, Text, Token, TokenValue, Version, out_of_memory,
 };
 use pp_macros::blocks::{Blocks, OpenBlock};
-use pp_macros::define::Define;
+use pp_macros::define::{Define, Macro};
 use pp_macros::definitions::Definitions;
 use pp_macros::halt::Halt;
 use pp_macros::step::{Step, StepExit};
@@ -107,10 +107,11 @@ impl<'a> DirectiveProcessor<'a> {
         }
     }
 
-    /// The definition of the name.
-    pub fn find(&self, name: &str) -> Option<&Rc<Define>>
-        ensures { option_map (λ d. d.now.value) result
+    /// The macro of the name, if it is defined.
+    pub fn find(&self, name: &str) -> Option<&Rc<Macro>>
+        ensures definition { option_map (λ m. m.now.value.definition) result
             ≡ meaning_of self.now.definitions (chars name.now) }
+        ensures name { IfSome result (λ m. m.now.value.name ≡ chars name.now) }
     {
         self.definitions.find(name)
     }
@@ -146,7 +147,7 @@ impl<'a> DirectiveProcessor<'a> {
             (content_tokens (items_of content.now)) self.old result self.new }
     {
         let body = content_tokens(self.alloc, content)?;
-        let define = Rc::new(self.alloc, Define::object_like(self.alloc, body))?;
+        let define = Define::object_like(self.alloc, body);
         let name = Text::from(String::from_str(self.alloc, name)?);
         self.definitions.set(name, define)?;
         Ok(())
@@ -166,7 +167,7 @@ impl<'a> DirectiveProcessor<'a> {
         ensures errors { Reports result (unreported_of self.old) (unreported_of self.new) }
     {
         if let Some(before) = self.definitions.find(line.name.as_str()) {
-            let is_same = before.is_same(&line.define);
+            let is_same = before.define().is_same(&line.define);
             let location = line.location;
             drop(line);
             if is_same {
@@ -174,8 +175,7 @@ impl<'a> DirectiveProcessor<'a> {
             }
             return Err(Halt::Fault((PreprocessorError::DefineRedefined, location)));
         }
-        let define = Rc::new(self.alloc, line.define)?;
-        self.definitions.set(line.name, define)?;
+        self.definitions.set(line.name, line.define)?;
         Ok(())
     }
 

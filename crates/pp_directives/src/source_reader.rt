@@ -4,7 +4,7 @@ ghost use Rattle.pp_macros.specs.inner.Reader.{of_source};
 
 use crate::directives::DirectiveProcessor;
 use pp_lexer::token::{Location, PreprocessorError};
-use pp_macros::define::Define;
+use pp_macros::define::Macro;
 use pp_macros::reader::MeLexer;
 use pp_macros::step::{Step, StepExit};
 use pp_model::read::Read;
@@ -20,7 +20,7 @@ impl<'a> MeLexer for DirectiveProcessor<'a> {
         }
     }
 
-    fn get_define(&self, name: &str) -> Option<&Rc<Define>> {
+    fn get_define(&self, name: &str) -> Option<&Rc<Macro>> {
         self.find(name)
     }
 

@@ -1,6 +1,6 @@
 //! Calls of function-like macros: taking, and the search for their arguments.
 
-ghost use Rattle.std.specs.Prelude.{◌≡◌, ◌⊎◌, ◌∷◌, ◌++◌, [], OnOk, true, false, IfOk, IfSome, Ok, Err, Some, None, IsSome, is_some, option_map};
+ghost use Rattle.std.specs.Prelude.{◌≡◌, ◌⊎◌, ◌∷◌, ◌++◌, if◌then◌else◌, [], OnOk, true, false, IfOk, IfSome, Ok, Err, Some, None, IsSome, is_some, option_map};
 ghost use Rattle.pp_lexer.specs.PreprocessorError.{out_of_memory};
 ghost use Rattle.pp_model.specs.Painting.{unpainted, painted_among};
 ghost use Rattle.pp_macros.specs.inner.Seeking.{FindsBy, Enters, FollowsToken};
@@ -12,12 +12,12 @@ ghost use Rattle.pp_macros.specs.inner.Idle.{is_idle};
 ghost use Rattle.pp_macros.specs.inner.CallTurns.{TurnsOrRefuses, is_out_of_memory_step, paren_of, TakenHoldsOrdinary};
 ghost use Rattle.pp_macros.specs.inner.Expander.{StepsFetching, StepsTaking, TakesNext, GathersNext, Satisfies, gathered_to, taken_as, is_pause};
 ghost use Rattle.pp_macros.specs.inner.Reader.{of_list};
-ghost use Rattle.pp_macros.specs.inner.Turns.{macro_of, masks};
+ghost use Rattle.pp_macros.specs.inner.Turns.{macro_of, macro_of_value, masks};
 ghost use Rattle.pp_lexer.specs.declared.token.TokenValue.TheVariants as value;
 ghost use Rattle.pp_macros.specs.declared.step.StepExit.TheVariants.{Error, Continue};
 
 use crate::argument_lists::ArgumentLists;
-use crate::define::Define;
+use crate::define::{Define, Macro};
 use crate::frames::Ahead;
 use crate::halt::{Halt, halt_of};
 use crate::list_lexer::ListLexer;
@@ -37,8 +37,7 @@ use std::rc::Rc;
 /// A call whose `)` has been taken.
 #[derive(Drop)]
 pub struct MacroCall {
-    name: Text,
-    define: Rc<Define>,
+    opened: Rc<Macro>,
     paren: Location,
     closing: Location,
     tokens: Vec<Read>,
@@ -50,7 +49,7 @@ impl Model for MacroCall {
 
     ghost Value = { spec.MacroCall };
 
-    ghost view = { λ c. record { name = c.name; definition = c.define.value; paren = c.paren; closing = c.closing; tokens = c.tokens.items } };
+    ghost view = { λ c. record { name = c.opened.value.name; definition = c.opened.value.definition; paren = c.paren; closing = c.closing; tokens = c.tokens.items } };
 
     ghost invariant = { λ c. AllReadOrdinary c.tokens.items };
 }
@@ -69,7 +68,7 @@ impl MacroCall {
     pub fn define(&self) -> &Define
         ensures { result.now ≡ self.now.definition }
     {
-        &self.define
+        self.opened.define()
     }
 
     /// The place of its `(`.
@@ -197,6 +196,27 @@ fn opens_macro(list: &ListLexer<'_>, ahead: &Ahead<'_>, painted: bool) -> bool
     match ahead.value() {
         TokenValue::Ident(name) => list.get_define(name.as_str()).is_some(),
         _ => false,
+    }
+}
+
+// The macro that a token with this value opens when it is taken, painted or not.
+fn find_macro(
+    lexer: &dyn MeLexer,
+    value: &TokenValue,
+    painted: bool,
+) -> Result<Option<Rc<Macro>>, AllocError>
+    ensures { IfOk result (λ found. option_map (λ m. (m.value.name, m.value.definition)) found
+        ≡ (if painted then None else macro_of_value (reader lexer.now) value.now)) }
+{
+    if painted {
+        return Ok(None);
+    }
+    let TokenValue::Ident(name) = value else {
+        return Ok(None);
+    };
+    match lexer.get_define(name.as_str()) {
+        Some(found) => Ok(Some(found.clone()?)),
+        None => Ok(None),
     }
 }
 
@@ -387,14 +407,16 @@ impl Expander {
     }
 
     // Opens the frame of an object-like macro.
-    fn open_plain(&mut self, name: Text, line: u32, define: Rc<Define>) -> Step<Taken>
-        ensures opens { ((result ≡ Err Continue) × (self.new
-            ≡ record self.old { frames = new_frame name line define.value [] ∷ self.old.frames }))
+    fn open_plain(&mut self, opened: Rc<Macro>, line: u32) -> Step<Taken>
+        ensures opens { ((result ≡ Err Continue) × (self.new ≡ record self.old {
+          frames = new_frame opened.value.name line opened.value.definition []
+              ∷ self.old.frames;
+        }))
             ⊎ (result ≡ Err (Error out_of_memory)) }
         ensures holds { IfOk result TakenHoldsOrdinary }
     {
         let arguments = ArgumentLists::nothing(self.alloc);
-        match self.processor.open(name, line, define, arguments) {
+        match self.processor.open(opened, line, arguments) {
             Ok(()) => Err(StepExit::Continue),
             Err(_) => Err(StepExit::Error(out_of_memory())),
         }
@@ -406,13 +428,13 @@ impl Expander {
         lexer: &mut dyn MeLexer,
         name: Text,
         location: Location,
-        define: Rc<Define>,
+        opened: Rc<Macro>,
     ) -> Step<Taken>
-        requires function { define.value.function_like ≡ true }
+        requires function { opened.value.definition.function_like ≡ true }
         ensures enters { Enters (unpainted (record {
           value = value.Ident name;
           location = location;
-        })) name define.value self.old (reader lexer.old) result self.new
+        })) opened.value.name opened.value.definition self.old (reader lexer.old) result self.new
             (reader lexer.new) ⊎ (result ≡ Err (Error out_of_memory)) }
         ensures holds { IfOk result TakenHoldsOrdinary }
     {
@@ -423,9 +445,9 @@ impl Expander {
             }))),
             AfterName::Whole(paren, gathered) => {
                 let Gathered { tokens, closing } = gathered;
+                drop(name);
                 Ok(Taken::Call(MacroCall {
-                    name,
-                    define,
+                    opened,
                     paren,
                     closing,
                     tokens,
@@ -434,25 +456,11 @@ impl Expander {
         }
     }
 
-    // The macro that a taken token names, unless the token is painted.
-    fn find_macro(&self, lexer: &dyn MeLexer, read: &Read) -> Result<Option<Rc<Define>>, AllocError>
-        ensures { IfOk result (λ found. option_map (λ define. define.value) found
-            ≡ option_map (λ opening. opening.1) (macro_of (reader lexer.now) read.now)) }
-    {
-        if read.painted {
-            return Ok(None);
-        }
-        match &read.token.value {
-            TokenValue::Ident(name) => self.processor.find_macro(lexer, name),
-            _ => Ok(None),
-        }
-    }
-
     // Opens the macro of a name that is taken, or begins its call.
     #[inline(never)]
-    fn enter(&mut self, lexer: &mut dyn MeLexer, read: Read, define: Rc<Define>) -> Step<Taken>
-        requires opens { option_map (λ opening. opening.1) (macro_of (reader lexer.old) read)
-            ≡ Some define.value }
+    fn enter(&mut self, lexer: &mut dyn MeLexer, read: Read, opened: Rc<Macro>) -> Step<Taken>
+        requires opens { macro_of (reader lexer.old) read
+            ≡ Some (opened.value.name, opened.value.definition) }
         requires holds { HoldsOrdinary read.token.value }
         ensures follows { FollowsToken (macro_of (reader lexer.old) read) read
             self.old (reader lexer.old) result self.new (reader lexer.new)
@@ -462,13 +470,36 @@ impl Expander {
         let Token { value, location } = read.token;
         match value {
             TokenValue::Ident(name) => {
-                if define.is_function_like() {
-                    self.enter_call(lexer, name, location, define)
+                if opened.define().is_function_like() {
+                    self.enter_call(lexer, name, location, opened)
                 } else {
-                    self.open_plain(name, location.line, define)
+                    drop(name);
+                    self.open_plain(opened, location.line)
                 }
             }
             value => Ok(Taken::Token(Read::unpainted(Token { value, location }))),
+        }
+    }
+
+    // Gives a token that is taken, or opens the macro that it names, or begins its call.
+    #[inline(always)]
+    fn give_or_enter(
+        &mut self,
+        lexer: &mut dyn MeLexer,
+        read: Read,
+        found: Option<Rc<Macro>>,
+    ) -> Step<Taken>
+        requires opens { option_map (λ m. (m.value.name, m.value.definition)) found
+            ≡ macro_of (reader lexer.old) read }
+        requires holds { HoldsOrdinary read.token.value }
+        ensures follows { FollowsToken (macro_of (reader lexer.old) read) read
+            self.old (reader lexer.old) result self.new (reader lexer.new)
+            ⊎ (result ≡ Err (Error out_of_memory)) }
+        ensures holds { IfOk result TakenHoldsOrdinary }
+    {
+        match found {
+            None => Ok(Taken::Token(read)),
+            Some(opened) => self.enter(lexer, read, opened),
         }
     }
 
@@ -481,9 +512,8 @@ impl Expander {
             ⊎ (result ≡ Err (Error out_of_memory)) }
         ensures holds { IfOk result TakenHoldsOrdinary }
     {
-        match self.find_macro(&*lexer, &read) {
-            Ok(None) => Ok(Taken::Token(read)),
-            Ok(Some(define)) => self.enter(lexer, read, define),
+        match find_macro(&*lexer, &read.token.value, read.painted) {
+            Ok(found) => self.give_or_enter(lexer, read, found),
             Err(_) => out_of_memory_step(),
         }
     }
@@ -516,12 +546,22 @@ impl Expander {
         if is_line_name(ahead.value()) {
             return self.step_any(lexer);
         }
-        let Ok(mut read) = ahead.copied(self.alloc) else {
-            return out_of_memory_step();
-        };
-        self.processor.pass();
-        self.processor.paint(&*lexer, &mut read);
-        self.follow(lexer, read)
+        let painted = self.processor.paints(&*lexer, &ahead);
+        match find_macro(&*lexer, ahead.value(), painted) {
+            Ok(Some(opened)) if !opened.define().is_function_like() => {
+                let line = ahead.line();
+                self.processor.pass();
+                self.open_plain(opened, line)
+            }
+            Ok(found) => {
+                let Ok(read) = ahead.copied_as(self.alloc, painted) else {
+                    return out_of_memory_step();
+                };
+                self.processor.pass();
+                self.give_or_enter(lexer, read, found)
+            }
+            Err(_) => out_of_memory_step(),
+        }
     }
 
     // Whether a macro is open and the next step of the innermost frame is a pause, while nothing is held.
@@ -625,12 +665,11 @@ impl Expander {
             }) }
     {
         let MacroCall {
-            name,
-            define,
+            opened,
             paren: _,
             closing,
             tokens: _,
         } = call;
-        self.processor.open(name, closing.line, define, arguments)
+        self.processor.open(opened, closing.line, arguments)
     }
 }

@@ -36,6 +36,21 @@ impl Model for Define {
         × PlacesEach d.parameters.items d.body.items d.positions.items };
 }
 
+/// A macro: a name and its definition.
+#[derive(Drop)]
+pub struct Macro {
+    name: Text,
+    define: Define,
+}
+
+impl Model for Macro {
+    ghost use Rattle.pp_macros.specs.inner.Defined.{Defined};
+
+    ghost Value = { Defined };
+
+    ghost view = { λ m. record { name = m.name; definition = m.define } };
+}
+
 // Whether both lists have equal values, places aside.
 fn have_same_values(old: &[Token], new: &[Token]) -> bool
     ensures { IsTrue result ↔ (values_of old.now ≡ values_of new.now) }
@@ -65,6 +80,31 @@ fn positions_in(
         positions.push(parameters.position_of(&token.value))?;
     }
     Ok(positions)
+}
+
+impl Macro {
+    /// The macro of this name, with this definition.
+    pub fn new(name: Text, define: Define) -> Macro
+        ensures { result ≡ record { name = name; definition = define } }
+    {
+        Macro { name, define }
+    }
+
+    /// Its name.
+    #[inline(always)]
+    pub fn name(&self) -> &Text
+        ensures { result.now ≡ self.now.name }
+    {
+        &self.name
+    }
+
+    /// Its definition.
+    #[inline(always)]
+    pub fn define(&self) -> &Define
+        ensures { result.now ≡ self.now.definition }
+    {
+        &self.define
+    }
 }
 
 impl Define {

@@ -1,11 +1,11 @@
 //! The names that are defined, and their definitions.
 
-ghost use Rattle.std.specs.Prelude.{◌≡◌, [], Some, None, option_map, OnOk, OnErr};
+ghost use Rattle.std.specs.Prelude.{◌≡◌, [], Some, None, option_map, IfSome, IfOk, OnOk, OnErr};
 ghost use Rattle.std.specs.Str.{chars};
 ghost use Rattle.pp_macros.specs.inner.Defined.{meaning_of, IsChanged};
 ghost use Rattle.pp_macros.specs.inner.Plain.{gives_itself};
 
-use crate::define::Define;
+use crate::define::{Define, Macro};
 use crate::names::Names;
 use pp_lexer::token::{Text, TokenValue};
 use pp_model::names::is_line_name;
@@ -17,21 +17,23 @@ use std::rc::Rc;
 /// defined, and always keeps it.
 #[derive(Drop)]
 pub struct Definitions {
+    alloc: Global,
     names: Names,
-    // at each name's number its definition; `None` if it isn't defined any more
-    defines: Vec<Option<Rc<Define>>>,
+    // at each name's number its macro; `None` if it isn't defined any more
+    macros: Vec<Option<Rc<Macro>>>,
 }
 
 impl Model for Definitions {
     ghost use Rattle.std.specs.Prelude.{◌≡◌, List, map, length, option_map};
     ghost use Rattle.pp_model.specs.ApartMarks.{AreApart};
-    ghost use Rattle.pp_macros.specs.inner.Defined.{Defined, defined_among};
+    ghost use Rattle.pp_macros.specs.inner.Defined.{Defined, AreNamed, defined_among};
 
     ghost Value = { List Defined };
 
-    ghost view = { λ d. defined_among d.names (map (λ define. option_map (λ m. m.value) define) d.defines.items) };
+    ghost view = { λ d. defined_among d.names (map (λ found. option_map (λ m. m.value.definition) found) d.macros.items) };
 
-    ghost invariant = { λ d. AreApart d.names × (length d.defines.items ≡ length d.names) };
+    ghost invariant = { λ d. AreApart d.names × (length d.macros.items ≡ length d.names)
+        × AreNamed d.names (map (λ found. option_map (λ m. m.value.name) found) d.macros.items) };
 }
 
 /// Whether a value that isn't painted gives itself while no macro is open: it isn't `__LINE__`, nor a
@@ -48,37 +50,50 @@ pub fn gives_itself(definitions: &Definitions, value: &TokenValue) -> bool
     }
 }
 
+// The macro of this name with this definition, to be shared.
+fn shared(alloc: Global, name: Text, define: Define) -> Result<Rc<Macro>, AllocError>
+    ensures { IfOk result (λ m. m.value ≡ record { name = name; definition = define }) }
+{
+    Ok(Rc::new(alloc, Macro::new(name, define))?)
+}
+
 impl Definitions {
     /// No name is defined. It allocates nothing.
     pub fn new(alloc: Global) -> Self
         ensures { result ≡ [] }
     {
         Definitions {
+            alloc,
             names: Names::new(alloc),
-            defines: Vec::new(alloc),
+            macros: Vec::new(alloc),
         }
     }
 
-    /// The definition of the name.
-    pub fn find(&self, name: &str) -> Option<&Rc<Define>>
-        ensures { option_map (λ d. d.now.value) result ≡ meaning_of self.now (chars name.now) }
+    /// The macro of the name, if it is defined.
+    pub fn find(&self, name: &str) -> Option<&Rc<Macro>>
+        ensures definition { option_map (λ m. m.now.value.definition) result
+            ≡ meaning_of self.now (chars name.now) }
+        ensures name { IfSome result (λ m. m.now.value.name ≡ chars name.now) }
     {
         let id = self.names.find(name)?;
-        self.defines[id.number()].as_ref()
+        self.macros[id.number()].as_ref()
     }
 
     /// Defines the name, replacing any definition of it. If an allocation fails, nothing changes.
-    pub fn set(&mut self, name: Text, define: Rc<Define>) -> Result<(), AllocError>
-        ensures ok { OnOk result (IsChanged name (Some define.value) self.old self.new) }
+    pub fn set(&mut self, name: Text, define: Define) -> Result<(), AllocError>
+        ensures ok { OnOk result (IsChanged name (Some define) self.old self.new) }
         ensures err { OnErr result (self.new ≡ self.old) }
     {
         if let Some(id) = self.names.find(name.as_str()) {
-            self.defines[id.number()] = Some(define);
+            let new = shared(self.alloc, name, define)?;
+            self.macros[id.number()] = Some(new);
             return Ok(());
         }
-        self.defines.reserve(1)?;
-        self.names.push(name)?;
-        self.defines.push_reserved(Some(define));
+        self.macros.reserve(1)?;
+        let copy = name.try_clone(self.alloc)?;
+        let new = shared(self.alloc, name, define)?;
+        self.names.push(copy)?;
+        self.macros.push_reserved(Some(new));
         Ok(())
     }
 
@@ -87,7 +102,7 @@ impl Definitions {
         ensures { IsChanged (chars name.now) None self.old self.new }
     {
         if let Some(id) = self.names.find(name) {
-            self.defines[id.number()] = None;
+            self.macros[id.number()] = None;
         }
     }
 }

@@ -9,7 +9,7 @@ ghost use Rattle.pp_macros.specs.inner.Ahead.{given_by, frame_after};
 ghost use Rattle.pp_macros.specs.declared.step.StepExit.TheVariants.{Error};
 
 use crate::argument_lists::ArgumentLists;
-use crate::define::Define;
+use crate::define::Macro;
 use crate::step::{Step, StepExit};
 use pp_lexer::token::{Text, Token, TokenValue, out_of_memory};
 use pp_model::read::Read;
@@ -40,6 +40,13 @@ impl<'a> Ahead<'a> {
         &self.token.value
     }
 
+    /// The line of its place.
+    pub fn line(&self) -> u32
+        ensures { result ≡ self.now.token.location.line }
+    {
+        self.token.location.line
+    }
+
     /// Whether it is painted.
     pub fn is_painted(&self) -> bool
         ensures { result ≡ self.now.painted }
@@ -68,9 +75,8 @@ impl<'a> Ahead<'a> {
 /// A macro that is open.
 #[derive(Drop)]
 pub struct Frame {
-    name: Text,
+    opened: Rc<Macro>,
     line: u32,
-    define: Rc<Define>,
     position: usize,
     arguments: ArgumentLists,
     expanding: Option<usize>,
@@ -85,10 +91,10 @@ impl Model for Frame {
     ghost Value = { spec.Frame };
 
     ghost view = { λ f. record {
-      name = f.name;
+      name = f.opened.value.name;
       line = f.line;
-      parameters = f.define.value.parameters;
-      body = drop f.position f.define.value.body;
+      parameters = f.opened.value.definition.parameters;
+      body = drop f.position f.opened.value.definition.body;
       arguments = f.arguments;
       reading = option_map (λ k. drop f.argument_position
           (argument_at f.arguments k)) f.expanding;
@@ -160,13 +166,12 @@ fn out_of_memory_step() -> Step<Read>
 
 impl Frame {
     /// The frame of a macro that opens.
-    pub fn new(name: Text, line: u32, define: Rc<Define>, arguments: ArgumentLists) -> Frame
-        ensures { result ≡ new_frame name line define.value arguments }
+    pub fn new(opened: Rc<Macro>, line: u32, arguments: ArgumentLists) -> Frame
+        ensures { result ≡ new_frame opened.value.name line opened.value.definition arguments }
     {
         Frame {
-            name,
+            opened,
             line,
-            define,
             position: 0,
             arguments,
             expanding: None,
@@ -178,7 +183,7 @@ impl Frame {
     pub fn name(&self) -> &Text
         ensures { result.now ≡ self.now.name }
     {
-        &self.name
+        self.opened.name()
     }
 
     /// The line that `__LINE__` shows in it.
@@ -194,7 +199,7 @@ impl Frame {
     {
         match self.expanding {
             Some(_) => false,
-            None => self.define.body().len() <= self.position,
+            None => self.opened.define().body().len() <= self.position,
         }
     }
 
@@ -207,10 +212,11 @@ impl Frame {
         if let Some(index) = self.expanding {
             return argument_token(&self.arguments, index, self.argument_position);
         }
-        let Some(token) = token_at(self.define.body(), self.position) else {
+        let define = self.opened.define();
+        let Some(token) = token_at(define.body(), self.position) else {
             return None;
         };
-        match self.define.parameter_at(self.position) {
+        match define.parameter_at(self.position) {
             Some(_) => None,
             None => Some(Ahead {
                 token,
@@ -231,10 +237,11 @@ impl Frame {
             }
             return;
         }
-        let Some(_) = token_at(self.define.body(), self.position) else {
+        let define = self.opened.define();
+        let Some(_) = token_at(define.body(), self.position) else {
             return;
         };
-        let parameter = self.define.parameter_at(self.position);
+        let parameter = define.parameter_at(self.position);
         self.position += 1;
         if let Some(index) = parameter {
             self.expanding = Some(index);

@@ -7,7 +7,7 @@ ghost use Rattle.pp_model.specs.Painting.{unpainted};
 ghost use Rattle.pp_macros.specs.inner.Reading.{AllReadOrdinary};
 ghost use Rattle.pp_macros.specs.inner.Reader.{of_list};
 
-use crate::define::Define;
+use crate::define::Macro;
 use crate::definitions::Definitions;
 use crate::open_around::OpenAround;
 use crate::reader::MeLexer;
@@ -136,7 +136,7 @@ impl<'a> MeLexer for ListLexer<'a> {
         Ok(read)
     }
 
-    fn get_define(&self, name: &str) -> Option<&Rc<Define>> {
+    fn get_define(&self, name: &str) -> Option<&Rc<Macro>> {
         if is_reserved(self.is_line, name) {
             return None;
         }

@@ -16,7 +16,7 @@ ghost use Rattle.pp_macros.specs.inner.Turns.{Moves, taken_in, masks, gives_line
 ghost use Rattle.pp_macros.specs.declared.step.StepExit.TheVariants.{Error, Continue};
 
 use crate::argument_lists::ArgumentLists;
-use crate::define::Define;
+use crate::define::Macro;
 use crate::frames::{Ahead, Frame, give};
 use crate::names::is_text;
 use crate::open_names::OpenNames;
@@ -248,6 +248,13 @@ impl MacroProcessor {
         }
     }
 
+    /// Whether a token that a frame gives is painted when it is taken.
+    pub fn paints(&self, lexer: &dyn MeLexer, ahead: &Ahead<'_>) -> bool
+        ensures { result ≡ (painted_among (masks self.now (reader lexer.now)) ahead.now).painted }
+    {
+        ahead.is_painted() || self.is_masked(lexer, ahead.value())
+    }
+
     /// Paints a token that is taken, if it is the name of a macro that is open here or around.
     pub fn paint(&self, lexer: &dyn MeLexer, read: &mut Read)
         ensures { read.new ≡ painted_among (masks self.now (reader lexer.now)) read.old }
@@ -257,35 +264,23 @@ impl MacroProcessor {
         }
     }
 
-    // The definition that the reader has for the name.
-    pub fn find_macro(
-        &self,
-        lexer: &dyn MeLexer,
-        name: &Text,
-    ) -> Result<Option<Rc<Define>>, AllocError>
-        ensures { IfOk result (λ found. option_map (λ define. (name.now, define.value)) found
-            ≡ macro_of_value (reader lexer.now) (value.Ident name.now)) }
-    {
-        let Some(define) = lexer.get_define(name.as_str()) else {
-            return Ok(None);
-        };
-        Ok(Some(define.clone()?))
-    }
-
-    /// Opens the macro of this name with these arguments. `line` is the line that `__LINE__` shows
-    /// in it.
+    /// Opens a macro with these arguments. `line` is the line that `__LINE__` shows in it.
     pub fn open(
         &mut self,
-        name: Text,
+        opened: Rc<Macro>,
         line: u32,
-        define: Rc<Define>,
         arguments: ArgumentLists,
     ) -> Result<(), AllocError>
-        ensures { OnOk result (self.new ≡ new_frame name line define.value arguments ∷ self.old) }
+        ensures { OnOk result (self.new
+            ≡ new_frame opened.value.name line opened.value.definition arguments ∷ self.old) }
     {
         self.frames.reserve(1)?;
-        note_name(&mut self.open_names, name.as_str(), self.frames.len())?;
-        let frame = Frame::new(name, line, define, arguments);
+        note_name(
+            &mut self.open_names,
+            opened.name().as_str(),
+            self.frames.len(),
+        )?;
+        let frame = Frame::new(opened, line, arguments);
         self.frames.push_reserved(frame);
         Ok(())
     }

@@ -1,6 +1,6 @@
 //! The reader of tokens that comes after the frames.
 
-ghost use Rattle.std.specs.Prelude.{◌≡◌, IfOk, option_map, ok_or};
+ghost use Rattle.std.specs.Prelude.{◌≡◌, IfOk, IfSome, option_map, ok_or};
 ghost use Rattle.std.specs.Str.{chars};
 ghost use Rattle.pp_lexer.specs.declared.token.PreprocessorError.TheVariants.{LineOverflow};
 ghost use Rattle.pp_model.specs.Names.{is_in};
@@ -8,7 +8,7 @@ ghost use Rattle.pp_macros.specs.Held.{HoldsOrdinary};
 ghost use Rattle.pp_macros.specs.Item.{as_step};
 ghost use Rattle.pp_macros.specs.inner.Reader.{Reader, Reads, visible, hidden_of, shown_line};
 
-use crate::define::Define;
+use crate::define::Macro;
 use crate::step::Step;
 use pp_lexer::token::Location;
 use pp_model::read::Read;
@@ -23,10 +23,11 @@ pub trait MeLexer {
         ensures reads { Reads (reader self.old) result (reader self.new) }
         ensures holds { IfOk result (λ read. HoldsOrdinary read.token.value) };
 
-    /// The definition of the name there.
-    fn get_define(&self, name: &str) -> Option<&Rc<Define>>
-        ensures { option_map (λ define. define.now.value) result
-            ≡ visible (reader self.now) (chars name.now) };
+    /// The macro of the name there, if it is defined.
+    fn get_define(&self, name: &str) -> Option<&Rc<Macro>>
+        ensures definition { option_map (λ m. m.now.value.definition) result
+            ≡ visible (reader self.now) (chars name.now) }
+        ensures name { IfSome result (λ m. m.now.value.name ≡ chars name.now) };
 
     /// Whether a macro of this name is open around it.
     fn is_hidden(&self, name: &str) -> bool

@@ -1,7 +1,7 @@
 -- Lists of names, each with a definition or none.
 use Rattle.std.proofs.Common.{◌≡◌, ◌∙◌, ℕ, zero, suc, ◌+◌, ◌<◌, Bool, true, false, ◌||◌, if◌then◌else◌, List, [], ◌∷◌, ◌++◌, Bor, map, length, get_or, set, Option, Some, None, refl, sym, ap, arith, length-append, length-set}
 use Rattle.std.proofs.lemmas.List.{length-map, map-append, map-set}
-use Rattle.std.specs.Prelude.{option_map, sum_by, slice_get}
+use Rattle.std.specs.Prelude.{IfSome, option_map, sum_by, slice_get}
 use Rattle.std.specs.Option.{option_copied, option_flatten}
 use Rattle.std.proofs.lemmas.Option.{slice_get-map, slice_get_read}
 use Rattle.std.proofs.lemmas.List.Sums.{sum_by-append, sum_by-cons, sum_by-set}
@@ -9,7 +9,7 @@ use Rattle.pp_model.specs.Definitions.{Definition, with_change}
 use Rattle.pp_model.specs.Names.{Name, is_same_name, is_in}
 use Rattle.pp_model.specs.ApartMarks.{AreApart}
 use Rattle.pp_model.proofs.OpenNamesLemmas.{not_in_tail}
-use Rattle.pp_macros.specs.inner.Defined.{defined_among, meaning_of, body_tokens, more_names, more_tokens, IsChanged}
+use Rattle.pp_macros.specs.inner.Defined.{AreNamed, defined_among, meaning_of, body_tokens, more_names, more_tokens, IsChanged}
 use Rattle.pp_macros.proofs.defined_names.NameKeysLemmas.{names_same}
 use Rattle.pp_macros.proofs.defined_names.FoundNamesLemmas.{apart_too, not_first, apart_more, IsFoundAt, found_within}
 
@@ -49,7 +49,7 @@ pub shown : {X : Type 0} (value_of : X → Definition) (r : Option (Bor X)) (o :
 shown value_of (Some d) o e = ap (option_map value_of) e
 shown value_of None o e = ap (option_map value_of) e
 
-pub kept_at : {X : Type 0} (shows : X → Option Definition) (xs : List X) (k : ℕ) (x : X) → k < length xs → x ≡ get_or xs k x
+pub kept_at : {X Y : Type 0} (shows : X → Option Y) (xs : List X) (k : ℕ) (x : X) → k < length xs → x ≡ get_or xs k x
     → option_flatten (slice_get (map shows xs) k) ≡ shows x
 kept_at shows xs k x within read = rw (slice_get-map shows xs k, slice_get_read xs (length xs) k x refl within read) refl
 
@@ -186,16 +186,53 @@ is_absent names ds name apart absent = record {
     by other true e = rw (names_same other name e) (none_among name names ds absent)
     by other false e = refl
 
+-- a fact of what is found, from the same of what is kept
+pub shown_if : {X Y : Type 0} (value_of : X → Y) (P : Y → Type 0) (r : Option (Bor X)) (o : Option X) → option_copied r ≡ o
+    → IfSome (option_map value_of o) P → IfSome r (λ d. P (value_of d.now))
+shown_if value_of P (Some d) o e h = rw (← e) at h
+shown_if value_of P None o e h = tt
+
+-- what is kept at the number of a name has that name: where it is found, after a change, and after one more
+pub named_found : (names : List Name) (kept : List (Option Name)) → AreNamed names kept → (name : Name) (k : ℕ) → IsFoundAt name names k
+    → IfSome (option_flatten (slice_get kept k)) (λ n. n ≡ name)
+named_found [] kept all name k found = absurd found
+named_found (n ∷ names) [] all name k found = tt
+named_found (n ∷ names) (own ∷ kept) all name zero found = rw (names_same name n found) all.0
+named_found (n ∷ names) (own ∷ kept) all name (suc k) found = named_found names kept all.1 name k found.1
+
+named_set : (names : List Name) (kept : List (Option Name)) → AreNamed names kept → (name : Name) (k : ℕ) (own : Option Name) → IsFoundAt name names k
+    → IfSome own (λ n. n ≡ name) → AreNamed names (set kept k own)
+named_set [] kept all name k own found is = absurd found
+named_set (n ∷ names) [] all name k own found is = tt
+named_set (n ∷ names) (o ∷ kept) all name zero own found is = (rw (← names_same name n found) is, all.1)
+named_set (n ∷ names) (o ∷ kept) all name (suc k) own found is = (all.0, named_set names kept all.1 name k own found.1 is)
+
+named_more : (names : List Name) (kept : List (Option Name)) → AreNamed names kept → length kept ≡ length names → (name : Name) (own : Option Name)
+    → IfSome own (λ n. n ≡ name) → AreNamed (names ++ name ∷ []) (kept ++ own ∷ [])
+named_more [] [] all even name own is = (is, tt)
+named_more [] (o ∷ kept) all even name own is = absurd (omega arith)
+named_more (n ∷ names) [] all even name own is = absurd (omega arith)
+named_more (n ∷ names) (o ∷ kept) all even name own is = (all.0, named_more names kept all.1 (omega arith) name own is)
+
+-- the same of what is kept at the number of each name, shown as its name
+module _ {X : Type 0} (shows : X → Option Name) (names : List Name) (xs : List X) (all : AreNamed names (map shows xs)) (name : Name) (x : X)
+    (is : IfSome (shows x) (λ n. n ≡ name)) where
+  pub are_named_set : (k : ℕ) → IsFoundAt name names k → AreNamed names (map shows (set xs k x))
+  are_named_set k found = rw (map-set shows xs k x) (named_set names (map shows xs) all name k (shows x) found is)
+
+  pub are_named_pushed : length xs ≡ length names → AreNamed (names ++ name ∷ []) (map shows (xs ++ x ∷ []))
+  are_named_pushed even = rw (map-append shows xs (x ∷ [])) (named_more names (map shows xs) all (length-map xs shows ∙ even) name (shows x) is)
+
 -- the same of what is kept at the number of each name, shown as its definition
-module _ {X : Type 0} (shows : X → Option Definition) (names : List Name) (xs : List X) (name : Name) (x : X)
-    (apart : AreApart names) (even : length xs ≡ length names) where
+module _ {X : Type 0} (shows : X → Option Definition) (names : List Name) (xs : List X) (name : Name) (x : X) (change : Option Definition)
+    (is : shows x ≡ change) (apart : AreApart names) (even : length xs ≡ length names) where
   even_shown : length (map shows xs) ≡ length names
   even_shown = length-map xs shows ∙ even
 
   pub is_set : (k : ℕ) → IsFoundAt name names k
-      → IsChanged name (shows x) (defined_among names (map shows xs)) (defined_among names (map shows (set xs k x)))
-  is_set k found = rw (map-set shows xs k x) (is_set_among names (map shows xs) name k (shows x) apart even_shown found)
+      → IsChanged name change (defined_among names (map shows xs)) (defined_among names (map shows (set xs k x)))
+  is_set k found = rw (map-set shows xs k x, is) (is_set_among names (map shows xs) name k change apart even_shown found)
 
   pub is_pushed : is_in name names ≡ false
-      → IsChanged name (shows x) (defined_among names (map shows xs)) (defined_among (names ++ name ∷ []) (map shows (xs ++ x ∷ [])))
-  is_pushed new = rw (map-append shows xs (x ∷ [])) (is_pushed_among names (map shows xs) name (shows x) apart even_shown new)
+      → IsChanged name change (defined_among names (map shows xs)) (defined_among (names ++ name ∷ []) (map shows (xs ++ x ∷ [])))
+  is_pushed new = rw (map-append shows xs (x ∷ []), is) (is_pushed_among names (map shows xs) name change apart even_shown new)

@@ -1,5 +1,5 @@
 -- A turn of the innermost frame, as the code makes it.
-use Rattle.std.proofs.Common.{◌≡◌, ◌∙◌, ◌⊎◌, refl, sym, ap, subst, Bool, true, false, List, [], ◌∷◌, ◌++◌, Option, Some, None, Ok, Err, inl, inr}
+use Rattle.std.proofs.Common.{◌≡◌, ◌⊎◌, refl, sym, ap, subst, Bool, true, false, List, [], ◌∷◌, ◌++◌, Option, Some, None, Ok, Err, inl, inr}
 use Rattle.std.specs.Prelude.{IfSome, is_some, is_none}
 use Rattle.std.proofs.lemmas.Bool.{and_parts}
 use Rattle.pp_lexer.specs.PreprocessorError.{out_of_memory}
@@ -68,11 +68,14 @@ module _ (m : Expander) (r : Reader) (free : m.held ≡ None) (some : is_some (o
     token_taken = frame_takes (Some read) (Ok read) is (rw apart refl)
 
     -- a token is followed
-    pub frame_follows : (copy : Read) (after : List Frame) (step : Step Taken) (n : Expander) (t : Reader)
-        → copy ≡ painted_among (masks after r) read → after ≡ frames_after m.frames
-        → FollowsToken (macro_of r copy) copy (record m { frames = after }) r step n t ⊎ (step ≡ Err (Error out_of_memory)) → TurnsOrRefuses m r step n t
-    frame_follows copy after step n t same passes follows =
-        let whole : copy ≡ painted = same ∙ ap (λ (fs : List Frame). painted_among (masks fs r) read) passes in
+    pub frame_follows : (paint : Bool) (after : List Frame) (step : Step Taken) (n : Expander) (t : Reader)
+        → paint ≡ (painted_among (masks m.frames r) read).painted → after ≡ frames_after m.frames
+        → FollowsToken (macro_of r (record { token = read.token; painted = paint })) (record { token = read.token; painted = paint })
+        (record m { frames = after }) r step n t ⊎ (step ≡ Err (Error out_of_memory)) → TurnsOrRefuses m r step n t
+    frame_follows paint after step n t same passes follows =
+        let names : masks (frames_after m.frames) r ≡ masks m.frames r =
+        ap (λ (names : List Name). names ++ hidden_of r) (names_stay m.frames read (sym is)) in
+        let whole : ◌≡◌ {A = Read} (record { token = read.token; painted = paint }) painted = rw (names, same) refl in
         turns_token m passed n r r t painted step token_taken (macro_of r painted) refl
         (subst (λ (fs : List Frame). FollowsToken (macro_of r painted) painted (record m { frames = fs }) r step n t ⊎ (step ≡ Err (Error out_of_memory))) passes
         (subst (λ (x : Read). FollowsToken (macro_of r x) x (record m { frames = after }) r step n t ⊎ (step ≡ Err (Error out_of_memory))) whole follows))

@@ -1,6 +1,6 @@
 -- The search after a name, as the code makes it.
 use Rattle.std.proofs.Common.{◌≡◌, ◌∙◌, ◌⊎◌, inl, inr, refl, sym, ap, subst, Option, Some, None, true, false, [], ◌∷◌}
-use Rattle.std.specs.Prelude.{Bool, Result, Ok, Err, option_map, if◌then◌else◌}
+use Rattle.std.specs.Prelude.{Bool, Result, Ok, Err, if◌then◌else◌}
 use Rattle.pp_lexer.specs.declared.token.Location.{Location}
 use Rattle.pp_model.specs.declared.read.Read.{Read}
 use Rattle.pp_model.specs.Painting.{unpainted}
@@ -12,7 +12,7 @@ use Rattle.pp_macros.specs.inner.CallTurns as turn
 use Rattle.pp_macros.specs.inner.CallTurns.{TurnsOrRefuses}
 use Rattle.pp_macros.specs.inner.Seeking as e
 use Rattle.pp_macros.specs.inner.Seeking.{Enters, FollowsToken}
-use Rattle.pp_macros.specs.inner.Turns.{macro_of, macro_of_value, opened_by}
+use Rattle.pp_macros.specs.inner.Turns.{macro_of, macro_of_value}
 use Rattle.pp_macros.specs.Halting.{exit_of}
 use Rattle.pp_lexer.specs.declared.token.TokenValue.{TokenValue}
 use Rattle.pp_lexer.specs.declared.token.TokenValue.TheVariants.{Ident}
@@ -25,7 +25,7 @@ use Rattle.pp_macros.specs.declared.calls.Taken.TheVariants as taken
 use Rattle.pp_macros.specs.declared.step.StepExit.{StepExit}
 use Rattle.pp_macros.specs.declared.step.StepExit.TheVariants.{Error, Continue}
 use Rattle.pp_macros.specs.inner.Expander.{Expander, StepsTaking, TakesNext, GathersNext, Satisfies}
-use Rattle.pp_macros.specs.inner.Reader.{Reader, visible}
+use Rattle.pp_macros.specs.inner.Reader.{Reader}
 use Rattle.pp_macros.specs.inner.Seeking.{FindsNothing, FindsBy}
 use Rattle.pp_macros.specs.declared.calls.AfterName.{AfterName}
 use Rattle.pp_macros.specs.declared.halt.Halt.{Halt}
@@ -76,63 +76,28 @@ pub follows_plain : (o : Option (Name
 follows_plain o read name definition m n r step is plain (inl h) = inl (rw is (e.plain step m n r r plain h.0 h.1 refl))
 follows_plain o read name definition m n r step is plain (inr h) = inr h
 
--- an unpainted token whose value is a name
-pub follows_named : (m n : Expander) (r s : Reader) (read : Read) (given name : Name) (step : Step Taken) → read.painted ≡ false
-    → read.token.value ≡ Ident name → given ≡ name
-    → FollowsToken (macro_of_value r (Ident given)) (unpainted (record { value = Ident given; location = read.token.location })) m r step n s ⊎ Refused step
-    → FollowsToken (macro_of r read) read m r step n s ⊎ Refused step
-follows_named m n r s read given name step bare is same h =
-    let whole : ◌≡◌ {A = Read} (unpainted (record { value = Ident given; location = read.token.location })) read =
-    ap (λ (v : TokenValue). unpainted (record { value = v; location = read.token.location })) (ap (λ (x : Name). Ident x) same ∙ sym is)
-    ∙ ap (λ (b : Bool). record { token = read.token; painted = b }) (sym bare) in
-    subst (λ (x : Read). FollowsToken (macro_of r x) x m r step n s ⊎ Refused step) whole h
-
--- what a value stands for as a name
-abbrev pub meant : Option (Name × Definition) → Option Definition
-meant o = option_map (λ opening. opening.1) o
-
-pub meant_by : {X : Type 0} (view : X → Definition) (name : Name) (found : Option X) (o : Option (Name × Definition))
-    → option_map (λ x. (name, view x)) found ≡ o → option_map view found ≡ meant o
-meant_by view name None o is = rw (sym is) refl
-meant_by view name (Some x) o is = rw (sym is) refl
-
-pub meant_none : (o : Option (Name × Definition)) → None ≡ meant o → o ≡ None
-meant_none None e = refl
-meant_none (Some x) e = cc
-
--- what opens is the name itself
-pub opens_named : (r : Reader) (name : Name) (definition : Definition)
-    → meant (macro_of_value r (Ident name)) ≡ Some definition → macro_of_value r (Ident name) ≡ Some (name, definition)
-opens_named r name definition = go (visible r name)
-  where
-    go : (found : Option Definition) → meant (opened_by name found) ≡ Some definition → opened_by name found ≡ Some (name, definition)
-    go None e = cc
-    go (Some d) e = let same : d ≡ definition = cc in ap (λ (x : Definition). Some (name, x)) same
+-- the name of a function-like macro
+pub follows_called : (o : Option (Name × Definition)) (read given : Read) (name : Name) (definition : Definition) (m n : Expander) (r s : Reader)
+    (step : Step Taken) → o ≡ Some (name, definition) → given ≡ read → Enters given name definition m r step n s ⊎ Refused step
+    → FollowsToken o read m r step n s ⊎ Refused step
+follows_called o read given name definition m n r s step is same (inl h) =
+    inl (rw is (subst (λ (x : Read). Enters x name definition m r step n s) same h))
+follows_called o read given name definition m n r s step is same (inr h) = inr h
 
 -- what opens is unpainted
-opening_bare : (painted : Bool) (o : Option (Name × Definition)) (definition : Definition) → meant (if painted then None else o) ≡ Some definition
-    → painted ≡ false
-opening_bare true o definition e = cc
-opening_bare false o definition e = refl
+pub opening_bare : (r : Reader) (read : Read) (opening : Name × Definition) → macro_of r read ≡ Some opening → read.painted ≡ false
+opening_bare r read opening is = by_paint read.painted is
+  where
+    by_paint : (painted : Bool) → (if painted then None else macro_of_value r read.token.value) ≡ Some opening → painted ≡ false
+    by_paint true e = cc
+    by_paint false e = refl
 
--- the name of an object-like macro that opens
-module _ (m n : Expander) (r : Reader) (read : Read) (given name : Name) (definition : Definition) (step : Step Taken)
-    (is : read.token.value ≡ Ident name) (same : given ≡ name) (opening : meant (macro_of r read) ≡ Some definition) where
-  bare : read.painted ≡ false
-  bare = opening_bare read.painted (macro_of_value r read.token.value) definition opening
-
-  opening_value : meant (macro_of_value r read.token.value) ≡ Some definition
-  opening_value = subst (λ (b : Bool). meant (if b then None else macro_of_value r read.token.value) ≡ Some definition) bare opening
-
-  named : macro_of_value r (Ident given) ≡ Some (given, definition)
-  named = opens_named r given definition (subst (λ (v : TokenValue). meant (macro_of_value r v) ≡ Some definition)
-      (is ∙ ap (λ (x : Name). Ident x) (sym same)) opening_value)
-
-  pub follows_object : definition.function_like ≡ false → ((step ≡ Err Continue)
-      × (n ≡ record m { frames = new_frame given read.token.location.line definition [] ∷ m.frames })) ⊎ Refused step
-      → FollowsToken (macro_of r read) read m r step n r ⊎ Refused step
-  follows_object plain h = follows_named m n r r read given name step bare is same (follows_plain (macro_of_value r (Ident given))
-      (unpainted (record { value = Ident given; location = read.token.location })) given definition m n r step named plain h)
+-- an unpainted token whose value is a name
+pub taken_whole : (read : Read) (name : Name) → read.painted ≡ false → read.token.value ≡ Ident name
+    → unpainted (record { value = Ident name; location = read.token.location }) ≡ read
+taken_whole read name bare is =
+    ap (λ (v : TokenValue). unpainted (record { value = v; location = read.token.location })) (sym is)
+    ∙ ap (λ (b : Bool). record { token = read.token; painted = b }) (sym bare)
 
 -- a turn, by what is taken
 pub turns_token : (m n p : Expander) (r s t : Reader) (read : Read) (step : Step Taken) → StepsTaking m r (Ok read) n s

@@ -1,5 +1,5 @@
 -- The names that are defined, as the preprocessor keeps them: a list of names with definitions.
-use Rattle.std.specs.Prelude.{◌≡◌, ℕ, ◌+◌, ◌≤◌, List, [], ◌∷◌, ◌++◌, length, Option, Some, None}
+use Rattle.std.specs.Prelude.{◌≡◌, ⊤, ℕ, ◌+◌, ◌≤◌, List, [], ◌∷◌, ◌++◌, length, Option, Some, None, IfSome}
 use Rattle.pp_model.specs.Names.{Name}
 use Rattle.pp_model.specs.Definitions.{Definition, Definitions, with_change}
 use Rattle.pp_model.specs.inner.Definitions.{nothing_defined}
@@ -20,6 +20,12 @@ defined_among [] definitions = []
 defined_among (name ∷ names) [] = []
 defined_among (name ∷ names) (definition ∷ definitions) =
     defined_as name definition ++ defined_among names definitions
+
+-- Each macro that is kept has the name that is at its place among the names.
+abbrev pub AreNamed : List Name → List (Option Name) → Type 0
+AreNamed [] kept = ⊤
+AreNamed (name ∷ names) [] = ⊤
+AreNamed (name ∷ names) (own ∷ kept) = IfSome own (λ n. n ≡ name) × AreNamed names kept
 
 -- the definition of each name, if it has one; the first in the list counts
 abbrev pub meaning_of : List Defined → Definitions

@@ -25,4 +25,4 @@ pub returns-else-eq : goal.returns-else-eq
 unfolding lib.Utf8.encode chars
 returns-else-eq c =
     else_known _ _ _ _ (c.eq.ensures ∙ chars_tested _ _ c.utf8.name (line_name, (refl, refl))) c.if-eq.false
-    (c.is_some.ensures ∙ found_mapped _ _ _ c.find.ensures)
+    (c.is_some.ensures ∙ found_mapped _ _ _ c.find.ensures.definition)

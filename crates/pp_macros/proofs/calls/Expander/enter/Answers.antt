@@ -1,9 +1,15 @@
-use Rattle.std.proofs.Common.{◌∙◌, sym, ap, refl}
-use Rattle.pp_macros.proofs.taking.SeekLemmas.{follows_object}
+use Rattle.std.proofs.Common.{◌∙◌, sym, ap}
+use Rattle.pp_macros.proofs.taking.SeekLemmas.{follows_plain, follows_called, opening_bare, taken_whole}
+use Rattle.pp_macros.specs.inner.Defined.{Defined}
 use Rattle.pp_macros.proofs.calls.Expander.enter.Goals as goal
+
+pub returns-then-is_function_like-clause-follows : goal.returns-then-is_function_like-clause-follows
+returns-then-is_function_like-clause-follows g c =
+    follows_called _ c.args.read _ _ _ _ _ _ _ _ c.requires.opens
+    (taken_whole c.args.read c.in-Ident.name (opening_bare _ c.args.read _ c.requires.opens) c.in-Ident.is) c.enter_call.ensures.enters
 
 pub returns-else-is_function_like-clause-follows : goal.returns-else-is_function_like-clause-follows
 returns-else-is_function_like-clause-follows g c =
-    follows_object c.args.self.now c.open_plain.new.self _ c.args.read _ c.in-Ident.name c.args.define.value c.open_plain.result
-    c.in-Ident.is refl c.requires.opens
-    (ap (λ d. d.function_like) (sym c.deref.ensures) ∙ sym c.is_function_like.ensures ∙ c.if-is_function_like.false) c.open_plain.ensures.opens
+    follows_plain _ c.args.read _ _ _ _ _ _ c.requires.opens
+    (ap (λ d. d.function_like) (sym (c.define.ensures ∙ ap (λ (d : Defined). d.definition) c.deref.ensures)) ∙ sym c.is_function_like.ensures
+    ∙ c.if-is_function_like.false) c.open_plain.ensures.opens

@@ -17,8 +17,8 @@ pub returns-in-Whole-clause-enters : goal.returns-in-Whole-clause-enters
 returns-in-Whole-clause-enters g c = inl (enters_whole _ _ _ _ _ _ _ c.requires.function c.in-Whole.paren c.in-Whole.gathered _
     (rw c.in-Whole.is at c.in_ok-seek.ensures.finds)
     (ap (λ (x : Gathered). record {
-      name = c.args.name;
-      definition = c.args.define.value;
+      name = c.args.opened.value.name;
+      definition = c.args.opened.value.definition;
       paren = c.in-Whole.paren;
       closing = x.closing;
       tokens = x.tokens;

@@ -23,29 +23,29 @@ returns-in-None-clause-step c =
 
 pub returns-in_default-token_at-clause-step : goal.returns-in_default-token_at-clause-step
 returns-in_default-token_at-clause-step c =
-    let e : drop c.self.inside.position c.self.inside.define.value.body ≡ []
-    = drop-none c.self.inside.define.value.body c.self.inside.position
-    (rw (c.body.ensures.is, c.deref.ensures) at (sym c.in_default-token_at.ensures.token)) in
+    let e : drop c.self.inside.position c.self.inside.opened.value.definition.body ≡ []
+    = drop-none c.self.inside.opened.value.definition.body c.self.inside.position
+    (rw (c.body.ensures.is, c.define-define.ensures, c.deref.ensures) at (sym c.in_default-token_at.ensures.token)) in
     stays _ _ (ap advance (sym c.self.view_is) ∙ (rw (c.in_default.is, e) refl))
 
 pub returns-in-Some-parameter-clause-step : goal.returns-in-Some-parameter-clause-step
 returns-in-Some-parameter-clause-step c =
-    let at : slice_get c.self.inside.define.value.body c.self.inside.position ≡ Some c.in-Some-token_at.field-0.now
-    = rw (c.body.ensures.is, c.deref.ensures) at (sym c.in-Some-token_at.ensures.token) in
-    let e : drop c.self.inside.position c.self.inside.define.value.body ≡ c.in-Some-token_at.field-0.now ∷ drop
-    (c.self.inside.position + 1) c.self.inside.define.value.body
-    = drop-some c.self.inside.define.value.body c.self.inside.position c.in-Some-token_at.field-0.now at in
-    let p : parameter_of c.self.inside.define.value.parameters c.in-Some-token_at.field-0.now.value ≡ Some c.in-Some-parameter.index
-    = rw (c.deref-2.ensures, at, c.in-Some-parameter.is) at (sym c.parameter_at-parameter.ensures) in
+    let at : slice_get c.self.inside.opened.value.definition.body c.self.inside.position ≡ Some c.in-Some-token_at.field-0.now
+    = rw (c.body.ensures.is, c.define-define.ensures, c.deref.ensures) at (sym c.in-Some-token_at.ensures.token) in
+    let e : drop c.self.inside.position c.self.inside.opened.value.definition.body ≡ c.in-Some-token_at.field-0.now ∷ drop
+    (c.self.inside.position + 1) c.self.inside.opened.value.definition.body
+    = drop-some c.self.inside.opened.value.definition.body c.self.inside.position c.in-Some-token_at.field-0.now at in
+    let p : parameter_of c.self.inside.opened.value.definition.parameters c.in-Some-token_at.field-0.now.value ≡ Some c.in-Some-parameter.index
+    = rw (c.define-define.ensures, c.deref.ensures, at, c.in-Some-parameter.is) at (sym c.parameter_at-parameter.ensures) in
     passes_to _ _ None _ (ap advance (sym c.self.view_is) ∙ (rw (c.in_default.is, e, p) refl))
 
 pub returns-in_default-parameter-clause-step : goal.returns-in_default-parameter-clause-step
 returns-in_default-parameter-clause-step c =
-    let at : slice_get c.self.inside.define.value.body c.self.inside.position ≡ Some c.in-Some-token_at.field-0.now
-    = rw (c.body.ensures.is, c.deref.ensures) at (sym c.in-Some-token_at.ensures.token) in
-    let e : drop c.self.inside.position c.self.inside.define.value.body ≡ c.in-Some-token_at.field-0.now ∷ drop
-    (c.self.inside.position + 1) c.self.inside.define.value.body
-    = drop-some c.self.inside.define.value.body c.self.inside.position c.in-Some-token_at.field-0.now at in
-    let p : parameter_of c.self.inside.define.value.parameters c.in-Some-token_at.field-0.now.value ≡ None
-    = rw (c.deref-2.ensures, at, c.in_default-parameter.is) at (sym c.parameter_at-parameter.ensures) in
+    let at : slice_get c.self.inside.opened.value.definition.body c.self.inside.position ≡ Some c.in-Some-token_at.field-0.now
+    = rw (c.body.ensures.is, c.define-define.ensures, c.deref.ensures) at (sym c.in-Some-token_at.ensures.token) in
+    let e : drop c.self.inside.position c.self.inside.opened.value.definition.body ≡ c.in-Some-token_at.field-0.now ∷ drop
+    (c.self.inside.position + 1) c.self.inside.opened.value.definition.body
+    = drop-some c.self.inside.opened.value.definition.body c.self.inside.position c.in-Some-token_at.field-0.now at in
+    let p : parameter_of c.self.inside.opened.value.definition.parameters c.in-Some-token_at.field-0.now.value ≡ None
+    = rw (c.define-define.ensures, c.deref.ensures, at, c.in_default-parameter.is) at (sym c.parameter_at-parameter.ensures) in
     passes_to _ _ (Some (unpainted c.in-Some-token_at.field-0.now)) _ (ap advance (sym c.self.view_is) ∙ (rw (c.in_default.is, e, p) refl))

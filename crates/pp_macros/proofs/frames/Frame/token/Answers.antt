@@ -11,24 +11,24 @@ returns-in-Some-clause-token c =
 
 pub returns-in_default-token_at-clause-token : goal.returns-in_default-token_at-clause-token
 returns-in_default-token_at-clause-token c =
-    given_end c.args.self.now c.self.inside.define.value.body c.self.inside.position (ap (λ (f : Frame). f.reading) (sym c.self.view_is)
+    given_end c.args.self.now c.self.inside.opened.value.definition.body c.self.inside.position (ap (λ (f : Frame). f.reading) (sym c.self.view_is)
     ∙ (rw c.in_default.is refl)) (ap (λ (f : Frame). f.body) (sym c.self.view_is))
-    (rw (c.body.ensures.is, c.deref.ensures) at (sym c.in_default-token_at.ensures.token))
+    (rw (c.body.ensures.is, c.define-define.ensures, c.deref.ensures) at (sym c.in_default-token_at.ensures.token))
 
 pub returns-in-Some-parameter_at-clause-token : goal.returns-in-Some-parameter_at-clause-token
 returns-in-Some-parameter_at-clause-token c =
-    let at : slice_get c.self.inside.define.value.body c.self.inside.position ≡ Some c.in-Some-token_at.token.now
-    = rw (c.body.ensures.is, c.deref.ensures) at (sym c.in-Some-token_at.ensures.token) in
-    given_body c.args.self.now c.self.inside.define.value.body c.self.inside.position c.in-Some-token_at.token.now (Some c.in-Some-parameter_at.field-0)
+    let at : slice_get c.self.inside.opened.value.definition.body c.self.inside.position ≡ Some c.in-Some-token_at.token.now
+    = rw (c.body.ensures.is, c.define-define.ensures, c.deref.ensures) at (sym c.in-Some-token_at.ensures.token) in
+    given_body c.args.self.now c.self.inside.opened.value.definition.body c.self.inside.position c.in-Some-token_at.token.now (Some c.in-Some-parameter_at.field-0)
     (ap (λ (f : Frame). f.reading) (sym c.self.view_is) ∙ (rw c.in_default.is refl)) (ap (λ (f : Frame). f.body) (sym c.self.view_is)) at
     (ap (λ (f : Frame). parameter_of f.parameters c.in-Some-token_at.token.now.value) (sym c.self.view_is)
-    ∙ (rw (c.deref-2.ensures, at) at (sym c.in-Some-parameter_at.ensures)))
+    ∙ (rw (c.define-define.ensures, c.deref.ensures, at) at (sym c.in-Some-parameter_at.ensures)))
 
 pub returns-in-None-clause-token : goal.returns-in-None-clause-token
 returns-in-None-clause-token c =
-    let at : slice_get c.self.inside.define.value.body c.self.inside.position ≡ Some c.in-Some-token_at.token.now
-    = rw (c.body.ensures.is, c.deref.ensures) at (sym c.in-Some-token_at.ensures.token) in
-    given_body c.args.self.now c.self.inside.define.value.body c.self.inside.position c.in-Some-token_at.token.now None
+    let at : slice_get c.self.inside.opened.value.definition.body c.self.inside.position ≡ Some c.in-Some-token_at.token.now
+    = rw (c.body.ensures.is, c.define-define.ensures, c.deref.ensures) at (sym c.in-Some-token_at.ensures.token) in
+    given_body c.args.self.now c.self.inside.opened.value.definition.body c.self.inside.position c.in-Some-token_at.token.now None
     (ap (λ (f : Frame). f.reading) (sym c.self.view_is) ∙ (rw c.in_default.is refl)) (ap (λ (f : Frame). f.body) (sym c.self.view_is)) at
     (ap (λ (f : Frame). parameter_of f.parameters c.in-Some-token_at.token.now.value) (sym c.self.view_is)
-    ∙ (rw (c.deref-2.ensures, at) at (sym c.in-None.ensures)))
+    ∙ (rw (c.define-define.ensures, c.deref.ensures, at) at (sym c.in-None.ensures)))
