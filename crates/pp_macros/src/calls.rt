@@ -7,7 +7,7 @@ ghost use Rattle.pp_macros.specs.inner.Seeking.{FindsBy, Enters, FollowsToken};
 ghost use Rattle.pp_macros.specs.inner.Frames.{new_frame, names_of, outermost_frame_line};
 ghost use Rattle.pp_macros.specs.Held.{HoldsOrdinary};
 ghost use Rattle.pp_macros.specs.inner.Reading.{AllReadOrdinary};
-ghost use Rattle.pp_macros.specs.inner.Giving.{GivesEach, GivesNext, PausesEach, is_at_pause};
+ghost use Rattle.pp_macros.specs.inner.Giving.{GivesAhead, GivesEach, GivesNext, PausesEach, is_at_pause, passed};
 ghost use Rattle.pp_macros.specs.inner.Idle.{is_idle};
 ghost use Rattle.pp_macros.specs.inner.CallTurns.{TurnsOrRefuses, is_out_of_memory_step, paren_of, TakenHoldsOrdinary};
 ghost use Rattle.pp_macros.specs.inner.Expander.{StepsFetching, StepsTaking, TakesNext, GathersNext, Satisfies, gathered_to, taken_as, is_pause};
@@ -184,8 +184,9 @@ fn out_of_memory_step() -> Step<Taken>
 }
 
 // Whether a token that a frame gives opens a macro when it is taken, painted or not.
-fn opens_macro(list: &ListLexer<'_>, ahead: &Ahead<'_>, painted: bool) -> bool
-    ensures { result ≡ is_some (macro_of (of_list list.now) (record {
+#[inline(always)]
+fn opens_macro<L: MeLexer>(lexer: &L, ahead: &Ahead<'_>, painted: bool) -> bool
+    ensures { result ≡ is_some (macro_of (L.reader lexer.now) (record {
       token = ahead.now.token;
       painted = painted;
     })) }
@@ -194,7 +195,7 @@ fn opens_macro(list: &ListLexer<'_>, ahead: &Ahead<'_>, painted: bool) -> bool
         return false;
     }
     match ahead.value() {
-        TokenValue::Ident(name) => list.get_define(name.as_str()).is_some(),
+        TokenValue::Ident(name) => lexer.get_define(name.as_str()).is_some(),
         _ => false,
     }
 }
@@ -572,26 +573,57 @@ impl Expander {
         self.held.is_none() && !self.processor.is_idle() && self.processor.token().is_none()
     }
 
-    /// Passes the pauses of the open macros: parameters, and ends of arguments and of bodies.
-    pub fn pass_pauses(&mut self)
-        ensures { PausesEach self.old self.new }
-    {
-        'pauses: while self.is_at_pause() {
-            self.processor.pass();
-        }
-    }
-
     // Whether a token that a frame gives is painted when it is taken.
-    fn paints(&self, list: &ListLexer<'_>, ahead: &Ahead<'_>) -> bool
-        ensures { result ≡ (painted_among (masks self.now.frames (of_list list.now)) ahead.now).painted }
+    #[inline(always)]
+    fn paints<L: MeLexer>(&self, lexer: &L, ahead: &Ahead<'_>) -> bool
+        ensures { result
+            ≡ (painted_among (masks self.now.frames (L.reader lexer.now)) ahead.now).painted }
     {
         match ahead.value() {
             TokenValue::Ident(name) => {
                 ahead.is_painted()
                     || self.processor.is_open(name.as_str())
-                    || list.is_hidden(name.as_str())
+                    || lexer.is_hidden(name.as_str())
             }
             _ => ahead.is_painted(),
+        }
+    }
+
+    /// The token that the innermost open macro gives next, if nothing is held, and the token isn't `__LINE__` and opens
+    /// no macro. It is in the list of that macro; `pass` passes it.
+    #[inline(always)]
+    pub fn token<L: MeLexer>(&self, lexer: &L) -> Option<&Token>
+        ensures gives { IfSome result (λ token. GivesAhead (L.reader lexer.now) self.now token.now) }
+        ensures holds { IfSome result (λ token. HoldsOrdinary token.now.value) }
+    {
+        if self.held.is_some() || self.processor.is_idle() {
+            return None;
+        }
+        let Some(ahead) = self.processor.token() else {
+            return None;
+        };
+        let painted = self.paints(lexer, &ahead);
+        if is_line_name(ahead.value()) || opens_macro(lexer, &ahead, painted) {
+            return None;
+        }
+        Some(ahead.token())
+    }
+
+    /// Advances the innermost open macro by one step.
+    #[inline(always)]
+    pub fn pass(&mut self)
+        ensures { self.new ≡ passed self.old }
+    {
+        self.processor.pass();
+    }
+
+    /// Passes the pauses of the open macros: parameters, and ends of arguments and of bodies.
+    #[inline(always)]
+    pub fn pass_pauses(&mut self)
+        ensures { PausesEach self.old self.new }
+    {
+        'pauses: while self.is_at_pause() {
+            self.processor.pass();
         }
     }
 

@@ -33,6 +33,14 @@ impl<'a> Model for Ahead<'a> {
 }
 
 impl<'a> Ahead<'a> {
+    /// The token, as it is in its list.
+    #[inline(always)]
+    pub fn token(&self) -> &'a Token
+        ensures { result.now ≡ self.now.token }
+    {
+        self.token
+    }
+
     /// Its value.
     pub fn value(&self) -> &'a TokenValue
         ensures { result.now ≡ self.now.token.value }

@@ -1,10 +1,12 @@
 -- Printing the tokens of a run one by one
-use Rattle.std.proofs.Common.{◌≡◌, ℕ, List, [], ◌∷◌, ◌++◌, Option, None, sym, ap, ◌∙◌, append_assoc, append-nil}
+use Rattle.std.proofs.Common.{◌≡◌, ℕ, false, List, [], ◌∷◌, ◌++◌, Option, Some, None, Ok, IsTrue, sym, ap, ◌∙◌, append_assoc, append-nil}
 use Rattle.std.specs.Io.KnownBytes.{Appends}
 use Rattle.std.proofs.lemmas.Grind.{flat_map-append}
 use Rattle.pp_model.specs.declared.outcome.Outcome.TheVariants as outcome
 use Rattle.pp_rs.specs.Comes.{State, Comes}
-use Rattle.pp_rs.specs.Kept.{Preprocessing, Stands}
+use Rattle.pp_rs.specs.Kept.{Preprocessing, Stands, is_spent}
+use Rattle.pp_rs.specs.Preprocessing.{IsNextItem}
+use Rattle.pp_rs.specs.TokenValue.{is_ordinary}
 use Rattle.pp_rs.specs.declared.token.Token.{Token}
 use Rattle.pp_rs.proofs.runs.ComesLemmas.{gives_nothing, gives_more}
 use Rattle.pp_rs.specs.Output.{output_lines, written_lines, output}
@@ -15,6 +17,7 @@ use Rattle.pp_rs.specs.NextWord.{StandsBetween, IsPassed}
 use Rattle.pp_print.specs.SourceRuns.{last_outcome, AreFirstFrom, EndsFrom}
 use Rattle.pp_print.specs.declared.ends.RunEnd.{RunEnd}
 use Rattle.pp_rs.proofs.OutputLemmas.{output_lines-from}
+use Rattle.pp_print.proofs.NextLemmas.{next_token}
 use Rattle.pp_print.proofs.WriteLemmas.{appends_nothing, appends_more}
 
 -- lines that are written after others
@@ -79,6 +82,14 @@ module _ (start : State) (items : Preprocessing) (line old mid new : Option (Lis
     run = record { before = p.state; gives = p.given; after = after; ends = comes };
     written = whole_output w;
   }
+
+-- a token goes to the line
+pub printing_takes : (start : State) (items : Preprocessing) (line old new : Option (List ℕ)) → IsPrinting start items line old new
+    → is_spent items ≡ false → (left : Preprocessing) (t : Token) → IsNextItem items (Some (Ok t)) left → IsTrue (is_ordinary t.value)
+    → (longer : Option (List ℕ)) → longer ≡ line_after line t.value → IsPrinting start left longer old new
+printing_takes start items line old new p unspent left t next ordinary longer is =
+    let given = next_token items left unspent t next p.now.between p.now.stands in
+    printing_goes_on start items line old new new p left t given.0 longer (p.now.comes _ _ given.1) given.2 is (rw ordinary (appends_nothing new))
 
 -- what is printed so far begins the output
 pub printing_begun : (start : State) (items : Preprocessing) (line old new : Option (List ℕ)) → IsPrinting start items line old new

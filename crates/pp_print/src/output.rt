@@ -10,7 +10,7 @@ ghost use Rattle.pp_rs.specs.Output.{written_lines};
 ghost use Rattle.pp_rs.specs.inner.OutputLines.{begun_line, line_after, ended_lines};
 ghost use Rattle.pp_rs.specs.NextWord.{IsPlain};
 ghost use Rattle.pp_rs.specs.WordTokens.{word_token};
-ghost use Rattle.pp_print.specs.inner.Printing.{ArePrinted, AreBegun, KeepsPrinting};
+ghost use Rattle.pp_print.specs.inner.Printing.{ArePrinted, AreBegun, KeepsPrinting, HasLeft};
 ghost use Rattle.pp_print.specs.Runs.{IsStoppedBySource};
 ghost use Rattle.pp_print.specs.declared.ends.RunEnd.TheVariants.{Stopped};
 
@@ -75,7 +75,7 @@ fn print_rest<W: Sink>(
     Ok(RunEnd::Done)
 }
 
-// Takes the words of plain text that come next into the line, spelled as in the source.
+// Takes what comes next into the line, as long as no memory is needed for its tokens.
 #[inline(never)]
 fn push_words(
     alloc: Global,
@@ -88,10 +88,34 @@ fn push_words(
     ensures printing { OnOk result (KeepsPrinting items.old (option_map string_bytes line.old)
         items.new (option_map string_bytes line.new)) }
 {
-    'words: while let Some(word) = items.next_word() {
-        push_plain(alloc, line, &word)?;
-    }
+    'words: while push_next(alloc, items, line)? {}
     Ok(())
+}
+
+// Takes the next token into the line, spelled as in the source if it is a word of plain text, and from the list of the
+// open macro that gives it otherwise. Returns whether there was such a token.
+#[inline(always)]
+fn push_next(
+    alloc: Global,
+    items: &mut Preprocessor<'_>,
+    line: &mut Option<String>,
+) -> Result<bool, AllocError>
+    requires unspent { is_spent items.old ≡ false }
+    ensures spent { OnOk result (is_spent items.new ≡ false) }
+    ensures left { IfOk result (λ pushed. HasLeft pushed items.old items.new) }
+    ensures printing { OnOk result (KeepsPrinting items.old (option_map string_bytes line.old)
+        items.new (option_map string_bytes line.new)) }
+{
+    if let Some(word) = items.next_word() {
+        push_plain(alloc, line, &word)?;
+        return Ok(true);
+    }
+    let Some(token) = items.token() else {
+        return Ok(false);
+    };
+    push_token(alloc, line, &token.value)?;
+    items.pass();
+    Ok(true)
 }
 
 // Prints the line that was begun before an error item. For an `OutOfMemory` it prints nothing: the line's run of tokens

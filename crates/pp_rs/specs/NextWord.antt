@@ -3,10 +3,11 @@ use Rattle.std.specs.Prelude.{◌≡◌, ◌≢◌, ◌≤◌, Option, Some, Ok,
 use Rattle.std.specs.Str.{IsAscii}
 use Rattle.pp_lexer.specs.declared.lexer.plain.Form.TheVariants.{Hash}
 use Rattle.pp_lexer.specs.declared.lexer.plain_item.PlainItem.{PlainItem}
+use Rattle.pp_lexer.specs.declared.token.Token.{Token}
 use Rattle.pp_model.specs.declared.outcome.Outcome.{Outcome}
 use Rattle.pp_directives.specs.WordTokens.{word_token}
 use Rattle.pp_rs.specs.Comes.{State, Comes}
-use Rattle.pp_rs.specs.Kept.{Preprocessing, Stands, is_spent, most_items, errors_left, error_place}
+use Rattle.pp_rs.specs.Kept.{Preprocessing, Stands, IsAhead, is_spent, most_items, errors_left, error_place}
 use Rattle.pp_rs.specs.Preprocessing.{IsNextItem}
 
 -- the preprocessor stands for a state, and what comes next in that state also comes next in this one
@@ -36,3 +37,7 @@ pub record IsWord (old : Preprocessing) (word : PlainItem) (new : Preprocessing)
 -- one call of `next_word`
 abbrev pub IsNextWord : Preprocessing → Option PlainItem → Preprocessing → Type 0
 IsNextWord old answer new = MatchOption answer (IsPassed old new) (λ word. IsWord old word new)
+
+-- an open macro gives a token next
+abbrev pub SomeAhead : Preprocessing → Type 0
+SomeAhead p = (token : Token) × IsAhead p token

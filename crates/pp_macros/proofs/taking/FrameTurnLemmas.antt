@@ -18,7 +18,7 @@ use Rattle.pp_model.specs.Painting.{painted_among}
 use Rattle.pp_macros.specs.declared.calls.Taken.{Taken}
 use Rattle.pp_macros.specs.declared.step.StepExit.TheVariants.{Error, Continue}
 use Rattle.pp_macros.specs.inner.Frames.{names_of}
-use Rattle.pp_macros.specs.inner.Giving.{GivesOne, pause, token, is_at_pause}
+use Rattle.pp_macros.specs.inner.Giving.{GivesOne, pause, token, GivesAhead, is_at_pause, passed}
 use Rattle.pp_macros.proofs.open_frames.AdvanceLemmas.{Advances, advance_lowers}
 use Rattle.pp_macros.proofs.taking.SeekLemmas.{turns_token, turns_exit}
 
@@ -44,27 +44,24 @@ names_stay (f ∷ fs) read is = given_names fs f (advance f) read (advance_lower
 
 -- nothing is held, and a macro is open
 module _ (m : Expander) (r : Reader) (free : m.held ≡ None) (some : is_some (outermost_frame_line m.frames) ≡ true) where
-  abbrev passed : Expander
-  passed = record m { frames = frames_after m.frames }
-
   frame_fetches : (given : Option Read) (step : Step Read) → given ≡ given_next m.frames → step ≡ taken_as (as_pause given) (frames_after m.frames) r
-      → StepsFetching m r step passed r
-  frame_fetches given step is same = moved (as_pause given) step m passed r r free
+      → StepsFetching m r step (passed m) r
+  frame_fetches given step is same = moved (as_pause given) step m (passed m) r r free
       (subst (λ (o : Option Read). Moves m.frames r (as_pause o) (frames_after m.frames) r) (sym is) (frames_move m.frames r some)) same free
 
   frame_takes : (given : Option Read) (step : Step Read) → given ≡ given_next m.frames → step ≡ taken_as (as_pause given) (frames_after m.frames) r
-      → StepsTaking m r (painted_step (masks (frames_after m.frames) r) step) passed r
+      → StepsTaking m r (painted_step (masks (frames_after m.frames) r) step) (passed m) r
   frame_takes given step is same = record { first = step; fetches = frame_fetches given step is same; paints = refl }
 
   -- it pauses
-  pub frame_pauses : None ≡ given_next m.frames → TurnsOrRefuses m r (Err Continue) passed r
-  frame_pauses is = turns_exit m passed r r Continue (frame_takes None (Err Continue) is refl)
+  pub frame_pauses : None ≡ given_next m.frames → TurnsOrRefuses m r (Err Continue) (passed m) r
+  frame_pauses is = turns_exit m (passed m) r r Continue (frame_takes None (Err Continue) is refl)
 
   module _ (read : Read) (is : Some read ≡ given_next m.frames) (apart : is_identifier line_name read.token.value ≡ false) where
     abbrev painted : Read
     painted = painted_among (masks (frames_after m.frames) r) read
 
-    token_taken : StepsTaking m r (Ok painted) passed r
+    token_taken : StepsTaking m r (Ok painted) (passed m) r
     token_taken = frame_takes (Some read) (Ok read) is (rw apart refl)
 
     -- a token is followed
@@ -76,7 +73,7 @@ module _ (m : Expander) (r : Reader) (free : m.held ≡ None) (some : is_some (o
         let names : masks (frames_after m.frames) r ≡ masks m.frames r =
         ap (λ (names : List Name). names ++ hidden_of r) (names_stay m.frames read (sym is)) in
         let whole : ◌≡◌ {A = Read} (record { token = read.token; painted = paint }) painted = rw (names, same) refl in
-        turns_token m passed n r r t painted step token_taken (macro_of r painted) refl
+        turns_token m (passed m) n r r t painted step token_taken (macro_of r painted) refl
         (subst (λ (fs : List Frame). FollowsToken (macro_of r painted) painted (record m { frames = fs }) r step n t ⊎ (step ≡ Err (Error out_of_memory))) passes
         (subst (λ (x : Read). FollowsToken (macro_of r x) x (record m { frames = after }) r step n t ⊎ (step ≡ Err (Error out_of_memory))) whole follows))
 
@@ -84,25 +81,42 @@ module _ (m : Expander) (r : Reader) (free : m.held ≡ None) (some : is_some (o
     pub frame_refuses : (step : Step Taken) (n : Expander) → step ≡ Err (Error out_of_memory) → TurnsOrRefuses m r step n r
     frame_refuses step n refused = inr (record {
       some =
-          record { step = Ok painted; after = passed; reader = r; takes = token_taken; goes = refl };
+          record { step = Ok painted; after = passed m; reader = r; takes = token_taken; goes = refl };
       fault = refused;
     })
 
   -- it pauses, and gives no token
-  pub frame_gives_none : (items : List Read) → None ≡ given_next m.frames → GivesOne r m items passed items
+  pub frame_gives_none : (items : List Read) → None ≡ given_next m.frames → GivesOne r m items (passed m) items
   frame_gives_none items is = pause (frame_takes None (Err Continue) is refl) refl
 
-  -- it gives a token that opens no macro
-  pub frame_gives : (read : Read) (painted : Bool) (items more : List Read) → Some read ≡ given_next m.frames
-      → is_identifier line_name read.token.value ≡ false → painted ≡ (painted_among (masks m.frames r) read).painted
-      → macro_of r (record { token = read.token; painted = painted }) ≡ None → more ≡ items ++ record { token = read.token; painted = painted } ∷ []
-      → GivesOne r m items passed more
-  frame_gives read painted items more is apart same plain put =
+  -- a token that it gives is taken, with this paint
+  takes_given : (read : Read) (painted : Bool) → Some read ≡ given_next m.frames → is_identifier line_name read.token.value ≡ false
+      → painted ≡ (painted_among (masks m.frames r) read).painted → StepsTaking m r (Ok (record { token = read.token; painted = painted })) (passed m) r
+  takes_given read painted is apart same =
       let names : masks (frames_after m.frames) r ≡ masks m.frames r =
       ap (λ (names : List Name). names ++ hidden_of r) (names_stay m.frames read (sym is)) in
       let whole : painted_among (masks (frames_after m.frames) r) read ≡ record { token = read.token; painted = painted } =
       rw (names, same) refl in
-      token (record { token = read.token; painted = painted }) (rw whole at (token_taken read is apart)) plain put
+      rw whole at (token_taken read is apart)
+
+  -- it gives a token that opens no macro
+  pub frame_ahead : (read : Read) (painted : Bool) → Some read ≡ given_next m.frames → is_identifier line_name read.token.value ≡ false
+      → painted ≡ (painted_among (masks m.frames r) read).painted
+      → macro_of r (record { token = read.token; painted = painted }) ≡ None → GivesAhead r m read.token
+  frame_ahead read painted is apart same plain = record {
+    read = record { token = read.token; painted = painted };
+    is = refl;
+    steps = takes_given read painted is apart same;
+    plain = plain;
+  }
+
+  -- and puts it after the items
+  pub frame_gives : (read : Read) (painted : Bool) (items more : List Read) → Some read ≡ given_next m.frames
+      → is_identifier line_name read.token.value ≡ false → painted ≡ (painted_among (masks m.frames r) read).painted
+      → macro_of r (record { token = read.token; painted = painted }) ≡ None → more ≡ items ++ record { token = read.token; painted = painted } ∷ []
+      → GivesOne r m items (passed m) more
+  frame_gives read painted items more is apart same plain put =
+      token (record { token = read.token; painted = painted }) (takes_given read painted is apart same) plain put
 
 none_of : {A : Type 0} (o : Option A) → is_none o ≡ true → o ≡ None
 none_of None e = refl

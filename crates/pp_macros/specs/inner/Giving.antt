@@ -1,13 +1,25 @@
 -- Steps of taking that pause, or give a token that opens no macro, and leave the reader as it is. The tokens are put
 -- after those before.
 use Rattle.std.specs.Prelude.{◌≡◌, ◌&&◌, Bool, true, false, List, [], ◌∷◌, ◌++◌, None, Ok, Err, is_some, is_none}
+use Rattle.pp_lexer.specs.declared.token.Token.{Token}
 use Rattle.pp_model.specs.declared.read.Read.{Read}
-use Rattle.pp_macros.specs.inner.Ahead.{given_next}
+use Rattle.pp_macros.specs.inner.Ahead.{given_next, frames_after}
 use Rattle.pp_macros.specs.inner.Frames.{outermost_frame_line}
 use Rattle.pp_macros.specs.inner.Expander.{Expander, StepsTaking}
 use Rattle.pp_macros.specs.inner.Reader.{Reader}
 use Rattle.pp_macros.specs.inner.Turns.{macro_of}
 use Rattle.pp_macros.specs.declared.step.StepExit.TheVariants.{Continue}
+
+-- the expander after a step of the innermost frame
+abbrev pub passed : Expander → Expander
+passed m = record m { frames = frames_after m.frames }
+
+-- the innermost frame gives this token next, painted or not, and it opens no macro
+pub record GivesAhead (r : Reader) (m : Expander) (token : Token) : Type 0 where
+  pub read : Read
+  pub is : read.token ≡ token
+  pub steps : StepsTaking m r (Ok read) (passed m) r
+  pub plain : macro_of r read ≡ None
 
 -- one step: a pause, or a token
 pub data GivesOne (r : Reader) (m : Expander) (items : List Read) (n : Expander) (more : List Read) : Type 0 where

@@ -1,8 +1,8 @@
 -- How far printing has got. No contract of a public call cites this.
-use Rattle.std.specs.Prelude.{◌≡◌, ℕ, List, ◌++◌, Option}
+use Rattle.std.specs.Prelude.{◌≡◌, ◌<◌, ◌≤◌, Bool, true, false, ℕ, List, ◌++◌, Option}
 use Rattle.std.specs.Io.KnownBytes.{Appends}
 use Rattle.pp_rs.specs.Comes.{State, Gives}
-use Rattle.pp_rs.specs.Kept.{Preprocessing, Stands}
+use Rattle.pp_rs.specs.Kept.{Preprocessing, Stands, most_items}
 use Rattle.pp_rs.specs.NextWord.{StandsBetween}
 use Rattle.pp_rs.specs.Output.{output_lines, written_lines}
 use Rattle.pp_rs.specs.declared.token.Token.{Token}
@@ -36,3 +36,8 @@ KeepsPrinting items line left longer =
     (start : State) (old new : Option (List ℕ))
     → IsPrinting start items line old new
     → IsPrinting start left longer old new
+
+-- less is left after a token, and else no more
+abbrev pub HasLeft : Bool → Preprocessing → Preprocessing → Type 0
+HasLeft true old new = most_items new < most_items old
+HasLeft false old new = most_items new ≤ most_items old

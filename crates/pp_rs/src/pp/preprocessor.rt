@@ -1,6 +1,8 @@
 //! The items of a preprocessed source.
 
-ghost use Rattle.std.specs.Prelude.{◌≡◌, ◌-◌, ◌^◌, ◌<◌, false, length, if◌then◌else◌};
+ghost use Rattle.std.specs.Prelude.{◌≡◌, ◌-◌, ◌^◌, ◌<◌, false, length, if◌then◌else◌, IsTrue, IfSome, Some, Ok};
+ghost use Rattle.pp_lexer.specs.TokenValue.{is_ordinary};
+ghost use Rattle.pp_lexer.specs.declared.token.Token.{Token};
 ghost use Rattle.std.specs.Iterator.{at_most};
 ghost use Rattle.pp_lexer.specs.Location.{nowhere};
 ghost use Rattle.pp_lexer.specs.PreprocessorError.{out_of_memory};
@@ -8,9 +10,9 @@ ghost use Rattle.pp_model.specs.Run.{items_of, start};
 ghost use Rattle.pp_rs.specs.Adding.{IsAdded};
 ghost use Rattle.pp_rs.specs.CallLine.{IsCallLine};
 ghost use Rattle.pp_macros.specs.Item.{is_out_of_memory};
-ghost use Rattle.pp_rs.specs.Kept.{Stands, is_spent, most_items, errors_left, error_place};
+ghost use Rattle.pp_rs.specs.Kept.{Stands, IsAhead, is_spent, most_items, errors_left, error_place};
 ghost use Rattle.pp_macros.specs.LexerErrors.{lexer_errors};
-ghost use Rattle.pp_rs.specs.NextWord.{IsNextWord};
+ghost use Rattle.pp_rs.specs.NextWord.{IsNextWord, SomeAhead};
 ghost use Rattle.pp_rs.specs.Preprocessing.{IsNextItem};
 
 use crate::lexer::PlainItem;
@@ -84,12 +86,17 @@ impl<'a> Preprocessor<'a> {
     /// Returns the next token before memory is taken for it, if it is a word of plain text that is given as it is
     /// in the source. Otherwise it returns `None`, and `next` returns what comes.
     ///
-    /// It is private to the repository. It passes newlines before the token, also if it returns `None`.
+    /// It is private to the repository. It passes ends of macros and newlines before the token, also if it returns
+    /// `None`.
     #[inline(always)]
     pub fn next_word(&mut self) -> Option<PlainItem<'a>>
         ensures { IsNextWord self.old result self.new }
     {
-        if self.spent || !self.expander.is_idle() {
+        if self.spent {
+            return None;
+        }
+        self.expander.pass_pauses();
+        if !self.expander.is_idle() {
             return None;
         }
         'words: loop {
@@ -100,6 +107,36 @@ impl<'a> Preprocessor<'a> {
                 return None;
             }
         }
+    }
+
+    /// Returns the next token before memory is taken for it, if it is ordinary, and the body or an argument of an open
+    /// macro has it as it is given. `pass` passes it. Otherwise it returns `None`, and `next` returns what comes.
+    ///
+    /// It is private to the repository.
+    #[inline(always)]
+    pub fn token(&self) -> Option<&Token>
+        ensures ahead { IfSome result (λ token. IsAhead self.now token.now) }
+        ensures ordinary { IfSome result (λ token. IsTrue (is_ordinary token.now.value)) }
+    {
+        if self.spent {
+            return None;
+        }
+        let token = self.expander.token(&self.source)?;
+        if !token.is_ordinary() {
+            return None;
+        }
+        Some(token)
+    }
+
+    /// Passes the token that `token` returned, as `next` does.
+    ///
+    /// It is private to the repository.
+    #[inline(always)]
+    pub fn pass(&mut self)
+        requires { SomeAhead self.old }
+        ensures { (token : Token) → IsAhead self.old token → IsNextItem self.old (Some (Ok token)) self.new }
+    {
+        self.expander.pass();
     }
 
     /// Returns the place of the last error that `next` returned, in byte offsets and a 1-based line of the source.
