@@ -11,7 +11,8 @@ ghost use Rattle.pp_model.specs.declared.directive.Directive.TheVariants as d;
 ghost use Rattle.pp_macros.specs.inner.Defined.{meaning_of};
 ghost use Rattle.pp_macros.specs.Held.{HoldsOrdinary};
 ghost use Rattle.pp_macros.specs.Item.{as_step};
-ghost use Rattle.pp_directives.specs.inner.PlainText.{StepsPlain, GivesWord, PausesAtNewline};
+ghost use Rattle.pp_macros.specs.inner.Reader.{of_source, ReadsOnto};
+ghost use Rattle.pp_directives.specs.inner.PlainText.{StepsPlain, GivesWord, GivesApart, PausesAtNewline};
 ghost use Rattle.pp_directives.specs.inner.ReadNames.{as_named};
 ghost use Rattle.pp_macros.specs.inner.OpenBlocks.{last_block, facts_among, is_live_among};
 ghost use Rattle.pp_directives.specs.inner.SettingContent.{SetsContent};
@@ -29,7 +30,7 @@ use crate::lines::{
     DefineLine, define_line, ended_line, endif_end, first_name, first_token, line_tokens,
     only_name, rest_of_line, skip_line,
 };
-use crate::live_names::LiveNames;
+use crate::live_names::{LineName, LiveNames};
 use crate::source_lexer::SourceLexer;
 use pp_lexer::lexer::{self, PlainItem};
 use pp_lexer::token::{
@@ -42,7 +43,8 @@ use pp_macros::halt::Halt;
 use pp_macros::step::{Step, StepExit};
 use pp_model::conversion::refused_token;
 use pp_model::directive::{Directive, directive_of};
-use std::alloc::Global;
+use pp_model::read::Read;
+use std::alloc::{AllocError, Global};
 use std::marker::Model;
 use std::rc::Rc;
 
@@ -597,6 +599,37 @@ impl<'a> DirectiveProcessor<'a> {
         let item = self.lexer.next_unknown(&names)?;
         self.has_text = true;
         Some(item)
+    }
+
+    // The token of a word of plain text, if one comes first in live text and isn't `__LINE__`. Otherwise nothing
+    // changes.
+    #[inline(always)]
+    fn next_apart(&mut self) -> Result<Option<Token>, AllocError>
+        ensures { IfOk result (λ next. GivesApart self.old next self.new) }
+    {
+        let in_live_text = self.is_live();
+        if !in_live_text {
+            return Ok(None);
+        }
+        let Some(item) = self.lexer.next_unknown(&LineName) else {
+            return Ok(None);
+        };
+        let token = word_token(self.alloc, item)?;
+        self.has_text = true;
+        Ok(Some(token))
+    }
+
+    /// Reads a word of plain text onto the end of the tokens, if one comes first in live text and isn't `__LINE__`.
+    /// Returns whether it did. Otherwise nothing changes.
+    pub fn push_word(&mut self, tokens: &mut Vec<Read>) -> Result<bool, AllocError>
+        ensures { IfOk result (λ pushed. ReadsOnto (of_source self.old) tokens.old.items pushed
+            (of_source self.new) tokens.new.items) }
+    {
+        let Some(token) = self.next_apart()? else {
+            return Ok(false);
+        };
+        tokens.push(Read::unpainted(token))?;
+        Ok(true)
     }
 
     /// Passes a newline of plain text, if one comes first, and returns whether it did. Otherwise it changes nothing.

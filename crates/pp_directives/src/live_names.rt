@@ -1,4 +1,4 @@
-//! Names at which live text stops.
+//! Names at which live text stops, and at which the text of a call does.
 
 use pp_lexer::lexer::KnownNames;
 use pp_macros::definitions::Definitions;
@@ -17,5 +17,19 @@ impl<'d> KnownNames for LiveNames<'d> {
 
     fn is_known(&self, name: &str) -> bool {
         name == "__LINE__" || self.definitions.find(name).is_some()
+    }
+}
+
+/// The name `__LINE__` alone.
+#[derive(Clone, Copy)]
+pub struct LineName;
+
+impl KnownNames for LineName {
+    ghost use Rattle.pp_model.specs.Names.{is_same_name, line_name};
+
+    ghost knows = { λ names name. is_same_name name line_name };
+
+    fn is_known(&self, name: &str) -> bool {
+        name == "__LINE__"
     }
 }

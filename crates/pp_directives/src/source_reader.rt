@@ -8,6 +8,7 @@ use pp_macros::define::Macro;
 use pp_macros::reader::MeLexer;
 use pp_macros::step::{Step, StepExit};
 use pp_model::read::Read;
+use std::alloc::AllocError;
 use std::rc::Rc;
 
 impl<'a> MeLexer for DirectiveProcessor<'a> {
@@ -18,6 +19,10 @@ impl<'a> MeLexer for DirectiveProcessor<'a> {
             Ok(token) => Ok(Read::unpainted(token)),
             Err(exit) => Err(exit),
         }
+    }
+
+    fn push_next(&mut self, tokens: &mut Vec<Read>) -> Result<bool, AllocError> {
+        self.push_word(tokens)
     }
 
     fn get_define(&self, name: &str) -> Option<&Rc<Macro>> {

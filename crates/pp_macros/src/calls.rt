@@ -10,7 +10,7 @@ ghost use Rattle.pp_macros.specs.inner.Reading.{AllReadOrdinary};
 ghost use Rattle.pp_macros.specs.inner.Giving.{GivesAhead, GivesEach, GivesNext, PausesEach, is_at_pause, passed};
 ghost use Rattle.pp_macros.specs.inner.Idle.{is_idle};
 ghost use Rattle.pp_macros.specs.inner.CallTurns.{TurnsOrRefuses, is_out_of_memory_step, paren_of, TakenHoldsOrdinary};
-ghost use Rattle.pp_macros.specs.inner.Expander.{StepsFetching, StepsTaking, TakesNext, GathersNext, Satisfies, gathered_to, taken_as, is_pause};
+ghost use Rattle.pp_macros.specs.inner.Expander.{StepsFetching, StepsTaking, TakesNext, TakesOnto, GathersNext, Satisfies, gathered_to, taken_as, is_pause};
 ghost use Rattle.pp_macros.specs.inner.Reader.{of_list};
 ghost use Rattle.pp_macros.specs.inner.Turns.{macro_of, macro_of_value, masks};
 ghost use Rattle.pp_lexer.specs.declared.token.TokenValue.TheVariants as value;
@@ -334,6 +334,26 @@ impl Expander {
         }
     }
 
+    // Takes the next step that isn't a pause, and puts its token after the tokens. If no macro is open and nothing is
+    // held, the reader puts it there at once.
+    fn push_next(&mut self, lexer: &mut dyn MeLexer, tokens: &mut Vec<Read>) -> Step<()>
+        ensures takes { TakesOnto self.old (reader lexer.old) tokens.old.items result self.new
+            (reader lexer.new) tokens.new.items }
+    {
+        if self.is_idle() {
+            match lexer.push_next(tokens) {
+                Ok(true) => return Ok(()),
+                Ok(false) => {}
+                Err(_) => return Err(StepExit::Error(out_of_memory())),
+            }
+        }
+        let read = self.take_next(lexer)?;
+        match tokens.push(read) {
+            Ok(()) => Ok(()),
+            Err(_) => Err(StepExit::Error(out_of_memory())),
+        }
+    }
+
     // The tokens up to the `)` of a call whose `(` is at `paren`, or the first fault before it.
     fn gather(&mut self, lexer: &mut dyn MeLexer, paren: Location) -> Result<Gathered, Halt>
         ensures gathers { Satisfies result
@@ -359,8 +379,8 @@ impl Expander {
         let mut last = paren;
         let mut depth: u32 = 0;
         'tokens: loop {
-            let read = match self.take_next(lexer) {
-                Ok(read) => read,
+            match self.push_next(lexer, tokens) {
+                Ok(()) => {}
                 Err(StepExit::Error(fault)) => return Err(halt_of(fault)),
                 Err(StepExit::Finished) => {
                     return Err(Halt::Fault((PreprocessorError::UnexpectedEndOfInput, last)));
@@ -368,20 +388,21 @@ impl Expander {
                 Err(StepExit::Continue) => {
                     return Err(Halt::Fault((PreprocessorError::UnexpectedEndOfInput, last)));
                 }
+            }
+            let Some(read) = tokens.last() else {
+                unreachable!();
             };
             last = read.token.location;
             match nesting_of(depth, &read.token.value) {
                 Nesting::Closes => {
-                    drop(read);
+                    drop(tokens.pop());
                     return Ok(last);
                 }
                 Nesting::TooMany => {
-                    drop(read);
                     return Err(Halt::Fault((PreprocessorError::IntegerOverflow, last)));
                 }
                 Nesting::Within(deeper) => depth = deeper,
             }
-            tokens.push(read)?;
         }
     }
 

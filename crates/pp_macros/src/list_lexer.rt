@@ -1,9 +1,10 @@
 //! A list of tokens as a reader: an argument of a call, or the line of a directive.
 
-ghost use Rattle.std.specs.Prelude.{◌≡◌, ◌&&◌, false, true, map, IfOk};
+ghost use Rattle.std.specs.Prelude.{◌≡◌, ◌&&◌, ◌||◌, ◌∷◌, ◌<◌, not, false, true, length, map, IfOk};
 ghost use Rattle.std.specs.Str.{chars};
-ghost use Rattle.pp_model.specs.Names.{is_same_name, defined_name};
-ghost use Rattle.pp_model.specs.Painting.{unpainted};
+ghost use Rattle.pp_model.specs.Names.{is_identifier, is_same_name, defined_name, line_name};
+ghost use Rattle.pp_model.specs.Painting.{unpainted, is_one_of};
+ghost use Rattle.pp_macros.specs.Held.{HoldsOrdinary};
 ghost use Rattle.pp_macros.specs.inner.Reading.{AllReadOrdinary};
 ghost use Rattle.pp_macros.specs.inner.Reader.{of_list};
 
@@ -13,6 +14,7 @@ use crate::open_around::OpenAround;
 use crate::reader::MeLexer;
 use crate::step::{Step, StepExit};
 use pp_lexer::token::{Location, NOWHERE, Punct, Token, TokenValue};
+use pp_model::names::is_line_name;
 use pp_model::read::Read;
 use std::alloc::{AllocError, Global};
 use std::marker::Model;
@@ -46,6 +48,14 @@ pub fn take_out(place: &mut Read) -> Read
         location: NOWHERE,
     };
     mem::replace(place, Read::unpainted(nothing))
+}
+
+// Whether the token isn't `__LINE__`, nor a name that is painted when it is taken.
+fn is_taken_as_it_is(read: &Read, hidden: &OpenAround<'_>) -> bool
+    ensures { result ≡ (not (is_identifier line_name read.now.token.value)
+        && (read.now.painted || not (is_one_of hidden.now read.now.token.value))) }
+{
+    !is_line_name(&read.token.value) && (read.painted || !hidden.is_open_name(&read.token.value))
 }
 
 /// A list of tokens, with the definitions there and the names that are open around. Tokens that it
@@ -124,6 +134,21 @@ impl<'a> ListLexer<'a> {
     }
 }
 
+impl<'a> ListLexer<'a> {
+    // Takes the first token out.
+    #[inline(always)]
+    fn take_first(&mut self) -> Read
+        requires { 0 < length self.old.tokens }
+        ensures tokens { self.old.tokens ≡ result ∷ self.new.tokens }
+        ensures others { self.new ≡ record self.old { tokens = self.new.tokens } }
+        ensures holds { HoldsOrdinary result.token.value }
+    {
+        let read = take_out(&mut self.tokens[self.position]);
+        self.position += 1;
+        read
+    }
+}
+
 impl<'a> MeLexer for ListLexer<'a> {
     ghost reader = { λ list. of_list list };
 
@@ -131,9 +156,18 @@ impl<'a> MeLexer for ListLexer<'a> {
         if self.tokens.len() <= self.position {
             return Err(StepExit::Finished);
         }
-        let read = take_out(&mut self.tokens[self.position]);
-        self.position += 1;
-        Ok(read)
+        Ok(self.take_first())
+    }
+
+    fn push_next(&mut self, tokens: &mut Vec<Read>) -> Result<bool, AllocError> {
+        let hidden = self.hidden;
+        if self.tokens.len() <= self.position
+            || !is_taken_as_it_is(&self.tokens[self.position], hidden)
+        {
+            return Ok(false);
+        }
+        tokens.push(self.take_first())?;
+        Ok(true)
     }
 
     fn get_define(&self, name: &str) -> Option<&Rc<Macro>> {

@@ -6,12 +6,13 @@ ghost use Rattle.pp_lexer.specs.declared.token.PreprocessorError.TheVariants.{Li
 ghost use Rattle.pp_model.specs.Names.{is_in};
 ghost use Rattle.pp_macros.specs.Held.{HoldsOrdinary};
 ghost use Rattle.pp_macros.specs.Item.{as_step};
-ghost use Rattle.pp_macros.specs.inner.Reader.{Reader, Reads, visible, hidden_of, shown_line};
+ghost use Rattle.pp_macros.specs.inner.Reader.{Reader, Reads, ReadsOnto, visible, hidden_of, shown_line};
 
 use crate::define::Macro;
 use crate::step::Step;
 use pp_lexer::token::Location;
 use pp_model::read::Read;
+use std::alloc::AllocError;
 use std::rc::Rc;
 
 /// A reader of tokens, with the definitions that hold at its position.
@@ -22,6 +23,12 @@ pub trait MeLexer {
     fn step(&mut self) -> Step<Read>
         ensures reads { Reads (reader self.old) result (reader self.new) }
         ensures holds { IfOk result (λ read. HoldsOrdinary read.token.value) };
+
+    /// Reads the next token onto the end of the tokens, if no pause comes before it and it isn't `__LINE__`. Returns
+    /// whether it did. If it didn't, nothing changes.
+    fn push_next(&mut self, tokens: &mut Vec<Read>) -> Result<bool, AllocError>
+        ensures { IfOk result (λ pushed. ReadsOnto (reader self.old) tokens.old.items pushed
+            (reader self.new) tokens.new.items) };
 
     /// The macro of the name there, if it is defined.
     fn get_define(&self, name: &str) -> Option<&Rc<Macro>>

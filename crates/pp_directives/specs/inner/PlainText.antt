@@ -8,7 +8,7 @@ use Rattle.pp_lexer.specs.declared.lexer.plain_item.PlainItem.{PlainItem}
 use Rattle.pp_macros.specs.inner.LineReading.{HasTaken, next_token}
 use Rattle.pp_macros.specs.inner.SourceLexed.{SourceLexed, unreported_at}
 use Rattle.pp_directives.specs.WordTokens.{word_value, word_token}
-use Rattle.pp_model.specs.Names.{is_same_name, line_name}
+use Rattle.pp_model.specs.Names.{is_identifier, is_same_name, line_name}
 use Rattle.pp_macros.specs.inner.Defined.{Defined, meaning_of}
 use Rattle.pp_macros.specs.inner.Plain.{gives_itself}
 use Rattle.pp_macros.specs.declared.step.StepExit.TheVariants.{Continue}
@@ -78,6 +78,16 @@ pub record TakesWord (old : Source) (item : PlainItem) (new : Source) : Type 0 w
 -- such a word, or nothing changed
 abbrev pub GivesWord : Source → Option PlainItem → Source → Type 0
 GivesWord old answer new = MatchOption answer (new ≡ old) (λ item. TakesWord old item new)
+
+-- a step at a word of plain text that isn't `__LINE__`
+pub record IsApart (old : Source) (token : Token) (new : Source) : Type 0 where
+  pub apart : is_identifier line_name token.value ≡ false
+  pub holds : HoldsOrdinary token.value
+  pub step : IsStep old (Ok token) new
+
+-- such a step, or nothing changed
+abbrev pub GivesApart : Source → Option Token → Source → Type 0
+GivesApart old answer new = MatchOption answer (new ≡ old) (λ token. IsApart old token new)
 
 -- a newline was a pause, or nothing changed
 abbrev pub PausesAtNewline : Source → Bool → Source → Type 0

@@ -1,6 +1,10 @@
 -- Steps of taking, as the code makes them.
 use Rattle.std.proofs.Common.{◌≡◌, ◌∙◌, false, true, List, [], ◌∷◌, ◌++◌, ◌<◌, ℕ, arith, refl, sym, ap, subst, Option, Some, None, Result, Ok, Err, MatchResult}
-use Rattle.std.specs.Prelude.{is_some}
+use Rattle.std.specs.Prelude.{is_some, length, take, ◌-◌}
+use Rattle.std.specs.List.{slice_get}
+use Rattle.std.proofs.lemmas.List.{length-append}
+use Rattle.std.proofs.lemmas.Option.{slice_get-get_or}
+use Rattle.std.proofs.Math.Seq.{get_or-append_seam, take-append_seam}
 use Rattle.pp_model.specs.declared.read.Read.{Read}
 use Rattle.pp_lexer.specs.declared.token.Location.{Location}
 use Rattle.pp_lexer.specs.declared.token.PreprocessorError.TheVariants.{LineOverflow, IntegerOverflow, UnexpectedEndOfInput}
@@ -8,13 +12,15 @@ use Rattle.pp_model.specs.Calls.{Fault, Gathered, before, nesting, closes, withi
 use Rattle.pp_model.specs.declared.read.Taken.TheVariants as given
 use Rattle.pp_macros.specs.Item.{Step, is_out_of_memory}
 use Rattle.pp_macros.specs.inner.Frames.{Frame}
-use Rattle.pp_macros.specs.inner.Expander.{Expander, is_pause, step_of_outcome, taken_as, StepsFetching, StepsTaking, held, moved, TakesNext, now, later, GathersNext, closed, inside, overfull, ended, failed}
+use Rattle.pp_macros.specs.inner.Expander.{Expander, is_pause, step_of_outcome, taken_as, StepsFetching, StepsTaking, held, moved, IsTakenOnto, TakesNext, now, later, GathersNext, closed, inside, overfull, ended, failed}
 use Rattle.pp_macros.specs.inner.Left.{regions, regions_of, holding_step, reads_left}
 use Rattle.pp_model.proofs.GatherLemmas.{after_tokens, after_tokens-before, after_tokens-closed}
 use Rattle.pp_macros.specs.inner.Reach.{total}
-use Rattle.pp_macros.specs.inner.Reader.{Reader}
+use Rattle.pp_macros.specs.inner.Idle.{is_idle}
+use Rattle.pp_macros.specs.inner.Reader.{Reader, IsReadOnto}
+use Rattle.pp_macros.specs.inner.Reading.{painted_step}
 use Rattle.pp_macros.proofs.work.SpendLemmas.{step_spends, next_spends, total_one_more}
-use Rattle.pp_macros.specs.inner.Turns.{Moves, taken_in, gives_line_name}
+use Rattle.pp_macros.specs.inner.Turns.{Moves, taken_in, gives_line_name, masks}
 use Rattle.pp_macros.specs.declared.step.StepExit.TheVariants.{Error, Continue, Finished}
 
 -- what is held comes first
@@ -57,6 +63,28 @@ pub shows_token : (frames : List Frame) (reader : Reader) (read : Read) (step : 
 shows_token frames reader read (Ok t) h = ap step_of_outcome (sym h)
 shows_token frames reader read (Err exit) h = ap Err h.0 ∙ ap step_of_outcome (sym h.1)
 
+idle_is : (o : Option (Step Read)) (fs : List Frame) → is_idle (record { held = o; frames = fs }) ≡ true → (o ≡ None) × (fs ≡ [])
+idle_is None [] e = (refl, refl)
+idle_is None (f ∷ fs) e = cc
+idle_is (Some step) fs e = cc
+
+-- if nothing is held and no macro is open, the token that a reader puts after the tokens is taken
+pub idle_takes : (m : Expander) (r s : Reader) (tokens more : List Read) → is_idle m ≡ true → IsReadOnto r tokens s more
+    → IsTakenOnto m r tokens m s more
+idle_takes m r s tokens more idle onto =
+    let none = idle_is m.held m.frames idle in
+    let fetches : StepsFetching m r (Ok onto.read) m s = fetches_step m m.held m.held m.frames m.frames (Ok onto.read) r s refl none.0 none.0
+    (subst (λ (fs : List Frame). Moves fs r (Ok onto.read) fs s) (sym none.1) (refl, onto.reads)) onto.apart in
+    let unmasked : Ok onto.read ≡ painted_step (masks m.frames s) (Ok onto.read) =
+    subst (λ (fs : List Frame). Ok onto.read ≡ painted_step (masks fs s) (Ok onto.read)) (sym none.1)
+    (ap (λ (read : Read). Ok read) (sym onto.unmasked)) in
+    record {
+      read = onto.read;
+      takes = now (Ok onto.read) m m r s (record { first = Ok onto.read; fetches = fetches; paints = unmasked }) refl;
+      holds = onto.holds;
+      is = onto.is;
+    }
+
 -- what is taken next from here on is taken next from the beginning on
 abbrev pub LeadsToNext : Expander → Reader → Expander → Reader → Type 0
 LeadsToNext m r n s = (step : Step Read) (p : Expander) (t : Reader) → TakesNext n s step p t → TakesNext m r step p t
@@ -91,6 +119,23 @@ next_falls m n r s read next =
     let h = next_spends (λ c. c) 0 (λ a b low. low) (Ok read) m n r s next refl in
     let free : regions n s ≡ regions_of n.frames (reads_left s) = ap (λ o. holding_step o (regions_of n.frames (reads_left s))) h.free in
     omega (arith, h.spends.least, total_one_more (regions_of n.frames (reads_left s)), ap total free)
+
+-- the last of the tokens, after one was put there, and the tokens before it
+last_place : (before : List Read) (read : Read) → length (before ++ read ∷ []) - 1 ≡ length before
+last_place before read = omega (arith, length-append before (read ∷ []))
+
+pub last_put : (before more : List Read) (read last : Read) → more ≡ before ++ read ∷ [] → Some last ≡ slice_get more (length more - 1) → last ≡ read
+last_put before more read last is found =
+    let here : slice_get (before ++ read ∷ []) (length before) ≡ Some read =
+    slice_get-get_or (before ++ read ∷ []) (length before) read (omega (arith, length-append before (read ∷ [])))
+    ∙ ap (λ (r : Read). Some r) (get_or-append_seam before read [] read) in
+    let same : Some last ≡ Some read =
+    (rw (is, last_place before read) at found) ∙ here in
+    cc
+
+pub before_last : (before more : List Read) (read : Read) (count : ℕ) → count ≡ length more → more ≡ before ++ read ∷ []
+    → take (count - 1) more ≡ before
+before_last before more read count counts is = rw (counts, is, last_place before read) (take-append_seam before (read ∷ []))
 
 -- how the search goes on from here is how it goes on from the beginning, after these tokens
 abbrev pub Gathering : Location → Expander → Reader → List Read → ℕ → Location → Expander → Reader → Type 0

@@ -1,12 +1,13 @@
 -- An expander over a reader: the open macros, and a step that was taken in the search for a `(` and is held
 -- (docs/RULES.md, Expansion 5).
-use Rattle.std.specs.Prelude.{◌≡◌, Bool, false, true, ℕ, ⊤, List, [], Option, Some, None, Result, Ok, Err}
+use Rattle.std.specs.Prelude.{◌≡◌, Bool, false, true, ℕ, ⊤, List, [], ◌∷◌, ◌++◌, Option, Some, None, Result, Ok, Err}
 use Rattle.pp_lexer.specs.declared.token.Location.{Location}
 use Rattle.pp_lexer.specs.declared.token.PreprocessorError.TheVariants.{IntegerOverflow, UnexpectedEndOfInput}
 use Rattle.pp_model.specs.declared.read.Read.{Read}
 use Rattle.pp_model.specs.Calls.{Fault, Gathered, before, nesting, closes, within, too_many}
 use Rattle.pp_model.specs.declared.read.Taken.{Taken as Given}
 use Rattle.pp_model.specs.declared.read.Taken.TheVariants as given
+use Rattle.pp_macros.specs.Held.{HoldsOrdinary}
 use Rattle.pp_macros.specs.Item.{Step, is_out_of_memory}
 use Rattle.pp_macros.specs.inner.Frames.{Frame}
 use Rattle.pp_macros.specs.inner.Reader.{Reader}
@@ -74,6 +75,21 @@ pub data TakesNext : Expander → Reader → Step Read → Expander → Reader �
       → StepsTaking m r (Err Continue) n s
       → TakesNext n s step p t
       → TakesNext m r step p t
+
+-- the next token was taken and put after the tokens
+pub record IsTakenOnto (m : Expander) (r : Reader) (tokens : List Read) (n : Expander) (s : Reader) (more : List Read)
+    : Type 0 where
+  pub read : Read
+  pub takes : TakesNext m r (Ok read) n s
+  pub holds : HoldsOrdinary read.token.value
+  pub is : more ≡ tokens ++ read ∷ []
+
+-- it was, or there was none; of a refusal of memory this says nothing
+abbrev pub TakesOnto : Expander → Reader → List Read → Step (Unit {0}) → Expander → Reader → List Read → Type 0
+TakesOnto m r tokens (Ok done) n s more = IsTakenOnto m r tokens n s more
+TakesOnto m r tokens (Err (Error fault)) n s more =
+    is_out_of_memory fault.0 ≡ false → TakesNext m r (Err (Error fault)) n s
+TakesOnto m r tokens (Err exit) n s more = TakesNext m r (Err exit) n s
 
 -- the tokens that are taken up to the matching `)`, or the fault that is met before it
 pub data GathersNext : ℕ → Location → Expander → Reader → Result Gathered Fault → Expander → Reader → Type 0 where

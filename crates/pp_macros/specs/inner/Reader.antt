@@ -1,13 +1,15 @@
 -- What comes after the frames: the reader, as its interface object shows it.
-use Rattle.std.specs.Prelude.{◌≡◌, ◌⊎◌, ℕ, pos, ◌+ℤ◌, Bool, ◌&&◌, if◌then◌else◌, List, [], ◌∷◌, Option, Some, None, Ok}
-use Rattle.std.specs.Prelude.{Err}
+use Rattle.std.specs.Prelude.{◌≡◌, ◌⊎◌, ℕ, pos, ◌+ℤ◌, Bool, true, false, ◌&&◌, if◌then◌else◌, List, [], ◌∷◌, ◌++◌}
+use Rattle.std.specs.Prelude.{Option, Some, None, Ok, Err}
 use Rattle.pp_lexer.specs.PreprocessorError.{out_of_memory}
 use Rattle.pp_lexer.specs.declared.token.Token.{Token}
 use Rattle.pp_model.specs.Definitions.{Definitions}
 use Rattle.pp_model.specs.LineValues.{as_line_number}
-use Rattle.pp_model.specs.Names.{Name, is_same_name, defined_name}
+use Rattle.pp_model.specs.Names.{Name, is_identifier, is_same_name, defined_name, line_name}
+use Rattle.pp_model.specs.Painting.{painted_among}
 use Rattle.pp_model.specs.declared.read.Read.{Read}
 use Rattle.pp_model.specs.inner.Reading.{after_listed}
+use Rattle.pp_macros.specs.Held.{HoldsOrdinary}
 use Rattle.pp_macros.specs.Item.{Step}
 use Rattle.pp_macros.specs.inner.Reading.{unpainted_step}
 use Rattle.pp_macros.specs.inner.Defined.{Defined, meaning_of}
@@ -58,6 +60,20 @@ is_reserved list name = list.is_line && is_same_name name defined_name
 abbrev pub hidden_of : Reader → List Name
 hidden_of (of_source source) = []
 hidden_of (of_list list) = list.hidden
+
+-- the next token, which isn't `__LINE__` nor the name of a macro that is open around, was read and put after the tokens
+pub record IsReadOnto (old : Reader) (tokens : List Read) (new : Reader) (more : List Read) : Type 0 where
+  pub read : Read
+  pub reads : Reads old (Ok read) new
+  pub apart : is_identifier line_name read.token.value ≡ false
+  pub unmasked : painted_among (hidden_of new) read ≡ read
+  pub holds : HoldsOrdinary read.token.value
+  pub is : more ≡ tokens ++ read ∷ []
+
+-- such a token was, or nothing changed
+abbrev pub ReadsOnto : Reader → List Read → Bool → Reader → List Read → Type 0
+ReadsOnto old tokens true new more = IsReadOnto old tokens new more
+ReadsOnto old tokens false new more = (new ≡ old) × (more ≡ tokens)
 
 -- the definitions that open macros there
 abbrev pub visible : Reader → Definitions

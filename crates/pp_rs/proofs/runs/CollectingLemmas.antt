@@ -1,5 +1,5 @@
 -- The items of a preprocessor, gathered one after another.
-use Rattle.std.proofs.Common.{◌≡◌, ◌∙◌, ◌⊎◌, append_assoc, inl, inr, Bool, true, false, List, [], ◌∷◌, ◌++◌, refl, ap, sym, subst, Option, Some, None, All}
+use Rattle.std.proofs.Common.{◌≡◌, ◌∙◌, ◌⊎◌, append_assoc, inl, inr, Bool, true, false, List, [], ◌∷◌, ◌++◌, refl, ap, sym, subst, Option, Some, None}
 use Rattle.std.specs.Prelude.{Ok, Err, MatchBool}
 use Rattle.std.proofs.lemmas.List.{append-nil}
 use Rattle.std.proofs.lemmas.List.Elements.{All-nil, All-push}

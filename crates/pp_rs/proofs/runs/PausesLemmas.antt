@@ -1,5 +1,5 @@
 -- The loop of `next` may pass any number of pauses of the open macros at once.
-use Rattle.std.proofs.Common.{◌≡◌, ◌≤◌, inl, refl, arith, Err}
+use Rattle.std.proofs.Common.{◌≤◌, inl, refl, arith, Err}
 use Rattle.pp_model.specs.Emitting.{expansion_limit}
 use Rattle.pp_macros.specs.inner.CallTurns.{passes}
 use Rattle.pp_macros.specs.inner.Giving.{PausesEach, at_once, after}

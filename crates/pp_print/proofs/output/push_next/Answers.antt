@@ -1,5 +1,4 @@
-use Rattle.std.proofs.Common.{◌∙◌, string_bytes, arith}
-use Rattle.std.specs.Option.{option_map}
+use Rattle.std.proofs.Common.{◌∙◌, arith}
 use Rattle.pp_rs.specs.WordTokens.{word_token}
 use Rattle.pp_rs.proofs.runs.SpellingLemmas.{word_ordinary}
 use Rattle.pp_print.proofs.NextLemmas.{token_keeps_ready}

@@ -1,5 +1,5 @@
-use Rattle.std.proofs.Common.{ap, ◌∙◌, ◌++◌, arith, string_bytes}
-use Rattle.pp_rs.proofs.ItemsTextLemmas.{pieces_output, one_more_item, all_items}
+use Rattle.std.proofs.Common.{arith}
+use Rattle.pp_rs.proofs.ItemsTextLemmas.{pieces_output, one_more_item}
 use Rattle.pp_rs.proofs.pp.items_text.join_items.Goals as goal
 
 pub loop-token-init : goal.loop-token-init

@@ -1,4 +1,3 @@
-use Rattle.std.proofs.Common.{sym}
 use Rattle.pp_rs.proofs.runs.PassedLemmas.{token_ahead}
 use Rattle.pp_rs.proofs.pp.preprocessor.Preprocessor.token.Goals as goal
 

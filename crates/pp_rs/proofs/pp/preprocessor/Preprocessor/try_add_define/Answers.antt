@@ -1,5 +1,5 @@
 use Rattle.std.proofs.Common.{Ok, Err, refl, ap, arith}
-use Rattle.pp_rs.specs.Trying.{IsTried, short}
+use Rattle.pp_rs.specs.Trying.{short}
 use Rattle.pp_rs.specs.declared.pp.trying.AddError.TheVariants.{Refused}
 use Rattle.pp_rs.proofs.pp.preprocessor.Preprocessor.try_add_define.Goals as goal
 
