@@ -1,16 +1,17 @@
 //! Calls of function-like macros: taking, and the search for their arguments.
 
-ghost use Rattle.std.specs.Prelude.{◌≡◌, ◌⊎◌, ◌∷◌, ◌++◌, if◌then◌else◌, [], OnOk, true, false, IfOk, IfSome, Ok, Err, Some, None, IsSome, is_some, option_map};
+ghost use Rattle.std.specs.Prelude.{◌≡◌, ◌⊎◌, ◌∷◌, ◌++◌, if◌then◌else◌, [], OnOk, OnErr, true, false, IfOk, IfSome, Ok, Err, Some, None, IsSome, is_some, option_map};
 ghost use Rattle.pp_lexer.specs.PreprocessorError.{out_of_memory};
 ghost use Rattle.pp_model.specs.Painting.{unpainted, painted_among};
 ghost use Rattle.pp_macros.specs.inner.Seeking.{FindsBy, Enters, FollowsToken};
 ghost use Rattle.pp_macros.specs.inner.Frames.{new_frame, names_of, outermost_frame_line};
 ghost use Rattle.pp_macros.specs.Held.{HoldsOrdinary};
 ghost use Rattle.pp_macros.specs.inner.Reading.{AllReadOrdinary};
-ghost use Rattle.pp_macros.specs.inner.Giving.{GivesAhead, GivesEach, GivesNext, PausesEach, is_at_pause, passed};
+ghost use Rattle.pp_macros.specs.inner.Giving.{AdvancesTo, GivesEach, GivesNext, RefusesWithin, TurnsFrames, passed, token_ahead};
 ghost use Rattle.pp_macros.specs.inner.Idle.{is_idle};
-ghost use Rattle.pp_macros.specs.inner.CallTurns.{TurnsOrRefuses, is_out_of_memory_step, paren_of, TakenHoldsOrdinary};
+ghost use Rattle.pp_macros.specs.inner.CallTurns.{TurnsOrRefuses, TakesSomething, is_out_of_memory_step, paren_of, TakenHoldsOrdinary};
 ghost use Rattle.pp_macros.specs.inner.Expander.{StepsFetching, StepsTaking, TakesNext, TakesOnto, GathersNext, Satisfies, gathered_to, taken_as, is_pause};
+ghost use Rattle.pp_macros.specs.inner.Left.{IsSound};
 ghost use Rattle.pp_macros.specs.inner.Reader.{of_list};
 ghost use Rattle.pp_macros.specs.inner.Turns.{macro_of, macro_of_value, masks};
 ghost use Rattle.pp_lexer.specs.declared.token.TokenValue.TheVariants as value;
@@ -18,7 +19,7 @@ ghost use Rattle.pp_macros.specs.declared.step.StepExit.TheVariants.{Error, Cont
 
 use crate::argument_lists::ArgumentLists;
 use crate::define::{Define, Macro};
-use crate::frames::Ahead;
+use crate::frames::{Ahead, copy_of};
 use crate::halt::{Halt, halt_of};
 use crate::list_lexer::ListLexer;
 use crate::macro_processor::{MacroProcessor, gives_line_name};
@@ -183,20 +184,22 @@ fn out_of_memory_step() -> Step<Taken>
     Err(StepExit::Error(out_of_memory()))
 }
 
-// Whether a token that a frame gives opens a macro when it is taken, painted or not.
+// The macro that a token of a frame opens when it is taken, painted or not.
 #[inline(always)]
-fn opens_macro<L: MeLexer>(lexer: &L, ahead: &Ahead<'_>, painted: bool) -> bool
-    ensures { result ≡ is_some (macro_of (L.reader lexer.now) (record {
-      token = ahead.now.token;
-      painted = painted;
-    })) }
+fn opened_by<'l, L: MeLexer>(
+    lexer: &'l L,
+    ahead: &Ahead<'_>,
+    painted: bool,
+) -> Option<&'l Rc<Macro>>
+    ensures { option_map (λ m. (m.now.value.name, m.now.value.definition)) result
+        ≡ macro_of (L.reader lexer.now) (record { token = ahead.now.token; painted = painted }) }
 {
     if painted {
-        return false;
+        return None;
     }
     match ahead.value() {
-        TokenValue::Ident(name) => lexer.get_define(name.as_str()).is_some(),
-        _ => false,
+        TokenValue::Ident(name) => lexer.get_define(name.as_str()),
+        _ => None,
     }
 }
 
@@ -219,6 +222,17 @@ fn find_macro(
         Some(found) => Ok(Some(found.clone()?)),
         None => Ok(None),
     }
+}
+
+// What one step of the open macros does.
+#[derive(Clone, Copy)]
+enum Turn {
+    // It is a pause, or opens a macro without parentheses.
+    Passed,
+    // It gives a token as it is in its list, painted or not. It isn't made yet.
+    Token { painted: bool },
+    // Anything else. It isn't made.
+    Other,
 }
 
 impl Expander {
@@ -429,6 +443,17 @@ impl Expander {
     }
 
     // Opens the frame of an object-like macro.
+    fn open_bare(&mut self, opened: Rc<Macro>, line: u32) -> Result<(), AllocError>
+        ensures { OnOk result (self.new ≡ record self.old {
+          frames = new_frame opened.value.name line opened.value.definition []
+              ∷ self.old.frames;
+        }) }
+    {
+        let arguments = ArgumentLists::nothing(self.alloc);
+        self.processor.open(opened, line, arguments)
+    }
+
+    // Opens the frame of an object-like macro, as a step.
     fn open_plain(&mut self, opened: Rc<Macro>, line: u32) -> Step<Taken>
         ensures opens { ((result ≡ Err Continue) × (self.new ≡ record self.old {
           frames = new_frame opened.value.name line opened.value.definition []
@@ -437,8 +462,7 @@ impl Expander {
             ⊎ (result ≡ Err (Error out_of_memory)) }
         ensures holds { IfOk result TakenHoldsOrdinary }
     {
-        let arguments = ArgumentLists::nothing(self.alloc);
-        match self.processor.open(opened, line, arguments) {
+        match self.open_bare(opened, line) {
             Ok(()) => Err(StepExit::Continue),
             Err(_) => Err(StepExit::Error(out_of_memory())),
         }
@@ -503,28 +527,6 @@ impl Expander {
         }
     }
 
-    // Gives a token that is taken, or opens the macro that it names, or begins its call.
-    #[inline(always)]
-    fn give_or_enter(
-        &mut self,
-        lexer: &mut dyn MeLexer,
-        read: Read,
-        found: Option<Rc<Macro>>,
-    ) -> Step<Taken>
-        requires opens { option_map (λ m. (m.value.name, m.value.definition)) found
-            ≡ macro_of (reader lexer.old) read }
-        requires holds { HoldsOrdinary read.token.value }
-        ensures follows { FollowsToken (macro_of (reader lexer.old) read) read
-            self.old (reader lexer.old) result self.new (reader lexer.new)
-            ⊎ (result ≡ Err (Error out_of_memory)) }
-        ensures holds { IfOk result TakenHoldsOrdinary }
-    {
-        match found {
-            None => Ok(Taken::Token(read)),
-            Some(opened) => self.enter(lexer, read, opened),
-        }
-    }
-
     // Follows a token that is taken: it opens its macro, begins its call, or is given.
     #[inline(always)]
     fn follow(&mut self, lexer: &mut dyn MeLexer, read: Read) -> Step<Taken>
@@ -535,13 +537,14 @@ impl Expander {
         ensures holds { IfOk result TakenHoldsOrdinary }
     {
         match find_macro(&*lexer, &read.token.value, read.painted) {
-            Ok(found) => self.give_or_enter(lexer, read, found),
+            Ok(None) => Ok(Taken::Token(read)),
+            Ok(Some(opened)) => self.enter(lexer, read, opened),
             Err(_) => out_of_memory_step(),
         }
     }
 
-    // One step, from what is held, a frame or the reader.
-    fn step_any(&mut self, lexer: &mut dyn MeLexer) -> Step<Taken>
+    /// One step: takes a token, which is given, opens its macro, or begins a call that is gathered.
+    pub fn step(&mut self, lexer: &mut dyn MeLexer) -> Step<Taken>
         ensures turns { TurnsOrRefuses self.old (reader lexer.old) result self.new
             (reader lexer.new) }
         ensures holds { IfOk result TakenHoldsOrdinary }
@@ -550,48 +553,6 @@ impl Expander {
             Ok(read) => self.follow(lexer, read),
             Err(exit) => Err(exit),
         }
-    }
-
-    // One step of the innermost frame, while nothing is held. Its token is copied once.
-    #[inline(never)]
-    fn step_frame(&mut self, lexer: &mut dyn MeLexer) -> Step<Taken>
-        requires free { self.old.held ≡ None }
-        requires open { is_some (outermost_frame_line self.old.frames) ≡ true }
-        ensures turns { TurnsOrRefuses self.old (reader lexer.old) result self.new
-            (reader lexer.new) }
-        ensures holds { IfOk result TakenHoldsOrdinary }
-    {
-        let Some(ahead) = self.processor.token() else {
-            self.processor.pass();
-            return Err(StepExit::Continue);
-        };
-        if is_line_name(ahead.value()) {
-            return self.step_any(lexer);
-        }
-        let painted = self.processor.paints(&*lexer, &ahead);
-        match find_macro(&*lexer, ahead.value(), painted) {
-            Ok(Some(opened)) if !opened.define().is_function_like() => {
-                let line = ahead.line();
-                self.processor.pass();
-                self.open_plain(opened, line)
-            }
-            Ok(found) => {
-                let Ok(read) = ahead.copied_as(self.alloc, painted) else {
-                    return out_of_memory_step();
-                };
-                self.processor.pass();
-                self.give_or_enter(lexer, read, found)
-            }
-            Err(_) => out_of_memory_step(),
-        }
-    }
-
-    // Whether a macro is open and the next step of the innermost frame is a pause, while nothing is held.
-    #[inline(always)]
-    fn is_at_pause(&self) -> bool
-        ensures { result ≡ is_at_pause self.now }
-    {
-        self.held.is_none() && !self.processor.is_idle() && self.processor.token().is_none()
     }
 
     // Whether a token that a frame gives is painted when it is taken.
@@ -610,24 +571,63 @@ impl Expander {
         }
     }
 
-    /// The token that the innermost open macro gives next, if nothing is held, and the token isn't `__LINE__` and opens
-    /// no macro. It is in the list of that macro; `pass` passes it.
+    // One step of the open macros, if it is a pause or opens a macro without parentheses; otherwise nothing changes.
     #[inline(always)]
-    pub fn token<L: MeLexer>(&self, lexer: &L) -> Option<&Token>
-        ensures gives { IfSome result (λ token. GivesAhead (L.reader lexer.now) self.now token.now) }
-        ensures holds { IfSome result (λ token. HoldsOrdinary token.now.value) }
+    fn turn<L: MeLexer>(&mut self, lexer: &L) -> Result<Turn, AllocError>
+        ensures turns { IfOk result (λ turn. TurnsFrames (L.reader lexer.now) self.old turn self.new) }
+        ensures refused { OnErr result (TakesSomething self.old (L.reader lexer.now)) }
     {
         if self.held.is_some() || self.processor.is_idle() {
-            return None;
+            return Ok(Turn::Other);
         }
         let Some(ahead) = self.processor.token() else {
-            return None;
+            self.processor.pass();
+            return Ok(Turn::Passed);
         };
-        let painted = self.paints(lexer, &ahead);
-        if is_line_name(ahead.value()) || opens_macro(lexer, &ahead, painted) {
-            return None;
+        if is_line_name(ahead.value()) {
+            return Ok(Turn::Other);
         }
-        Some(ahead.token())
+        let painted = self.paints(lexer, &ahead);
+        let Some(found) = opened_by(lexer, &ahead, painted) else {
+            return Ok(Turn::Token { painted });
+        };
+        if found.define().is_function_like() {
+            return Ok(Turn::Other);
+        }
+        let line = ahead.line();
+        let opened = found.clone()?;
+        self.processor.pass();
+        self.open_bare(opened, line)?;
+        Ok(Turn::Passed)
+    }
+
+    /// Goes on in the open macros up to a token that is given as it is in its list: over parameters and ends, and names
+    /// of macros without parentheses, which open. Returns whether the token is painted, if there is one; `token` gives
+    /// it, and `pass` passes it. Stops at `__LINE__` and at the name of a macro with parentheses.
+    #[inline(never)]
+    pub fn advance<L: MeLexer>(&mut self, lexer: &L) -> Result<Option<bool>, AllocError>
+        requires { IsSound self.old (L.reader lexer.now) }
+        ensures advances { IfOk result (λ found. AdvancesTo (L.reader lexer.now) self.old found self.new) }
+        ensures refused { OnErr result (RefusesWithin (L.reader lexer.now) self.old) }
+    {
+        'turns: loop {
+            match self.turn(lexer)? {
+                Turn::Passed => {}
+                Turn::Token { painted } => return Ok(Some(painted)),
+                Turn::Other => return Ok(None),
+            }
+        }
+    }
+
+    /// The token that the innermost open macro has next in its list. There is none if its next step is a pause.
+    #[inline(always)]
+    pub fn token(&self) -> Option<&Token>
+        ensures token { option_map (λ token. token.now) result ≡ token_ahead self.now }
+    {
+        match self.processor.token() {
+            Some(ahead) => Some(ahead.token()),
+            None => None,
+        }
     }
 
     /// Advances the innermost open macro by one step.
@@ -638,68 +638,61 @@ impl Expander {
         self.processor.pass();
     }
 
-    /// Passes the pauses of the open macros: parameters, and ends of arguments and of bodies.
+    /// Goes on as `advance` does, and gives a copy of the token that it finds, and passes it.
     #[inline(always)]
-    pub fn pass_pauses(&mut self)
-        ensures { PausesEach self.old self.new }
+    pub fn give_next<L: MeLexer>(&mut self, lexer: &L) -> Result<Option<Token>, AllocError>
+        requires { IsSound self.old (L.reader lexer.now) }
+        ensures gives { IfOk result (λ given. GivesNext (L.reader lexer.now) self.old given self.new) }
+        ensures holds { IfOk result (λ given. IfSome given (λ token. HoldsOrdinary token.value)) }
+        ensures refused { OnErr result (RefusesWithin (L.reader lexer.now) self.old) }
     {
-        'pauses: while self.is_at_pause() {
-            self.processor.pass();
+        if self.is_idle() {
+            return Ok(None);
         }
+        let Some(_) = self.advance(lexer)? else {
+            return Ok(None);
+        };
+        let Some(ahead) = self.processor.token() else {
+            unreachable!();
+        };
+        let token = copy_of(self.alloc, ahead.token())?;
+        self.processor.pass();
+        Ok(Some(token))
     }
 
-    // Makes one step of the innermost frame, if that is a pause or its token is given. Returns whether it made the
-    // step.
+    // Puts a copy of the token that `token` gives after the items, painted or not, and passes it.
     #[inline(always)]
-    fn give_next(&mut self, list: &ListLexer<'_>, items: &mut Vec<Read>) -> Result<bool, AllocError>
-        requires { AllReadOrdinary items.old.items }
-        ensures gives { IfOk result (λ made. GivesNext (of_list list.now) self.old items.old.items
-            made self.new items.new.items) }
-        ensures holds { IfOk result (λ made. AllReadOrdinary items.new.items) }
+    fn put_token(&mut self, painted: bool, items: &mut Vec<Read>) -> Result<(), AllocError>
+        requires { IsSome (token_ahead self.old) }
+        ensures passes { OnOk result (self.new ≡ passed self.old) }
+        ensures puts { OnOk result ((token : Token) → token_ahead self.old ≡ Some token
+            → items.new.items ≡ items.old.items ++ record { token = token; painted = painted } ∷ []) }
     {
-        if self.held.is_some() || self.processor.is_idle() {
-            return Ok(false);
-        }
         let Some(ahead) = self.processor.token() else {
-            self.processor.pass();
-            return Ok(true);
+            unreachable!();
         };
-        let painted = self.paints(list, &ahead);
-        if is_line_name(ahead.value()) || opens_macro(list, &ahead, painted) {
-            return Ok(false);
-        }
         items.push(ahead.copied_as(self.alloc, painted)?)?;
         self.processor.pass();
-        Ok(true)
+        Ok(())
     }
 
-    /// Appends to the items what the open macros give, over a list: up to `__LINE__`, to a name that opens a macro, or
-    /// to the end of all open macros.
+    /// Appends to the items what the open macros give, over a list: up to `__LINE__`, to the name of a macro with
+    /// parentheses, or to the end of all open macros.
     pub fn give_frames(
         &mut self,
         list: &ListLexer<'_>,
         items: &mut Vec<Read>,
     ) -> Result<(), AllocError>
-        requires { AllReadOrdinary items.old.items }
+        requires ordinary { AllReadOrdinary items.old.items }
+        requires sound { IsSound self.old (of_list list.now) }
         ensures gives { OnOk result (GivesEach (of_list list.now) self.old items.old.items self.new
             items.new.items) }
         ensures holds { OnOk result (AllReadOrdinary items.new.items) }
     {
-        'steps: while self.give_next(list, items)? {}
-        Ok(())
-    }
-
-    /// One step: takes a token, which is given, opens its macro, or begins a call that is gathered.
-    #[inline(always)]
-    pub fn step(&mut self, lexer: &mut dyn MeLexer) -> Step<Taken>
-        ensures turns { TurnsOrRefuses self.old (reader lexer.old) result self.new
-            (reader lexer.new) }
-        ensures holds { IfOk result TakenHoldsOrdinary }
-    {
-        if self.held.is_none() && !self.processor.is_idle() {
-            return self.step_frame(lexer);
+        'tokens: while let Some(painted) = self.advance(list)? {
+            self.put_token(painted, items)?;
         }
-        self.step_any(lexer)
+        Ok(())
     }
 
     /// The macros that are open here or around.

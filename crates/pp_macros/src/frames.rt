@@ -132,8 +132,8 @@ fn argument_token(arguments: &ArgumentLists, index: usize, position: usize) -> O
     })
 }
 
-// A copy of a token.
-fn copy_of(alloc: Global, token: &Token) -> Result<Token, AllocError>
+/// A copy of a token.
+pub fn copy_of(alloc: Global, token: &Token) -> Result<Token, AllocError>
     ensures { IfOk result (λ copy. copy ≡ token.now) }
 {
     Ok(Token {

@@ -248,13 +248,6 @@ impl MacroProcessor {
         }
     }
 
-    /// Whether a token that a frame gives is painted when it is taken.
-    pub fn paints(&self, lexer: &dyn MeLexer, ahead: &Ahead<'_>) -> bool
-        ensures { result ≡ (painted_among (masks self.now (reader lexer.now)) ahead.now).painted }
-    {
-        ahead.is_painted() || self.is_masked(lexer, ahead.value())
-    }
-
     /// Paints a token that is taken, if it is the name of a macro that is open here or around.
     pub fn paint(&self, lexer: &dyn MeLexer, read: &mut Read)
         ensures { read.new ≡ painted_among (masks self.now (reader lexer.now)) read.old }

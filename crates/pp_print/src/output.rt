@@ -106,15 +106,15 @@ fn push_next(
     ensures printing { OnOk result (KeepsPrinting items.old (option_map string_bytes line.old)
         items.new (option_map string_bytes line.new)) }
 {
-    if let Some(word) = items.next_word() {
-        push_plain(alloc, line, &word)?;
+    if items.advance()? {
+        push_token(alloc, line, &items.token().value)?;
+        items.pass();
         return Ok(true);
     }
-    let Some(token) = items.token() else {
+    let Some(word) = items.next_word() else {
         return Ok(false);
     };
-    push_token(alloc, line, &token.value)?;
-    items.pass();
+    push_plain(alloc, line, &word)?;
     Ok(true)
 }
 

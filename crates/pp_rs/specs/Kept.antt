@@ -2,13 +2,13 @@
 -- errors of the lexer were not reported yet, and the place of the error that was given last. Nothing here has to be
 -- believed. Contracts of public calls say what holds of `Stands`, `is_spent`, `most_items`, `errors_left` and
 -- `error_place`, and no proof of a caller looks into them.
-use Rattle.std.specs.Prelude.{◌≡◌, Bool, false, if◌then◌else◌, ℕ, List}
+use Rattle.std.specs.Prelude.{◌≡◌, Bool, false, IsTrue, if◌then◌else◌, ℕ, List}
 use Rattle.pp_lexer.specs.declared.token.Location.{Location}
+use Rattle.pp_lexer.specs.TokenValue.{is_ordinary}
 use Rattle.pp_lexer.specs.declared.token.Token.{Token}
 use Rattle.pp_model.specs.Emitting.{expansion_limit}
 use Rattle.pp_model.specs.Reading.{Expander}
 use Rattle.pp_model.specs.SourceReader.{SourceReader}
-use Rattle.pp_macros.specs.Held.{HoldsOrdinary}
 use Rattle.pp_macros.specs.inner.Giving.{GivesAhead}
 use Rattle.pp_macros.specs.inner.Left.{work_of}
 use Rattle.pp_macros.specs.LexerErrors.{ErrorAt}
@@ -29,9 +29,11 @@ pub record Preprocessing : Type 0 where
 unfoldable pub Stands : Preprocessing → Expander SourceReader → Type 0
 Stands p state = StandsFor p.expander p.source state
 
--- an open macro gives this token next, as its body or an argument has it
+-- an open macro gives this token next, as its body or an argument has it, and it is ordinary
 unfoldable pub IsAhead : Preprocessing → Token → Type 0
-IsAhead p token = (p.spent ≡ false) × GivesAhead (of_source p.source) p.expander token × HoldsOrdinary token.value
+IsAhead p token =
+    (p.spent ≡ false) × IsTrue (is_ordinary token.value)
+    × (painted : Bool) × GivesAhead (of_source p.source) p.expander token painted
 
 -- memory for an item ran out
 unfoldable pub is_spent : Preprocessing → Bool

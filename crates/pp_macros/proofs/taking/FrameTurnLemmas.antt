@@ -1,26 +1,30 @@
 -- A turn of the innermost frame, as the code makes it.
-use Rattle.std.proofs.Common.{◌≡◌, ◌⊎◌, refl, sym, ap, subst, Bool, true, false, List, [], ◌∷◌, ◌++◌, Option, Some, None, Ok, Err, inl, inr}
-use Rattle.std.specs.Prelude.{IfSome, is_some, is_none}
-use Rattle.std.proofs.lemmas.Bool.{and_parts}
-use Rattle.pp_lexer.specs.PreprocessorError.{out_of_memory}
+use Rattle.std.proofs.Common.{◌≡◌, refl, sym, ap, subst, Bool, true, false, List, [], ◌∷◌, ◌++◌, Option, Some, None, Ok, Err, inl}
+use Rattle.std.specs.Prelude.{Result, OnErr, IfSome, is_some}
 use Rattle.pp_model.specs.declared.read.Read.{Read}
 use Rattle.pp_model.specs.Names.{Name, is_identifier, line_name}
 use Rattle.pp_macros.specs.Item.{Step}
 use Rattle.pp_macros.specs.inner.Ahead.{given_by, given_next, frames_after}
-use Rattle.pp_macros.specs.inner.CallTurns.{TurnsOrRefuses}
-use Rattle.pp_macros.specs.inner.Frames.{Frame, Advance, advance, outermost_frame_line}
+use Rattle.pp_macros.specs.inner.CallTurns.{TurnsTo, passes, gives, object, TakesSomething}
+use Rattle.pp_macros.specs.inner.Frames.{Frame, Advance, advance, new_frame, outermost_frame_line}
 use Rattle.pp_macros.specs.inner.Expander.{Expander, StepsFetching, StepsTaking, moved, taken_as}
 use Rattle.pp_macros.specs.inner.Reader.{Reader, hidden_of}
-use Rattle.pp_macros.specs.inner.Seeking.{FollowsToken}
 use Rattle.pp_macros.specs.inner.Turns.{Moves, as_pause, frame_move, masks, macro_of}
 use Rattle.pp_macros.specs.inner.Reading.{painted_step}
 use Rattle.pp_model.specs.Painting.{painted_among}
-use Rattle.pp_macros.specs.declared.calls.Taken.{Taken}
-use Rattle.pp_macros.specs.declared.step.StepExit.TheVariants.{Error, Continue}
+use Rattle.pp_macros.specs.declared.calls.Taken.TheVariants as taken
+use Rattle.pp_macros.specs.declared.step.StepExit.TheVariants.{Continue}
+use Rattle.pp_macros.specs.Held.{HoldsOrdinary}
+use Rattle.pp_model.specs.Definitions.{Definition}
+use Rattle.std.specs.Option.{option_map}
 use Rattle.pp_macros.specs.inner.Frames.{names_of}
-use Rattle.pp_macros.specs.inner.Giving.{GivesOne, pause, token, GivesAhead, is_at_pause, passed}
+use Rattle.pp_macros.specs.inner.Giving.{GivesAhead, passed}
 use Rattle.pp_macros.proofs.open_frames.AdvanceLemmas.{Advances, advance_lowers}
-use Rattle.pp_macros.proofs.taking.SeekLemmas.{turns_token, turns_exit}
+
+-- what holds where memory was refused
+pub refused_there : {A E : Type 0} {P : Type 0} → (result : Result A E) → P → OnErr result P
+refused_there (Ok value) there = tt
+refused_there (Err fault) there = there
 
 gives_alike : (fs : List Frame) (a : Option Advance) → as_pause (given_by a) ≡ (frame_move fs a).gives
 gives_alike fs (Some a) = refl
@@ -54,78 +58,36 @@ module _ (m : Expander) (r : Reader) (free : m.held ≡ None) (some : is_some (o
   frame_takes given step is same = record { first = step; fetches = frame_fetches given step is same; paints = refl }
 
   -- it pauses
-  pub frame_pauses : None ≡ given_next m.frames → TurnsOrRefuses m r (Err Continue) (passed m) r
-  frame_pauses is = turns_exit m (passed m) r r Continue (frame_takes None (Err Continue) is refl)
+  pub frame_pauses : None ≡ given_next m.frames → TurnsTo m r (Err Continue) (passed m) r
+  frame_pauses is = passes Continue (Err Continue) m (passed m) r r (frame_takes None (Err Continue) is refl) refl
 
-  module _ (read : Read) (is : Some read ≡ given_next m.frames) (apart : is_identifier line_name read.token.value ≡ false) where
-    abbrev painted : Read
-    painted = painted_among (masks (frames_after m.frames) r) read
+  module _ (read : Read) (is : Some read ≡ given_next m.frames) (apart : is_identifier line_name read.token.value ≡ false)
+      (paint : Bool) (same : paint ≡ (painted_among (masks m.frames r) read).painted) where
+    abbrev taken_read : Read
+    taken_read = record { token = read.token; painted = paint }
 
-    token_taken : StepsTaking m r (Ok painted) (passed m) r
-    token_taken = frame_takes (Some read) (Ok read) is (rw apart refl)
-
-    -- a token is followed
-    pub frame_follows : (paint : Bool) (after : List Frame) (step : Step Taken) (n : Expander) (t : Reader)
-        → paint ≡ (painted_among (masks m.frames r) read).painted → after ≡ frames_after m.frames
-        → FollowsToken (macro_of r (record { token = read.token; painted = paint })) (record { token = read.token; painted = paint })
-        (record m { frames = after }) r step n t ⊎ (step ≡ Err (Error out_of_memory)) → TurnsOrRefuses m r step n t
-    frame_follows paint after step n t same passes follows =
+    -- its token is taken, with this paint
+    token_taken : StepsTaking m r (Ok taken_read) (passed m) r
+    token_taken =
         let names : masks (frames_after m.frames) r ≡ masks m.frames r =
         ap (λ (names : List Name). names ++ hidden_of r) (names_stay m.frames read (sym is)) in
-        let whole : ◌≡◌ {A = Read} (record { token = read.token; painted = paint }) painted = rw (names, same) refl in
-        turns_token m (passed m) n r r t painted step token_taken (macro_of r painted) refl
-        (subst (λ (fs : List Frame). FollowsToken (macro_of r painted) painted (record m { frames = fs }) r step n t ⊎ (step ≡ Err (Error out_of_memory))) passes
-        (subst (λ (x : Read). FollowsToken (macro_of r x) x (record m { frames = after }) r step n t ⊎ (step ≡ Err (Error out_of_memory))) whole follows))
+        let whole : painted_among (masks (frames_after m.frames) r) read ≡ taken_read = rw (names, same) refl in
+        rw whole at (frame_takes (Some read) (Ok read) is (rw apart refl))
 
-    -- memory is refused
-    pub frame_refuses : (step : Step Taken) (n : Expander) → step ≡ Err (Error out_of_memory) → TurnsOrRefuses m r step n r
-    frame_refuses step n refused = inr (record {
-      some =
-          record { step = Ok painted; after = passed m; reader = r; takes = token_taken; goes = refl };
-      fault = refused;
-    })
+    -- it is given, and opens no macro
+    pub frame_gives : HoldsOrdinary read.token.value → macro_of r taken_read ≡ None → GivesAhead r m read.token paint
+    frame_gives holds plain = record {
+      ahead = ap (option_map (λ (own : Read). own.token)) (sym is);
+      turns = gives taken_read (Ok (taken.Token taken_read)) m (passed m) r r token_taken plain refl;
+      holds = holds;
+    }
 
-  -- it pauses, and gives no token
-  pub frame_gives_none : (items : List Read) → None ≡ given_next m.frames → GivesOne r m items (passed m) items
-  frame_gives_none items is = pause (frame_takes None (Err Continue) is refl) refl
+    -- it opens a macro without parentheses
+    pub frame_opens : (name : Name) (definition : Definition) → macro_of r taken_read ≡ Some (name, definition) → definition.function_like ≡ false
+        → TurnsTo m r (Err Continue) (record m { frames = new_frame name read.token.location.line definition [] ∷ frames_after m.frames }) r
+    frame_opens name definition some bare = object taken_read name definition (Err Continue) m (passed m)
+        (record m { frames = new_frame name read.token.location.line definition [] ∷ frames_after m.frames }) r r token_taken some bare refl refl
 
-  -- a token that it gives is taken, with this paint
-  takes_given : (read : Read) (painted : Bool) → Some read ≡ given_next m.frames → is_identifier line_name read.token.value ≡ false
-      → painted ≡ (painted_among (masks m.frames r) read).painted → StepsTaking m r (Ok (record { token = read.token; painted = painted })) (passed m) r
-  takes_given read painted is apart same =
-      let names : masks (frames_after m.frames) r ≡ masks m.frames r =
-      ap (λ (names : List Name). names ++ hidden_of r) (names_stay m.frames read (sym is)) in
-      let whole : painted_among (masks (frames_after m.frames) r) read ≡ record { token = read.token; painted = painted } =
-      rw (names, same) refl in
-      rw whole at (token_taken read is apart)
-
-  -- it gives a token that opens no macro
-  pub frame_ahead : (read : Read) (painted : Bool) → Some read ≡ given_next m.frames → is_identifier line_name read.token.value ≡ false
-      → painted ≡ (painted_among (masks m.frames r) read).painted
-      → macro_of r (record { token = read.token; painted = painted }) ≡ None → GivesAhead r m read.token
-  frame_ahead read painted is apart same plain = record {
-    read = record { token = read.token; painted = painted };
-    is = refl;
-    steps = takes_given read painted is apart same;
-    plain = plain;
-  }
-
-  -- and puts it after the items
-  pub frame_gives : (read : Read) (painted : Bool) (items more : List Read) → Some read ≡ given_next m.frames
-      → is_identifier line_name read.token.value ≡ false → painted ≡ (painted_among (masks m.frames r) read).painted
-      → macro_of r (record { token = read.token; painted = painted }) ≡ None → more ≡ items ++ record { token = read.token; painted = painted } ∷ []
-      → GivesOne r m items (passed m) more
-  frame_gives read painted items more is apart same plain put =
-      token (record { token = read.token; painted = painted }) (takes_given read painted is apart same) plain put
-
-none_of : {A : Type 0} (o : Option A) → is_none o ≡ true → o ≡ None
-none_of None e = refl
-none_of (Some value) e = cc
-
--- a pause of the frames, whatever is read after them
-pub pause_passes : (m : Expander) (fs : List Frame) → is_at_pause m ≡ true → fs ≡ frames_after m.frames → (r : Reader)
-    → StepsTaking m r (Err Continue) (record m { frames = fs }) r
-pause_passes m fs pauses is r =
-    let parts = and_parts (is_none m.held) _ pauses in
-    let others = and_parts (is_some (outermost_frame_line m.frames)) _ parts.1 in
-    rw is (frame_takes m r (none_of m.held parts.0) others.0 None (Err Continue) (sym (none_of (given_next m.frames) others.1)) refl)
+    -- there is something to take
+    pub frame_takes_some : TakesSomething m r
+    frame_takes_some = record { step = Ok taken_read; after = passed m; reader = r; takes = token_taken; goes = refl }

@@ -1,55 +1,79 @@
--- Steps of taking that pause, or give a token that opens no macro, and leave the reader as it is. The tokens are put
--- after those before.
-use Rattle.std.specs.Prelude.{◌≡◌, ◌&&◌, Bool, true, false, List, [], ◌∷◌, ◌++◌, None, Ok, Err, is_some, is_none}
+-- Turns of the open macros that leave the reader as it is: pauses, macros without parentheses that open, and tokens
+-- that are given.
+use Rattle.std.specs.Prelude.{◌≡◌, Bool, List, [], ◌∷◌, ◌++◌, Option, Some, Ok, Err, IfSome}
+use Rattle.std.specs.Prelude.{MatchOption}
+use Rattle.std.specs.Option.{option_map}
 use Rattle.pp_lexer.specs.declared.token.Token.{Token}
 use Rattle.pp_model.specs.declared.read.Read.{Read}
+use Rattle.pp_macros.specs.Held.{HoldsOrdinary}
 use Rattle.pp_macros.specs.inner.Ahead.{given_next, frames_after}
-use Rattle.pp_macros.specs.inner.Frames.{outermost_frame_line}
-use Rattle.pp_macros.specs.inner.Expander.{Expander, StepsTaking}
+use Rattle.pp_macros.specs.inner.CallTurns.{TurnsTo, TakesSomething}
+use Rattle.pp_macros.specs.inner.Expander.{Expander}
 use Rattle.pp_macros.specs.inner.Reader.{Reader}
-use Rattle.pp_macros.specs.inner.Turns.{macro_of}
+use Rattle.pp_macros.specs.declared.calls.Taken.TheVariants as taken
+use Rattle.pp_macros.specs.declared.calls.Turn.{Turn}
+use Rattle.pp_macros.specs.declared.calls.Turn.TheVariants as turn
 use Rattle.pp_macros.specs.declared.step.StepExit.TheVariants.{Continue}
 
 -- the expander after a step of the innermost frame
 abbrev pub passed : Expander → Expander
 passed m = record m { frames = frames_after m.frames }
 
--- the innermost frame gives this token next, painted or not, and it opens no macro
-pub record GivesAhead (r : Reader) (m : Expander) (token : Token) : Type 0 where
-  pub read : Read
-  pub is : read.token ≡ token
-  pub steps : StepsTaking m r (Ok read) (passed m) r
-  pub plain : macro_of r read ≡ None
+-- the token that the innermost frame gives next
+abbrev pub token_ahead : Expander → Option Token
+token_ahead m = option_map (λ read. read.token) (given_next m.frames)
 
--- one step: a pause, or a token
+-- the innermost frame has this token next, and it is given as it is, painted or not
+pub record GivesAhead (r : Reader) (m : Expander) (token : Token) (painted : Bool) : Type 0 where
+  pub ahead : token_ahead m ≡ Some token
+  pub turns : TurnsTo m r (Ok (taken.Token (record { token = token; painted = painted }))) (passed m) r
+  pub holds : HoldsOrdinary token.value
+
+-- one turn, if it is a pause; a token that is ahead isn't taken yet
+abbrev pub TurnsFrames : Reader → Expander → Turn → Expander → Type 0
+TurnsFrames r m turn.Passed n = TurnsTo m r (Err Continue) n r
+TurnsFrames r m (turn.Token painted) n = (n ≡ m) × (token : Token) × GivesAhead r m token painted
+TurnsFrames r m turn.Other n = n ≡ m
+
+-- any number of pauses
+pub data PausesEach (r : Reader) (m : Expander) : Expander → Type 0 where
+  at_once : (n : Expander) → n ≡ m → PausesEach r m n
+  after : (n p : Expander) → PausesEach r m n → TurnsTo n r (Err Continue) p r → PausesEach r m p
+
+-- pauses, up to a token that is given as it is, if there is one
+pub record AdvancesTo (r : Reader) (m : Expander) (found : Option Bool) (n : Expander) : Type 0 where
+  pub pauses : PausesEach r m n
+  pub gives : IfSome found (λ painted. (token : Token) × GivesAhead r n token painted)
+
+-- pauses, up to a turn with something to take, for which memory ran out
+pub record RefusesWithin (r : Reader) (m : Expander) : Type 0 where
+  pub between : Expander
+  pub pauses : PausesEach r m between
+  pub some : TakesSomething between r
+
+-- pauses, and then the token that is given, if there is one
+pub record IsGivenNext (r : Reader) (m : Expander) (token : Token) (n : Expander) : Type 0 where
+  pub between : Expander
+  pub painted : Bool
+  pub pauses : PausesEach r m between
+  pub gives : GivesAhead r between token painted
+  pub passes : n ≡ passed between
+
+abbrev pub GivesNext : Reader → Expander → Option Token → Expander → Type 0
+GivesNext r m given n = MatchOption given (PausesEach r m n) (λ token. IsGivenNext r m token n)
+
+-- one turn: a pause, or a token
 pub data GivesOne (r : Reader) (m : Expander) (items : List Read) (n : Expander) (more : List Read) : Type 0 where
-  pause : StepsTaking m r (Err Continue) n r → more ≡ items → GivesOne r m items n more
+  pause : TurnsTo m r (Err Continue) n r → more ≡ items → GivesOne r m items n more
   token : (read : Read)
-      → StepsTaking m r (Ok read) n r → macro_of r read ≡ None
+      → TurnsTo m r (Ok (taken.Token read)) n r
       → more ≡ items ++ read ∷ []
       → GivesOne r m items n more
 
--- one step, or none
-abbrev pub GivesNext : Reader → Expander → List Read → Bool → Expander → List Read → Type 0
-GivesNext r m items true n more = GivesOne r m items n more
-GivesNext r m items false n more = (n ≡ m) × (more ≡ items)
-
--- any number of steps
+-- any number of turns
 pub data GivesEach (r : Reader) (m : Expander) (items : List Read) : Expander → List Read → Type 0 where
   none : (n : Expander) (more : List Read) → n ≡ m → more ≡ items → GivesEach r m items n more
   further : (n p : Expander) (some more : List Read)
       → GivesEach r m items n some
       → GivesOne r n some p more
       → GivesEach r m items p more
-
--- nothing is held, a macro is open, and the innermost frame gives no token next
-abbrev pub is_at_pause : Expander → Bool
-is_at_pause m = is_none m.held && (is_some (outermost_frame_line m.frames) && is_none (given_next m.frames))
-
--- any number of pauses of the frames, over every reader
-pub data PausesEach (m : Expander) : Expander → Type 0 where
-  at_once : (n : Expander) → n ≡ m → PausesEach m n
-  after : (n p : Expander)
-      → PausesEach m n
-      → ((r : Reader) → StepsTaking n r (Err Continue) p r)
-      → PausesEach m p

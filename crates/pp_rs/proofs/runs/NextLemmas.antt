@@ -14,6 +14,7 @@ use Rattle.pp_rs.specs.Comes.{Comes}
 use Rattle.pp_rs.specs.inner.Fit.{EndIsLast, IsFit, IsReported}
 use Rattle.pp_macros.specs.Held.{HoldsOrdinary}
 use Rattle.pp_macros.specs.Item.{Item, Step, is_out_of_memory, wants_memory}
+use Rattle.pp_macros.specs.inner.CallTurns.{TakesSomething}
 use Rattle.pp_macros.specs.inner.Left.{work_of}
 use Rattle.pp_macros.specs.LexerErrors.{ErrorAt}
 use Rattle.pp_macros.specs.inner.Expander as kept
@@ -168,6 +169,15 @@ module _ (expander now after : kept.Expander) (source source_now source_after : 
           reports = ((errors_last (Ok token) turn refl).1 ∙ sym errors_first, same);
           spent = refl;
         })) (less_last (Ok token) place turn refl (λ e. cc))
+
+    -- memory is refused, and there was something to take
+    pub next_refused : TakesSomething now (of_source source_now) → (new : Preprocessing) → new.spent ≡ true
+        → IsNextItem old (Some (Err out_of_memory)) new
+    unfolding is_spent most_items
+    next_refused some new spent =
+        let left : SomethingLeft expander source = r.left (some_left now source_now r.fit.unspent some) in
+        as_next (Some (Err out_of_memory)) new (inl (record { item = refl; spent = spent }))
+        (rw spent (omega (arith, left_is_work expansion_limit expander source left, most_first)))
 
     end_last : (place : Location) → Over (Err Finished) → most_items (record { expander = after; source = source_after; spent = false; place = place }) ≡ 0
     unfolding most_items

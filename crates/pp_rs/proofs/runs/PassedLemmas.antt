@@ -1,14 +1,12 @@
 -- Words of plain text that are given before memory is taken for them, and the newlines that are passed before them.
-use Rattle.std.proofs.Common.{◌≡◌, ◌∙◌, Bool, true, false, refl, sym, ap, subst, inl, Some, Ok, Err, arith}
+use Rattle.std.proofs.Common.{◌≡◌, ◌∙◌, Bool, true, false, refl, sym, subst, IsTrue, Option, Some, Ok, Err, arith}
+use Rattle.pp_lexer.specs.TokenValue.{is_ordinary}
 use Rattle.pp_lexer.specs.declared.token.Location.{Location}
 use Rattle.pp_lexer.specs.declared.token.Token.{Token}
 use Rattle.pp_model.specs.Emitting.{answers_at, expansion_limit}
-use Rattle.pp_macros.specs.Held.{HoldsOrdinary}
-use Rattle.pp_macros.specs.inner.CallTurns as turn
-use Rattle.pp_macros.specs.inner.Giving.{GivesAhead, passed}
+use Rattle.pp_macros.specs.inner.Giving.{GivesAhead, passed, token_ahead}
 use Rattle.pp_macros.specs.inner.Idle.{is_idle}
 use Rattle.pp_macros.specs.inner.Reader.{of_source}
-use Rattle.pp_macros.specs.declared.calls.Taken.TheVariants as taken
 use Rattle.pp_macros.specs.inner.Plain.{gives_itself}
 use Rattle.pp_macros.specs.inner.Expander.{Expander}
 use Rattle.pp_macros.specs.inner.Source.{Source}
@@ -21,6 +19,7 @@ use Rattle.pp_rs.specs.inner.Fit.{IsFit, IsReported}
 use Rattle.pp_rs.specs.inner.SourceTurns.{StepsOver}
 use Rattle.pp_rs.proofs.runs.IdleLemmas.{is_idle-idle, idle_exit, idle_token}
 use Rattle.pp_rs.proofs.runs.Leads.{LeadsFrom}
+use Rattle.pp_rs.proofs.runs.PausesLemmas.{given_over}
 use Rattle.pp_rs.proofs.runs.NextLemmas.{Reached, reached_first, token_fits, next_token}
 
 -- a newline is a turn
@@ -32,19 +31,22 @@ pub word_over : (m : Expander) (r s : Source) (token : Token) → is_idle m ≡ 
     → StepsOver expansion_limit m r (Ok token) m s
 word_over m r s token idle step itself = idle_token expansion_limit r s m token (is_idle-idle m idle) (step.reads, step.errors) itself
 
--- so is a token that an open macro gives, as its list has it
-ahead_over : (m : Expander) (r : Source) (token : Token) → GivesAhead (of_source r) m token → StepsOver expansion_limit m r (Ok token) (passed m) r
-ahead_over m r token gives = inl (record {
-  taken = Ok (taken.Token gives.read);
-  between = passed m;
-  turns = turn.gives gives.read (Ok (taken.Token gives.read)) m (passed m) (of_source r) (of_source r) gives.steps gives.plain refl;
-  follows = (ap (λ (t : Token). Ok t) (sym gives.is), refl);
-})
-
-pub token_ahead : (p : Preprocessing) → p.spent ≡ false → (token : Token) → GivesAhead (of_source p.source) p.expander token
-    → HoldsOrdinary token.value → IsAhead p token
+-- a token that is ahead
+pub token_ahead_is : (p : Preprocessing) → p.spent ≡ false → (token : Token) → IsTrue (is_ordinary token.value) → (painted : Bool)
+    → GivesAhead (of_source p.source) p.expander token painted → IsAhead p token
 unfolding IsAhead
-token_ahead p fresh token gives holds = (fresh, gives, holds)
+token_ahead_is p fresh token ordinary painted gives = (fresh, ordinary, painted, gives)
+
+pub same_token : (o : Option Token) (a b : Token) → Some a ≡ o → o ≡ Some b → a ≡ b
+same_token o a b first second = let same : Some a ≡ Some b = first ∙ second in cc
+
+pub ahead_there : (p : Preprocessing) (token : Token) → IsAhead p token → token_ahead p.expander ≡ Some token
+unfolding IsAhead
+ahead_there p token is = is.3.ahead
+
+pub ahead_ordinary : (p : Preprocessing) (token : Token) → IsAhead p token → IsTrue (is_ordinary token.value)
+unfolding IsAhead
+ahead_ordinary p token is = is.1
 
 pub fresh_ahead : (p : Preprocessing) (token : Token) → IsAhead p token → p.spent ≡ false
 unfolding IsAhead
@@ -56,7 +58,7 @@ module _ (p : Preprocessing) (now : Expander) (source_now : Source) (is : p.expa
   unfolding IsAhead
   over = subst (λ (m : Expander). StepsOver expansion_limit m source_now (Ok token) (passed m) source_now) is
       (subst (λ (r : Source). StepsOver expansion_limit p.expander r (Ok token) (passed p.expander) r) same
-      (ahead_over p.expander p.source token ahead.1))
+      (given_over p.expander (passed p.expander) p.source token ahead.2 ahead.3 refl))
 
   reached : Reached p.expander p.source now source_now
   reached = reached_first p.expander now p.source source_now (sym is) (sym same) fit
@@ -68,7 +70,7 @@ module _ (p : Preprocessing) (now : Expander) (source_now : Source) (is : p.expa
       → IsNextItem p (Some (Ok token)) (record { expander = passed now; source = source_now; spent = spent; place = place })
   unfolding IsAhead
   ahead_passes spent place fresh at =
-      next_token p.expander now (passed now) p.source source_now source_now reached p ahead.0 refl refl token spent place fresh at over ahead.2
+      next_token p.expander now (passed now) p.source source_now source_now reached p ahead.0 refl refl token spent place fresh at over ahead.3.holds
 
 -- nothing was passed
 pub passed_nothing : (p : Preprocessing) → IsPassed p p

@@ -1,12 +1,14 @@
 -- The loop of `next` may pass any number of pauses of the open macros at once.
-use Rattle.std.proofs.Common.{◌≤◌, inl, refl, arith, Err}
+use Rattle.std.proofs.Common.{◌≡◌, ◌≤◌, Bool, inl, refl, arith, Ok, Err}
+use Rattle.pp_lexer.specs.declared.token.Token.{Token}
 use Rattle.pp_model.specs.Emitting.{expansion_limit}
-use Rattle.pp_macros.specs.inner.CallTurns.{passes}
-use Rattle.pp_macros.specs.inner.Giving.{PausesEach, at_once, after}
+use Rattle.pp_macros.specs.inner.CallTurns.{TurnsTo}
+use Rattle.pp_macros.specs.inner.Giving.{PausesEach, at_once, after, GivesAhead, passed}
 use Rattle.pp_macros.specs.inner.Left.{work_of}
-use Rattle.pp_macros.specs.inner.Expander.{Expander, StepsTaking}
+use Rattle.pp_macros.specs.inner.Expander.{Expander}
 use Rattle.pp_macros.specs.inner.Reader.{of_source}
 use Rattle.pp_macros.specs.inner.Source.{Source}
+use Rattle.pp_macros.specs.declared.calls.Taken.TheVariants as taken
 use Rattle.pp_macros.specs.declared.step.StepExit.TheVariants.{Continue}
 use Rattle.pp_rs.specs.inner.SourceTurns.{StepsOver}
 use Rattle.pp_rs.proofs.runs.NextLemmas.{Reached, reached_more, falls_more}
@@ -16,21 +18,26 @@ pub record ReachedOn (expander : Expander) (source : Source) (now : Expander) (s
   pub reached : Reached expander source then source_now
   pub least : work_of expansion_limit then (of_source source_now) ≤ work_of expansion_limit now (of_source source_now)
 
--- a pause is a turn
-pause_over : (now then : Expander) (source : Source) → StepsTaking now (of_source source) (Err Continue) then (of_source source)
+-- a turn of the frames is a turn of the source
+turn_over : (now then : Expander) (source : Source) → TurnsTo now (of_source source) (Err Continue) then (of_source source)
     → StepsOver expansion_limit now source (Err Continue) then source
-pause_over now then source steps = inl (record {
-  taken = Err Continue;
-  between = then;
-  turns = passes Continue (Err Continue) now then (of_source source) (of_source source) steps refl;
-  follows = (refl, refl);
-})
+turn_over now then source turns = inl (record { taken = Err Continue; between = then; turns = turns; follows = (refl, refl) })
 
 pub reached_on : (expander now : Expander) (source source_now : Source) → Reached expander source now source_now → (then : Expander)
-    → PausesEach now then → ReachedOn expander source now source_now then
+    → PausesEach (of_source source_now) now then → ReachedOn expander source now source_now then
 reached_on expander now source source_now r then (at_once n is) = rw is (record { reached = r; least = omega arith })
-reached_on expander now source source_now r then (after between p pauses steps) =
+reached_on expander now source source_now r then (after between p pauses turns) =
     let h = reached_on expander now source source_now r between pauses in
-    let over = pause_over between then source_now (steps (of_source source_now)) in
+    let over = turn_over between then source_now turns in
     let lower = falls_more expander between then source source_now source_now h.reached over in
     record { reached = reached_more expander between then source source_now source_now h.reached over; least = omega (arith, h.least, lower) }
+
+-- a token that an open macro gives as its list has it is a turn too
+pub given_over : (now then : Expander) (source : Source) (token : Token) (painted : Bool) → GivesAhead (of_source source) now token painted
+    → then ≡ passed now → StepsOver expansion_limit now source (Ok token) then source
+given_over now then source token painted gives is = rw is (inl (record {
+  taken = Ok (taken.Token (record { token = token; painted = painted }));
+  between = passed now;
+  turns = gives.turns;
+  follows = (refl, refl);
+}))

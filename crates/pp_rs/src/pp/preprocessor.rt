@@ -1,6 +1,6 @@
 //! The items of a preprocessed source.
 
-ghost use Rattle.std.specs.Prelude.{◌≡◌, ◌-◌, ◌^◌, ◌<◌, false, length, if◌then◌else◌, IsTrue, IfSome, Some, Ok};
+ghost use Rattle.std.specs.Prelude.{◌≡◌, ◌-◌, ◌^◌, ◌<◌, false, length, if◌then◌else◌, true, IsTrue, OnOk, OnErr, IfOk, Some, Ok};
 ghost use Rattle.pp_lexer.specs.TokenValue.{is_ordinary};
 ghost use Rattle.pp_lexer.specs.declared.token.Token.{Token};
 ghost use Rattle.std.specs.Iterator.{at_most};
@@ -12,7 +12,7 @@ ghost use Rattle.pp_rs.specs.CallLine.{IsCallLine};
 ghost use Rattle.pp_macros.specs.Item.{is_out_of_memory};
 ghost use Rattle.pp_rs.specs.Kept.{Stands, IsAhead, is_spent, most_items, errors_left, error_place};
 ghost use Rattle.pp_macros.specs.LexerErrors.{lexer_errors};
-ghost use Rattle.pp_rs.specs.NextWord.{IsNextWord, SomeAhead};
+ghost use Rattle.pp_rs.specs.NextWord.{IsNextWord, IsPassed, SomeAhead};
 ghost use Rattle.pp_rs.specs.Preprocessing.{IsNextItem};
 
 use crate::lexer::PlainItem;
@@ -22,7 +22,7 @@ use pp_directives::directives::DirectiveProcessor;
 use pp_macros::calls::Expander;
 use pp_macros::halt::Halt;
 use pp_macros::step::{StepExit, is_out_of_memory};
-use std::alloc::Global;
+use std::alloc::{AllocError, Global};
 use std::marker::Model;
 
 /// An item of the preprocessor: a token, or an error with its place.
@@ -86,17 +86,12 @@ impl<'a> Preprocessor<'a> {
     /// Returns the next token before memory is taken for it, if it is a word of plain text that is given as it is
     /// in the source. Otherwise it returns `None`, and `next` returns what comes.
     ///
-    /// It is private to the repository. It passes ends of macros and newlines before the token, also if it returns
-    /// `None`.
+    /// It is private to the repository. It passes newlines before the token, also if it returns `None`.
     #[inline(always)]
     pub fn next_word(&mut self) -> Option<PlainItem<'a>>
         ensures { IsNextWord self.old result self.new }
     {
-        if self.spent {
-            return None;
-        }
-        self.expander.pass_pauses();
-        if !self.expander.is_idle() {
+        if self.spent || !self.expander.is_idle() {
             return None;
         }
         'words: loop {
@@ -109,26 +104,51 @@ impl<'a> Preprocessor<'a> {
         }
     }
 
-    /// Returns the next token before memory is taken for it, if it is ordinary, and the body or an argument of an open
-    /// macro has it as it is given. `pass` passes it. Otherwise it returns `None`, and `next` returns what comes.
+    /// Goes on in the open macros, and returns whether the next token is ordinary, and the body or an argument of an
+    /// open macro has it as it is given. Then `token` returns it before memory is taken for it, and `pass` passes it.
+    /// Otherwise `next` returns what comes.
+    ///
+    /// It is private to the repository. It passes ends of macros and names of macros without parameters, which open.
+    /// The only error is that an allocation failed; then `next` returns `None` from then on.
+    #[inline(always)]
+    pub fn advance(&mut self) -> Result<bool, AllocError>
+        ensures passed { OnOk result (IsPassed self.old self.new) }
+        ensures ahead { IfOk result (λ found. found ≡ true → SomeAhead self.new) }
+        ensures refused { OnErr result (is_spent self.new ≡ true) }
+    {
+        if self.spent || self.expander.is_idle() {
+            return Ok(false);
+        }
+        match self.expander.advance(&self.source) {
+            Ok(Some(_)) => {}
+            Ok(None) => return Ok(false),
+            Err(refused) => {
+                self.spent = true;
+                return Err(refused);
+            }
+        }
+        let Some(token) = self.expander.token() else {
+            return Ok(false);
+        };
+        Ok(token.is_ordinary())
+    }
+
+    /// Returns the token that `advance` found.
     ///
     /// It is private to the repository.
     #[inline(always)]
-    pub fn token(&self) -> Option<&Token>
-        ensures ahead { IfSome result (λ token. IsAhead self.now token.now) }
-        ensures ordinary { IfSome result (λ token. IsTrue (is_ordinary token.now.value)) }
+    pub fn token(&self) -> &Token
+        requires { SomeAhead self.now }
+        ensures ahead { IsAhead self.now result.now }
+        ensures ordinary { IsTrue (is_ordinary result.now.value) }
     {
-        if self.spent {
-            return None;
+        match self.expander.token() {
+            Some(token) => token,
+            None => unreachable!(),
         }
-        let token = self.expander.token(&self.source)?;
-        if !token.is_ordinary() {
-            return None;
-        }
-        Some(token)
     }
 
-    /// Passes the token that `token` returned, as `next` does.
+    /// Passes the token that `advance` found, as `next` does.
     ///
     /// It is private to the repository.
     #[inline(always)]
@@ -204,6 +224,14 @@ impl<'a> Iterator for Preprocessor<'a> {
             return None;
         }
         loop {
+            match self.expander.give_next(&self.source) {
+                Ok(Some(token)) => return Some(Ok(token)),
+                Ok(None) => {}
+                Err(_) => {
+                    self.spent = true;
+                    return Some(Err(out_of_memory()));
+                }
+            }
             match turn_source(self.alloc, &mut self.expander, &mut self.source) {
                 Ok(token) => return Some(Ok(token)),
                 Err(StepExit::Error(error)) => {
@@ -213,7 +241,7 @@ impl<'a> Iterator for Preprocessor<'a> {
                     return Some(Err(error));
                 }
                 Err(StepExit::Finished) => return None,
-                Err(StepExit::Continue) => self.expander.pass_pauses(),
+                Err(StepExit::Continue) => {}
             }
         }
     }

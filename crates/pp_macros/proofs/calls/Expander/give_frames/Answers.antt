@@ -1,18 +1,35 @@
-use Rattle.pp_macros.specs.inner.Giving.{none, further}
-use Rattle.pp_macros.proofs.taking.GivingLemmas.{giving_falls}
-use Rattle.pp_macros.proofs.calls.Expander.give_frames.Goals as goal
 use Rattle.std.proofs.Common.{refl}
+use Rattle.std.proofs.lemmas.List.Elements.{All-push}
+use Rattle.pp_model.specs.declared.read.Read.{Read}
+use Rattle.pp_macros.specs.Held.{HoldsOrdinary}
+use Rattle.pp_macros.specs.inner.Giving.{none}
+use Rattle.pp_macros.proofs.taking.GivingLemmas.{given_more, gives_pauses}
+use Rattle.pp_macros.proofs.calls.Expander.give_frames.Goals as goal
 
-pub steps-init : goal.steps-init
-steps-init c = record { gives = none _ _ refl refl; holds = c.requires }
+pub tokens-init : goal.tokens-init
+tokens-init c = record { gives = none _ _ refl refl; sound = c.requires.sound; holds = c.requires.ordinary }
 
-pub steps-smaller : goal.steps-smaller
-steps-smaller c = giving_falls _ c.steps.self c.give_next.new.self c.steps.items.items c.give_next.new.items.items
-    (rw c.if-branch.true at c.in_ok-give_next.ensures.gives)
+pub tokens-preserved : goal.tokens-preserved
+tokens-preserved c =
+    let before = c.tokens.invariant in
+    let advanced = (c.in_ok-painted.ensures {u = tt}).advances in
+    let found = rw c.in-Some.is at advanced.gives in
+    let put = (c.in_ok-put_token.ensures {u = tt}).puts found.0 found.1.ahead in
+    let more = given_more _ _ _ _ _ _ _ _ _ _ before.gives before.sound advanced.pauses found.1 (c.in_ok-put_token.ensures {u = tt}).passes put in
+    record {
+      gives = more.gives;
+      sound = more.sound;
+      holds = rw put (All-push (λ (read : Read). HoldsOrdinary read.token.value) _ _ before.holds found.1.holds);
+    }
 
-pub steps-preserved : goal.steps-preserved
-steps-preserved c = record {
-  gives = further c.steps.self c.give_next.new.self c.steps.items.items c.give_next.new.items.items c.steps.invariant.gives
-      (rw c.if-branch.true at c.in_ok-give_next.ensures.gives);
-  holds = c.in_ok-give_next.ensures.holds;
-}
+pub tokens-smaller : goal.tokens-smaller
+tokens-smaller c =
+    let before = c.tokens.invariant in
+    let advanced = (c.in_ok-painted.ensures {u = tt}).advances in
+    let found = rw c.in-Some.is at advanced.gives in
+    let put = (c.in_ok-put_token.ensures {u = tt}).puts found.0 found.1.ahead in
+    (given_more _ _ _ _ _ _ _ _ _ _ before.gives before.sound advanced.pauses found.1 (c.in_ok-put_token.ensures {u = tt}).passes put).less
+
+pub returns-clause-gives : goal.returns-clause-gives
+returns-clause-gives c =
+    gives_pauses _ _ _ _ _ _ c.tokens.invariant.gives (c.in_ok-painted.ensures {u = tt}).advances.pauses

@@ -1,16 +1,16 @@
 use Rattle.pp_macros.specs.inner.Giving.{GivesEach}
-use Rattle.pp_macros.specs.inner.Left.{regions}
-use Rattle.pp_macros.specs.inner.Reach.{total}
+use Rattle.pp_macros.specs.inner.Left.{work_of, IsSound}
 use Rattle.pp_macros.specs.inner.Reader.{of_list}
 use Rattle.pp_macros.specs.inner.Reading.{AllReadOrdinary}
 use Rattle.pp_macros.proofs.calls.Expander.give_frames.Given as goal
 
 -- what was given so far
-abbrev pub invariant-steps : goal.invariant-steps
-invariant-steps l = record {
+abbrev pub invariant-tokens : goal.invariant-tokens
+invariant-tokens l = record {
   gives : GivesEach (of_list l.fn.list) l.fn.self l.fn.items.items l.self l.items.items;
+  sound : IsSound l.self (of_list l.fn.list);
   holds : AllReadOrdinary l.items.items;
 }
 
-abbrev pub decreases-steps : goal.decreases-steps
-decreases-steps l = total (regions l.self (of_list l.fn.list))
+abbrev pub decreases-tokens : goal.decreases-tokens
+decreases-tokens l = work_of 0 l.self (of_list l.fn.list)

@@ -1,7 +1,6 @@
 use Rattle.std.proofs.Common.{◌≡◌, ◌∙◌, refl, ap, sym, false}
 use Rattle.pp_directives.specs.WordTokens.{word_token}
 use Rattle.pp_rs.proofs.runs.NextLemmas.{reached_first, reached_more, falls_more, token_fits, next_token}
-use Rattle.pp_rs.proofs.runs.PausesLemmas.{reached_on}
 use Rattle.pp_rs.proofs.runs.PassedLemmas.{newline_over, word_over, passed_pauses}
 use Rattle.pp_rs.proofs.pp.preprocessor.Preprocessor.next_word.Goals as goal
 
@@ -10,8 +9,7 @@ words-init c = record {
   unspent = c.if-self.false;
   placed = ap (λ p. p.place) c.self.view_is;
   idle = sym c.is_idle.ensures ∙ c.if-not-is_idle.false;
-  reached = (reached_on _ _ _ _ (reached_first _ _ _ _ (ap (λ p. p.expander) c.self.view_is) (ap (λ p. p.source) c.self.view_is)
-      (c.self.invariant c.if-self.false)) _ c.pass_pauses.ensures).reached;
+  reached = reached_first _ _ _ _ (ap (λ p. p.expander) c.self.view_is) (ap (λ p. p.source) c.self.view_is) (c.self.invariant c.if-self.false);
 }
 
 pub words-preserved : goal.words-preserved
@@ -31,19 +29,6 @@ words-smaller c =
 
 pub invariant_of-self : goal.invariant_of-self
 invariant_of-self c = λ e.
-    let r = (reached_on _ _ _ _ (reached_first _ _ _ _ (ap (λ p. p.expander) c.self.view_is) (ap (λ p. p.source) c.self.view_is)
-    (c.self.invariant c.if-self.false)) _ c.pass_pauses.ensures).reached in
-    (r.fit, r.reported)
-
-pub returns-then-not-is_idle : goal.returns-then-not-is_idle
-returns-then-not-is_idle c =
-    let r = (reached_on _ _ _ _ (reached_first _ _ _ _ (ap (λ p. p.expander) c.self.view_is) (ap (λ p. p.source) c.self.view_is)
-    (c.self.invariant c.if-self.false)) _ c.pass_pauses.ensures).reached in
-    let fresh : c.args.self.now.spent ≡ false = ap (λ p. p.spent) (sym c.self.view_is) ∙ c.if-self.false in
-    passed_pauses c.args.self.now _ _ _ _ r fresh c.if-self.false (ap (λ p. p.place) c.self.view_is)
-
-pub invariant_of-self-in-Some : goal.invariant_of-self-in-Some
-invariant_of-self-in-Some c = λ e.
     let takes = rw c.in-Some.is at c.next_word.ensures in
     token_fits _ _ _ _ _ _ c.words.invariant.reached (word_token c.in-Some.word)
     (word_over _ _ _ (word_token c.in-Some.word) c.words.invariant.idle takes.step takes.itself)

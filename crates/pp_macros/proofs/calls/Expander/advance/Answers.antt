@@ -1,0 +1,21 @@
+use Rattle.std.proofs.Common.{refl, Err}
+use Rattle.pp_macros.specs.inner.Giving.{at_once, after}
+use Rattle.pp_macros.specs.declared.step.StepExit.TheVariants.{Continue}
+use Rattle.pp_macros.proofs.work.CallFallsLemmas.{turn_falls}
+use Rattle.pp_macros.proofs.calls.Expander.advance.Goals as goal
+
+pub turns-init : goal.turns-init
+turns-init g c = record { pauses = at_once _ refl; sound = c.requires }
+
+pub turns-preserved : goal.turns-preserved
+turns-preserved g c =
+    let paused = rw c.in-Passed.is at (c.in_ok-turn.ensures {u = tt}).turns in
+    let less = turn_falls 0 c.turns.self (g.L.MeLexer.reader c.args.lexer.now) c.turns.invariant.sound (Err Continue) c.turn.new.self
+    (g.L.MeLexer.reader c.args.lexer.now) paused refl in
+    record { pauses = after c.turns.self _ c.turns.invariant.pauses paused; sound = less.sound }
+
+pub turns-smaller : goal.turns-smaller
+turns-smaller g c =
+    let paused = rw c.in-Passed.is at (c.in_ok-turn.ensures {u = tt}).turns in
+    (turn_falls 0 c.turns.self (g.L.MeLexer.reader c.args.lexer.now) c.turns.invariant.sound (Err Continue) c.turn.new.self
+    (g.L.MeLexer.reader c.args.lexer.now) paused refl).falls

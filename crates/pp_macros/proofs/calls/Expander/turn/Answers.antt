@@ -1,0 +1,65 @@
+use Rattle.std.proofs.Common.{◌∙◌, ap, sym, refl}
+use Rattle.std.specs.Prelude.{not}
+use Rattle.pp_model.specs.Names.{is_identifier, line_name}
+use Rattle.pp_model.specs.Painting.{painted_among}
+use Rattle.pp_macros.specs.inner.Defined.{Defined}
+use Rattle.pp_macros.specs.inner.Expander.{Expander}
+use Rattle.pp_macros.specs.inner.Turns.{masks}
+use Rattle.pp_macros.proofs.taking.FrameTurnLemmas.{refused_there, frame_pauses, frame_gives, frame_opens, frame_takes_some}
+use Rattle.pp_macros.proofs.taking.ExpanderLemmas.{none_held}
+use Rattle.pp_macros.proofs.calls.Expander.turn.Goals as goal
+
+-- a pause
+pub returns-in_default-clause-turns : goal.returns-in_default-clause-turns
+returns-in_default-clause-turns g c =
+    rw (← c.self.view_is, c.pass.ensures)
+    (frame_pauses (record { held = c.self.inside.held; frames = c.self.inside.processor }) (g.L.MeLexer.reader c.args.lexer.now)
+    (none_held c.self.inside.held (sym c.is_some.ensures ∙ c.if-is_some.false)) (c.is_idle.ensures ∙ ap not c.if-is_idle.false)
+    (c.in_default.ensures {u = tt}).token)
+
+-- a token that opens no macro
+pub returns-in_default-opened_by-clause-turns : goal.returns-in_default-opened_by-clause-turns
+returns-in_default-opened_by-clause-turns g c = (
+  refl,
+  c.in-Some.ahead.token,
+  rw (← c.self.view_is) (frame_gives (record { held = c.self.inside.held; frames = c.self.inside.processor }) (g.L.MeLexer.reader c.args.lexer.now)
+      (none_held c.self.inside.held (sym c.is_some.ensures ∙ c.if-is_some.false)) (c.is_idle.ensures ∙ ap not c.if-is_idle.false)
+      c.in-Some.ahead c.in-Some.ensures.token
+      (ap (is_identifier line_name) (sym c.value.ensures) ∙ sym c.is_line_name.ensures ∙ c.if-is_line_name.false) c.paints-painted.result
+      (c.paints-painted.ensures
+      ∙ ap (λ (m : Expander). (painted_among (masks m.frames (g.L.MeLexer.reader c.args.lexer.now)) c.in-Some.ahead).painted) (sym c.self.view_is))
+      c.in-Some.ensures.holds (sym (c.in_default-opened_by.ensures {u = tt}))),
+)
+
+-- a name whose macro can't be shared, or not be opened
+pub returns-in_err-opened-clause-refused : goal.returns-in_err-opened-clause-refused
+returns-in_err-opened-clause-refused g c = refused_there c.from_residual.result
+    (rw (← c.self.view_is) (frame_takes_some (record { held = c.self.inside.held; frames = c.self.inside.processor }) (g.L.MeLexer.reader c.args.lexer.now)
+    (none_held c.self.inside.held (sym c.is_some.ensures ∙ c.if-is_some.false)) (c.is_idle.ensures ∙ ap not c.if-is_idle.false)
+    c.in-Some.ahead c.in-Some.ensures.token
+    (ap (is_identifier line_name) (sym c.value.ensures) ∙ sym c.is_line_name.ensures ∙ c.if-is_line_name.false) c.paints-painted.result
+    (c.paints-painted.ensures
+    ∙ ap (λ (m : Expander). (painted_among (masks m.frames (g.L.MeLexer.reader c.args.lexer.now)) c.in-Some.ahead).painted) (sym c.self.view_is))))
+
+pub returns-in_err-open_bare-clause-refused : goal.returns-in_err-open_bare-clause-refused
+returns-in_err-open_bare-clause-refused g c = refused_there c.from_residual-in_err-open_bare.result
+    (rw (← c.self.view_is) (frame_takes_some (record { held = c.self.inside.held; frames = c.self.inside.processor }) (g.L.MeLexer.reader c.args.lexer.now)
+    (none_held c.self.inside.held (sym c.is_some.ensures ∙ c.if-is_some.false)) (c.is_idle.ensures ∙ ap not c.if-is_idle.false)
+    c.in-Some.ahead c.in-Some.ensures.token
+    (ap (is_identifier line_name) (sym c.value.ensures) ∙ sym c.is_line_name.ensures ∙ c.if-is_line_name.false) c.paints-painted.result
+    (c.paints-painted.ensures
+    ∙ ap (λ (m : Expander). (painted_among (masks m.frames (g.L.MeLexer.reader c.args.lexer.now)) c.in-Some.ahead).painted) (sym c.self.view_is))))
+
+-- a name whose macro opens
+pub returns-clause-turns : goal.returns-clause-turns
+returns-clause-turns g c =
+    let bare = ap (λ d. d.function_like) (sym (c.define.ensures ∙ ap (λ (d : Defined). d.definition) c.deref.ensures)) ∙ sym c.is_function_like.ensures
+    ∙ c.if-is_function_like.false in
+    rw (← c.self.view_is, c.in_ok-open_bare.ensures {u = tt}, c.pass-2.ensures, c.line-line.ensures, (c.in_ok-opened.ensures {u = tt}).cases)
+    (frame_opens (record { held = c.self.inside.held; frames = c.self.inside.processor }) (g.L.MeLexer.reader c.args.lexer.now)
+    (none_held c.self.inside.held (sym c.is_some.ensures ∙ c.if-is_some.false)) (c.is_idle.ensures ∙ ap not c.if-is_idle.false)
+    c.in-Some.ahead c.in-Some.ensures.token
+    (ap (is_identifier line_name) (sym c.value.ensures) ∙ sym c.is_line_name.ensures ∙ c.if-is_line_name.false) c.paints-painted.result
+    (c.paints-painted.ensures
+    ∙ ap (λ (m : Expander). (painted_among (masks m.frames (g.L.MeLexer.reader c.args.lexer.now)) c.in-Some.ahead).painted) (sym c.self.view_is)) _ _
+    (sym (rw c.in-Some-opened_by.is at c.opened_by.ensures)) bare)

@@ -1,0 +1,48 @@
+use Rattle.std.proofs.Common.{refl, ◌≡◌, ◌∙◌, ap, sym, false}
+use Rattle.pp_lexer.specs.TokenValue.{is_ordinary}
+use Rattle.pp_lexer.specs.declared.token.Token.{Token}
+use Rattle.pp_rs.specs.Kept.{is_spent}
+use Rattle.pp_rs.proofs.runs.NextLemmas.{reached_first}
+use Rattle.pp_rs.proofs.runs.PausesLemmas.{reached_on}
+use Rattle.pp_rs.proofs.runs.PassedLemmas.{passed_pauses, token_ahead_is, same_token}
+use Rattle.pp_rs.proofs.pp.preprocessor.Preprocessor.advance.Goals as goal
+
+pub invariant_of-self : goal.invariant_of-self
+invariant_of-self c = λ e.
+    let first = reached_first _ _ _ _ (ap (λ p. p.expander) c.self.view_is) (ap (λ p. p.source) c.self.view_is) (c.self.invariant c.if-self.false) in
+    let r = (reached_on _ _ _ _ first _ (c.in-Ok-None.ensures {u = tt}).advances.pauses).reached in
+    (r.fit, r.reported)
+
+pub returns-in-Ok-None-clause-passed : goal.returns-in-Ok-None-clause-passed
+returns-in-Ok-None-clause-passed c =
+    let first = reached_first _ _ _ _ (ap (λ p. p.expander) c.self.view_is) (ap (λ p. p.source) c.self.view_is) (c.self.invariant c.if-self.false) in
+    let r = (reached_on _ _ _ _ first _ (c.in-Ok-None.ensures {u = tt}).advances.pauses).reached in
+    let fresh : c.args.self.now.spent ≡ false = ap (λ p. p.spent) (sym c.self.view_is) ∙ c.if-self.false in
+    passed_pauses c.args.self.now _ _ _ _ r fresh c.if-self.false (ap (λ p. p.place) c.self.view_is)
+
+pub invariant_of-self-2 : goal.invariant_of-self-2
+invariant_of-self-2 c = λ e.
+    let first = reached_first _ _ _ _ (ap (λ p. p.expander) c.self.view_is) (ap (λ p. p.source) c.self.view_is) (c.self.invariant c.if-self.false) in
+    let r = (reached_on _ _ _ _ first _ (c.in-Ok-Some.ensures {u = tt}).advances.pauses).reached in
+    (r.fit, r.reported)
+
+pub returns : goal.returns
+returns c =
+    let first = reached_first _ _ _ _ (ap (λ p. p.expander) c.self.view_is) (ap (λ p. p.source) c.self.view_is) (c.self.invariant c.if-self.false) in
+    let advanced = (c.in-Ok-Some.ensures {u = tt}).advances in
+    let r = (reached_on _ _ _ _ first _ advanced.pauses).reached in
+    let fresh : c.args.self.now.spent ≡ false = ap (λ p. p.spent) (sym c.self.view_is) ∙ c.if-self.false in
+    let found = rw c.in-Ok-Some.field-0-is at advanced.gives in
+    let same = same_token _ c.in-Some.token.now found.0 (rw c.in-Some.is at c.token.ensures.token) found.1.ahead in
+    record {
+      passed = passed_pauses c.args.self.now _ _ _ _ r fresh c.if-self.false (ap (λ p. p.place) c.self.view_is);
+      ahead = λ e. (
+        found.0,
+        token_ahead_is _ c.if-self.false found.0 (ap (λ (t : Token). is_ordinary t.value) (sym same) ∙ sym c.is_ordinary.ensures ∙ e) _ found.1,
+      );
+      refused = tt;
+    }
+
+pub returns-in-Err-clause-refused : goal.returns-in-Err-clause-refused
+unfolding is_spent
+returns-in-Err-clause-refused c = refl
