@@ -604,7 +604,7 @@ impl Expander {
     /// Goes on in the open macros up to a token that is given as it is in its list: over parameters and ends, and names
     /// of macros without parentheses, which open. Returns whether the token is painted, if there is one; `token` gives
     /// it, and `pass` passes it. Stops at `__LINE__` and at the name of a macro with parentheses.
-    #[inline(never)]
+    #[inline(always)]
     pub fn advance<L: MeLexer>(&mut self, lexer: &L) -> Result<Option<bool>, AllocError>
         requires { IsSound self.old (L.reader lexer.now) }
         ensures advances { IfOk result (λ found. AdvancesTo (L.reader lexer.now) self.old found self.new) }
@@ -649,6 +649,17 @@ impl Expander {
         if self.is_idle() {
             return Ok(None);
         }
+        self.give_ahead(lexer)
+    }
+
+    // Does the same. It is a function of its own, so that a plain token of the source is given without it.
+    #[inline(never)]
+    fn give_ahead<L: MeLexer>(&mut self, lexer: &L) -> Result<Option<Token>, AllocError>
+        requires { IsSound self.old (L.reader lexer.now) }
+        ensures gives { IfOk result (λ given. GivesNext (L.reader lexer.now) self.old given self.new) }
+        ensures holds { IfOk result (λ given. IfSome given (λ token. HoldsOrdinary token.value)) }
+        ensures refused { OnErr result (RefusesWithin (L.reader lexer.now) self.old) }
+    {
         let Some(_) = self.advance(lexer)? else {
             return Ok(None);
         };

@@ -92,8 +92,7 @@ fn push_words(
     Ok(())
 }
 
-// Takes the next token into the line, spelled as in the source if it is a word of plain text, and from the list of the
-// open macro that gives it otherwise. Returns whether there was such a token.
+// Takes the next token into the line, if no memory is needed for it. Returns whether there was such a token.
 #[inline(always)]
 fn push_next(
     alloc: Global,
@@ -106,15 +105,54 @@ fn push_next(
     ensures printing { OnOk result (KeepsPrinting items.old (option_map string_bytes line.old)
         items.new (option_map string_bytes line.new)) }
 {
-    if items.advance()? {
-        push_token(alloc, line, &items.token().value)?;
-        items.pass();
+    if items.call_line().is_none() {
+        return push_next_word(alloc, items, line);
+    }
+    if push_given(alloc, items, line)? {
         return Ok(true);
     }
+    push_next_word(alloc, items, line)
+}
+
+// Takes the next word of plain text into the line, spelled as in the source. Returns whether there was one.
+#[inline(always)]
+fn push_next_word(
+    alloc: Global,
+    items: &mut Preprocessor<'_>,
+    line: &mut Option<String>,
+) -> Result<bool, AllocError>
+    requires unspent { is_spent items.old ≡ false }
+    ensures spent { OnOk result (is_spent items.new ≡ false) }
+    ensures left { IfOk result (λ pushed. HasLeft pushed items.old items.new) }
+    ensures printing { OnOk result (KeepsPrinting items.old (option_map string_bytes line.old)
+        items.new (option_map string_bytes line.new)) }
+{
     let Some(word) = items.next_word() else {
         return Ok(false);
     };
     push_plain(alloc, line, &word)?;
+    Ok(true)
+}
+
+// Takes the next token into the line, from the list of the open macro that gives it. Returns whether there was one. It
+// is a function of its own, so that a word of plain text is taken without it.
+#[inline(never)]
+fn push_given(
+    alloc: Global,
+    items: &mut Preprocessor<'_>,
+    line: &mut Option<String>,
+) -> Result<bool, AllocError>
+    requires unspent { is_spent items.old ≡ false }
+    ensures spent { OnOk result (is_spent items.new ≡ false) }
+    ensures left { IfOk result (λ pushed. HasLeft pushed items.old items.new) }
+    ensures printing { OnOk result (KeepsPrinting items.old (option_map string_bytes line.old)
+        items.new (option_map string_bytes line.new)) }
+{
+    if !items.advance()? {
+        return Ok(false);
+    }
+    push_token(alloc, line, &items.token().value)?;
+    items.pass();
     Ok(true)
 }
 

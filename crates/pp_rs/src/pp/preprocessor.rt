@@ -179,6 +179,7 @@ impl<'a> Preprocessor<'a> {
     /// with parameters that ends the body of another macro, if no `(` follows. (The place of a token that a macro gives
     /// is in that macro's definition, or in the content that `add_define` was given.) It stays as the last `next` left
     /// it. After an error its value is not specified.
+    #[inline(always)]
     pub fn call_line(&self) -> Option<u32>
         ensures { IsCallLine result self.now }
     {

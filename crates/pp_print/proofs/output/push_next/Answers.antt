@@ -1,64 +1,33 @@
-use Rattle.std.proofs.Common.{◌∙◌, arith}
-use Rattle.pp_rs.specs.WordTokens.{word_token}
-use Rattle.pp_rs.proofs.runs.SpellingLemmas.{word_ordinary}
-use Rattle.pp_print.proofs.NextLemmas.{token_keeps_ready}
-use Rattle.pp_print.proofs.RunLemmas.{printing_takes, printing_passes}
+use Rattle.std.proofs.Common.{Bool, true, false, ◌≤◌, arith}
+use Rattle.std.specs.Prelude.{Result, Ok, Err, OnOk, IfOk}
+use Rattle.pp_rs.specs.Kept.{Preprocessing, most_items}
+use Rattle.pp_print.specs.inner.Printing.{HasLeft}
 use Rattle.pp_print.proofs.output.push_next.Goals as goal
 
--- a token of an open macro
-pub returns-then-branch-clause-spent : goal.returns-then-branch-clause-spent
-returns-then-branch-clause-spent c =
-    let passed = (c.in_ok-advance.ensures {u = tt}).passed in
-    let token = c.token.result.now in
-    token_keeps_ready _ _ (passed.spent ∙ c.requires.unspent) token (c.pass.ensures token c.token.ensures.ahead)
+on_ok : {A E : Type 0} {P Q : Type 0} → (result : Result A E) → (P → Q) → OnOk result P → OnOk result Q
+on_ok (Ok value) goes there = goes there
+on_ok (Err fault) goes there = tt
 
-pub returns-then-branch-clause-left : goal.returns-then-branch-clause-left
-returns-then-branch-clause-left c =
-    let passed = (c.in_ok-advance.ensures {u = tt}).passed in
-    let next = c.pass.ensures c.token.result.now c.token.ensures.ahead in
-    omega (arith, next.less_left, passed.no_more_left)
+has_less : (pushed : Bool) (old between new : Preprocessing) → most_items between ≤ most_items old → HasLeft pushed between new → HasLeft pushed old new
+has_less true old between new no_more less = omega (arith, no_more, less)
+has_less false old between new no_more less = omega (arith, no_more, less)
 
-pub returns-then-branch-clause-printing : goal.returns-then-branch-clause-printing
-returns-then-branch-clause-printing c = λ start old new p.
-    let passed = (c.in_ok-advance.ensures {u = tt}).passed in
-    let token = c.token.result.now in
-    printing_takes start _ _ old new (printing_passes start _ _ old new new p _ passed) (passed.spent ∙ c.requires.unspent) _ token
-    (c.pass.ensures token c.token.ensures.ahead) c.token.ensures.ordinary _ (c.in_ok-push_token.ensures {u = tt})
+less_left : {E : Type 0} → (result : Result Bool E) (old between new : Preprocessing) → most_items between ≤ most_items old
+    → IfOk result (λ pushed. HasLeft pushed between new) → IfOk result (λ pushed. HasLeft pushed old new)
+less_left (Ok pushed) old between new no_more less = has_less pushed old between new no_more less
+less_left (Err fault) old between new no_more less = tt
 
--- no token
-pub returns-in_default-clause-spent : goal.returns-in_default-clause-spent
-returns-in_default-clause-spent c =
-    let passed = (c.in_ok-advance.ensures {u = tt}).passed in
-    let more = rw c.in_default.is at c.next_word.ensures in
-    more.spent ∙ passed.spent ∙ c.requires.unspent
+-- a word, with no macro open
+pub returns-then-is_none-clause-printing : goal.returns-then-is_none-clause-printing
+returns-then-is_none-clause-printing c = c.push_next_word.ensures.printing
 
-pub returns-in_default-clause-left : goal.returns-in_default-clause-left
-returns-in_default-clause-left c =
-    let passed = (c.in_ok-advance.ensures {u = tt}).passed in
-    let more = rw c.in_default.is at c.next_word.ensures in
-    omega (arith, passed.no_more_left, more.no_more_left)
-
-pub returns-in_default-clause-printing : goal.returns-in_default-clause-printing
-returns-in_default-clause-printing c = λ start old new p.
-    let passed = (c.in_ok-advance.ensures {u = tt}).passed in
-    printing_passes start _ _ old new new (printing_passes start _ _ old new new p _ passed) _ (rw c.in_default.is at c.next_word.ensures)
-
--- a word of plain text
-pub returns-clause-spent : goal.returns-clause-spent
-returns-clause-spent c =
-    let passed = (c.in_ok-advance.ensures {u = tt}).passed in
-    let taken = rw c.in-Some.is at c.next_word.ensures in
-    token_keeps_ready _ _ (passed.spent ∙ c.requires.unspent) (word_token c.in-Some.word) taken.next
-
+-- a word, after the open macros
 pub returns-clause-left : goal.returns-clause-left
 returns-clause-left c =
-    let passed = (c.in_ok-advance.ensures {u = tt}).passed in
-    let taken = rw c.in-Some.is at c.next_word.ensures in
-    omega (arith, passed.no_more_left, taken.next.less_left)
+    let given = c.in_ok-push_given.ensures {u = tt} in
+    less_left c.push_next_word-2.result _ _ _ (rw c.if-branch.false at given.left) c.push_next_word-2.ensures.left
 
 pub returns-clause-printing : goal.returns-clause-printing
-returns-clause-printing c = λ start old new p.
-    let passed = (c.in_ok-advance.ensures {u = tt}).passed in
-    let taken = rw c.in-Some.is at c.next_word.ensures in
-    printing_takes start _ _ old new (printing_passes start _ _ old new new p _ passed) (passed.spent ∙ c.requires.unspent) _
-    (word_token c.in-Some.word) taken.next (word_ordinary c.in-Some.word) _ (c.in_ok-push_plain.ensures {u = tt})
+returns-clause-printing c =
+    let given = c.in_ok-push_given.ensures {u = tt} in
+    on_ok c.push_next_word-2.result (λ keeps start old new p. keeps start old new (given.printing start old new p)) c.push_next_word-2.ensures.printing

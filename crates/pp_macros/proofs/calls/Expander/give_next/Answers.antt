@@ -1,15 +1,6 @@
 use Rattle.std.proofs.Common.{refl}
 use Rattle.pp_macros.specs.inner.Giving.{at_once}
-use Rattle.pp_macros.proofs.taking.FrameTurnLemmas.{refused_there}
-use Rattle.pp_macros.proofs.taking.GivingLemmas.{given_some}
 use Rattle.pp_macros.proofs.calls.Expander.give_next.Goals as goal
-
-pub returns-in_err-token-clause-refused : goal.returns-in_err-token-clause-refused
-returns-in_err-token-clause-refused g c =
-    let advanced = (c.in_ok-advance.ensures {u = tt}).advances in
-    let found = rw c.in-Some.is at advanced.gives in
-    refused_there c.from_residual-in_err-token.result
-    (record { between = c.advance.new.self; pauses = advanced.pauses; some = given_some _ _ _ _ _ found.1.turns })
 
 pub returns-then-is_idle-clause-gives : goal.returns-then-is_idle-clause-gives
 returns-then-is_idle-clause-gives g c = at_once _ refl
