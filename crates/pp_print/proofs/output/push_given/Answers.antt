@@ -1,6 +1,4 @@
 use Rattle.std.proofs.Common.{◌∙◌, arith}
-use Rattle.pp_rs.specs.WordTokens.{word_token}
-use Rattle.pp_rs.proofs.runs.SpellingLemmas.{word_ordinary}
 use Rattle.pp_print.proofs.NextLemmas.{token_keeps_ready}
 use Rattle.pp_print.proofs.RunLemmas.{printing_takes, printing_passes}
 use Rattle.pp_print.proofs.output.push_given.Goals as goal
