@@ -77,8 +77,8 @@ pub data TakesNext : Expander → Reader → Step Read → Expander → Reader �
       → TakesNext m r step p t
 
 -- the next token was taken and put after the tokens
-pub record IsTakenOnto (m : Expander) (r : Reader) (tokens : List Read) (n : Expander) (s : Reader) (more : List Read)
-    : Type 0 where
+pub record IsTakenOnto (m : Expander) (r : Reader) (tokens : List Read)
+    (n : Expander) (s : Reader) (more : List Read) : Type 0 where
   pub read : Read
   pub takes : TakesNext m r (Ok read) n s
   pub holds : HoldsOrdinary read.token.value

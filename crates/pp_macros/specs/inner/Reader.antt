@@ -61,7 +61,7 @@ abbrev pub hidden_of : Reader → List Name
 hidden_of (of_source source) = []
 hidden_of (of_list list) = list.hidden
 
--- the next token, which isn't `__LINE__` nor the name of a macro that is open around, was read and put after the tokens
+-- The next token was read and put after the tokens. It isn't `__LINE__`, nor the name of a macro that is open around.
 pub record IsReadOnto (old : Reader) (tokens : List Read) (new : Reader) (more : List Read) : Type 0 where
   pub read : Read
   pub reads : Reads old (Ok read) new
