@@ -596,7 +596,7 @@ impl Expander {
         }
         let line = ahead.line();
         let opened = found.clone()?;
-        self.processor.pass();
+        self.processor.pass_token();
         self.open_bare(opened, line)?;
         Ok(Turn::Passed)
     }
@@ -667,7 +667,7 @@ impl Expander {
             unreachable!();
         };
         let token = copy_of(self.alloc, ahead.token())?;
-        self.processor.pass();
+        self.processor.pass_token();
         Ok(Some(token))
     }
 
@@ -683,7 +683,7 @@ impl Expander {
             unreachable!();
         };
         items.push(ahead.copied_as(self.alloc, painted)?)?;
-        self.processor.pass();
+        self.processor.pass_token();
         Ok(())
     }
 

@@ -66,6 +66,15 @@ fn are_same_names(old: &[Text], new: &[Text]) -> bool
     old == new
 }
 
+// The tokens, without room for more: a macro is kept much longer than its line is read.
+fn without_room(tokens: Vec<Token>) -> Vec<Token>
+    ensures { result.items ≡ tokens.items }
+{
+    let mut tokens = tokens;
+    tokens.shrink_to_fit();
+    tokens
+}
+
 // For each token of a body the position of its parameter, if it is one.
 fn positions_in(
     alloc: Global,
@@ -113,6 +122,7 @@ impl Define {
         requires { All (λ token. IsTrue (is_ordinary token.value)) body.items }
         ensures { result ≡ object_like body.items }
     {
+        let body = without_room(body);
         Define {
             function_like: false,
             parameters: Vec::new(alloc),
@@ -135,6 +145,7 @@ impl Define {
         }) }
     {
         let positions = positions_in(alloc, &parameters, &body)?;
+        let body = without_room(body);
         Ok(Define {
             function_like: true,
             parameters: parameters.into_names(),

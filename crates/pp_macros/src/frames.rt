@@ -1,7 +1,7 @@
 //! Frames: macros that are open, each with the positions up to which its body and its arguments
 //! were read.
 
-ghost use Rattle.std.specs.Prelude.{◌≡◌, ◌⊎◌, ◌<◌, ◌^◌, IfOk, IfSome, Some, None, Ok, Err, option_map, slice_get, is_none};
+ghost use Rattle.std.specs.Prelude.{◌≡◌, ◌⊎◌, ◌<◌, ◌^◌, IfOk, IfSome, Some, None, Ok, Err, IsSome, option_map, slice_get, is_none};
 ghost use Rattle.pp_lexer.specs.PreprocessorError.{out_of_memory};
 ghost use Rattle.pp_macros.specs.inner.Frames.{new_frame, argument_at, advance};
 ghost use Rattle.pp_macros.specs.Held.{HoldsOrdinary, AllHoldOrdinary};
@@ -230,6 +230,24 @@ impl Frame {
                 token,
                 painted: false,
             }),
+        }
+    }
+
+    /// Advances by a step that gives a token.
+    #[inline(always)]
+    pub fn pass_token(&mut self)
+        requires { IsSome (given_by (advance self.old)) }
+        ensures step { self.new ≡ frame_after self.old (advance self.old) }
+        ensures name { self.new.name ≡ self.old.name }
+    {
+        if let Some(index) = self.expanding {
+            if let Some(_) = argument_token(&self.arguments, index, self.argument_position) {
+                self.argument_position += 1;
+            }
+            return;
+        }
+        if let Some(_) = token_at(self.opened.define().body(), self.position) {
+            self.position += 1;
         }
     }
 

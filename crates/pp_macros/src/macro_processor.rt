@@ -1,6 +1,6 @@
 //! The macros that are open, over a reader.
 
-ghost use Rattle.std.specs.Prelude.{◌≡◌, ◌≤◌, ◌<◌, ◌-◌, ◌∷◌, [], drop, take, IfOk, IfSome, OnErr, OnOk, MatchResult, Ok, Err, option_map, is_some, not, pos, false};
+ghost use Rattle.std.specs.Prelude.{◌≡◌, ◌≤◌, ◌<◌, ◌-◌, ◌∷◌, [], drop, take, IfOk, IfSome, OnErr, OnOk, MatchResult, Ok, Err, IsSome, option_map, is_some, not, pos, false};
 ghost use Rattle.std.specs.List.{list_any};
 ghost use Rattle.std.specs.Str.{chars};
 ghost use Rattle.pp_lexer.specs.declared.token.PreprocessorError.TheVariants.{LineOverflow};
@@ -197,6 +197,18 @@ impl MacroProcessor {
             return;
         }
         frame.pass();
+    }
+
+    /// Passes the token that the innermost frame gives next.
+    #[inline(always)]
+    pub fn pass_token(&mut self)
+        requires { IsSome (given_next self.old) }
+        ensures { self.new ≡ frames_after self.old }
+    {
+        let Some(frame) = self.frames.last_mut() else {
+            return;
+        };
+        frame.pass_token();
     }
 
     // One step of the innermost frame, or of the reader if no macro is open. A frame at its end is

@@ -1,6 +1,6 @@
 -- What a frame gives, as its step says.
 use Rattle.std.proofs.Common.{◌≡◌, ◌∙◌, ℕ, ◌+◌, ◌<◌, ◌⊎◌, List, [], ◌∷◌, length, get_or, ◌≤◌, arith, true, false, drop, refl, sym, ap, Option, Some, None, slice_get, inl, inr}
-use Rattle.std.specs.Prelude.{is_none, leb}
+use Rattle.std.specs.Prelude.{is_none, is_some, leb, IsSome}
 use Rattle.std.proofs.lemmas.Bool.Decides.{leb_tells}
 use Rattle.std.proofs.lemmas.Option.{slice_get_within, get_or_from_slice_get, slice_get_cases}
 use Rattle.std.proofs.lemmas.List.{drop_more, drop_all, length-drop}
@@ -44,6 +44,26 @@ passes_to f advanced given new e = rw e refl
 
 pub stays : (f : Frame) (advanced : Option Advance) → advanced ≡ None → f ≡ frame_after f advanced
 stays f advanced e = rw e refl
+
+-- a frame that gives a token of its body goes on after that token
+pub passes_given : (f : Frame) (body : List Token) (k : ℕ) (x : Token) → f.reading ≡ None → f.body ≡ drop k body → slice_get body k ≡ Some x
+    → IsSome (given_by (advance f)) → record f { body = drop (k + 1) body } ≡ frame_after f (advance f)
+passes_given f body k x reads is at gives = go (parameter_of f.parameters x.value) refl
+  where
+    step : (p : Option ℕ) → parameter_of f.parameters x.value ≡ p → advance f ≡ Some (body_token f x (drop (k + 1) body) p)
+    step p e = rw (reads, is, drop-some body k x at, e) refl
+
+    go : (p : Option ℕ) → parameter_of f.parameters x.value ≡ p → record f { body = drop (k + 1) body } ≡ frame_after f (advance f)
+    go None e = rw (step None e) refl
+    go (Some n) e =
+        let none : is_some (given_by (advance f)) ≡ false = rw (step (Some n) e) refl in
+        cc
+
+-- a frame that gives a token isn't at the end of its argument or of its body
+pub gives_something : {Z : Type 0} (o : Option Read) → None ≡ o → IsSome o → Z
+gives_something o e some =
+    let none : is_some o ≡ false = rw (← e) refl in
+    cc
 
 -- a frame that reads no argument is at its end where its body has no token left
 body_ends : (f : Frame) (body : List Token) (position : ℕ) → f.reading ≡ None → f.body ≡ drop position body → length body ≤ position

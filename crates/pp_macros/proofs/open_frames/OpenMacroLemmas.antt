@@ -1,16 +1,17 @@
 -- Open macros, which the expander keeps with the innermost last.
 use Rattle.std.proofs.Common.{◌≡◌, ◌∙◌, ◌⊎◌, inl, inr, ℕ, suc, ◌-◌, ◌<◌, ◌≤◌, Bool, true, false, ◌||◌, List, [], ◌∷◌, ◌++◌, length, get_or, take, drop, reverse, set, refl, ap, sym, arith, Option, Some, None, slice_get, get_or-set_same}
 use Rattle.std.specs.List.{list_any}
-use Rattle.std.specs.Prelude.{is_none}
+use Rattle.std.specs.Prelude.{is_none, IsSome}
 use Rattle.std.proofs.Math.Seq.{take-append_seam}
 use Rattle.std.proofs.lemmas.List.{reverse-append, length-map, length-reverse, length-take-le, length-drop, take-append-drop, length-set, take-set}
 use Rattle.std.proofs.lemmas.Bool.{cases_lt}
 use Rattle.std.proofs.lemmas.List.Folds.{list_any-append}
 use Rattle.pp_model.specs.Names.{Name, is_in, is_same_name}
 use Rattle.pp_macros.specs.inner.Frames.{Frame, Advance, advance, names_of, outermost_frame_line}
-use Rattle.pp_macros.specs.inner.Ahead.{frame_after, frames_after}
+use Rattle.pp_macros.specs.inner.Ahead.{given_by, given_next, frame_after, frames_after}
 use Rattle.pp_macros.specs.inner.Turns.{frame_move}
 use Rattle.pp_macros.specs.inner.OpenNames.{Position, is_open, after_opening, after_closing, deeper_names, outermost_positions}
+use Rattle.pp_macros.proofs.open_frames.FrameLemmas.{gives_something}
 use Rattle.pp_macros.proofs.open_frames.OpenNamesLemmas.{with_last, outermost-open, outermost-opened, outermost-closed}
 
 or_left_comm : (a b c : Bool) → (a || (b || c)) ≡ (b || (a || c))
@@ -69,6 +70,19 @@ frame_passes : (advanced : Option Advance) (f v : Frame) (fs : List Frame) → i
     → v ∷ fs ≡ (frame_move fs advanced).after
 frame_passes (Some a) f v fs goes is = ap (λ w. w ∷ fs) is
 frame_passes None f v fs goes is = cc
+
+-- the last of them gives what the frames give
+pub last_gives : (fs : List Frame) (f : Frame) (n : ℕ) → n ≡ length fs → 0 < n → f ≡ get_or fs (n - 1) f
+    → given_next (reverse fs) ≡ given_by (advance f)
+last_gives fs f n e some last =
+    let more = rw e at some in
+    let is = rw e at last in
+    rw (reverse_last fs f more) (ap (λ g. given_by (advance g)) (sym is))
+
+-- what gives a token isn't at its end
+pub goes_on : (advanced : Option Advance) → IsSome (given_by advanced) → is_none advanced ≡ false
+goes_on (Some a) some = refl
+goes_on None some = gives_something None refl some
 
 -- a step of the last of them is a step of the frames
 pub last_passes : (fs : List Frame) (f v : Frame) (n : ℕ) → n ≡ length fs → 0 < n → f ≡ get_or fs (n - 1) f

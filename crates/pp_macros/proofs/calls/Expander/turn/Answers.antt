@@ -55,7 +55,7 @@ pub returns-clause-turns : goal.returns-clause-turns
 returns-clause-turns g c =
     let bare = ap (λ d. d.function_like) (sym (c.define.ensures ∙ ap (λ (d : Defined). d.definition) c.deref.ensures)) ∙ sym c.is_function_like.ensures
     ∙ c.if-is_function_like.false in
-    rw (← c.self.view_is, c.in_ok-open_bare.ensures {u = tt}, c.pass-2.ensures, c.line-line.ensures, (c.in_ok-opened.ensures {u = tt}).cases)
+    rw (← c.self.view_is, c.in_ok-open_bare.ensures {u = tt}, c.pass_token.ensures, c.line-line.ensures, (c.in_ok-opened.ensures {u = tt}).cases)
     (frame_opens (record { held = c.self.inside.held; frames = c.self.inside.processor }) (g.L.MeLexer.reader c.args.lexer.now)
     (none_held c.self.inside.held (sym c.is_some.ensures ∙ c.if-is_some.false)) (c.is_idle.ensures ∙ ap not c.if-is_idle.false)
     c.in-Some.ahead c.in-Some.ensures.token
