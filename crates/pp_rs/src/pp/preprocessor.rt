@@ -1,6 +1,6 @@
 //! The items of a preprocessed source.
 
-ghost use Rattle.std.specs.Prelude.{◌≡◌, ◌-◌, ◌^◌, ◌<◌, false, length, if◌then◌else◌, true, IsTrue, OnOk, OnErr, IfOk, Some, Ok};
+ghost use Rattle.std.specs.Prelude.{◌≡◌, ◌-◌, ◌^◌, ◌<◌, false, length, if◌then◌else◌, true, IsTrue, OnOk, OnErr, IfOk, IfErr, Some, Ok};
 ghost use Rattle.pp_lexer.specs.TokenValue.{is_ordinary};
 ghost use Rattle.pp_lexer.specs.declared.token.Token.{Token};
 ghost use Rattle.std.specs.Iterator.{at_most};
@@ -12,12 +12,14 @@ ghost use Rattle.pp_rs.specs.CallLine.{IsCallLine};
 ghost use Rattle.pp_macros.specs.Item.{is_out_of_memory};
 ghost use Rattle.pp_rs.specs.Kept.{Stands, IsAhead, is_spent, most_items, errors_left, error_place};
 ghost use Rattle.pp_macros.specs.LexerErrors.{lexer_errors};
-ghost use Rattle.pp_rs.specs.NextWord.{IsNextWord, IsPassed, SomeAhead};
+ghost use Rattle.pp_directives.specs.WordTokens.{word_token};
+ghost use Rattle.pp_rs.specs.NextWord.{IsNextWord, IsPassed, IsPlain, SomeAhead};
 ghost use Rattle.pp_rs.specs.Preprocessing.{IsNextItem};
 
 use crate::lexer::PlainItem;
 use crate::pp::source_turn::turn_source;
 use crate::token::{Location, NOWHERE, PreprocessorError, Token, out_of_memory};
+use pp_directives::convert::word_token;
 use pp_directives::directives::DirectiveProcessor;
 use pp_macros::calls::Expander;
 use pp_macros::halt::Halt;
@@ -100,6 +102,56 @@ impl<'a> Preprocessor<'a> {
             }
             if !self.source.pass_newline() {
                 return None;
+            }
+        }
+    }
+
+    // The item of a word that `next_word` gave.
+    #[inline(always)]
+    fn item_of(&mut self, word: PlainItem<'a>) -> PreprocessorItem
+        requires { IsPlain word }
+        ensures given { OnOk result (self.new ≡ self.old) }
+        ensures token { IfOk result (λ token. token ≡ word_token word.entry) }
+        ensures refused { OnErr result (is_spent self.new ≡ true) }
+        ensures error { IfErr result (λ error. error ≡ out_of_memory) }
+    {
+        match word_token(self.alloc, word) {
+            Ok(token) => Ok(token),
+            Err(_) => {
+                self.spent = true;
+                Err(out_of_memory())
+            }
+        }
+    }
+
+    // What `next` returns, looked for step by step. It is a function of its own, so that a word of plain text is given
+    // without it.
+    #[inline(never)]
+    fn next_item(&mut self) -> Option<PreprocessorItem>
+        ensures { IsNextItem self.old result self.new }
+    {
+        if self.spent {
+            return None;
+        }
+        loop {
+            match self.expander.give_next(&self.source) {
+                Ok(Some(token)) => return Some(Ok(token)),
+                Ok(None) => {}
+                Err(_) => {
+                    self.spent = true;
+                    return Some(Err(out_of_memory()));
+                }
+            }
+            match turn_source(self.alloc, &mut self.expander, &mut self.source) {
+                Ok(token) => return Some(Ok(token)),
+                Err(StepExit::Error(error)) => {
+                    self.spent = is_out_of_memory(&error.0);
+                    let error = place_refusal(error);
+                    self.place = self.source.take_error_place().unwrap_or(error.1);
+                    return Some(Err(error));
+                }
+                Err(StepExit::Finished) => return None,
+                Err(StepExit::Continue) => {}
             }
         }
     }
@@ -224,26 +276,9 @@ impl<'a> Iterator for Preprocessor<'a> {
         if self.spent {
             return None;
         }
-        loop {
-            match self.expander.give_next(&self.source) {
-                Ok(Some(token)) => return Some(Ok(token)),
-                Ok(None) => {}
-                Err(_) => {
-                    self.spent = true;
-                    return Some(Err(out_of_memory()));
-                }
-            }
-            match turn_source(self.alloc, &mut self.expander, &mut self.source) {
-                Ok(token) => return Some(Ok(token)),
-                Err(StepExit::Error(error)) => {
-                    self.spent = is_out_of_memory(&error.0);
-                    let error = place_refusal(error);
-                    self.place = self.source.take_error_place().unwrap_or(error.1);
-                    return Some(Err(error));
-                }
-                Err(StepExit::Finished) => return None,
-                Err(StepExit::Continue) => {}
-            }
+        match self.next_word() {
+            Some(word) => Some(self.item_of(word)),
+            None => self.next_item(),
         }
     }
 }

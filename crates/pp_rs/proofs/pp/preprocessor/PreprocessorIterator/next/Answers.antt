@@ -1,141 +1,28 @@
-use Rattle.std.proofs.Common.{◌≡◌, ◌∙◌, refl, ap, sym, true, false, Option, arith}
-use Rattle.std.specs.Prelude.{unwrap_or}
-use Rattle.pp_lexer.specs.declared.token.Location.{Location}
-use Rattle.pp_macros.specs.Item.{Fault, is_out_of_memory}
-use Rattle.pp_rs.proofs.runs.PausesLemmas.{reached_on, given_over}
-use Rattle.pp_rs.proofs.runs.NextLemmas.{reached_first, reached_more, falls_more, token_fits, end_fits, fault_fits, next_token, next_end, next_error, next_none, next_refused}
+use Rattle.std.proofs.Common.{◌∙◌, ap, sym}
+use Rattle.pp_directives.specs.WordTokens.{word_token}
+use Rattle.pp_rs.specs.Kept.{is_spent}
+use Rattle.pp_rs.proofs.runs.NextLemmas.{next_none}
+use Rattle.pp_rs.proofs.runs.WordItemLemmas.{word_given, passed_next}
 use Rattle.pp_rs.proofs.pp.preprocessor.PreprocessorIterator.next.Goals as goal
-
-pub loop-token-init : goal.loop-token-init
-loop-token-init c = record {
-  unspent = c.if-self.false;
-  placed = ap (λ p. p.place) c.self.view_is;
-  reached = reached_first _ _ _ _ (ap (λ p. p.expander) c.self.view_is) (ap (λ p. p.source) c.self.view_is) (c.self.invariant c.if-self.false);
-}
-
-pub loop-token-smaller : goal.loop-token-smaller
-loop-token-smaller c =
-    let on = reached_on _ _ _ _ c.loop-token.invariant.reached _ (rw c.in-Ok-None.field-0-is at (c.in-Ok-None.ensures {u = tt}).gives) in
-    let turns = rw c.in-Err-Continue.field-0-is at c.in-Err-Continue.ensures.turns in
-    omega (arith, on.least, falls_more _ _ _ _ _ _ on.reached turns)
-
-pub loop-token-preserved : goal.loop-token-preserved
-loop-token-preserved c =
-    let on = reached_on _ _ _ _ c.loop-token.invariant.reached _ (rw c.in-Ok-None.field-0-is at (c.in-Ok-None.ensures {u = tt}).gives) in
-    record {
-      unspent = c.loop-token.invariant.unspent;
-      placed = c.loop-token.invariant.placed;
-      reached = reached_more _ _ _ _ _ _ on.reached (rw c.in-Err-Continue.field-0-is at c.in-Err-Continue.ensures.turns);
-    }
-
-pub invariant_of-self : goal.invariant_of-self
-invariant_of-self c = λ e.
-    let given = rw c.in-Ok-Some.field-0-is at (c.in-Ok-Some.ensures {u = tt}).gives in
-    let on = reached_on _ _ _ _ c.loop-token.invariant.reached _ given.pauses in
-    token_fits _ _ _ _ _ _ on.reached c.in-Ok-Some.token (given_over _ _ _ _ _ given.gives given.passes)
-
-pub invariant_of-self-in-Ok : goal.invariant_of-self-in-Ok
-invariant_of-self-in-Ok c = λ e.
-    let on = reached_on _ _ _ _ c.loop-token.invariant.reached _ (rw c.in-Ok-None.field-0-is at (c.in-Ok-None.ensures {u = tt}).gives) in
-    token_fits _ _ _ _ _ _ on.reached c.in-Ok.token c.in-Ok.ensures.turns
-
-pub invariant_of-self-in-Err-Finished : goal.invariant_of-self-in-Err-Finished
-invariant_of-self-in-Err-Finished c = λ e.
-    let on = reached_on _ _ _ _ c.loop-token.invariant.reached _ (rw c.in-Ok-None.field-0-is at (c.in-Ok-None.ensures {u = tt}).gives) in
-    end_fits _ _ _ _ _ _ on.reached
-    (rw c.in-Err-Finished.field-0-is at c.in-Err-Finished.ensures.turns)
-
-pub invariant_of-self-in-Err-Error : goal.invariant_of-self-in-Err-Error
-invariant_of-self-in-Err-Error c =
-    let on = reached_on _ _ _ _ c.loop-token.invariant.reached _ (rw c.in-Ok-None.field-0-is at (c.in-Ok-None.ensures {u = tt}).gives) in
-    λ e. fault_fits _ _ _ _ _ _ on.reached c.in-Err-Error.error c.take_error_place.new.self c.take_error_place.ensures.others
-    (rw c.in-Err-Error.field-0-is at c.in-Err-Error.ensures.turns) (sym c.is_out_of_memory-self-inside.ensures ∙ e)
 
 pub returns-then-self-clause-steps : goal.returns-then-self-clause-steps
 returns-then-self-clause-steps c = next_none c.args.self.now (ap (λ p. p.spent) (sym c.self.view_is) ∙ c.if-self.true)
 
-pub returns-in-Ok-Some-clause-steps : goal.returns-in-Ok-Some-clause-steps
-returns-in-Ok-Some-clause-steps c =
-    let given = rw c.in-Ok-Some.field-0-is at (c.in-Ok-Some.ensures {u = tt}).gives in
-    let on = reached_on _ _ _ _ c.loop-token.invariant.reached _ given.pauses in
-    let fresh : c.args.self.now.spent ≡ false = ap (λ p. p.spent) (sym c.self.view_is) ∙ c.if-self.false in
-    next_token _ _ _ _ _ _ on.reached c.args.self.now fresh refl refl c.in-Ok-Some.token c.loop-token.self-inside.spent
-    c.loop-token.self-inside.place c.loop-token.invariant.unspent c.loop-token.invariant.placed
-    (given_over _ _ _ _ _ given.gives given.passes) given.gives.holds
+pub returns-in-Some-clause-steps : goal.returns-in-Some-clause-steps
+returns-in-Some-clause-steps c =
+    let taken = rw c.in-Some.is at c.next_word.ensures in
+    word_given _ c.next_word.new.self _ (word_token c.in-Some.word) c.item_of.result taken.next c.item_of.ensures.given
+    c.item_of.ensures.token c.item_of.ensures.refused c.item_of.ensures.error
 
-pub returns-in-Ok-Some-clause-goes : goal.returns-in-Ok-Some-clause-goes
-returns-in-Ok-Some-clause-goes c =
-    let given = rw c.in-Ok-Some.field-0-is at (c.in-Ok-Some.ensures {u = tt}).gives in
-    let on = reached_on _ _ _ _ c.loop-token.invariant.reached _ given.pauses in
-    let fresh : c.args.self.now.spent ≡ false = ap (λ p. p.spent) (sym c.self.view_is) ∙ c.if-self.false in
-    let next = next_token _ _ _ _ _ _ on.reached c.args.self.now fresh refl refl c.in-Ok-Some.token c.loop-token.self-inside.spent
-    c.loop-token.self-inside.place c.loop-token.invariant.unspent c.loop-token.invariant.placed
-    (given_over _ _ _ _ _ given.gives given.passes) given.gives.holds in
+pub returns-in-Some-clause-goes : goal.returns-in-Some-clause-goes
+returns-in-Some-clause-goes c =
+    let taken = rw c.in-Some.is at c.next_word.ensures in
+    let next = word_given _ c.next_word.new.self _ (word_token c.in-Some.word) c.item_of.result taken.next c.item_of.ensures.given
+    c.item_of.ensures.token c.item_of.ensures.refused c.item_of.ensures.error in
     record { on = λ finite. (tt, tt, next.less_left); keeps = tt; rests = λ finite. tt }
 
-pub returns-in-Ok-clause-steps : goal.returns-in-Ok-clause-steps
-returns-in-Ok-clause-steps c =
-    let on = reached_on _ _ _ _ c.loop-token.invariant.reached _ (rw c.in-Ok-None.field-0-is at (c.in-Ok-None.ensures {u = tt}).gives) in
-    let fresh : c.args.self.now.spent ≡ false = ap (λ p. p.spent) (sym c.self.view_is) ∙ c.if-self.false in
-    next_token _ _ _ _ _ _ on.reached c.args.self.now fresh refl refl c.in-Ok.token c.loop-token.self-inside.spent
-    c.loop-token.self-inside.place c.loop-token.invariant.unspent c.loop-token.invariant.placed c.in-Ok.ensures.turns c.in-Ok.ensures.holds
-
-pub returns-in-Ok-clause-goes : goal.returns-in-Ok-clause-goes
-returns-in-Ok-clause-goes c =
-    let on = reached_on _ _ _ _ c.loop-token.invariant.reached _ (rw c.in-Ok-None.field-0-is at (c.in-Ok-None.ensures {u = tt}).gives) in
-    let fresh : c.args.self.now.spent ≡ false = ap (λ p. p.spent) (sym c.self.view_is) ∙ c.if-self.false in
-    let next = next_token _ _ _ _ _ _ on.reached c.args.self.now fresh refl refl c.in-Ok.token
-    c.loop-token.self-inside.spent c.loop-token.self-inside.place c.loop-token.invariant.unspent c.loop-token.invariant.placed
-    c.in-Ok.ensures.turns c.in-Ok.ensures.holds in
-    record { on = λ finite. (tt, tt, next.less_left); keeps = tt; rests = λ finite. tt }
-
-pub returns-in-Err-Finished-clause-steps : goal.returns-in-Err-Finished-clause-steps
-returns-in-Err-Finished-clause-steps c =
-    let on = reached_on _ _ _ _ c.loop-token.invariant.reached _ (rw c.in-Ok-None.field-0-is at (c.in-Ok-None.ensures {u = tt}).gives) in
-    let fresh : c.args.self.now.spent ≡ false = ap (λ p. p.spent) (sym c.self.view_is) ∙ c.if-self.false in
-    next_end _ _ _ _ _ _ on.reached c.args.self.now fresh refl refl c.loop-token.self-inside.spent
-    c.loop-token.self-inside.place c.loop-token.invariant.unspent c.loop-token.invariant.placed
-    (rw c.in-Err-Finished.field-0-is at c.in-Err-Finished.ensures.turns)
-
-pub returns-in-Err-Error-clause-steps : goal.returns-in-Err-Error-clause-steps
-returns-in-Err-Error-clause-steps c =
-    let on = reached_on _ _ _ _ c.loop-token.invariant.reached _ (rw c.in-Ok-None.field-0-is at (c.in-Ok-None.ensures {u = tt}).gives) in
-    let fresh : c.args.self.now.spent ≡ false = ap (λ p. p.spent) (sym c.self.view_is) ∙ c.if-self.false in
-    let error = c.in-Err-Error.error in
-    let at = c.unwrap_or-self-inside.ensures
-    ∙ ap (λ (o : Option Location). unwrap_or o c.place_refusal-error.result.1) c.take_error_place.ensures.place
-    ∙ ap (λ (e : Fault). unwrap_or c.turn_source.new.source.error_place e.1) c.place_refusal-error.ensures in
-    rw (c.place_refusal-error.ensures, c.is_out_of_memory-self-inside.ensures)
-    (next_error _ _ _ _ _ _ on.reached c.args.self.now fresh refl refl error c.take_error_place.new.self
-    c.unwrap_or-self-inside.result c.take_error_place.ensures.others (is_out_of_memory error.0) refl
-    (rw c.in-Err-Error.field-0-is at c.in-Err-Error.ensures.turns) at)
-
-pub returns-in-Err-Error-clause-goes : goal.returns-in-Err-Error-clause-goes
-returns-in-Err-Error-clause-goes c =
-    let on = reached_on _ _ _ _ c.loop-token.invariant.reached _ (rw c.in-Ok-None.field-0-is at (c.in-Ok-None.ensures {u = tt}).gives) in
-    let fresh : c.args.self.now.spent ≡ false = ap (λ p. p.spent) (sym c.self.view_is) ∙ c.if-self.false in
-    let error = c.in-Err-Error.error in
-    let at = c.unwrap_or-self-inside.ensures
-    ∙ ap (λ (o : Option Location). unwrap_or o c.place_refusal-error.result.1) c.take_error_place.ensures.place
-    ∙ ap (λ (e : Fault). unwrap_or c.turn_source.new.source.error_place e.1) c.place_refusal-error.ensures in
-    let next = next_error _ _ _ _ _ _ on.reached c.args.self.now fresh refl refl error c.take_error_place.new.self
-    c.unwrap_or-self-inside.result c.take_error_place.ensures.others (is_out_of_memory error.0) refl
-    (rw c.in-Err-Error.field-0-is at c.in-Err-Error.ensures.turns) at in
-    record { on = λ finite. (tt, tt, rw c.is_out_of_memory-self-inside.ensures next.less_left); keeps = tt; rests = λ finite. tt }
-
-pub returns-in-Err-clause-steps : goal.returns-in-Err-clause-steps
-returns-in-Err-clause-steps c =
-    let refused = (c.in-Err.ensures {u = tt}).refused in
-    let on = reached_on _ _ _ _ c.loop-token.invariant.reached _ refused.pauses in
-    let fresh : c.args.self.now.spent ≡ false = ap (λ p. p.spent) (sym c.self.view_is) ∙ c.if-self.false in
-    rw c.out_of_memory.ensures
-    (next_refused _ _ c.give_next.new.self _ _ c.loop-token.self-inside.source on.reached c.args.self.now fresh refl refl refused.some _ refl)
-
-pub returns-in-Err-clause-goes : goal.returns-in-Err-clause-goes
-returns-in-Err-clause-goes c =
-    let refused = (c.in-Err.ensures {u = tt}).refused in
-    let on = reached_on _ _ _ _ c.loop-token.invariant.reached _ refused.pauses in
-    let fresh : c.args.self.now.spent ≡ false = ap (λ p. p.spent) (sym c.self.view_is) ∙ c.if-self.false in
-    let next = next_refused _ _ c.give_next.new.self _ _ c.loop-token.self-inside.source on.reached c.args.self.now fresh refl refl refused.some
-    (record { expander = c.give_next.new.self; source = c.loop-token.self-inside.source; spent = true; place = c.loop-token.self-inside.place }) refl in
-    record { on = λ finite. (tt, tt, next.less_left); keeps = tt; rests = λ finite. tt }
+pub returns-in-None-clause-steps : goal.returns-in-None-clause-steps
+unfolding is_spent
+returns-in-None-clause-steps c =
+    passed_next c.args.self.now c.next_word.new.self _ _ (ap (λ p. p.spent) (sym c.self.view_is) ∙ c.if-self.false)
+    (rw c.in-None.is at c.next_word.ensures) c.next_item.ensures

@@ -3,7 +3,7 @@ use Rattle.pp_model.specs.Emitting.{expansion_limit}
 use Rattle.pp_macros.specs.inner.Left.{work_of}
 use Rattle.pp_macros.specs.inner.Reader.{of_source}
 use Rattle.pp_rs.proofs.runs.NextLemmas.{Reached}
-use Rattle.pp_rs.proofs.pp.preprocessor.PreprocessorIterator.next.Given as goal
+use Rattle.pp_rs.proofs.pp.preprocessor.Preprocessor.next_item.Given as goal
 
 -- a pause keeps what comes next, and lowers what is left to do
 abbrev pub invariant-loop-token : goal.invariant-loop-token
