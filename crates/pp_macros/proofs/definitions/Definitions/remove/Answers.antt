@@ -1,4 +1,4 @@
-use Rattle.std.proofs.Common.{◌∙◌, false, sym, length-set}
+use Rattle.std.proofs.Common.{sym}
 use Rattle.std.specs.Str.{chars}
 use Rattle.pp_macros.specs.inner.Defined.{macro_names}
 use Rattle.pp_macros.proofs.defined_names.FoundNamesLemmas.{not_found, found_at}

@@ -1,6 +1,5 @@
-use Rattle.std.proofs.Common.{◌≡◌, ◌∙◌, ◌+◌, ◌++◌, ◌∷◌, [], false, Some, true, set, sym, ap, length-set}
+use Rattle.std.proofs.Common.{◌≡◌, ◌∙◌, ◌+◌, ◌∷◌, [], true, sym, ap, length-set}
 use Rattle.std.proofs.lemmas.List.{length_push, map-append}
-use Rattle.pp_model.specs.Names.{is_in}
 use Rattle.pp_macros.specs.inner.Defined.{Defined, macro_names}
 use Rattle.pp_macros.proofs.defined_names.FoundNamesLemmas.{not_found, found_at, apart_more, names-set}
 use Rattle.pp_macros.proofs.defined_names.DefinitionsLemmas.{is_set, is_pushed}

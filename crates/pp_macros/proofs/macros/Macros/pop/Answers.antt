@@ -1,5 +1,3 @@
-use Rattle.std.proofs.Common.{map}
-use Rattle.std.proofs.lemmas.List.{map-append}
 use Rattle.pp_macros.specs.inner.Defined.{shared_names}
 use Rattle.pp_macros.proofs.defined_names.DistinctNamesLemmas.{distinct_fewer, last_new}
 use Rattle.pp_macros.proofs.defined_names.SharedNamesLemmas.{shared_names-more}

@@ -1,7 +1,6 @@
-use Rattle.std.proofs.Common.{◌≡◌, ◌∙◌, ◌+◌, ◌∷◌, [], ap, sym, false, true}
-use Rattle.std.proofs.lemmas.List.{length_push, map-append}
+use Rattle.std.proofs.Common.{◌∙◌, ◌∷◌, [], sym}
+use Rattle.std.proofs.lemmas.List.{map-append}
 use Rattle.pp_macros.specs.inner.Defined.{Defined, macro_names}
-use Rattle.pp_macros.specs.inner.OpenNames.{is_open}
 use Rattle.pp_macros.proofs.open_frames.OpenNamesLemmas.{last_first-open, last_first-push, opens_again, opens_new}
 use Rattle.pp_macros.proofs.open_names.OpenNames.open.Goals as goal
 

@@ -1,4 +1,4 @@
-use Rattle.std.proofs.Common.{◌≡◌, ◌<◌, [], length, get_or}
+use Rattle.std.proofs.Common.{◌<◌, [], length}
 use Rattle.std.proofs.lemmas.List.{get_or_read, take_all}
 use Rattle.pp_macros.specs.inner.Defined.{shared_names}
 use Rattle.pp_macros.proofs.defined_names.DistinctNamesLemmas.{earlier_apart}
