@@ -3,5 +3,6 @@ pub mod DefineLemmas
 pub mod DistinctNamesLemmas
 pub mod NamePlacesLemmas
 pub mod FoundNamesLemmas
+pub mod SharedNamesLemmas
 pub mod DefinitionsLemmas
 pub mod ParameterNamesLemmas

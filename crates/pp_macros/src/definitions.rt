@@ -6,34 +6,34 @@ ghost use Rattle.pp_macros.specs.inner.Defined.{meaning_of, IsChanged};
 ghost use Rattle.pp_macros.specs.inner.Plain.{gives_itself};
 
 use crate::define::{Define, Macro};
-use crate::names::Names;
+use crate::macros::Macros;
 use pp_lexer::token::{Text, TokenValue};
 use pp_model::names::is_line_name;
 use std::alloc::{AllocError, Global};
 use std::marker::Model;
 use std::rc::Rc;
 
-/// The names that are defined, and their definitions. A name gets its number when it is first
-/// defined, and always keeps it.
+/// The names that are defined, and their definitions. A name gets its number when it is first defined, and always keeps
+/// it. A macro that isn't defined any more stays until its name is defined again or the definitions are dropped.
 #[derive(Drop)]
 pub struct Definitions {
     alloc: Global,
-    names: Names,
-    // at each name's number its macro; `None` if it isn't defined any more
-    macros: Vec<Option<Rc<Macro>>>,
+    // the last macro of each name that was ever defined
+    macros: Macros,
+    // for each of the macros whether it is still defined
+    defined: Vec<bool>,
 }
 
 impl Model for Definitions {
-    ghost use Rattle.std.specs.Prelude.{◌≡◌, List, map, length, option_map};
+    ghost use Rattle.std.specs.Prelude.{◌≡◌, List, length};
     ghost use Rattle.pp_model.specs.ApartMarks.{AreApart};
-    ghost use Rattle.pp_macros.specs.inner.Defined.{Defined, AreNamed, defined_among};
+    ghost use Rattle.pp_macros.specs.inner.Defined.{Defined, defined_among, macro_names};
 
     ghost Value = { List Defined };
 
-    ghost view = { λ d. defined_among d.names (map (λ found. option_map (λ m. m.value.definition) found) d.macros.items) };
+    ghost view = { λ d. defined_among d.macros d.defined.items };
 
-    ghost invariant = { λ d. AreApart d.names × (length d.macros.items ≡ length d.names)
-        × AreNamed d.names (map (λ found. option_map (λ m. m.value.name) found) d.macros.items) };
+    ghost invariant = { λ d. AreApart (macro_names d.macros) × (length d.defined.items ≡ length d.macros) };
 }
 
 /// Whether a value that isn't painted gives itself while no macro is open: it isn't `__LINE__`, nor a
@@ -64,8 +64,8 @@ impl Definitions {
     {
         Definitions {
             alloc,
-            names: Names::new(alloc),
-            macros: Vec::new(alloc),
+            macros: Macros::new(alloc),
+            defined: Vec::new(alloc),
         }
     }
 
@@ -75,8 +75,11 @@ impl Definitions {
             ≡ meaning_of self.now (chars name.now) }
         ensures name { IfSome result (λ m. m.now.value.name ≡ chars name.now) }
     {
-        let id = self.names.find(name)?;
-        self.macros[id.number()].as_ref()
+        let id = self.macros.find(name)?;
+        if !self.defined[id.number()] {
+            return None;
+        }
+        Some(self.macros.get(id))
     }
 
     /// Defines the name, replacing any definition of it. If an allocation fails, nothing changes.
@@ -84,25 +87,25 @@ impl Definitions {
         ensures ok { OnOk result (IsChanged name (Some define) self.old self.new) }
         ensures err { OnErr result (self.new ≡ self.old) }
     {
-        if let Some(id) = self.names.find(name.as_str()) {
+        if let Some(id) = self.macros.find(name.as_str()) {
             let new = shared(self.alloc, name, define)?;
-            self.macros[id.number()] = Some(new);
+            self.macros.replace(id, new);
+            self.defined[id.number()] = true;
             return Ok(());
         }
-        self.macros.reserve(1)?;
-        let copy = name.try_clone(self.alloc)?;
+        self.defined.reserve(1)?;
         let new = shared(self.alloc, name, define)?;
-        self.names.push(copy)?;
-        self.macros.push_reserved(Some(new));
+        self.macros.push(new)?;
+        self.defined.push_reserved(true);
         Ok(())
     }
 
-    /// Removes the definition of the name.
+    /// Removes the definition of the name. Its macro stays in memory.
     pub fn remove(&mut self, name: &str)
         ensures { IsChanged (chars name.now) None self.old self.new }
     {
-        if let Some(id) = self.names.find(name) {
-            self.macros[id.number()] = None;
+        if let Some(id) = self.macros.find(name) {
+            self.defined[id.number()] = false;
         }
     }
 }

@@ -12,7 +12,7 @@ pub mod halt;
 pub mod list_lexer;
 pub mod list_step;
 pub mod macro_processor;
-pub mod names;
+pub mod macros;
 pub mod open_around;
 pub mod open_names;
 pub mod parameter_names;

@@ -18,7 +18,7 @@ ghost use Rattle.pp_macros.specs.declared.step.StepExit.TheVariants.{Error, Cont
 use crate::argument_lists::ArgumentLists;
 use crate::define::Macro;
 use crate::frames::{Ahead, Frame, give};
-use crate::names::is_text;
+use crate::macros::is_text;
 use crate::open_names::OpenNames;
 use crate::reader::MeLexer;
 use crate::step::{Step, StepExit};
@@ -70,17 +70,17 @@ fn is_name_of(frames: &[Frame], name: &str) -> bool
     frames.iter().take(FEW).any(|frame| has_name(frame, name))
 }
 
-// Adds the name of a frame that opens inside `frames` others, unless it is one of the first few.
-fn note_name(names: &mut OpenNames, name: &str, frames: usize) -> Result<(), AllocError>
+// Adds the name of a frame of this macro that opens inside `frames` others, unless it is one of the first few.
+fn note_name(names: &mut OpenNames, opened: &Rc<Macro>, frames: usize) -> Result<(), AllocError>
     ensures few { frames < 8 → OnOk result (names.new ≡ names.old) }
     ensures many { 8 ≤ frames
-        → OnOk result (names.new ≡ after_opening (chars name.now) (frames - 8) names.old) }
+        → OnOk result (names.new ≡ after_opening opened.now.value.name (frames - 8) names.old) }
     ensures err { OnErr result (names.new ≡ names.old) }
 {
     if frames < FEW {
         return Ok(());
     }
-    names.open(name, frames - FEW)
+    names.open(opened, frames - FEW)
 }
 
 // Removes the name of a frame that closes inside `frames` others, unless it is one of the first
@@ -280,11 +280,7 @@ impl MacroProcessor {
             ≡ new_frame opened.value.name line opened.value.definition arguments ∷ self.old) }
     {
         self.frames.reserve(1)?;
-        note_name(
-            &mut self.open_names,
-            opened.name().as_str(),
-            self.frames.len(),
-        )?;
+        note_name(&mut self.open_names, &opened, self.frames.len())?;
         let frame = Frame::new(opened, line, arguments);
         self.frames.push_reserved(frame);
         Ok(())

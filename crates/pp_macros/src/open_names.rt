@@ -4,32 +4,34 @@ ghost use Rattle.std.specs.Prelude.{◌≡◌, [], OnOk, OnErr};
 ghost use Rattle.std.specs.Str.{chars};
 ghost use Rattle.pp_macros.specs.inner.OpenNames.{is_open, after_opening, after_closing};
 
-use crate::names::Names;
-use pp_lexer::token::Text;
+use crate::define::Macro;
+use crate::macros::Macros;
 use std::alloc::{AllocError, Global};
 use std::marker::Model;
+use std::rc::Rc;
 
 /// Names that are open, each with the position of the outermost frame that has it. The outermost of
 /// all frames has the position 0.
 ///
-/// The frame that opened last closes first, and so does its name. The names are a list that grows
+/// The frame that opened last closes first, and so does its name. The macros that have the names are a list that grows
 /// and shrinks at its end. Contracts see the name that opened last first.
 #[derive(Drop)]
 pub struct OpenNames {
-    alloc: Global,
-    names: Names,
+    // of each name the macro of its outermost frame
+    macros: Macros,
     positions: Vec<usize>,
 }
 
 impl Model for OpenNames {
     ghost use Rattle.std.specs.Prelude.{◌≡◌, List, length};
+    ghost use Rattle.pp_macros.specs.inner.Defined.{macro_names};
     ghost use Rattle.pp_macros.specs.inner.OpenNames.{Position, last_first};
 
     ghost Value = { List Position };
 
-    ghost view = { λ o. last_first o.names o.positions.items };
+    ghost view = { λ o. last_first (macro_names o.macros) o.positions.items };
 
-    ghost invariant = { λ o. length o.positions.items ≡ length o.names };
+    ghost invariant = { λ o. length o.positions.items ≡ length (macro_names o.macros) };
 }
 
 impl OpenNames {
@@ -38,8 +40,7 @@ impl OpenNames {
         ensures { result ≡ [] }
     {
         OpenNames {
-            alloc,
-            names: Names::new(alloc),
+            macros: Macros::new(alloc),
             positions: Vec::new(alloc),
         }
     }
@@ -49,21 +50,20 @@ impl OpenNames {
     pub fn is_open(&self, name: &str) -> bool
         ensures { result ≡ is_open self.now (chars name.now) }
     {
-        !self.positions.is_empty() && self.names.find(name).is_some()
+        !self.positions.is_empty() && self.macros.find(name).is_some()
     }
 
-    /// Adds the name of a frame that opens at the position. If an allocation fails, nothing
-    /// changes.
-    pub fn open(&mut self, name: &str, position: usize) -> Result<(), AllocError>
-        ensures ok { OnOk result (self.new ≡ after_opening (chars name.now) position self.old) }
+    /// Adds the name of a frame of this macro that opens at the position. If an allocation fails, nothing changes.
+    pub fn open(&mut self, opened: &Rc<Macro>, position: usize) -> Result<(), AllocError>
+        ensures ok { OnOk result (self.new ≡ after_opening opened.now.value.name position self.old) }
         ensures err { OnErr result (self.new ≡ self.old) }
     {
-        if self.is_open(name) {
+        if self.is_open(opened.name().as_str()) {
             return Ok(());
         }
         self.positions.reserve(1)?;
-        let text = Text::from(String::from_str(self.alloc, name)?);
-        self.names.push(text)?;
+        let shared = opened.clone()?;
+        self.macros.push(shared)?;
         self.positions.push_reserved(position);
         Ok(())
     }
@@ -77,7 +77,7 @@ impl OpenNames {
         };
         if *last == position {
             self.positions.pop();
-            self.names.pop();
+            self.macros.pop();
         }
     }
 }

@@ -1,100 +1,80 @@
--- Lists of names, each with a definition or none.
-use Rattle.std.proofs.Common.{◌≡◌, ◌∙◌, ℕ, zero, suc, ◌+◌, ◌<◌, Bool, true, false, ◌||◌, if◌then◌else◌, List, [], ◌∷◌, ◌++◌, Bor, map, length, get_or, set, Option, Some, None, refl, sym, ap, arith, length-append, length-set}
-use Rattle.std.proofs.lemmas.List.{length-map, map-append, map-set}
-use Rattle.std.specs.Prelude.{IfSome, option_map, sum_by, slice_get}
-use Rattle.std.specs.Option.{option_copied, option_flatten}
-use Rattle.std.proofs.lemmas.Option.{slice_get-map, slice_get_read}
+-- Lists of macros, each with whether it is still defined.
+use Rattle.std.proofs.Common.{◌≡◌, ◌∙◌, ℕ, zero, suc, ◌+◌, ◌<◌, Bool, true, false, ◌||◌, if◌then◌else◌, List, [], ◌∷◌, ◌++◌, map, length, get_or, set, Option, Some, None, refl, sym, ap, arith}
+use Rattle.std.proofs.lemmas.List.{length-map, map-append}
+use Rattle.std.specs.Prelude.{sum_by, slice_get}
+use Rattle.std.specs.List.{zip}
+use Rattle.std.proofs.lemmas.Option.{none-some, same_Some, slice_get_read}
 use Rattle.std.proofs.lemmas.List.Sums.{sum_by-append, sum_by-cons, sum_by-set}
 use Rattle.pp_model.specs.Definitions.{Definition, with_change}
 use Rattle.pp_model.specs.Names.{Name, is_same_name, is_in}
 use Rattle.pp_model.specs.ApartMarks.{AreApart}
 use Rattle.pp_model.proofs.OpenNamesLemmas.{not_in_tail}
-use Rattle.pp_macros.specs.inner.Defined.{AreNamed, defined_among, meaning_of, body_tokens, more_names, more_tokens, IsChanged}
+use Rattle.pp_macros.specs.inner.Defined.{Defined, macro_names, still_defined, defined_among, meaning_of, body_tokens, more_names, more_tokens, IsChanged}
 use Rattle.pp_macros.proofs.defined_names.NameKeysLemmas.{names_same}
-use Rattle.pp_macros.proofs.defined_names.FoundNamesLemmas.{apart_too, not_first, apart_more, IsFoundAt, found_within}
+use Rattle.pp_macros.proofs.defined_names.FoundNamesLemmas.{apart_too, not_first, apart_more, IsFoundAt, found_within, names-set}
 
--- what the first of the names that is this one has
-abbrev definition_among : List Name → List (Option Definition) → Name → Option Definition
-definition_among [] ds name = None
-definition_among (n ∷ names) [] name = None
-definition_among (n ∷ names) (d ∷ ds) name = if is_same_name name n then d else definition_among names ds name
+-- the names of macros, each with whether it is still defined, and the definition that each of these has still
+abbrev names_in : List (Defined × Bool) → List Name
+names_in entries = map (λ (e : Defined × Bool). e.0.name) entries
 
--- a name that is none of them has no definition
-none_among : (name : Name) (names : List Name) (ds : List (Option Definition)) → is_in name names ≡ false → definition_among names ds name ≡ None
-none_among name [] ds absent = refl
-none_among name (n ∷ names) [] absent = refl
-none_among name (n ∷ names) (d ∷ ds) absent = by (is_same_name name n) absent (λ h. none_among name names ds h)
+abbrev definition_still : Defined × Bool → Option Definition
+definition_still (m, true) = Some m.definition
+definition_still (m, false) = None
+
+-- what the first of the macros that has this name still has
+abbrev definition_among : List (Defined × Bool) → Name → Option Definition
+definition_among [] name = None
+definition_among (e ∷ es) name = if is_same_name name e.0.name then definition_still e else definition_among es name
+
+-- a name that is none of theirs has no definition
+none_among : (name : Name) (es : List (Defined × Bool)) → is_in name (names_in es) ≡ false → definition_among es name ≡ None
+none_among name [] absent = refl
+none_among name (e ∷ es) absent = by (is_same_name name e.0.name) absent (λ h. none_among name es h)
   where
-    by : (b : Bool) → (b || is_in name names) ≡ false → (is_in name names ≡ false → definition_among names ds name ≡ None)
-        → (if b then d else definition_among names ds name) ≡ None
+    by : (b : Bool) → (b || is_in name (names_in es)) ≡ false → (is_in name (names_in es) ≡ false → definition_among es name ≡ None)
+        → (if b then definition_still e else definition_among es name) ≡ None
     by true h later = cc
     by false h later = later h
 
--- what the names that have a definition mean
-meaning_among : (names : List Name) (ds : List (Option Definition)) → AreApart names → (name : Name)
-    → meaning_of (defined_among names ds) name ≡ definition_among names ds name
-meaning_among [] ds apart name = refl
-meaning_among (n ∷ names) [] apart name = refl
-meaning_among (n ∷ names) (Some d ∷ ds) apart name =
-    ap (λ o. if is_same_name name n then Some d else o) (meaning_among names ds apart.1 name)
-meaning_among (n ∷ names) (None ∷ ds) apart name = meaning_among names ds apart.1 name ∙ by (is_same_name name n) refl
+-- what the macros that are still defined mean
+meaning_among : (es : List (Defined × Bool)) → AreApart (names_in es) → (name : Name) → meaning_of (still_defined es) name ≡ definition_among es name
+meaning_among [] apart name = refl
+meaning_among ((m, true) ∷ es) apart name = ap (λ o. if is_same_name name m.name then Some m.definition else o) (meaning_among es apart.1 name)
+meaning_among ((m, false) ∷ es) apart name = meaning_among es apart.1 name ∙ by (is_same_name name m.name) refl
   where
-    by : (b : Bool) → is_same_name name n ≡ b → definition_among names ds name ≡ (if b then None else definition_among names ds name)
-    by true e = none_among name names ds (rw (names_same name n e) apart.0)
+    by : (b : Bool) → is_same_name name m.name ≡ b → definition_among es name ≡ (if b then None else definition_among es name)
+    by true e = none_among name es (rw (names_same name m.name e) apart.0)
     by false e = refl
 
--- what is found, and what is kept at the number of a name, shown as its definition
-pub shown : {X : Type 0} (value_of : X → Definition) (r : Option (Bor X)) (o : Option X) → option_copied r ≡ o
-    → option_map (λ d. value_of d.now) r ≡ option_map value_of o
-shown value_of (Some d) o e = ap (option_map value_of) e
-shown value_of None o e = ap (option_map value_of) e
+-- what the macro at the place of the name still has
+found_among : (es : List (Defined × Bool)) (name : Name) (k : ℕ) (m : Defined) (b : Bool) → IsFoundAt name (names_in es) k
+    → slice_get es k ≡ Some (m, b) → definition_among es name ≡ definition_still (m, b)
+found_among [] name k m b found is = absurd found
+found_among (e ∷ es) name zero m b found is = rw found (ap definition_still (same_Some e (m, b) is))
+found_among (e ∷ es) name (suc k) m b found is = rw found.0 (found_among es name k m b found.1 is)
 
-pub kept_at : {X Y : Type 0} (shows : X → Option Y) (xs : List X) (k : ℕ) (x : X) → k < length xs → x ≡ get_or xs k x
-    → option_flatten (slice_get (map shows xs) k) ≡ shows x
-kept_at shows xs k x within read = rw (slice_get-map shows xs k, slice_get_read xs (length xs) k x refl within read) refl
+-- how many of the macros are still defined, and how many tokens their bodies have together
+number_among : (es : List (Defined × Bool)) → length (still_defined es) ≡ sum_by (λ e. more_names (definition_still e)) es
+number_among [] = refl
+number_among ((m, true) ∷ es) =
+    let h = number_among es in
+    rw (sum_by-cons (λ e. more_names (definition_still e)) (m, true) es) (omega arith)
+number_among ((m, false) ∷ es) = number_among es
 
-pub meaning_found : (names : List Name) (ds : List (Option Definition)) → AreApart names → (name : Name) (k : ℕ) → IsFoundAt name names k
-    → meaning_of (defined_among names ds) name ≡ option_flatten (slice_get ds k)
-meaning_found names ds apart name k found = meaning_among names ds apart name ∙ found_among names ds name k found
-  where
-    found_among : (names : List Name) (ds : List (Option Definition)) (name : Name) (k : ℕ) → IsFoundAt name names k
-        → definition_among names ds name ≡ option_flatten (slice_get ds k)
-    found_among [] ds name k found = absurd found
-    found_among (n ∷ names) [] name k found = refl
-    found_among (n ∷ names) (d ∷ ds) name zero found = rw found refl
-    found_among (n ∷ names) (d ∷ ds) name (suc k) found = rw found.0 (found_among names ds name k found.1)
+tokens_among : (es : List (Defined × Bool)) → body_tokens (still_defined es) ≡ sum_by (λ e. more_tokens (definition_still e)) es
+tokens_among [] = refl
+tokens_among ((m, true) ∷ es) =
+    rw (sum_by-cons (λ e. more_tokens (definition_still e)) (m, true) es) (ap (λ t. length m.definition.body + t) (tokens_among es))
+tokens_among ((m, false) ∷ es) = tokens_among es
 
-pub meaning_absent : (names : List Name) (ds : List (Option Definition)) → AreApart names → (name : Name) → is_in name names ≡ false
-    → meaning_of (defined_among names ds) name ≡ None
-meaning_absent names ds apart name absent = meaning_among names ds apart name ∙ none_among name names ds absent
+-- a change of one name, in what the macros mean
+module _ (es all : List (Defined × Bool)) (name : Name) (change : Option Definition) (apart : AreApart (names_in es)) (all_apart : AreApart (names_in all))
+    (changes : (other : Name) → definition_among all other ≡ (if is_same_name other name then change else definition_among es other)) where
+  changed_at : (other : Name) → meaning_of (still_defined all) other ≡ with_change (meaning_of (still_defined es)) name change other
+  changed_at other = meaning_among all all_apart other ∙ changes other
+      ∙ ap (λ o. if is_same_name other name then change else o) (sym (meaning_among es apart other))
 
--- how many of the names have a definition, and how many tokens the bodies have together
-number_among : (names : List Name) (ds : List (Option Definition)) → length ds ≡ length names → length (defined_among names ds) ≡ sum_by more_names ds
-number_among [] [] even = refl
-number_among [] (d ∷ ds) even = absurd (omega arith)
-number_among (n ∷ names) [] even = absurd (omega arith)
-number_among (n ∷ names) (Some d ∷ ds) even =
-    let h = number_among names ds (omega arith) in
-    rw (sum_by-cons more_names (Some d) ds) (omega arith)
-number_among (n ∷ names) (None ∷ ds) even = number_among names ds (omega arith)
-
-tokens_among : (names : List Name) (ds : List (Option Definition)) → length ds ≡ length names → body_tokens (defined_among names ds) ≡ sum_by more_tokens ds
-tokens_among [] [] even = refl
-tokens_among [] (d ∷ ds) even = absurd (omega arith)
-tokens_among (n ∷ names) [] even = absurd (omega arith)
-tokens_among (n ∷ names) (Some d ∷ ds) even =
-    rw (sum_by-cons more_tokens (Some d) ds) (ap (λ t. length d.body + t) (tokens_among names ds (omega arith)))
-tokens_among (n ∷ names) (None ∷ ds) even = tokens_among names ds (omega arith)
-
--- a change of one name, in what the names mean
-module _ (names all : List Name) (ds es : List (Option Definition)) (name : Name) (change : Option Definition)
-    (apart : AreApart names) (all_apart : AreApart all)
-    (changes : (other : Name) → definition_among all es other ≡ (if is_same_name other name then change else definition_among names ds other)) where
-  changed_at : (other : Name) → meaning_of (defined_among all es) other ≡ with_change (meaning_of (defined_among names ds)) name change other
-  changed_at other = meaning_among all es all_apart other ∙ changes other
-      ∙ ap (λ o. if is_same_name other name then change else o) (sym (meaning_among names ds apart other))
-
-  meaning_changed : meaning_of (defined_among all es) ≡ with_change (meaning_of (defined_among names ds)) name change
+  meaning_changed : meaning_of (still_defined all) ≡ with_change (meaning_of (still_defined es)) name change
   meaning_changed = λ i other. changed_at other i
 
 -- of two names that differ either may be asked for first
@@ -108,131 +88,157 @@ choices n name other d change rest apart = by (is_same_name other n) refl
     by true e = rw (names_same other n e, apart) refl
     by false e = refl
 
--- the definition of a name that is found is another now
-set_among : (names : List Name) (ds : List (Option Definition)) (name : Name) (k : ℕ) (change : Option Definition) → length ds ≡ length names
-    → IsFoundAt name names k → (other : Name)
-    → definition_among names (set ds k change) other ≡ (if is_same_name other name then change else definition_among names ds other)
-set_among [] ds name k change even found other = absurd found
-set_among (n ∷ names) [] name k change even found other = absurd (omega arith)
-set_among (n ∷ names) (d ∷ ds) name zero change even found other =
-    ap (λ (m : Name). if is_same_name other m then change else definition_among names ds other) (sym (names_same name n found))
+-- the macro of a name that is found is another now, or no longer defined
+set_among : (es : List (Defined × Bool)) (name : Name) (k : ℕ) (e : Defined × Bool) → e.0.name ≡ name
+    → IsFoundAt name (names_in es) k → (other : Name)
+    → definition_among (set es k e) other ≡ (if is_same_name other name then definition_still e else definition_among es other)
+set_among [] name k e same found other = absurd found
+set_among (d ∷ es) name zero e same found other =
+    ap (λ (m : Name). if is_same_name other m then definition_still e else definition_among es other) same
     ∙ by (is_same_name other name) refl
   where
-    by : (b : Bool) → is_same_name other name ≡ b → (if b then change else definition_among names ds other)
-        ≡ (if b then change else (if is_same_name other n then d else definition_among names ds other))
-    by true e = refl
-    by false e = rw (sym (names_same name n found), e) refl
-set_among (n ∷ names) (d ∷ ds) name (suc k) change even found other =
-    ap (λ o. if is_same_name other n then d else o) (set_among names ds name k change (omega arith) found.1 other)
-    ∙ choices n name other d change (definition_among names ds other) (apart_too name n found.0)
+    by : (b : Bool) → is_same_name other name ≡ b → (if b then definition_still e else definition_among es other)
+        ≡ (if b then definition_still e else (if is_same_name other d.0.name then definition_still d else definition_among es other))
+    by true h = refl
+    by false h = rw (sym (names_same name d.0.name found), h) refl
+set_among (d ∷ es) name (suc k) e same found other =
+    ap (λ o. if is_same_name other d.0.name then definition_still d else o) (set_among es name k e same found.1 other)
+    ∙ choices d.0.name name other (definition_still d) (definition_still e) (definition_among es other) (apart_too name d.0.name found.0)
 
-is_set_among : (names : List Name) (ds : List (Option Definition)) (name : Name) (k : ℕ) (change : Option Definition) → AreApart names
-    → length ds ≡ length names → IsFoundAt name names k → IsChanged name change (defined_among names ds) (defined_among names (set ds k change))
-is_set_among names ds name k change apart even found =
-    let within : k < length ds = let h = found_within name names k found in omega arith in
-    let even_now : length (set ds k change) ≡ length names = length-set ds k change ∙ even in
-    let number : sum_by more_names (set ds k change) + more_names (get_or ds k change) ≡ sum_by more_names ds + more_names change =
-    sum_by-set more_names ds k change change within in
-    let tokens : sum_by more_tokens (set ds k change) + more_tokens (get_or ds k change) ≡ sum_by more_tokens ds + more_tokens change =
-    sum_by-set more_tokens ds k change change within in
+is_set_among : (es : List (Defined × Bool)) (name : Name) (k : ℕ) (e : Defined × Bool) → e.0.name ≡ name → AreApart (names_in es)
+    → IsFoundAt name (names_in es) k → IsChanged name (definition_still e) (still_defined es) (still_defined (set es k e))
+is_set_among es name k e same apart found =
+    let within : k < length es = let h = found_within name (names_in es) k found in let l = length-map es (λ (e : Defined × Bool). e.0.name) in omega arith in
+    let number = sum_by-set (λ e. more_names (definition_still e)) es k e e within in
+    let tokens = sum_by-set (λ e. more_tokens (definition_still e)) es k e e within in
     record {
-      meaning = meaning_changed names names ds (set ds k change) name change apart apart (set_among names ds name k change even found);
-      names = rw (number_among names ds even, number_among names (set ds k change) even_now) (omega arith);
-      tokens = rw (tokens_among names ds even, tokens_among names (set ds k change) even_now) (omega arith);
+      meaning = meaning_changed es (set es k e) name (definition_still e) apart (rw (names-set (λ (e : Defined × Bool). e.0.name) es k e (rw same found)) apart)
+          (set_among es name k e same found);
+      names = rw (number_among es, number_among (set es k e)) (omega arith);
+      tokens = rw (tokens_among es, tokens_among (set es k e)) (omega arith);
     }
 
--- a name that is new gets a definition
-push_among : (names : List Name) (ds : List (Option Definition)) (name : Name) (change : Option Definition) → length ds ≡ length names
-    → is_in name names ≡ false → (other : Name)
-    → definition_among (names ++ name ∷ []) (ds ++ change ∷ []) other ≡ (if is_same_name other name then change else definition_among names ds other)
-push_among [] [] name change even new other = refl
-push_among [] (d ∷ ds) name change even new other = absurd (omega arith)
-push_among (n ∷ names) [] name change even new other = absurd (omega arith)
-push_among (n ∷ names) (d ∷ ds) name change even new other =
-    ap (λ o. if is_same_name other n then d else o) (push_among names ds name change (omega arith) (not_in_tail name n names new) other)
-    ∙ choices n name other d change (definition_among names ds other) (apart_too name n (not_first name n names new))
+-- a macro of a new name
+push_among : (es : List (Defined × Bool)) (e : Defined × Bool) → is_in e.0.name (names_in es) ≡ false → (other : Name)
+    → definition_among (es ++ e ∷ []) other ≡ (if is_same_name other e.0.name then definition_still e else definition_among es other)
+push_among [] e new other = refl
+push_among (d ∷ es) e new other =
+    ap (λ o. if is_same_name other d.0.name then definition_still d else o) (push_among es e (not_in_tail e.0.name d.0.name (names_in es) new) other)
+    ∙ choices d.0.name e.0.name other (definition_still d) (definition_still e) (definition_among es other)
+    (apart_too e.0.name d.0.name (not_first e.0.name d.0.name (names_in es) new))
 
-is_pushed_among : (names : List Name) (ds : List (Option Definition)) (name : Name) (change : Option Definition) → AreApart names
-    → length ds ≡ length names → is_in name names ≡ false
-    → IsChanged name change (defined_among names ds) (defined_among (names ++ name ∷ []) (ds ++ change ∷ []))
-is_pushed_among names ds name change apart even new =
-    let even_now : length (ds ++ change ∷ []) ≡ length (names ++ name ∷ []) =
-    omega (arith, length-append ds (change ∷ []), length-append names (name ∷ [])) in
-    record {
-      meaning = meaning_changed names (names ++ name ∷ []) ds (ds ++ change ∷ []) name change apart (apart_more name names apart new)
-          (push_among names ds name change even new);
-      names = rw (
-        number_among names ds even,
-        number_among (names ++ name ∷ []) (ds ++ change ∷ []) even_now,
-        sum_by-append more_names ds (change ∷ []),
-      ) (omega arith);
-      tokens = rw (
-        tokens_among names ds even,
-        tokens_among (names ++ name ∷ []) (ds ++ change ∷ []) even_now,
-        sum_by-append more_tokens ds (change ∷ []),
-      ) (omega arith);
-    }
+is_pushed_among : (es : List (Defined × Bool)) (e : Defined × Bool) → AreApart (names_in es) → is_in e.0.name (names_in es) ≡ false
+    → IsChanged e.0.name (definition_still e) (still_defined es) (still_defined (es ++ e ∷ []))
+is_pushed_among es e apart new = record {
+  meaning = meaning_changed es (es ++ e ∷ []) e.0.name (definition_still e) apart
+      (rw (map-append (λ (e : Defined × Bool). e.0.name) es (e ∷ [])) (apart_more e.0.name (names_in es) apart new)) (push_among es e new);
+  names = rw (number_among es, number_among (es ++ e ∷ []), sum_by-append (λ e. more_names (definition_still e)) es (e ∷ [])) (omega arith);
+  tokens = rw (tokens_among es, tokens_among (es ++ e ∷ []), sum_by-append (λ e. more_tokens (definition_still e)) es (e ∷ [])) (omega arith);
+}
 
--- a name that is none of them has no definition, and needs no change to have none
-pub is_absent : (names : List Name) (ds : List (Option Definition)) (name : Name) → AreApart names → is_in name names ≡ false
-    → IsChanged name None (defined_among names ds) (defined_among names ds)
-is_absent names ds name apart absent = record {
-  meaning = meaning_changed names names ds ds name None apart apart (λ other. by other (is_same_name other name) refl);
+-- a name that is none of theirs has no definition, and needs no change to have none
+is_absent_among : (es : List (Defined × Bool)) (name : Name) → AreApart (names_in es) → is_in name (names_in es) ≡ false
+    → IsChanged name None (still_defined es) (still_defined es)
+is_absent_among es name apart absent = record {
+  meaning = meaning_changed es es name None apart apart (λ other. by other (is_same_name other name) refl);
   names = omega arith;
   tokens = omega arith;
 }
   where
-    by : (other : Name) (b : Bool) → is_same_name other name ≡ b → definition_among names ds other ≡ (if b then None else definition_among names ds other)
-    by other true e = rw (names_same other name e) (none_among name names ds absent)
+    by : (other : Name) (b : Bool) → is_same_name other name ≡ b → definition_among es other ≡ (if b then None else definition_among es other)
+    by other true e = rw (names_same other name e) (none_among name es absent)
     by other false e = refl
 
--- a fact of what is found, from the same of what is kept
-pub shown_if : {X Y : Type 0} (value_of : X → Y) (P : Y → Type 0) (r : Option (Bor X)) (o : Option X) → option_copied r ≡ o
-    → IfSome (option_map value_of o) P → IfSome r (λ d. P (value_of d.now))
-shown_if value_of P (Some d) o e h = rw (← e) at h
-shown_if value_of P None o e h = tt
+-- Two lists, side by side.
+module _ {A B : Type 0} where
+  zip-set : (xs : List A) (ys : List B) (k : ℕ) (x : A) (y : B) → zip (set xs k x) (set ys k y) ≡ set (zip xs ys) k (x, y)
+  zip-set [] ys k x y = refl
+  zip-set (a ∷ xs) [] zero x y = refl
+  zip-set (a ∷ xs) [] (suc k) x y = refl
+  zip-set (a ∷ xs) (b ∷ ys) zero x y = refl
+  zip-set (a ∷ xs) (b ∷ ys) (suc k) x y = ap (λ zs. (a, b) ∷ zs) (zip-set xs ys k x y)
 
--- what is kept at the number of a name has that name: where it is found, after a change, and after one more
-pub named_found : (names : List Name) (kept : List (Option Name)) → AreNamed names kept → (name : Name) (k : ℕ) → IsFoundAt name names k
-    → IfSome (option_flatten (slice_get kept k)) (λ n. n ≡ name)
-named_found [] kept all name k found = absurd found
-named_found (n ∷ names) [] all name k found = tt
-named_found (n ∷ names) (own ∷ kept) all name zero found = rw (names_same name n found) all.0
-named_found (n ∷ names) (own ∷ kept) all name (suc k) found = named_found names kept all.1 name k found.1
+  zip-push : (xs : List A) (ys : List B) (x : A) (y : B) → length ys ≡ length xs → zip (xs ++ x ∷ []) (ys ++ y ∷ []) ≡ zip xs ys ++ (x, y) ∷ []
+  zip-push [] [] x y even = refl
+  zip-push [] (b ∷ ys) x y even = absurd (omega arith)
+  zip-push (a ∷ xs) [] x y even = absurd (omega arith)
+  zip-push (a ∷ xs) (b ∷ ys) x y even = ap (λ zs. (a, b) ∷ zs) (zip-push xs ys x y (omega arith))
 
-named_set : (names : List Name) (kept : List (Option Name)) → AreNamed names kept → (name : Name) (k : ℕ) (own : Option Name) → IsFoundAt name names k
-    → IfSome own (λ n. n ≡ name) → AreNamed names (set kept k own)
-named_set [] kept all name k own found is = absurd found
-named_set (n ∷ names) [] all name k own found is = tt
-named_set (n ∷ names) (o ∷ kept) all name zero own found is = (rw (← names_same name n found) is, all.1)
-named_set (n ∷ names) (o ∷ kept) all name (suc k) own found is = (all.0, named_set names kept all.1 name k own found.1 is)
+  zip-at : (xs : List A) (ys : List B) (k : ℕ) (x : A) (y : B) → slice_get xs k ≡ Some x → slice_get ys k ≡ Some y → slice_get (zip xs ys) k ≡ Some (x, y)
+  zip-at [] ys k x y here there = absurd (none-some x here)
+  zip-at (a ∷ xs) [] k x y here there = absurd (none-some y there)
+  zip-at (a ∷ xs) (b ∷ ys) zero x y here there = rw (same_Some a x here, same_Some b y there) refl
+  zip-at (a ∷ xs) (b ∷ ys) (suc k) x y here there = zip-at xs ys k x y here there
 
-named_more : (names : List Name) (kept : List (Option Name)) → AreNamed names kept → length kept ≡ length names → (name : Name) (own : Option Name)
-    → IfSome own (λ n. n ≡ name) → AreNamed (names ++ name ∷ []) (kept ++ own ∷ [])
-named_more [] [] all even name own is = (is, tt)
-named_more [] (o ∷ kept) all even name own is = absurd (omega arith)
-named_more (n ∷ names) [] all even name own is = absurd (omega arith)
-named_more (n ∷ names) (o ∷ kept) all even name own is = (all.0, named_more names kept all.1 (omega arith) name own is)
+-- the same of the two lists, of macros and of whether each is still defined
+names_in-zip : (ms : List Defined) (bs : List Bool) → length bs ≡ length ms → names_in (zip ms bs) ≡ macro_names ms
+names_in-zip [] bs even = refl
+names_in-zip (m ∷ ms) [] even = absurd (omega arith)
+names_in-zip (m ∷ ms) (b ∷ bs) even = ap (λ ns. m.name ∷ ns) (names_in-zip ms bs (omega arith))
 
--- the same of what is kept at the number of each name, shown as its name
-module _ {X : Type 0} (shows : X → Option Name) (names : List Name) (xs : List X) (all : AreNamed names (map shows xs)) (name : Name) (x : X)
-    (is : IfSome (shows x) (λ n. n ≡ name)) where
-  pub are_named_set : (k : ℕ) → IsFoundAt name names k → AreNamed names (map shows (set xs k x))
-  are_named_set k found = rw (map-set shows xs k x) (named_set names (map shows xs) all name k (shows x) found is)
+-- the macro that is found: it has the name
+record IsThere (ms : List Defined) (name : Name) (k : ℕ) (m : Defined) : Type 0 where
+  here : slice_get ms k ≡ Some m
+  same : m.name ≡ name
+  kept : set ms k m ≡ ms
 
-  pub are_named_pushed : length xs ≡ length names → AreNamed (names ++ name ∷ []) (map shows (xs ++ x ∷ []))
-  are_named_pushed even = rw (map-append shows xs (x ∷ [])) (named_more names (map shows xs) all (length-map xs shows ∙ even) name (shows x) is)
+there : (ms : List Defined) (name : Name) (k : ℕ) → IsFoundAt name (macro_names ms) k → (m : Defined) × IsThere ms name k m
+there [] name k found = absurd found
+there (m ∷ ms) name zero found = (m, record { here = refl; same = sym (names_same name m.name found); kept = refl })
+there (m ∷ ms) name (suc k) found =
+    let rest = there ms name k found.1 in
+    (rest.0, record { here = rest.1.here; same = rest.1.same; kept = ap (λ all. m ∷ all) rest.1.kept })
 
--- the same of what is kept at the number of each name, shown as its definition
-module _ {X : Type 0} (shows : X → Option Definition) (names : List Name) (xs : List X) (name : Name) (x : X) (change : Option Definition)
-    (is : shows x ≡ change) (apart : AreApart names) (even : length xs ≡ length names) where
-  even_shown : length (map shows xs) ≡ length names
-  even_shown = length-map xs shows ∙ even
+pub named_found : (ms : List Defined) (name : Name) (k : ℕ) (m : Defined) → IsFoundAt name (macro_names ms) k → slice_get ms k ≡ Some m → m.name ≡ name
+named_found ms name k m found is =
+    let at = there ms name k found in
+    ap (λ (d : Defined). d.name) (same_Some m at.0 (sym is ∙ at.1.here)) ∙ at.1.same
 
-  pub is_set : (k : ℕ) → IsFoundAt name names k
-      → IsChanged name change (defined_among names (map shows xs)) (defined_among names (map shows (set xs k x)))
-  is_set k found = rw (map-set shows xs k x, is) (is_set_among names (map shows xs) name k change apart even_shown found)
+module _ (ms : List Defined) (bs : List Bool) (apart : AreApart (macro_names ms)) (even : length bs ≡ length ms) where
+  apart_in : AreApart (names_in (zip ms bs))
+  apart_in = rw (names_in-zip ms bs even) apart
 
-  pub is_pushed : is_in name names ≡ false
-      → IsChanged name change (defined_among names (map shows xs)) (defined_among (names ++ name ∷ []) (map shows (xs ++ x ∷ [])))
-  is_pushed new = rw (map-append shows xs (x ∷ []), is) (is_pushed_among names (map shows xs) name change apart even_shown new)
+  module _ (name : Name) (k : ℕ) (found : IsFoundAt name (macro_names ms) k) where
+    found_in : IsFoundAt name (names_in (zip ms bs)) k
+    found_in = rw (names_in-zip ms bs even) found
+
+    flag_there : (b : Bool) → b ≡ get_or bs k b → slice_get bs k ≡ Some b
+    flag_there b is =
+        let number = found_within name (macro_names ms) k found in
+        let long = length-map ms (λ (m : Defined). m.name) in
+        slice_get_read bs (length bs) k b refl (omega arith) is
+
+    meaning_there : (m : Defined) (b : Bool) → slice_get ms k ≡ Some m → b ≡ get_or bs k b → meaning_of (defined_among ms bs) name ≡ definition_still (m, b)
+    meaning_there m b is still =
+        meaning_among (zip ms bs) apart_in name ∙ found_among (zip ms bs) name k m b found_in (zip-at ms bs k m b is (flag_there b still))
+
+    pub meaning_found : (m : Defined) (b : Bool) → slice_get ms k ≡ Some m → b ≡ get_or bs k b → b ≡ true
+        → meaning_of (defined_among ms bs) name ≡ Some m.definition
+    meaning_found m b is still kept = meaning_there m b is still ∙ ap (λ b. definition_still (m, b)) kept
+
+    pub meaning_gone : (b : Bool) → b ≡ get_or bs k b → b ≡ false → meaning_of (defined_among ms bs) name ≡ None
+    meaning_gone b still cleared =
+        let at = there ms name k found in
+        meaning_there at.0 b at.1.here still ∙ ap (λ b. definition_still (at.0, b)) cleared
+
+    pub is_set : (m : Defined) → m.name ≡ name → IsChanged name (Some m.definition) (defined_among ms bs) (defined_among (set ms k m) (set bs k true))
+    is_set m same = rw (zip-set ms bs k m true) (is_set_among (zip ms bs) name k (m, true) same apart_in found_in)
+
+    pub is_removed : IsChanged name None (defined_among ms bs) (defined_among ms (set bs k false))
+    is_removed =
+        let at = there ms name k found in
+        let entries : zip ms (set bs k false) ≡ set (zip ms bs) k (at.0, false) =
+        ap (λ all. zip all (set bs k false)) (sym at.1.kept) ∙ zip-set ms bs k at.0 false in
+        rw entries (is_set_among (zip ms bs) name k (at.0, false) at.1.same apart_in found_in)
+
+  pub meaning_absent : (name : Name) → is_in name (macro_names ms) ≡ false → meaning_of (defined_among ms bs) name ≡ None
+  meaning_absent name absent =
+      meaning_among (zip ms bs) apart_in name ∙ none_among name (zip ms bs) (rw (names_in-zip ms bs even) absent)
+
+  pub is_pushed : (m : Defined) → is_in m.name (macro_names ms) ≡ false
+      → IsChanged m.name (Some m.definition) (defined_among ms bs) (defined_among (ms ++ m ∷ []) (bs ++ true ∷ []))
+  is_pushed m new =
+      rw (zip-push ms bs m true even) (is_pushed_among (zip ms bs) (m, true) apart_in (rw (names_in-zip ms bs even) new))
+
+  pub is_absent : (name : Name) → is_in name (macro_names ms) ≡ false → IsChanged name None (defined_among ms bs) (defined_among ms bs)
+  is_absent name absent = is_absent_among (zip ms bs) name apart_in (rw (names_in-zip ms bs even) absent)

@@ -1,5 +1,5 @@
 -- Names that differ, and the position at which each is found.
-use Rattle.std.proofs.Common.{◌≡◌, ◌∙◌, ℕ, zero, suc, ◌<◌, Bool, true, false, ◌||◌, List, [], ◌∷◌, ◌++◌, length, get_or, Some, None, refl, sym, ap, arith}
+use Rattle.std.proofs.Common.{◌≡◌, ◌∙◌, ℕ, zero, suc, ◌<◌, Bool, true, false, ◌||◌, List, [], ◌∷◌, ◌++◌, map, length, get_or, set, Some, None, refl, sym, ap, arith}
 use Rattle.std.specs.Prelude.{is_some, position}
 use Rattle.std.specs.Cmp.Lexicographic.{same_text, other_text}
 use Rattle.std.proofs.lemmas.List.Folds.{list_any-append}
@@ -7,6 +7,7 @@ use Rattle.std.proofs.lemmas.List.Quantifiers.{position-Some}
 use Rattle.pp_model.specs.Names.{Name, is_same_name, is_in}
 use Rattle.pp_model.specs.ApartMarks.{AreApart}
 use Rattle.pp_model.proofs.OpenNamesLemmas.{not_in_tail}
+use Rattle.pp_macros.proofs.defined_names.NameKeysLemmas.{names_same}
 use Rattle.pp_macros.proofs.defined_names.ParameterNamesLemmas.{is_some-position}
 
 -- two names differ in either order
@@ -59,3 +60,10 @@ pub found_within : (name : Name) (names : List Name) (k : ℕ) → IsFoundAt nam
 found_within name [] k found = absurd found
 found_within name (n ∷ names) zero found = omega arith
 found_within name (n ∷ names) (suc k) found = let h = found_within name names k found.1 in omega arith
+
+-- what is found is replaced by another of the same name
+pub names-set : {X : Type 0} (name_of : X → Name) (xs : List X) (k : ℕ) (x : X) → IsFoundAt (name_of x) (map name_of xs) k
+    → map name_of (set xs k x) ≡ map name_of xs
+names-set name_of [] k x found = absurd found
+names-set name_of (y ∷ xs) zero x found = ap (λ n. n ∷ map name_of xs) (names_same (name_of x) (name_of y) found)
+names-set name_of (y ∷ xs) (suc k) x found = ap (λ ns. name_of y ∷ ns) (names-set name_of xs k x found.1)

@@ -1,5 +1,8 @@
--- The names that are defined, as the preprocessor keeps them: a list of names with definitions.
-use Rattle.std.specs.Prelude.{◌≡◌, ⊤, ℕ, ◌+◌, ◌≤◌, List, [], ◌∷◌, ◌++◌, length, Option, Some, None, IfSome}
+-- The names that are defined, as the preprocessor keeps them: a list of names with definitions, and for each whether it
+-- is still defined.
+use Rattle.std.specs.Prelude.{◌≡◌, ℕ, ◌+◌, ◌≤◌, Bool, true, false, List, [], ◌∷◌, length, map, Option, Some, None}
+use Rattle.std.specs.List.{zip}
+use Rattle.std.specs.declared.rc.Rc.{Rc}
 use Rattle.pp_model.specs.Names.{Name}
 use Rattle.pp_model.specs.Definitions.{Definition, Definitions, with_change}
 use Rattle.pp_model.specs.inner.Definitions.{nothing_defined}
@@ -9,23 +12,23 @@ pub record Defined : Type 0 where
   pub name : Name
   pub definition : Definition
 
--- a list of the name with its definition, empty if it has none
-abbrev pub defined_as : Name → Option Definition → List Defined
-defined_as name None = []
-defined_as name (Some definition) = record { name = name; definition = definition } ∷ []
+-- the names of the macros
+abbrev pub macro_names : List Defined → List Name
+macro_names macros = map (λ (m : Defined). m.name) macros
 
--- those of the names that have a definition; the second list says for each name its definition or that it has none
-abbrev pub defined_among : List Name → List (Option Definition) → List Defined
-defined_among [] definitions = []
-defined_among (name ∷ names) [] = []
-defined_among (name ∷ names) (definition ∷ definitions) =
-    defined_as name definition ++ defined_among names definitions
+-- the names of macros that are shared
+abbrev pub shared_names : {Z : Type 0} → List (Rc Defined Z) → List Name
+shared_names {Z} macros = macro_names (map (λ (m : Rc Defined Z). m.value) macros)
 
--- Each macro that is kept has the name that is at its place among the names.
-abbrev pub AreNamed : List Name → List (Option Name) → Type 0
-AreNamed [] kept = ⊤
-AreNamed (name ∷ names) [] = ⊤
-AreNamed (name ∷ names) (own ∷ kept) = IfSome own (λ n. n ≡ name) × AreNamed names kept
+-- of macros, each with whether it is still defined, those that are
+abbrev pub still_defined : List (Defined × Bool) → List Defined
+still_defined [] = []
+still_defined ((m, true) ∷ entries) = m ∷ still_defined entries
+still_defined ((m, false) ∷ entries) = still_defined entries
+
+-- those of the macros that are still defined; the second list says of each whether it is
+abbrev pub defined_among : List Defined → List Bool → List Defined
+defined_among macros defined = still_defined (zip macros defined)
 
 -- the definition of each name, if it has one; the first in the list counts
 abbrev pub meaning_of : List Defined → Definitions

@@ -5,7 +5,7 @@ use Rattle.std.specs.Map.{lookup}
 use Rattle.std.specs.Str.{chars, encode_utf8_all}
 use Rattle.std.specs.declared.string.String.{String}
 use Rattle.pp_model.specs.Names.{Name, is_same_name}
-use Rattle.pp_macros.specs.declared.names.table.Place.{Place}
+use Rattle.pp_macros.specs.declared.macros.table.Place.{Place}
 
 -- no two names are the same: each is found at its own position
 abbrev pub AreDistinct : List Name → Type 0

@@ -7,7 +7,7 @@ invariant_of-self-2 c =
     rw (c.push_reserved.ensures.items, c.new-frame.ensures, c.reserve.ensures.items)
     (names_noted c.self.inside.frames.items _ c.args.opened.value.name c.len.result c.self.inside.open_names c.note_name.new.names refl
     (c.len.ensures ∙ c.reserve.new.self.ok.0 ∙ ap length c.reserve.ensures.items)
-    c.in_ok-note_name.ensures.few (rw (c.as_str.ensures, c.name.ensures, c.deref.ensures) at c.in_ok-note_name.ensures.many) c.self.invariant)
+    c.in_ok-note_name.ensures.few (c.in_ok-note_name.ensures.many) c.self.invariant)
 
 pub invariant_of-self-in_err-note_name : goal.invariant_of-self-in_err-note_name
 invariant_of-self-in_err-note_name c = rw c.reserve.ensures.items (c.in_err-note_name.ensures.err ∙ c.self.invariant)

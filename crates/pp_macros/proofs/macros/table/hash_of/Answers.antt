@@ -2,7 +2,7 @@ use Rattle.std.proofs.Common.{◌∙◌, ap, fold}
 use Rattle.std.proofs.lemmas.List.{take_all}
 use Rattle.std.proofs.lemmas.Str.{encodes-chars}
 use Rattle.pp_macros.specs.inner.NamePlaces.{hash_of, hash_step}
-use Rattle.pp_macros.proofs.names.table.hash_of.Goals as goal
+use Rattle.pp_macros.proofs.macros.table.hash_of.Goals as goal
 
 pub returns : goal.returns
 unfolding hash_of

@@ -1,33 +1,36 @@
-//! The table in which names are found by their hash.
+//! The table in which macros are found by the hash of their names.
 
 ghost use Rattle.std.specs.Prelude.{◌≡◌, ◌<◌, ◌++◌, ◌∷◌, [], List, false, position, vec_len, length, OnOk, OnErr, IfOk, MatchOption};
 ghost use Rattle.std.specs.Str.{chars};
 ghost use Rattle.pp_model.specs.Names.{Name, is_in, is_same_name};
+ghost use Rattle.pp_macros.specs.inner.Defined.{shared_names};
 ghost use Rattle.pp_macros.specs.inner.NamePlaces.{hash_of, place_index, IsCrowded, IsFree, AreDistinct, FindsNames};
 
+use crate::define::Macro;
 use pp_lexer::token::Text;
 use std::alloc::{AllocError, Global};
 use std::collections::BTreeMap;
+use std::rc::Rc;
 
-// The number of places at which a name may be.
+// The number of places at which a macro may be.
 const NEAR: usize = 8;
 
-/// A place of a table, with the hash and the number of a name. It is free if no name has this number.
+/// A place of a table, with the hash of a name and the number of its macro. It is free if no macro has this number.
 #[derive(Clone, Copy)]
 pub struct Place {
     hash: u32,
     number: usize,
 }
 
-// A place without a name.
+// A place without a macro.
 const FREE: Place = Place {
     hash: 0,
     number: usize::MAX,
 };
 
-/// A table in which names are found by their hash.
+/// A table in which macros are found by the hash of their names.
 ///
-/// A name is at one of the eight places that begin at its hash: the first one that was free when it was added. If none
+/// A macro is at one of the eight places that begin at its hash: the first one that was free when it was added. If none
 /// of them was free, it is in the ordered map.
 #[derive(Drop)]
 pub struct Table {
@@ -44,6 +47,14 @@ pub fn is_text(text: &Text, name: &str) -> bool
     name == text.as_str()
 }
 
+/// Whether the macro has this name.
+#[inline(always)]
+pub fn has_name(shared: &Rc<Macro>, name: &str) -> bool
+    ensures { result ≡ is_same_name (chars name.now) shared.now.value.name }
+{
+    is_text(shared.name(), name)
+}
+
 // The hash of a name: FNV-1a of its bytes.
 #[inline(always)]
 fn hash_of(name: &str) -> u32
@@ -58,19 +69,19 @@ fn hash_of(name: &str) -> u32
 }
 
 impl Table {
-    /// A table of these names, with this many places.
+    /// A table of these macros, with this many places.
     #[inline(never)]
-    pub fn of(alloc: Global, places: usize, names: &[Text]) -> Result<Self, AllocError>
+    pub fn of(alloc: Global, places: usize, macros: &[Rc<Macro>]) -> Result<Self, AllocError>
         requires some { 0 < places }
-        requires distinct { AreDistinct names.now }
-        ensures { IfOk result (λ table. FindsNames table.places.items table.others.entries names.now) }
+        requires distinct { AreDistinct (shared_names macros.now) }
+        ensures { IfOk result (λ table. FindsNames table.places.items table.others.entries (shared_names macros.now)) }
     {
         let mut table = Table {
             places: vec![in alloc; FREE; places]?,
             others: BTreeMap::new(alloc),
         };
-        for (number, name) in names.iter().enumerate() {
-            table.put(alloc, &names[..number], name.as_str())?;
+        for (number, shared) in macros.iter().enumerate() {
+            table.put(alloc, &macros[..number], shared.name().as_str())?;
         }
         Ok(table)
     }
@@ -93,27 +104,27 @@ impl Table {
         (hash as usize + after) & (self.places.len() - 1)
     }
 
-    /// The number of a name.
+    /// The number of the macro with this name.
     #[inline(always)]
-    pub fn find(&self, names: &[Text], name: &str) -> Option<usize>
-        requires distinct { AreDistinct names.now }
-        requires finds { FindsNames self.now.places.items self.now.others.entries names.now }
-        ensures { result ≡ position (is_same_name (chars name.now)) names.now }
+    pub fn find(&self, macros: &[Rc<Macro>], name: &str) -> Option<usize>
+        requires distinct { AreDistinct (shared_names macros.now) }
+        requires finds { FindsNames self.now.places.items self.now.others.entries (shared_names macros.now) }
+        ensures { result ≡ position (is_same_name (chars name.now)) (shared_names macros.now) }
     {
         let hash = hash_of(name);
         for after in 0..NEAR {
             let place = self.places[self.index(hash, after)];
-            if place.number >= names.len() {
+            if place.number >= macros.len() {
                 return None;
             }
-            if place.hash == hash && is_text(&names[place.number], name) {
+            if place.hash == hash && has_name(&macros[place.number], name) {
                 return Some(place.number);
             }
         }
         self.others.get(name).copied()
     }
 
-    // The first free place for a name with this hash, in a table of `count` names.
+    // The first free place for a macro whose name has this hash, in a table of `count` macros.
     fn free_place(&self, hash: u32, count: usize) -> Option<usize>
         ensures { MatchOption result
             (IsCrowded self.now.places.items hash count)
@@ -128,16 +139,17 @@ impl Table {
         None
     }
 
-    /// Adds a new name after these. If an allocation fails, these are found as before.
-    pub fn put(&mut self, alloc: Global, names: &[Text], name: &str) -> Result<(), AllocError>
-        requires new { is_in (chars name.now) names.now ≡ false }
-        requires finds { FindsNames self.old.places.items self.old.others.entries names.now }
+    /// Adds a macro of a new name after these. If an allocation fails, these are found as before.
+    pub fn put(&mut self, alloc: Global, macros: &[Rc<Macro>], name: &str) -> Result<(), AllocError>
+        requires new { is_in (chars name.now) (shared_names macros.now) ≡ false }
+        requires finds { FindsNames self.old.places.items self.old.others.entries (shared_names macros.now) }
         ensures ok { OnOk result
-            (FindsNames self.new.places.items self.new.others.entries (names.now ++ chars name.now ∷ [])) }
-        ensures err { OnErr result (FindsNames self.new.places.items self.new.others.entries names.now) }
+            (FindsNames self.new.places.items self.new.others.entries (shared_names macros.now ++ chars name.now ∷ [])) }
+        ensures err { OnErr result
+            (FindsNames self.new.places.items self.new.others.entries (shared_names macros.now)) }
     {
         let hash = hash_of(name);
-        let number = names.len();
+        let number = macros.len();
         match self.free_place(hash, number) {
             Some(place) => {
                 self.places[place] = Place { hash, number };
@@ -150,7 +162,7 @@ impl Table {
         Ok(())
     }
 
-    /// Removes the last name.
+    /// Removes the last macro, which has this name.
     pub fn forget(&mut self, name: &str)
         ensures { (names : List Name) → is_in (chars name.now) names ≡ false
             → FindsNames self.old.places.items self.old.others.entries (names ++ chars name.now ∷ [])

@@ -1,6 +1,6 @@
 use Rattle.std.proofs.Common.{◌≡◌, take, fold}
 use Rattle.pp_macros.specs.inner.NamePlaces.{hash_step}
-use Rattle.pp_macros.proofs.names.table.hash_of.Given as goal
+use Rattle.pp_macros.proofs.macros.table.hash_of.Given as goal
 
 -- the hash of the bytes so far
 abbrev pub invariant-loop-byte : goal.invariant-loop-byte

@@ -2,7 +2,7 @@ use Rattle.std.proofs.Common.{None}
 use Rattle.std.specs.Str.{chars}
 use Rattle.pp_macros.proofs.defined_names.NameKeysLemmas.{text_name, text_tests, texts_same, lookup_changed}
 use Rattle.pp_macros.proofs.defined_names.NamePlacesLemmas.{finds_fewer}
-use Rattle.pp_macros.proofs.names.table.Table.forget.Goals as goal
+use Rattle.pp_macros.proofs.macros.table.Table.forget.Goals as goal
 
 pub returns : goal.returns
 returns c names new finds =
