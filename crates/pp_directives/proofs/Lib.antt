@@ -14,3 +14,4 @@ pub mod LineReadLemmas
 pub mod LineOperandLemmas
 pub mod LineWordsLemmas
 pub mod ParametersLemmas
+pub mod PlainTokenLemmas

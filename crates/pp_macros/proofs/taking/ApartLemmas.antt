@@ -9,7 +9,7 @@ use Rattle.pp_macros.specs.inner.CallTurns.{TurnsTo, gives}
 use Rattle.pp_macros.specs.inner.Expander.{Expander, StepsTaking, TakesNext, now}
 use Rattle.pp_macros.specs.inner.Idle.{is_idle}
 use Rattle.pp_macros.specs.inner.Reader.{Listing, of_list}
-use Rattle.pp_macros.specs.inner.Turns.{macro_of, macro_of_value}
+use Rattle.pp_macros.specs.inner.Turns.{macro_of_value}
 use Rattle.pp_macros.specs.declared.calls.Taken.TheVariants as given
 use Rattle.pp_macros.proofs.taking.ExpanderLemmas.{idle_steps}
 
