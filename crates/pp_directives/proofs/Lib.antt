@@ -14,4 +14,3 @@ pub mod LineReadLemmas
 pub mod LineOperandLemmas
 pub mod LineWordsLemmas
 pub mod ParametersLemmas
-pub mod PlainTokenLemmas
