@@ -14,7 +14,7 @@ use pp_macros::calls::{Expander, Taken};
 use pp_macros::definitions::Definitions;
 use pp_macros::halt::{Halt, halt_of};
 use pp_macros::list_lexer::{ListLexer, unpainted};
-use pp_macros::list_step::{step_list, take_list};
+use pp_macros::list_step::{step_list, step_unnamed, take_list};
 use pp_macros::open_around::OpenAround;
 use pp_macros::step::StepExit;
 use pp_model::outcome::Fault;
@@ -63,7 +63,21 @@ fn is_close_paren(found: &Option<Read>) -> bool
 
 impl<'a> IfParser<'a> {
     // The next item of the line, or `None` at its end.
+    #[inline(always)]
     fn next_item(&self, line: &mut LineExpander<'_>) -> Result<Option<Read>, Halt>
+        requires { IsReading self.now line.old }
+        ensures reads { GivesItem self.now line.old result line.new }
+        ensures less { TakesOff self.now line.old result line.new }
+    {
+        if let Some(read) = step_unnamed(&line.expander, &mut line.lexer) {
+            return Ok(Some(read));
+        }
+        self.next_expanded(line)
+    }
+
+    // Does the same with any item. It is a function of its own, so that other items are moved less.
+    #[inline(never)]
+    fn next_expanded(&self, line: &mut LineExpander<'_>) -> Result<Option<Read>, Halt>
         requires { IsReading self.now line.old }
         ensures reads { GivesItem self.now line.old result line.new }
         ensures less { TakesOff self.now line.old result line.new }
@@ -194,7 +208,7 @@ impl<'a> IfParser<'a> {
         requires { IsReading self.now line.old }
         ensures { IfOk result (AreWordsOf self.now line.old) }
     {
-        let mut words = Vec::new(self.alloc);
+        let mut words = Vec::with_capacity(self.alloc, 16)?;
         'words: loop {
             let token = match self.next_item(line) {
                 Ok(Some(read)) => read.token,

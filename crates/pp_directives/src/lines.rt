@@ -6,6 +6,7 @@ ghost use Rattle.pp_lexer.specs.TokenValue.{is_ordinary};
 ghost use Rattle.pp_model.specs.DefineLines.{is_attached_paren, definition_at, defined_on};
 ghost use Rattle.pp_model.specs.Lines.{first_token, first_name, ended_line, only_name, line_tokens, line_length, comments_before_end};
 ghost use Rattle.pp_directives.specs.inner.LineEntries.{line_entries};
+ghost use Rattle.pp_directives.specs.inner.PlainText.{GivesLineToken};
 ghost use Rattle.pp_macros.specs.Held.{is_ordinary_leaf};
 ghost use Rattle.pp_macros.specs.inner.LineReading as spec;
 ghost use Rattle.pp_directives.specs.inner.ReadNames.{as_named, as_placed};
@@ -13,6 +14,7 @@ ghost use Rattle.pp_macros.specs.inner.ParameterReading.{function_at};
 ghost use Rattle.pp_macros.specs.inner.SourceLexed.{unreported_at};
 ghost use Rattle.pp_macros.specs.inner.Unreported.{Reports};
 
+use crate::convert::word_token;
 use crate::parameters::parameters;
 use crate::source_lexer::SourceLexer;
 use pp_lexer::lexer;
@@ -20,7 +22,7 @@ use pp_lexer::token::{Location, PreprocessorError, Punct, Text, Token, Tokens};
 use pp_macros::define::Define;
 use pp_macros::halt::Halt;
 use pp_model::conversion::{convert_lexer_token, refused_token};
-use std::alloc::Global;
+use std::alloc::{AllocError, Global};
 
 /// The next token. The end of the source is an error at the directive's word.
 pub fn first_token(word: Location, lexer: &mut SourceLexer<'_>) -> Result<lexer::Token, Halt>
@@ -139,8 +141,26 @@ fn line_token(token: Option<lexer::Token>) -> Result<Option<Token>, Halt>
     }
 }
 
+// The next token of the line, if it is a word of plain text. Otherwise no token is taken.
+#[inline(always)]
+fn plain_token(alloc: Global, lexer: &mut SourceLexer<'_>) -> Result<Option<Token>, AllocError>
+    ensures { IfOk result (λ next. GivesLineToken lexer.old next lexer.new) }
+{
+    let Some(item) = lexer.next_plain() else {
+        return Ok(None);
+    };
+    let Ok(token) = word_token(alloc, item) else {
+        lexer.spend();
+        return Err(AllocError);
+    };
+    Ok(Some(token))
+}
+
 /// The next token of the line, or `None` if the line ends.
-pub fn next_line_token(lexer: &mut SourceLexer<'_>) -> Result<Option<Token>, Halt>
+pub fn next_line_token(
+    alloc: Global,
+    lexer: &mut SourceLexer<'_>,
+) -> Result<Option<Token>, Halt>
     requires { lexer.old.spent ≡ false }
     ensures is { spec.Meets (λ t. t) result (spec.next_line_token lexer.old.rest) }
     ensures takes { spec.TakesItems 1 lexer.old result lexer.new }
@@ -150,6 +170,9 @@ pub fn next_line_token(lexer: &mut SourceLexer<'_>) -> Result<Option<Token>, Hal
         ≡ comments_before lexer.old.rest lexer.old.at_end) }
     ensures left { IfOk result (λ next. IfSome next (λ t. lexer.new.rest ≢ [])) }
 {
+    if let Some(token) = plain_token(alloc, lexer)? {
+        return Ok(Some(token));
+    }
     line_token(lexer.next_token()?)
 }
 
@@ -179,11 +202,12 @@ pub fn line_tokens_from(
     ensures ordinary { IfOk result (λ tokens. All (λ t. IsTrue
         (is_ordinary t.value)) tokens.items) }
 {
-    let mut tokens = Vec::new(alloc);
+    let room = if first.is_some() { 16 } else { 0 };
+    let mut tokens = Vec::with_capacity(alloc, room)?;
     let mut next = first;
     while let Some(token) = next {
         tokens.push(token)?;
-        next = next_line_token(lexer)?;
+        next = next_line_token(alloc, lexer)?;
     }
     Ok(tokens)
 }
@@ -199,7 +223,7 @@ pub fn rest_of_line(alloc: Global, lexer: &mut SourceLexer<'_>) -> Result<Vec<To
     ensures ordinary { IfOk result (λ tokens. All (λ t. IsTrue
         (is_ordinary t.value)) tokens.items) }
 {
-    let first = next_line_token(lexer)?;
+    let first = next_line_token(alloc, lexer)?;
     line_tokens_from(alloc, first, lexer)
 }
 
@@ -215,7 +239,7 @@ pub fn line_tokens(alloc: Global, lexer: &mut SourceLexer<'_>) -> Result<Tokens,
     ensures ordinary { IfOk result
         (λ tokens. All (λ entry. IsTrue (is_ordinary_leaf entry.leaf)) tokens) }
 {
-    let first = next_line_token(lexer)?;
+    let first = next_line_token(alloc, lexer)?;
     let tokens = line_tokens_from(alloc, first, lexer)?;
     Ok(Tokens::from(tokens))
 }

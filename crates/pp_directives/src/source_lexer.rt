@@ -1,6 +1,6 @@
 //! The lexer of a source, which knows whether it is spent.
 
-ghost use Rattle.std.specs.Prelude.{◌≡◌, ◌-◌, ◌^◌, ◌<◌, length, false, true, None, Ok, IfOk};
+ghost use Rattle.std.specs.Prelude.{◌≡◌, ◌≢◌, ◌-◌, ◌^◌, ◌<◌, length, [], false, true, None, Ok, IfOk, IfSome};
 ghost use Rattle.pp_lexer.specs.Lexed.{start_of, comments_before};
 ghost use Rattle.pp_lexer.specs.Spots.{spots_of};
 ghost use Rattle.pp_directives.specs.inner.PlainText.{GivesPlain, GivesUnknown, PassesNewline};
@@ -79,7 +79,10 @@ impl<'a> SourceLexer<'a> {
     /// The next token before memory is taken for it, if it is a word of plain text. Otherwise no token is taken.
     #[inline(always)]
     pub fn next_plain(&mut self) -> Option<PlainItem<'a>>
-        ensures { GivesPlain self.old result self.new }
+        ensures gives { GivesPlain self.old result self.new }
+        ensures comments { IfSome result (λ item. self.new.had_comments
+            ≡ comments_before self.old.rest self.old.at_end) }
+        ensures left { IfSome result (λ item. self.new.rest ≢ []) }
     {
         if self.spent {
             return None;

@@ -16,6 +16,7 @@ pub mod Parts
 pub mod OpenNames
 pub mod OpenAround
 pub mod Turns
+pub mod Apart
 pub mod Ahead
 pub mod Work
 pub mod LineReading

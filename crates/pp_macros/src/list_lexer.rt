@@ -1,10 +1,11 @@
 //! A list of tokens as a reader: an argument of a call, or the line of a directive.
 
-ghost use Rattle.std.specs.Prelude.{◌≡◌, ◌&&◌, ◌||◌, ◌∷◌, ◌<◌, not, false, true, length, map, IfOk};
+ghost use Rattle.std.specs.Prelude.{◌≡◌, ◌&&◌, ◌||◌, ◌∷◌, ◌<◌, not, false, true, length, map, IfOk, MatchOption};
 ghost use Rattle.std.specs.Str.{chars};
 ghost use Rattle.pp_model.specs.Names.{is_identifier, is_same_name, defined_name, line_name};
 ghost use Rattle.pp_model.specs.Painting.{unpainted, is_one_of};
 ghost use Rattle.pp_macros.specs.Held.{HoldsOrdinary};
+ghost use Rattle.pp_macros.specs.inner.Apart.{IsApart, IsUnnamed, opens_none};
 ghost use Rattle.pp_macros.specs.inner.Reading.{AllReadOrdinary};
 ghost use Rattle.pp_macros.specs.inner.Reader.{of_list};
 
@@ -56,6 +57,17 @@ fn is_taken_as_it_is(read: &Read, hidden: &OpenAround<'_>) -> bool
         && (read.now.painted || not (is_one_of hidden.now read.now.token.value))) }
 {
     !is_line_name(&read.token.value) && (read.painted || !hidden.is_open_name(&read.token.value))
+}
+
+// Whether the token is no name, or is the operator `defined` of a directive's line: it opens no macro.
+#[inline(always)]
+fn opens_none(read: &Read, is_line: bool) -> bool
+    ensures { result ≡ opens_none is_line read.now.token.value }
+{
+    match &read.token.value {
+        TokenValue::Ident(name) => is_reserved(is_line, name.as_str()),
+        _ => true,
+    }
 }
 
 /// A list of tokens, with the definitions there and the names that are open around. Tokens that it
@@ -146,6 +158,35 @@ impl<'a> ListLexer<'a> {
         let read = take_out(&mut self.tokens[self.position]);
         self.position += 1;
         read
+    }
+
+    /// Takes the next token, if it is neither `__LINE__` nor the name of a macro that is open around. Otherwise nothing
+    /// changes.
+    #[inline(always)]
+    pub fn take_apart(&mut self) -> Option<Read>
+        ensures { MatchOption result (self.new ≡ self.old) (λ read. IsApart self.old read self.new) }
+    {
+        let hidden = self.hidden;
+        if self.tokens.len() <= self.position
+            || !is_taken_as_it_is(&self.tokens[self.position], hidden)
+        {
+            return None;
+        }
+        Some(self.take_first())
+    }
+
+    /// Takes the next token, if it is no name, or is the operator `defined` of a directive's line. Otherwise nothing
+    /// changes.
+    #[inline(always)]
+    pub fn take_unnamed(&mut self) -> Option<Read>
+        ensures { MatchOption result (self.new ≡ self.old) (λ read. IsUnnamed self.old read self.new) }
+    {
+        let is_line = self.is_line;
+        if self.tokens.len() <= self.position || !opens_none(&self.tokens[self.position], is_line)
+        {
+            return None;
+        }
+        self.take_apart()
     }
 }
 

@@ -34,7 +34,7 @@ fn symbol_of(word: &Word) -> Symbol
 fn symbols_of(alloc: Global, words: &[Word]) -> Result<Vec<Symbol>, AllocError>
     ensures { IfOk result (λ symbols. symbols.items ≡ map symbol_of words.now) }
 {
-    let mut symbols = Vec::new(alloc);
+    let mut symbols = Vec::with_capacity(alloc, words.len())?;
     for word in words {
         symbols.push(symbol_of(word))?;
     }

@@ -1,11 +1,11 @@
 -- A word of plain text, before memory is taken for it.
 use Rattle.std.specs.Prelude.{◌≡◌, ◌≢◌, ℕ, Bool, true, false, ◌||◌, is_some, List, Option, Some, Ok, Err, MatchBool}
-use Rattle.std.specs.Prelude.{MatchOption}
+use Rattle.std.specs.Prelude.{MatchOption, IsTrue, []}
 use Rattle.std.specs.Str.{IsAscii}
 use Rattle.pp_lexer.specs.PlainItems.{token_of, begins_newline, IsUnknown}
 use Rattle.pp_lexer.specs.declared.lexer.plain.Form.TheVariants.{Hash}
 use Rattle.pp_lexer.specs.declared.lexer.plain_item.PlainItem.{PlainItem}
-use Rattle.pp_macros.specs.inner.LineReading.{HasTaken, next_token}
+use Rattle.pp_macros.specs.inner.LineReading.{HasTaken, next_token, next_line_token}
 use Rattle.pp_macros.specs.inner.SourceLexed.{SourceLexed, unreported_at}
 use Rattle.pp_directives.specs.WordTokens.{word_value, word_token}
 use Rattle.pp_model.specs.Names.{is_identifier, is_same_name, line_name}
@@ -16,6 +16,8 @@ use Rattle.pp_macros.specs.inner.Source.{Source, StepsSource, unreported_of}
 use Rattle.pp_macros.specs.inner.Unreported.{StepReports}
 use Rattle.pp_macros.specs.Held.{HoldsOrdinary}
 use Rattle.pp_macros.specs.Item.{Step}
+use Rattle.pp_lexer.specs.Lexed.{comments_before}
+use Rattle.pp_lexer.specs.TokenValue.{is_ordinary}
 use Rattle.pp_lexer.specs.declared.token.Token.{Token}
 
 -- the next token is this word, which is no `#`, and it was taken
@@ -31,6 +33,20 @@ pub record TakesPlain (old : SourceLexed) (item : PlainItem) (new : SourceLexed)
 abbrev pub GivesPlain : SourceLexed → Option PlainItem → SourceLexed → Type 0
 GivesPlain old answer new =
     MatchOption answer (new ≡ record old { had_comments = new.had_comments }) (λ item. TakesPlain old item new)
+
+-- the next token of a line is this token, and it was taken
+pub record TakesLineToken (old : SourceLexed) (token : Token) (new : SourceLexed) : Type 0 where
+  pub is : next_line_token old.rest ≡ Ok (Some token)
+  pub takes : HasTaken 1 old new
+  pub errors : unreported_at new ≡ unreported_at old
+  pub ordinary : IsTrue (is_ordinary token.value)
+  pub comments : new.had_comments ≡ comments_before old.rest old.at_end
+  pub left : new.rest ≢ []
+
+-- it was taken, or nothing was; but comments in front of the next token may have been passed
+abbrev pub GivesLineToken : SourceLexed → Option Token → SourceLexed → Type 0
+GivesLineToken old answer new =
+    MatchOption answer (new ≡ record old { had_comments = new.had_comments }) (λ token. TakesLineToken old token new)
 
 -- such a word that isn't a known identifier
 pub record TakesUnknown (knows : List ℕ → Bool) (old : SourceLexed) (item : PlainItem) (new : SourceLexed)

@@ -17,7 +17,9 @@ use Rattle.pp_macros.specs.inner.Left.{regions, regions_of, holding_step, reads_
 use Rattle.pp_model.proofs.GatherLemmas.{after_tokens, after_tokens-before, after_tokens-closed}
 use Rattle.pp_macros.specs.inner.Reach.{total}
 use Rattle.pp_macros.specs.inner.Idle.{is_idle}
-use Rattle.pp_macros.specs.inner.Reader.{Reader, IsReadOnto}
+use Rattle.pp_macros.specs.inner.Reader.{Reader, Reads, IsReadOnto, hidden_of}
+use Rattle.pp_model.specs.Names.{is_identifier, line_name}
+use Rattle.pp_model.specs.Painting.{painted_among}
 use Rattle.pp_macros.specs.inner.Reading.{painted_step}
 use Rattle.pp_macros.proofs.work.SpendLemmas.{step_spends, next_spends, total_one_more}
 use Rattle.pp_macros.specs.inner.Turns.{Moves, taken_in, gives_line_name, masks}
@@ -68,22 +70,27 @@ idle_is None [] e = (refl, refl)
 idle_is None (f ∷ fs) e = cc
 idle_is (Some step) fs e = cc
 
--- if nothing is held and no macro is open, the token that a reader puts after the tokens is taken
+-- if nothing is held and no macro is open, a token of the reader is taken as it is, unless it is `__LINE__` or is painted then
+pub idle_steps : (m : Expander) (r s : Reader) (read : Read) → is_idle m ≡ true → Reads r (Ok read) s → is_identifier line_name read.token.value ≡ false
+    → painted_among (hidden_of s) read ≡ read → StepsTaking m r (Ok read) m s
+idle_steps m r s read idle reads apart unmasked =
+    let none = idle_is m.held m.frames idle in
+    record {
+      first = Ok read;
+      fetches = fetches_step m m.held m.held m.frames m.frames (Ok read) r s refl none.0 none.0
+          (subst (λ (fs : List Frame). Moves fs r (Ok read) fs s) (sym none.1) (refl, reads)) apart;
+      paints = subst (λ (fs : List Frame). Ok read ≡ painted_step (masks fs s) (Ok read)) (sym none.1) (ap (λ (t : Read). Ok t) (sym unmasked));
+    }
+
+-- so is the token that a reader puts after the tokens
 pub idle_takes : (m : Expander) (r s : Reader) (tokens more : List Read) → is_idle m ≡ true → IsReadOnto r tokens s more
     → IsTakenOnto m r tokens m s more
-idle_takes m r s tokens more idle onto =
-    let none = idle_is m.held m.frames idle in
-    let fetches : StepsFetching m r (Ok onto.read) m s = fetches_step m m.held m.held m.frames m.frames (Ok onto.read) r s refl none.0 none.0
-    (subst (λ (fs : List Frame). Moves fs r (Ok onto.read) fs s) (sym none.1) (refl, onto.reads)) onto.apart in
-    let unmasked : Ok onto.read ≡ painted_step (masks m.frames s) (Ok onto.read) =
-    subst (λ (fs : List Frame). Ok onto.read ≡ painted_step (masks fs s) (Ok onto.read)) (sym none.1)
-    (ap (λ (read : Read). Ok read) (sym onto.unmasked)) in
-    record {
-      read = onto.read;
-      takes = now (Ok onto.read) m m r s (record { first = Ok onto.read; fetches = fetches; paints = unmasked }) refl;
-      holds = onto.holds;
-      is = onto.is;
-    }
+idle_takes m r s tokens more idle onto = record {
+  read = onto.read;
+  takes = now (Ok onto.read) m m r s (idle_steps m r s onto.read idle onto.reads onto.apart onto.unmasked) refl;
+  holds = onto.holds;
+  is = onto.is;
+}
 
 -- what is taken next from here on is taken next from the beginning on
 abbrev pub LeadsToNext : Expander → Reader → Expander → Reader → Type 0

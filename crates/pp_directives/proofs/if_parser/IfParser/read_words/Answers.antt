@@ -2,7 +2,7 @@ use Rattle.pp_directives.proofs.LineWordsLemmas.{words_start, words_end, words_f
 use Rattle.pp_directives.proofs.if_parser.IfParser.read_words.Goals as goal
 
 pub words-init : goal.words-init
-words-init c = words_start _ _ _ _ _ _ _ c.requires c.new-words.ensures.items
+words-init c = words_start _ _ _ _ _ _ _ c.requires c.in_ok-words.ensures.items
 
 pub returns-in-Ok-None : goal.returns-in-Ok-None
 returns-in-Ok-None c = words_end _ _ _ _ _ _ _ _ _ c.words.invariant c.next_item.new.line.expander c.next_item.new.line.lexer c.new.result
@@ -18,8 +18,8 @@ returns-in-Refused c = words_refused _ _ _ _ _ _ _ _ _ c.words.invariant c.next_
     (rw c.in-Ok-Some.field-0-is at c.in-Ok-Some.ensures.reads) c.in-Refused.fault c.new-in-Refused.result c.in-Refused.ensures.reads
     c.new-in-Refused.ensures
 
-pub words-preserved-in-Continue-1 : goal.words-preserved-in-Continue-1
-words-preserved-in-Continue-1 c =
+pub words-preserved-in-Continue-branch-2 : goal.words-preserved-in-Continue-branch-2
+words-preserved-in-Continue-branch-2 c =
     words_plain _ _ _ _ _ _ _ _ _ c.words.invariant c.next_item.new.line.expander c.next_item.new.line.lexer c.in-Ok-Some.read
     (rw c.in-Ok-Some.field-0-is at c.in-Ok-Some.ensures.reads) c.in-Word.word _ c.in-Word.ensures.reads c.in_ok-push-in-Word.ensures.items
 

@@ -1,31 +1,29 @@
 use Rattle.std.specs.Prelude.{IfOk}
 use Rattle.pp_macros.proofs.taking.Walk.{[], ◌∷◌, ◌++◌, ℕ, refl, MutBor, proved, full_share, common, id⊢, emp, wand, sep, apply∗, Lft, Incl, ftrue, flft, fdead, named, mut, ty_ref, ty_unit, vptr, fact, fact_i, tables, ⊑_meet, ⊑_refl, meet_⊑_left, meet_⊑_right, ‵, raw, ◌⊛◌, some, later, ◌$◌, ◌∵◌, !, qed, done, move, keep, use0, use1, use2, use3, split, join, fsplit, pick, await, suffices, frame, group, lft_new, lft_end, lft-common, agg, enter, addr, stop, no_more, and_then, returns, alloc_all, pass_all, free_all, look_at, get, through, sets, lands_as, vt_lit, lends_again, comes_back, LentAgain, MutRef, mut_vals, mut_Tells, mut_hides, MutAny, Includes-none, wide_val, table_at, plain, named_lft, nothing, heard, peeks, calls_at, lasts, triple_of, Stays, stay_ref, Goes-ref, ends_at, framed, hide_mut, Is, shows}
 use Rattle.pp_macros.specs.inner.Reader.{of_list}
-use Rattle.pp_macros.specs.inner.Expander.{TakesNext}
-use Rattle.pp_macros.specs.Held.{HoldsOrdinary}
-use Rattle.pp_model.specs.declared.read.Read.{Read}
-use Rattle.pp_macros.specs.contracts.list_step.take_list as f
-use Rattle.pp_macros.proofs.list_step.take_list.Statement.{statement}
-use Rattle.pp_macros.proofs.list_step.take_list.Code as code
+use Rattle.pp_macros.specs.inner.CallTurns.{TurnsOrRefuses, TakenHoldsOrdinary}
+use Rattle.pp_macros.specs.contracts.list_step.step_any as f
+use Rattle.pp_macros.proofs.list_step.step_any.Statement.{statement}
+use Rattle.pp_macros.proofs.list_step.step_any.Code as code
 use Rattle.pp_macros.specs.contracts.list_lexer.ListLexer.{the_row as source_row}
 use Rattle.pp_macros.specs.contracts.calls.Expander.{the_row as P}
-use Rattle.pp_model.specs.contracts.read.Read.{the_row as read_row}
+use Rattle.pp_macros.specs.contracts.calls.Taken.{the_row as token_row}
 use Rattle.pp_macros.specs.contracts.step.StepExit.{the_row as exit_row}
-use Rattle.pp_model.proofs.read.Read.TheLaws.{the_row_laws as read_laws}
+use Rattle.pp_macros.proofs.calls.Taken.TheLaws.{the_row_laws as token_laws}
 use Rattle.pp_macros.proofs.step.StepExit.TheLaws.{the_row_laws as exit_laws}
 use Rattle.std.specs.contracts.result.Result.{the_row as result_row}
 use Rattle.std.proofs.result.Result.TheLaws.{the_row_laws as result_laws}
-use Rattle.pp_macros.specs.contracts.calls.Expander.take_next as g
-use Rattle.pp_macros.proofs.calls.Expander.take_next.Met.{met}
-use Rattle.pp_macros.proofs.list_step.take_list.Object-1 as object
-use Rattle.pp_macros.proofs.list_step.take_list.OwnLists as lists
-use Rattle.pp_macros.proofs.list_step.take_list.Hidden as hidden
+use Rattle.pp_macros.specs.contracts.calls.Expander.step as g
+use Rattle.pp_macros.proofs.calls.Expander.step.Met.{met}
+use Rattle.pp_macros.proofs.list_step.step_any.Object-1 as object
+use Rattle.pp_macros.proofs.list_step.step_any.OwnLists as lists
+use Rattle.pp_macros.proofs.list_step.step_any.Hidden as hidden
 
 abbrev row : Stays f.ended.signature.params f.ended.kept
 row = (stay_ref (0 ∷ []) tt (plain (λ _. P)), (stay_ref (1 ∷ []) tt (plain (λ κs. source_row (named_lft 3 2 tt κs))), tt))
 
-pub take_list_spec : {M : Type 1} → statement M
-take_list_spec 𝓤 𝓛 𝓜 𝓡 wired =
+pub step_any_spec : {M : Type 1} → statement M
+step_any_spec 𝓤 𝓛 𝓜 𝓡 wired =
     let c = f.clauses 𝓛 𝓜.mem 𝓡.returns in
     proved 𝓛 f.ended row c 𝓜 𝓡 (Goes-ref 𝓛 3 0 tt (plain (λ _. P)), (Goes-ref 𝓛 3 1 tt (plain (λ κs. source_row (named_lft 3 2 tt κs))), tt))
     f.Key.name code.function (code.unfolded 𝓤 𝓛.H 𝓜 𝓡 wired)
@@ -35,7 +33,7 @@ take_list_spec 𝓤 𝓛 𝓜 𝓡 wired =
     )) (λ κs qs bounds a _ are.
     let κp = κs.0 in let κ = κs.1.0 in let κ₁ = κs.1.1.0 in let qp = qs.0 in let q = qs.1.0 in let q₁ = qs.1.1.0 in
     let p = a.0 in let r = a.1.0 in let b = r.ref_ptr.0 in let o = r.ref_ptr.1 in
-    let R = source_row (named_lft 3 2 tt κs) in let O = result_row read_row exit_row in
+    let R = source_row (named_lft 3 2 tt κs) in let O = result_row token_row exit_row in
     let T : object.Ghosts = (lists.own-1, lists.lawful-own-1) in let i = lists.at-1-1 (κ₁, tt) in
     let RefP = λ (κ' : Lft) (x : MutBor P.Denot). (MutRef (named 0) κ' P).own_val x (mut_vals p) in
     let Ref = λ (κ' : Lft) (x : MutBor R.Denot). (MutRef (named 0) κ' R).own_val x (mut_vals r) in
@@ -80,11 +78,11 @@ take_list_spec 𝓤 𝓛 𝓜 𝓡 wired =
     nothing ! $ move ! (2 ∷ 0 ∷ []) $ join ! $ move ! (5 ∷ 0 ∷ []) $ join ! $ join ! $
     nothing ! $ move ! (1 ∷ 0 ∷ []) $ use2 𝓛 (raw (G.pre z)) (id⊢ 𝓤 _) $
     calls_at ! (framed 𝓤 𝓛.H 𝓜 (tables 𝓤 𝓛.H 𝓜 𝓡 𝓡.env)) G
-    (met 𝓤 𝓛 𝓜 𝓡 (code.calls-pp_macros::calls::Expander::take_next 𝓡.env wired) T (Includes-none lists.own-1) (hidden.met-1 𝓤 𝓛 𝓜 𝓡 wired)) z
+    (met 𝓤 𝓛 𝓜 𝓡 (code.calls-pp_macros::calls::Expander::step 𝓡.env wired) T (Includes-none lists.own-1) (hidden.met-1 𝓤 𝓛 𝓜 𝓡 wired)) z
     (and_then ! (get ! refl) (and_then ! (get ! refl) (no_more !))) (λ v.
     use1 𝓛 (later (some (λ (u : O.Denot). ((‵ (flft (β ∷ []) full_share) ⊛ ‵ (flft κ' share) ⊛ ‵ ftrue) ⊛ ‵ (O.own_val u (v ∷ []))) ⊛
     some (λ (ws : P.Denot × (R.Denot × Unit {0})). ‵ (lasts (g.ended T) z.0.0 z.0.3 ws) ⊛
-    (raw (fact 𝓤 (TakesNext p.now (of_list r.now) u ws.0 (of_list ws.1.0))) ⊛ raw (fact 𝓤 (IfOk u (λ (t : Read). HoldsOrdinary t.token.value)))))))) (id⊢ 𝓤 _) $
+    (raw (fact 𝓤 (TurnsOrRefuses p.now (of_list r.now) u ws.0 (of_list ws.1.0))) ⊛ raw (fact 𝓤 (IfOk u TakenHoldsOrdinary))))))) (id⊢ 𝓤 _) $
     await ! tt $ pick ! (λ u. split ! $ split ! $ split ! $ move ! (1 ∷ []) $ split ! $
     -- [the token of κ'; nothing; the token of β; the result; the ensures; the way back; the source's lender; the processor's]
     move ! (0 ∷ 5 ∷ []) $ use2 𝓛 (‵ (flft κ₁ q₁) ⊛ ‵ (flft (α ∷ []) full_share)) (apply∗ 𝓤 (𝓛.A.lft κ' share) Both) $ split ! $
@@ -92,7 +90,7 @@ take_list_spec 𝓤 𝓛 𝓜 𝓡 wired =
     move ! (3 ∷ []) $ lft_end ! tt $
     -- [β is over; κ' is over; the token of the borrow; nothing; the result; the ensures; the source's lender; the processor's]
     move ! (4 ∷ []) $ peeks ! O (Is O) (shows 𝓛 O) u (v ∷ []) (λ is. lands_as ! refl refl
-    (((result_laws read_row exit_row read_laws exit_laws).lawful 𝓛).typed u _ is).0 $
+    (((result_laws token_row exit_row token_laws exit_laws).lawful 𝓛).typed u _ is).0 $
     move ! (5 ∷ []) $ pick ! (λ ws. split ! $ move ! (1 ∷ []) $ split ! $ heard ! _ (λ turns. heard ! _ (λ holds. fsplit ! $ fsplit ! $
     -- [the processor's last value; its loan; the source's; the result; β is over; κ' is over; the token of the borrow; nothing; the source's
     -- lender; the processor's]
@@ -106,7 +104,6 @@ take_list_spec 𝓤 𝓛 𝓜 𝓡 wired =
     suffices ! _ (ends_at 𝓛 f.ended row c ((κs, qs, bounds, a, (mut_vals p, (mut_vals r, tt))), tt) v u (ws.0, (ws.1.0, tt)) (tt, (tt, tt))) $
     nothing ! $ move ! (1 ∷ 0 ∷ []) $ join ! $ move ! (2 ∷ 0 ∷ []) $ join ! $
     nothing ! $ move ! (5 ∷ 0 ∷ []) $ join ! $ move ! (2 ∷ 0 ∷ []) $ join ! $ move ! (2 ∷ 0 ∷ []) $ join ! $
-    group ! 3 $ frame ! $ use0 𝓛 (raw (fact 𝓤 (TakesNext p.now (of_list r.now) u ws.0 (of_list ws.1.0))))
-    (fact_i 𝓤 (TakesNext p.now (of_list r.now) u ws.0 (of_list ws.1.0)) (emp 𝓤) turns) $ frame ! $
-    use0 𝓛 (raw (fact 𝓤 (IfOk u (λ (t : Read). HoldsOrdinary t.token.value))))
-    (fact_i 𝓤 (IfOk u (λ (t : Read). HoldsOrdinary t.token.value)) (emp 𝓤) holds) $ done !))))))))))))
+    group ! 3 $ frame ! $ use0 𝓛 (raw (fact 𝓤 (TurnsOrRefuses p.now (of_list r.now) u ws.0 (of_list ws.1.0))))
+    (fact_i 𝓤 (TurnsOrRefuses p.now (of_list r.now) u ws.0 (of_list ws.1.0)) (emp 𝓤) turns) $ frame ! $
+    use0 𝓛 (raw (fact 𝓤 (IfOk u TakenHoldsOrdinary))) (fact_i 𝓤 (IfOk u TakenHoldsOrdinary) (emp 𝓤) holds) $ done !))))))))))))
