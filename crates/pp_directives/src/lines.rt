@@ -95,6 +95,9 @@ fn pass_token(lexer: &mut SourceLexer<'_>) -> Result<bool, Halt>
     ensures errors { Reports result (unreported_at lexer.old) (unreported_at lexer.new) }
     ensures fault { spec.FaultTakesSome result lexer.old lexer.new }
 {
+    if lexer.next_plain().is_some() {
+        return Ok(true);
+    }
     match lexer.next_token()? {
         Some(token) => Ok(!matches!(token.value, lexer::TokenValue::NewLine)),
         None => Ok(false),
@@ -157,6 +160,7 @@ fn plain_token(alloc: Global, lexer: &mut SourceLexer<'_>) -> Result<Option<Toke
 }
 
 /// The next token of the line, or `None` if the line ends.
+#[inline(always)]
 pub fn next_line_token(
     alloc: Global,
     lexer: &mut SourceLexer<'_>,
@@ -240,7 +244,8 @@ pub fn line_tokens(alloc: Global, lexer: &mut SourceLexer<'_>) -> Result<Tokens,
         (λ tokens. All (λ entry. IsTrue (is_ordinary_leaf entry.leaf)) tokens) }
 {
     let first = next_line_token(alloc, lexer)?;
-    let tokens = line_tokens_from(alloc, first, lexer)?;
+    let mut tokens = line_tokens_from(alloc, first, lexer)?;
+    tokens.shrink_to_fit();
     Ok(Tokens::from(tokens))
 }
 
