@@ -28,7 +28,7 @@ use crate::convert::{convert_lexer_token_to_step, word_token};
 use crate::line_value::{condition, line_number};
 use crate::lines::{
     DefineLine, define_line, ended_line, endif_end, first_name, first_token, line_tokens,
-    only_name, rest_of_line, skip_line,
+    line_reads, only_name, skip_line,
 };
 use crate::live_names::{LineName, LiveNames};
 use crate::source_lexer::SourceLexer;
@@ -227,7 +227,7 @@ impl<'a> DirectiveProcessor<'a> {
             self.old.rest) self.old result self.new }
         ensures errors { Reports result (unreported_of self.old) (unreported_of self.new) }
     {
-        let tokens = rest_of_line(self.alloc, &mut self.lexer)?;
+        let tokens = line_reads(self.alloc, &mut self.lexer)?;
         let holds = condition(self.alloc, word, tokens, &self.definitions)?;
         self.blocks.push(OpenBlock::opened(word, holds))?;
         Ok(())
@@ -265,7 +265,7 @@ impl<'a> DirectiveProcessor<'a> {
         ensures errors { Reports result (unreported_of self.old) (unreported_of self.new) }
     {
         self.blocks.replace_last(block.skipped());
-        let tokens = rest_of_line(self.alloc, &mut self.lexer)?;
+        let tokens = line_reads(self.alloc, &mut self.lexer)?;
         let holds = condition(self.alloc, word, tokens, &self.definitions)?;
         self.blocks.replace_last(block.decided(holds));
         Ok(())
@@ -341,7 +341,7 @@ impl<'a> DirectiveProcessor<'a> {
             self.old.rest) self.old result self.new }
         ensures errors { Reports result (unreported_of self.old) (unreported_of self.new) }
     {
-        let tokens = rest_of_line(self.alloc, &mut self.lexer)?;
+        let tokens = line_reads(self.alloc, &mut self.lexer)?;
         match line_number(self.alloc, word, tokens, &self.definitions) {
             Ok(number) => {
                 self.count_from(word.line, number);

@@ -8,12 +8,13 @@ ghost use Rattle.pp_macros.specs.Held.{AllHoldOrdinary};
 ghost use Rattle.pp_directives.specs.inner.IfParsing.{IsReading, GivesItem, TakesOff, GivesTaken, IsNameOrFault, GivesOperand, GivesInParentheses, GivesClosed, AreWordsOf, AreWordsOfLine};
 ghost use Rattle.pp_directives.specs.inner.LineItems.{taken_of_read};
 
+use crate::token_list::LineReads;
 use pp_lexer::token::{Location, PreprocessorError, Text, Token, TokenValue};
 use pp_macros::arguments::finish_call;
 use pp_macros::calls::{Expander, Taken};
 use pp_macros::definitions::Definitions;
 use pp_macros::halt::{Halt, halt_of};
-use pp_macros::list_lexer::{ListLexer, unpainted};
+use pp_macros::list_lexer::ListLexer;
 use pp_macros::list_step::{step_list, step_unnamed, take_list};
 use pp_macros::open_around::OpenAround;
 use pp_macros::step::StepExit;
@@ -116,6 +117,7 @@ impl<'a> IfParser<'a> {
     }
 
     // Takes the next token without looking it up, or `None` at the end of the line.
+    #[inline(always)]
     fn take(&self, line: &mut LineExpander<'_>) -> Result<Option<Read>, Halt>
         requires { IsReading self.now line.old }
         ensures { GivesTaken self.now line.old result line.new }
@@ -238,18 +240,18 @@ impl<'a> IfParser<'a> {
     // The words of a line. No macro is open around it.
     fn words_of_line(
         &self,
-        tokens: Vec<Token>,
+        tokens: LineReads,
         definitions: &Definitions,
         around: &OpenAround<'_>,
     ) -> Result<Words, AllocError>
-        requires holds { AllHoldOrdinary tokens.items }
+        requires holds { AllHoldOrdinary tokens }
         requires same { self.now.definitions.now ≡ definitions.now }
         requires alone { around.now ≡ [] }
         ensures { IfOk result
-            (AreWordsOfLine self.now.kind self.now.directive self.now.levels tokens.items
+            (AreWordsOfLine self.now.kind self.now.directive self.now.levels tokens
             definitions.now) }
     {
-        let mut reads = unpainted(self.alloc, tokens)?;
+        let mut reads = tokens.into_reads();
         let lexer = ListLexer::line(&mut reads, definitions, &*around);
         let mut line = LineExpander {
             expander: Expander::new(self.alloc),
@@ -266,12 +268,12 @@ pub fn line_words(
     alloc: Global,
     kind: LineKind,
     directive: Location,
-    tokens: Vec<Token>,
+    tokens: LineReads,
     definitions: &Definitions,
     levels: u32,
 ) -> Result<Words, AllocError>
-    requires { AllHoldOrdinary tokens.items }
-    ensures { IfOk result (AreWordsOfLine kind directive levels tokens.items definitions.now) }
+    requires { AllHoldOrdinary tokens }
+    ensures { IfOk result (AreWordsOfLine kind directive levels tokens definitions.now) }
 {
     let parser = IfParser {
         alloc,

@@ -12,3 +12,4 @@ mod live_names;
 pub mod parameters;
 pub mod source_lexer;
 pub mod source_reader;
+pub mod token_list;

@@ -9,7 +9,8 @@ ghost use Rattle.pp_directives.specs.inner.LineHalts.{without_number};
 
 use crate::if_parser::line_words;
 use crate::limit::expansion_limit;
-use pp_lexer::token::{Location, Token};
+use crate::token_list::LineReads;
+use pp_lexer::token::Location;
 use pp_macros::definitions::Definitions;
 use pp_macros::halt::Halt;
 use pp_model::line_value::{LineFault, condition_of, number_of};
@@ -23,11 +24,11 @@ use std::alloc::{AllocError, Global};
 pub fn condition(
     alloc: Global,
     directive: Location,
-    tokens: Vec<Token>,
+    tokens: LineReads,
     definitions: &Definitions,
 ) -> Result<bool, Halt>
-    requires { AllHoldOrdinary tokens.items }
-    ensures { Satisfies result (IsCondition (answers_at expansion_limit) directive tokens.items
+    requires { AllHoldOrdinary tokens }
+    ensures { Satisfies result (IsCondition (answers_at expansion_limit) directive tokens
         (meaning_of definitions.now)) }
 {
     let kind = LineKind::Condition;
@@ -90,11 +91,11 @@ impl From<LineFault> for LineHalt {
 pub fn line_number(
     alloc: Global,
     directive: Location,
-    tokens: Vec<Token>,
+    tokens: LineReads,
     definitions: &Definitions,
 ) -> Result<u32, LineHalt>
-    requires { AllHoldOrdinary tokens.items }
-    ensures { Satisfies (without_number result) (IsLineNumber (answers_at expansion_limit) directive tokens.items
+    requires { AllHoldOrdinary tokens }
+    ensures { Satisfies (without_number result) (IsLineNumber (answers_at expansion_limit) directive tokens
         (meaning_of definitions.now)) }
 {
     let kind = LineKind::LineNumber;

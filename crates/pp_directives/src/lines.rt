@@ -17,6 +17,7 @@ ghost use Rattle.pp_macros.specs.inner.Unreported.{Reports};
 use crate::convert::word_token;
 use crate::parameters::parameters;
 use crate::source_lexer::SourceLexer;
+use crate::token_list::{LineReads, TokenList};
 use pp_lexer::lexer;
 use pp_lexer::token::{Location, PreprocessorError, Punct, Text, Token, Tokens};
 use pp_macros::define::Define;
@@ -95,6 +96,9 @@ fn pass_token(lexer: &mut SourceLexer<'_>) -> Result<bool, Halt>
     ensures errors { Reports result (unreported_at lexer.old) (unreported_at lexer.new) }
     ensures fault { spec.FaultTakesSome result lexer.old lexer.new }
 {
+    if lexer.next_plain().is_some() {
+        return Ok(true);
+    }
     match lexer.next_token()? {
         Some(token) => Ok(!matches!(token.value, lexer::TokenValue::NewLine)),
         None => Ok(false),
@@ -157,6 +161,7 @@ fn plain_token(alloc: Global, lexer: &mut SourceLexer<'_>) -> Result<Option<Toke
 }
 
 /// The next token of the line, or `None` if the line ends.
+#[inline(always)]
 pub fn next_line_token(
     alloc: Global,
     lexer: &mut SourceLexer<'_>,
@@ -183,6 +188,35 @@ fn is_attached_paren(token: &lexer::Token) -> bool
     matches!(token.value, lexer::TokenValue::Punct(Punct::LeftParen)) && !token.leading_whitespace
 }
 
+// Reads the tokens of a line from its first one, which was read already, onto the list. There are none if the line was
+// empty.
+fn read_line<T: TokenList>(
+    alloc: Global,
+    first: Option<Token>,
+    lexer: &mut SourceLexer<'_>,
+    tokens: &mut T,
+) -> Result<(), Halt>
+    requires unspent { lexer.old.spent ≡ false }
+    requires ordinary { IfSome first (λ t. IsTrue (is_ordinary t.value)) }
+    requires left { IfSome first (λ t. lexer.old.rest ≢ []) }
+    requires empty { T.tokens tokens.old ≡ [] }
+    ensures is { spec.Meets (λ _. T.tokens tokens.new) result (spec.tokens_after first lexer.old.rest) }
+    ensures takes { spec.TakesItems
+        (spec.length_after first lexer.old.rest) lexer.old result lexer.new }
+    ensures errors { Reports result (unreported_at lexer.old) (unreported_at lexer.new) }
+    ensures comments { IfOk result (λ _. lexer.new.had_comments
+        ≡ spec.comments_after first lexer.old.rest lexer.old.had_comments) }
+    ensures ordinary { IfOk result (λ _. All (λ t. IsTrue
+        (is_ordinary t.value)) (T.tokens tokens.new)) }
+{
+    let mut next = first;
+    while let Some(token) = next {
+        tokens.put(token)?;
+        next = next_line_token(alloc, lexer)?;
+    }
+    Ok(())
+}
+
 /// The tokens of a line from its first one, which was read already, or none if the line was empty.
 pub fn line_tokens_from(
     alloc: Global,
@@ -204,11 +238,7 @@ pub fn line_tokens_from(
 {
     let room = if first.is_some() { 16 } else { 0 };
     let mut tokens = Vec::with_capacity(alloc, room)?;
-    let mut next = first;
-    while let Some(token) = next {
-        tokens.push(token)?;
-        next = next_line_token(alloc, lexer)?;
-    }
+    read_line(alloc, first, lexer, &mut tokens)?;
     Ok(tokens)
 }
 
@@ -227,6 +257,20 @@ pub fn rest_of_line(alloc: Global, lexer: &mut SourceLexer<'_>) -> Result<Vec<To
     line_tokens_from(alloc, first, lexer)
 }
 
+/// The tokens of the rest of the line, for an expander.
+pub fn line_reads(alloc: Global, lexer: &mut SourceLexer<'_>) -> Result<LineReads, Halt>
+    requires { lexer.old.spent ≡ false }
+    ensures is { spec.Meets (λ tokens. tokens) result (line_tokens lexer.old.rest) }
+    ensures takes { spec.TakesItems (line_length lexer.old.rest) lexer.old result lexer.new }
+    ensures errors { Reports result (unreported_at lexer.old) (unreported_at lexer.new) }
+    ensures ordinary { IfOk result (λ tokens. All (λ t. IsTrue (is_ordinary t.value)) tokens) }
+{
+    let first = next_line_token(alloc, lexer)?;
+    let mut tokens = LineReads::new(alloc)?;
+    read_line(alloc, first, lexer, &mut tokens)?;
+    Ok(tokens)
+}
+
 /// The tokens of the rest of the line, as a directive item holds them.
 pub fn line_tokens(alloc: Global, lexer: &mut SourceLexer<'_>) -> Result<Tokens, Halt>
     requires unspent { lexer.old.spent ≡ false }
@@ -240,7 +284,8 @@ pub fn line_tokens(alloc: Global, lexer: &mut SourceLexer<'_>) -> Result<Tokens,
         (λ tokens. All (λ entry. IsTrue (is_ordinary_leaf entry.leaf)) tokens) }
 {
     let first = next_line_token(alloc, lexer)?;
-    let tokens = line_tokens_from(alloc, first, lexer)?;
+    let mut tokens = line_tokens_from(alloc, first, lexer)?;
+    tokens.shrink_to_fit();
     Ok(Tokens::from(tokens))
 }
 

@@ -3,7 +3,7 @@
 ghost use Rattle.std.specs.Prelude.{◌≡◌, ◌&&◌, ◌||◌, ◌∷◌, ◌<◌, not, false, true, length, map, IfOk, MatchOption};
 ghost use Rattle.std.specs.Str.{chars};
 ghost use Rattle.pp_model.specs.Names.{is_identifier, is_same_name, defined_name, line_name};
-ghost use Rattle.pp_model.specs.Painting.{unpainted, is_one_of};
+ghost use Rattle.pp_model.specs.Painting.{is_one_of};
 ghost use Rattle.pp_macros.specs.Held.{HoldsOrdinary};
 ghost use Rattle.pp_macros.specs.inner.Apart.{IsApart, IsUnnamed, opens_none};
 ghost use Rattle.pp_macros.specs.inner.Reading.{AllReadOrdinary};
@@ -27,17 +27,6 @@ fn is_reserved(is_line: bool, name: &str) -> bool
     ensures { result ≡ (is_line && is_same_name (chars name.now) defined_name) }
 {
     is_line && name == "defined"
-}
-
-/// The tokens, unpainted.
-pub fn unpainted(alloc: Global, tokens: Vec<Token>) -> Result<Vec<Read>, AllocError>
-    ensures { IfOk result (λ reads. reads.items ≡ map unpainted tokens.items) }
-{
-    let mut reads = Vec::with_capacity(alloc, tokens.len())?;
-    for token in tokens {
-        reads.push(Read::unpainted(token))?;
-    }
-    Ok(reads)
 }
 
 /// Moves a token out of its list. A comma with the place `NOWHERE` replaces it.

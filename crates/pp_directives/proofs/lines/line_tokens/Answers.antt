@@ -11,4 +11,4 @@ returns-clause-takes c =
     (line_place-next c.args.lexer.now.rest c.in_ok-first.first n.is ∙ ap (λ r. drop (length_after c.in_ok-first.first r) r) (sym n.takes.rest))
 
 pub returns-clause-ordinary : goal.returns-clause-ordinary
-returns-clause-ordinary c = rw c.from.ensures (preorder_ordinary c.in_ok-tokens.tokens.items c.in_ok-tokens.ensures.ordinary)
+returns-clause-ordinary c = rw (c.from.ensures, c.shrink_to_fit.ensures.items) (preorder_ordinary c.in_ok-tokens.tokens.items c.in_ok-tokens.ensures.ordinary)

@@ -10,8 +10,8 @@ returns-in-Ok-clause-acts c =
     let e = c.in_ok-tokens.ensures in
     let number = rw c.in-Ok.is at c.line_number.ensures in
     rw (← c.self.view_is, c.count_from.ensures)
-    (line_numbers p.definitions p.blocks p.line_offset p.has_text p.has_directive p.dead_for_good p.lexer c.rest_of_line.new.lexer c.args.word
-    c.in_ok-tokens.tokens.items e.is e.takes c.in-Ok.number _
+    (line_numbers p.definitions p.blocks p.line_offset p.has_text p.has_directive p.dead_for_good p.lexer c.line_reads.new.lexer c.args.word
+    c.in_ok-tokens.tokens e.is e.takes c.in-Ok.number _
     number refl)
 
 pub returns-in_err-tokens-clause-acts : goal.returns-in_err-tokens-clause-acts
@@ -20,7 +20,7 @@ returns-in_err-tokens-clause-acts c =
     let e = c.in_err-tokens.ensures in
     rw (← c.self.view_is, err_result c.from_residual.result c.in_err-tokens.field-0.0 c.from_residual.ensures.1)
     (tokens_failed (renumbers c.args.word) c.in_err-tokens.field-0.0 p.definitions p.blocks p.blocks (omega arith) p.line_offset p.has_text
-    p.has_directive p.dead_for_good p.lexer c.rest_of_line.new.lexer e.is e.takes)
+    p.has_directive p.dead_for_good p.lexer c.line_reads.new.lexer e.is e.takes)
 
 pub returns-in-Some-clause-acts : goal.returns-in-Some-clause-acts
 returns-in-Some-clause-acts c =
@@ -29,7 +29,7 @@ returns-in-Some-clause-acts c =
     let number = rw c.in-Err.is at c.line_number.ensures in
     numbering_failed c.args.word c.in-Err.unnumbered.halt _ _ _ _ c.self.view_is (sym c.count_from-in-Some.ensures)
     (number_failed p.definitions p.blocks p.line_offset p.has_text p.has_directive p.dead_for_good p.lexer
-    c.rest_of_line.new.lexer c.args.word c.in_ok-tokens.tokens.items e.is e.takes _ c.in-Err.unnumbered.halt number)
+    c.line_reads.new.lexer c.args.word c.in_ok-tokens.tokens e.is e.takes _ c.in-Err.unnumbered.halt number)
 
 pub returns-in-None-clause-acts : goal.returns-in-None-clause-acts
 returns-in-None-clause-acts c =
@@ -38,4 +38,4 @@ returns-in-None-clause-acts c =
     let number = rw c.in-Err.is at c.line_number.ensures in
     numbering_failed c.args.word c.in-Err.unnumbered.halt _ _ _ _ c.self.view_is refl
     (number_failed p.definitions p.blocks p.line_offset p.has_text p.has_directive p.dead_for_good p.lexer
-    c.rest_of_line.new.lexer c.args.word c.in_ok-tokens.tokens.items e.is e.takes p.line_offset c.in-Err.unnumbered.halt number)
+    c.line_reads.new.lexer c.args.word c.in_ok-tokens.tokens e.is e.takes p.line_offset c.in-Err.unnumbered.halt number)

@@ -7,5 +7,5 @@ use Rattle.pp_macros.specs.inner.Reading.{AllReadOrdinary}
 use Rattle.pp_directives.proofs.if_parser.IfParser.words_of_line.Goals as goal
 
 pub line-lexer-requires : goal.line-lexer-requires
-line-lexer-requires c = subst AllReadOrdinary (sym (c.deref_mut.ensures.value ∙ c.in_ok-reads.ensures))
-    (All-map (λ (read : Read). HoldsOrdinary read.token.value) unpainted c.args.tokens.items c.requires.holds)
+line-lexer-requires c = subst AllReadOrdinary (sym (c.deref_mut.ensures.value ∙ c.into_reads-reads.ensures))
+    (All-map (λ (read : Read). HoldsOrdinary read.token.value) unpainted c.args.tokens c.requires.holds)

@@ -4,13 +4,13 @@ use Rattle.pp_lexer.specs.TokenValue.{is_ordinary}
 use Rattle.pp_lexer.specs.declared.token.Token.{Token}
 use Rattle.pp_directives.proofs.CommentsAfterLemmas.{comments_more}
 use Rattle.pp_directives.proofs.LineReadingLemmas.{whole_more, place_more, drop_fewer}
-use Rattle.pp_directives.proofs.lines.line_tokens_from.Goals as goal
+use Rattle.pp_directives.proofs.lines.read_line.Goals as goal
 
 pub loop-next-preserved : goal.loop-next-preserved
-loop-next-preserved c =
+loop-next-preserved g c =
     let before = c.loop-next.invariant in
     let n = c.in_ok-next.ensures in
-    let items = c.in_ok-push.ensures.items in
+    let items = c.in_ok-put.ensures in
     record {
       whole = whole_more _ _ _ n.is n.takes.rest _ _ _ _ (rw c.in-Some.is at before.whole) items;
       place = place_more _ _ _ n.is n.takes.rest _ (rw c.in-Some.is at before.place);
@@ -24,4 +24,4 @@ loop-next-preserved c =
     }
 
 pub returns-clause-comments : goal.returns-clause-comments
-returns-clause-comments c = rw c.in_default.is at c.loop-next.invariant.comments
+returns-clause-comments g c = rw c.in_default.is at c.loop-next.invariant.comments
