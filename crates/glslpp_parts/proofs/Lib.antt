@@ -1,6 +1,9 @@
 pub mod ColumnsLemmas
 pub mod DecimalLemmas
 pub mod DefinitionsLemmas
+pub mod IfLinesLemmas
+pub mod OptionsLemmas
 pub mod PredefinedLemmas
+pub mod ReportsLemmas
 pub mod SpelledLemmas
 pub mod VersionLemmas

@@ -1,9 +1,14 @@
+pub mod Asked
 pub mod Changes
 pub mod Columns
 pub mod Definitions
+pub mod Failures
+pub mod IfLines
 pub mod Layout
+pub mod Options
 pub mod Output
 pub mod Reading
+pub mod Reports
 pub mod Spots
 pub mod Texts
 pub mod Version

@@ -1,6 +1,11 @@
 //! The command line.
 
-ghost use Rattle.std.specs.Prelude.{◌≤◌, length};
+ghost use Rattle.std.specs.Prelude.{◌≡◌, ◌≤◌, ◌++◌, ◌∷◌, [], false, IfOk, codes, is_some, length, map, not, option_map};
+ghost use Rattle.clap.specs.Words.{first_value, found_of, matched_of, rule_of};
+ghost use Rattle.clap.specs.declared.builder.action.ArgAction.TheVariants.{Append, Set, SetTrue};
+ghost use Rattle.glslpp_parts.specs.Asked.{IsFlag, IsForm, files_or_input, words_of};
+ghost use Rattle.glslpp_parts.specs.Options.{options, options_of, value_options, forms, flags, foreign, known_of};
+ghost use Rattle.glslpp_parts.specs.Options.{lettered, named, nameless, IsOption};
 
 use crate::changes::Change;
 use clap::{Arg, ArgAction, ArgMatches, Command};
@@ -42,27 +47,56 @@ pub struct Arguments<'a> {
 }
 
 /// The command with its options.
-pub fn command<'a>(alloc: Global) -> Result<Command<'a>, clap::Error> {
-    let command = Command::new(alloc, "glslpp")
+pub fn command<'a>(alloc: Global) -> Result<Command<'a>, clap::Error>
+    ensures { IfOk result (λ command. options_of command ≡ options) }
+{
+    let with_values = with_value_options(alloc, bare_command(alloc))?;
+    let with_forms = with_forms(alloc, with_values)?;
+    let with_flags = with_flags(alloc, with_forms)?;
+    let with_foreign = with_foreign_options(alloc, with_flags)?;
+    let whole = with_option(with_foreign, files_argument(alloc))?;
+    Ok(whole)
+}
+
+// The command before its options.
+fn bare_command<'a>(alloc: Global) -> Command<'a>
+    ensures { options_of result ≡ [] }
+{
+    Command::new(alloc, "glslpp")
         .version("0.1.0")
         .about("Preprocesses GLSL, and prints each token on its line")
         .override_usage("glslpp [OPTION]... [FILE]...")
         .after_help(AFTER_HELP)
-        .arg(definition_option(alloc, "define", 'D', "NAME[=CONTENT]").help(DEFINE_HELP))?
-        .arg(definition_option(alloc, "undefine", 'U', "NAME").help(UNDEFINE_HELP))?
-        .arg(value_option(alloc, "output", 'o', "FILE").help(
-            "Write to the file, if no source has an error",
-        ))?;
-    let command = with_forms(alloc, command)?;
-    let command = command
-        .arg(flag(alloc, "first-error", "End at the first error").long("first-error"))?
-        .arg(flag(alloc, "undef", "Define no name of GLSL's own").long("undef"))?;
-    Ok(with_foreign_options(alloc, command)?.arg(files_argument(alloc))?)
+}
+
+// Adds an option.
+fn with_option<'a>(command: Command<'a>, option: Arg<'a>) -> Result<Command<'a>, AllocError>
+    requires { option.global ≡ false }
+    ensures { IfOk result (λ new. options_of new
+        ≡ options_of command.entry ++ known_of (rule_of option.entry) ∷ []) }
+{
+    let new = command.arg(option)?;
+    Ok(new)
+}
+
+// Adds `-D`, `-U` and `-o`.
+fn with_value_options<'a>(alloc: Global, command: Command<'a>) -> Result<Command<'a>, AllocError>
+    ensures { IfOk result (λ new. options_of new ≡ options_of command.entry ++ value_options) }
+{
+    let define = definition_option(alloc, "define", 'D', "NAME[=CONTENT]", DEFINE_HELP);
+    let undefine = definition_option(alloc, "undefine", 'U', "NAME", UNDEFINE_HELP);
+    let output = value_option(alloc, "output", 'o', "FILE", OUTPUT_HELP);
+    let first = with_option(command, define)?;
+    let second = with_option(first, undefine)?;
+    let third = with_option(second, output)?;
+    Ok(third)
 }
 
 const DEFINE_HELP: &str = "Define a macro before the source, as 1 if no content is given";
 
 const UNDEFINE_HELP: &str = "Take back each -D of the name before it, or a name of GLSL's own";
+
+const OUTPUT_HELP: &str = "Write to the file, if no source has an error";
 
 const AFTER_HELP: &str = "\
 Without a file, or with `-`, the standard input is read.
@@ -71,58 +105,134 @@ Defined are __VERSION__, GL_ES, GL_FRAGMENT_PRECISION_HIGH, GL_core_profile and 
 The status is 0 if all was printed, 1 at an error in a source, and 2 if a word is wrong or reading or writing failed.";
 
 // Adds the options for how the source is printed, of which at most one may be given.
-fn with_forms<'a>(alloc: Global, command: Command<'a>) -> Result<Command<'a>, AllocError> {
-    let compact = flag(alloc, "compact", "Print each run of tokens as one line")
-        .short('P')
-        .conflicts_with("tokens")?
-        .conflicts_with("directives")?;
-    let tokens = flag(alloc, "tokens", "Print the items as JSON, one a line")
-        .long("tokens")
-        .conflicts_with("directives")?;
-    let directives = flag(
+fn with_forms<'a>(alloc: Global, command: Command<'a>) -> Result<Command<'a>, AllocError>
+    ensures { IfOk result (λ new. options_of new ≡ options_of command.entry ++ forms) }
+{
+    let compact = compact_flag(alloc)?;
+    let tokens = tokens_flag(alloc)?;
+    let directives = long_flag(alloc, "directives", DIRECTIVES_HELP);
+    let first = with_option(command, compact)?;
+    let second = with_option(first, tokens)?;
+    let third = with_option(second, directives)?;
+    Ok(third)
+}
+
+const DIRECTIVES_HELP: &str = "Print the #version, #extension and #pragma lines alone";
+
+fn compact_flag<'a>(alloc: Global) -> Result<Arg<'a>, AllocError>
+    ensures { IfOk result (λ option. IsOption option (lettered (codes "compact") 80 SetTrue)) }
+{
+    let compact = short_flag(
         alloc,
-        "directives",
-        "Print the #version, #extension and #pragma lines alone",
-    )
-    .long("directives");
-    command.arg(compact)?.arg(tokens)?.arg(directives)
+        "compact",
+        'P',
+        "Print each run of tokens as one line",
+    );
+    let compact = without(compact, "tokens")?;
+    let compact = without(compact, "directives")?;
+    Ok(compact)
+}
+
+fn tokens_flag<'a>(alloc: Global) -> Result<Arg<'a>, AllocError>
+    ensures { IfOk result (λ option. IsOption option (named (codes "tokens"))) }
+{
+    let tokens = long_flag(alloc, "tokens", "Print the items as JSON, one a line");
+    let tokens = without(tokens, "directives")?;
+    Ok(tokens)
+}
+
+// An option that isn't given beside another.
+fn without<'a>(option: Arg<'a>, other: &'a str) -> Result<Arg<'a>, AllocError>
+    ensures known { IfOk result (λ new. known_of (rule_of new) ≡ known_of (rule_of option.entry)) }
+    ensures global { IfOk result (λ new. new.global ≡ option.entry.global) }
+{
+    option.conflicts_with(other)
+}
+
+fn with_flags<'a>(alloc: Global, command: Command<'a>) -> Result<Command<'a>, AllocError>
+    ensures { IfOk result (λ new. options_of new ≡ options_of command.entry ++ flags) }
+{
+    let first_error = long_flag(alloc, "first-error", "End at the first error");
+    let undef = long_flag(alloc, "undef", "Define no name of GLSL's own");
+    let first = with_option(command, first_error)?;
+    let second = with_option(first, undef)?;
+    Ok(second)
 }
 
 // Options of other preprocessors: `-E` and `-S STAGE` do nothing, and `-I` is refused.
-fn with_foreign_options<'a>(
-    alloc: Global,
-    command: Command<'a>,
-) -> Result<Command<'a>, AllocError> {
-    command
-        .arg(flag(
-            alloc,
-            "only",
-            "Do nothing, as -E of a compiler is what this is",
-        )
-        .short('E'))?
-        .arg(definition_option(alloc, "stage", 'S', "STAGE").help(
-            "Do nothing, since no stage is told apart",
-        ))?
-        .arg(definition_option(alloc, "include", 'I', "FOLDER").hide(true))
+fn with_foreign_options<'a>(alloc: Global, command: Command<'a>) -> Result<Command<'a>, AllocError>
+    ensures { IfOk result (λ new. options_of new ≡ options_of command.entry ++ foreign) }
+{
+    let only = short_flag(alloc, "only", 'E', ONLY_HELP);
+    let stage = definition_option(alloc, "stage", 'S', "STAGE", STAGE_HELP);
+    let include = include_option(alloc);
+    let first = with_option(command, only)?;
+    let second = with_option(first, stage)?;
+    let third = with_option(second, include)?;
+    Ok(third)
+}
+
+const ONLY_HELP: &str = "Do nothing, as -E of a compiler is what this is";
+
+const STAGE_HELP: &str = "Do nothing, since no stage is told apart";
+
+// `-I`, which help doesn't list.
+fn include_option<'a>(alloc: Global) -> Arg<'a>
+    ensures { IsOption result (lettered (codes "include") 73 Append) }
+{
+    definition_option(alloc, "include", 'I', "FOLDER", "").hide(true)
 }
 
 // An option that may be repeated.
-fn definition_option<'a>(alloc: Global, id: &'a str, short: char, value: &'a str) -> Arg<'a> {
-    value_option(alloc, id, short, value).action(ArgAction::Append)
+fn definition_option<'a>(
+    alloc: Global,
+    id: &'a str,
+    short: char,
+    value: &'a str,
+    help: &'a str,
+) -> Arg<'a>
+    ensures { IsOption result (lettered id.now short Append) }
+{
+    value_option(alloc, id, short, value, help).action(ArgAction::Append)
 }
 
-fn value_option<'a>(alloc: Global, id: &'a str, short: char, value: &'a str) -> Arg<'a> {
+fn value_option<'a>(
+    alloc: Global,
+    id: &'a str,
+    short: char,
+    value: &'a str,
+    help: &'a str,
+) -> Arg<'a>
+    ensures { IsOption result (lettered id.now short Set) }
+{
     Arg::new(alloc, id)
         .short(short)
         .value_name(value)
         .action(ArgAction::Set)
+        .help(help)
 }
 
-fn flag<'a>(alloc: Global, id: &'a str, help: &'a str) -> Arg<'a> {
+fn long_flag<'a>(alloc: Global, id: &'a str, help: &'a str) -> Arg<'a>
+    ensures { IsOption result (named id.now) }
+{
+    flag(alloc, id, help).long(id)
+}
+
+fn short_flag<'a>(alloc: Global, id: &'a str, short: char, help: &'a str) -> Arg<'a>
+    ensures { IsOption result (lettered id.now short SetTrue) }
+{
+    flag(alloc, id, help).short(short)
+}
+
+fn flag<'a>(alloc: Global, id: &'a str, help: &'a str) -> Arg<'a>
+    ensures { IsOption result (nameless id.now SetTrue) }
+{
     Arg::new(alloc, id).action(ArgAction::SetTrue).help(help)
 }
 
-fn files_argument<'a>(alloc: Global) -> Arg<'a> {
+fn files_argument<'a>(alloc: Global) -> Arg<'a>
+    ensures { IsOption result (nameless (codes "files") Append) }
+{
     Arg::new(alloc, "files")
         .value_name("FILE")
         .action(ArgAction::Append)
@@ -135,20 +245,42 @@ impl<'a> Arguments<'a> {
     pub fn from_matches(
         alloc: Global,
         matches: &ArgMatches<'a>,
-    ) -> Result<Arguments<'a>, AllocError> {
+    ) -> Result<Arguments<'a>, AllocError>
+        ensures output { IfOk result (λ asked. option_map (λ name. name.now) asked.output
+            ≡ first_value (found_of matches.now) (codes "output")) }
+        ensures form { IfOk result (λ asked. IsForm (found_of matches.now) asked.form) }
+        ensures predefining { IfOk result (λ asked. IsFlag (found_of matches.now) (codes "undef")
+            (not asked.is_predefining)) }
+        ensures first_error_alone { IfOk result (λ asked. IsFlag (found_of matches.now)
+            (codes "first-error") asked.is_first_error_alone) }
+        ensures including { IfOk result (λ asked. asked.is_including
+            ≡ is_some (matched_of (found_of matches.now) (codes "include"))) }
+        ensures files { IfOk result (λ asked. map (λ file. file.now) asked.files.items
+            ≡ files_or_input (words_of (found_of matches.now) (codes "files"))) }
+    {
         Ok(Arguments {
             changes: changes_of(alloc, matches)?,
             output: matches.get_str("output"),
             form: form_of(matches),
-            is_predefining: !matches.get_flag("undef"),
-            is_first_error_alone: matches.get_flag("first-error"),
+            is_predefining: !is_given(matches, "undef"),
+            is_first_error_alone: is_given(matches, "first-error"),
             is_including: matches.contains_id("include"),
             files: files_of(alloc, matches)?,
         })
     }
 }
 
-fn files_of<'a>(alloc: Global, matches: &ArgMatches<'a>) -> Result<Vec<&'a str>, AllocError> {
+// Whether a flag was given.
+fn is_given(matches: &ArgMatches<'_>, id: &str) -> bool
+    ensures { IsFlag (found_of matches.now) id.now result }
+{
+    matches.get_flag(id)
+}
+
+fn files_of<'a>(alloc: Global, matches: &ArgMatches<'a>) -> Result<Vec<&'a str>, AllocError>
+    ensures { IfOk result (λ files. map (λ file. file.now) files.items
+        ≡ files_or_input (words_of (found_of matches.now) (codes "files"))) }
+{
     let mut files = words_of(alloc, matches, "files")?;
     if files.is_empty() {
         files.push(STANDARD_INPUT)?;
@@ -156,12 +288,17 @@ fn files_of<'a>(alloc: Global, matches: &ArgMatches<'a>) -> Result<Vec<&'a str>,
     Ok(files)
 }
 
-fn form_of(matches: &ArgMatches<'_>) -> Form {
-    if matches.get_flag("tokens") {
+fn form_of(matches: &ArgMatches<'_>) -> Form
+    ensures { IsForm (found_of matches.now) result }
+{
+    let tokens = is_given(matches, "tokens");
+    let directives = is_given(matches, "directives");
+    let compact = is_given(matches, "compact");
+    if tokens {
         Form::Tokens
-    } else if matches.get_flag("directives") {
+    } else if directives {
         Form::Directives
-    } else if matches.get_flag("compact") {
+    } else if compact {
         Form::Compact
     } else {
         Form::Lines
@@ -189,7 +326,10 @@ fn words_of<'a>(
     alloc: Global,
     matches: &ArgMatches<'a>,
     id: &str,
-) -> Result<Vec<&'a str>, AllocError> {
+) -> Result<Vec<&'a str>, AllocError>
+    ensures { IfOk result (λ words. map (λ word. word.now) words.items
+        ≡ words_of (found_of matches.now) id.now) }
+{
     let mut words = Vec::new(alloc);
     if let Some(given) = matches.get_strs(id) {
         words.extend_from_slice(given)?;

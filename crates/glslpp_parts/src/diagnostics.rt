@@ -1,12 +1,13 @@
 //! Errors as compilers print them.
 
-ghost use Rattle.std.specs.Prelude.{◌≡◌, ℕ, List, ◌++◌, IfOk, string_bytes};
+ghost use Rattle.std.specs.Prelude.{◌≡◌, ℕ, List, [], ◌++◌, OnOk, IfOk, string_bytes};
 ghost use Rattle.pp_rs.specs.Sentences.{sentence_of};
+ghost use Rattle.glslpp_parts.specs.Reports.{bold, colour, ended, name_of, kind_text, IsLonger, IsPlaced, IsReported};
 
 use crate::place::Place;
 use crate::search::last_define;
 use crate::sentences::push_more;
-use crate::texts::Texts;
+use crate::texts::{Spot, Texts};
 use pp_rs::SOURCE_LIMIT;
 use pp_rs::lexer::line_column;
 use pp_rs::token::{Location, PreprocessorError};
@@ -26,14 +27,18 @@ pub enum Style {
 }
 
 impl Style {
-    fn bold(self) -> &'static str {
+    fn bold(self) -> &'static str
+        ensures { result.now ≡ bold self }
+    {
         match self {
             Style::Plain => "",
             Style::Coloured => "\x1b[1m",
         }
     }
 
-    fn colour(self, kind: Kind) -> &'static str {
+    fn colour(self, kind: Kind) -> &'static str
+        ensures { result.now ≡ colour self kind }
+    {
         match (self, kind) {
             (Style::Plain, _) => "",
             (Style::Coloured, Kind::Error) => "\x1b[1;31m",
@@ -41,7 +46,9 @@ impl Style {
         }
     }
 
-    fn end(self) -> &'static str {
+    fn end(self) -> &'static str
+        ensures { result.now ≡ ended self }
+    {
         match self {
             Style::Plain => "",
             Style::Coloured => "\x1b[0m",
@@ -57,7 +64,9 @@ enum Kind {
 }
 
 impl Kind {
-    fn name(self) -> &'static str {
+    fn name(self) -> &'static str
+        ensures { result.now ≡ name_of self }
+    {
         match self {
             Kind::Error => "error",
             Kind::Note => "note",
@@ -104,30 +113,58 @@ impl<'a> Reporter<'a> {
         texts: &Texts<'_>,
         error: &PreprocessorError,
         location: Location,
-    ) -> Result<(), AllocError> {
+    ) -> Result<(), AllocError>
+        ensures { OnOk result (IsReported self.now.style self.now.file.now Kind.Error
+            (sentence_of error.now) (string_bytes text.old) (string_bytes text.new)) }
+    {
         let message = self.message(texts, error, location)?;
+        self.push_report(text, texts, error, location, message.as_str())
+    }
+
+    // Appends the lines of an error with this message.
+    fn push_report(
+        &self,
+        text: &mut String,
+        texts: &Texts<'_>,
+        error: &PreprocessorError,
+        location: Location,
+        message: &str,
+    ) -> Result<(), AllocError>
+        ensures { OnOk result (IsReported self.now.style self.now.file.now Kind.Error message.now
+            (string_bytes text.old) (string_bytes text.new)) }
+    {
         match error {
             PreprocessorError::UnfinishedBlock => {
-                self.push_end(text, texts.source, message.as_str())?;
+                self.push_end(text, texts.source, message)?;
                 self.push_lines(text, texts, Kind::Note, location, "the block begins here")
             }
             PreprocessorError::DefineRedefined => {
-                self.push_lines(text, texts, Kind::Error, location, message.as_str())?;
+                self.push_lines(text, texts, Kind::Error, location, message)?;
                 self.push_other_definition(text, texts, location)
             }
-            _ => self.push_lines(text, texts, Kind::Error, location, message.as_str()),
+            _ => self.push_lines(text, texts, Kind::Error, location, message),
         }
     }
 
     // Appends the line of an error at the end of a source.
-    fn push_end(&self, text: &mut String, source: &str, message: &str) -> Result<(), AllocError> {
+    fn push_end(&self, text: &mut String, source: &str, message: &str) -> Result<(), AllocError>
+        ensures { OnOk result (IsReported self.now.style self.now.file.now Kind.Error message.now
+            (string_bytes text.old) (string_bytes text.new)) }
+    {
         self.push_bold(text)?;
-        match line_column(source, source.len()) {
-            Some((line, column)) => write!(text, "{}:{line}:{column}: ", self.file)?,
-            None => write!(text, "{}: ", self.file)?,
-        }
+        self.push_end_place(text, source)?;
         self.push_kind(text, Kind::Error)?;
         writeln!(text, "{message}")
+    }
+
+    // Appends the name of the end of a source.
+    fn push_end_place(&self, text: &mut String, source: &str) -> Result<(), AllocError>
+        ensures { OnOk result (IsPlaced self.now.file.now (string_bytes text.old) (string_bytes text.new)) }
+    {
+        match line_column(source, source.len()) {
+            Some((line, column)) => write!(text, "{}:{line}:{column}: ", self.file),
+            None => write!(text, "{}: ", self.file),
+        }
     }
 
     // Appends the note on another definition of the macro that is defined at the place.
@@ -136,7 +173,9 @@ impl<'a> Reporter<'a> {
         text: &mut String,
         texts: &Texts<'_>,
         location: Location,
-    ) -> Result<(), AllocError> {
+    ) -> Result<(), AllocError>
+        ensures { OnOk result (IsLonger (string_bytes text.old) (string_bytes text.new)) }
+    {
         let Some(place) = place_of(texts, location) else {
             return Ok(());
         };
@@ -148,13 +187,18 @@ impl<'a> Reporter<'a> {
                 let note = "another definition is here";
                 self.push_lines(text, texts, Kind::Note, defined.location, note)
             }
-            None => {
-                self.push_bold(text)?;
-                write!(text, "{COMMAND_LINE}: ")?;
-                self.push_kind(text, Kind::Note)?;
-                writeln!(text, "another definition is here")
-            }
+            None => self.push_added_definition(text),
         }
+    }
+
+    // Appends the note on a definition of the command line.
+    fn push_added_definition(&self, text: &mut String) -> Result<(), AllocError>
+        ensures { OnOk result (IsLonger (string_bytes text.old) (string_bytes text.new)) }
+    {
+        self.push_bold(text)?;
+        write!(text, "{COMMAND_LINE}: ")?;
+        self.push_kind(text, Kind::Note)?;
+        writeln!(text, "another definition is here")
     }
 
     // Appends a message with its place, and the line of the place with a caret.
@@ -165,22 +209,33 @@ impl<'a> Reporter<'a> {
         kind: Kind,
         location: Location,
         message: &str,
-    ) -> Result<(), AllocError> {
+    ) -> Result<(), AllocError>
+        ensures { OnOk result (IsReported self.now.style self.now.file.now kind message.now
+            (string_bytes text.old) (string_bytes text.new)) }
+    {
         let spot = texts.spot(location);
         let place = place_of(texts, location);
         self.push_bold(text)?;
-        match (spot, place) {
-            (Some(spot), _) if !spot.is_in_source => write!(text, "{COMMAND_LINE}: ")?,
-            (_, Some(place)) => {
-                write!(text, "{}:{}:{}: ", self.file, location.line, place.column())?;
-            }
-            _ => write!(text, "{}: ", self.file)?,
-        }
+        self.push_place(text, spot, place, location.line)?;
         self.push_kind(text, kind)?;
         writeln!(text, "{message}")?;
-        match place {
-            Some(place) => self.push_excerpt(text, kind, place),
-            None => Ok(()),
+        self.push_excerpt(text, kind, place)
+    }
+
+    // Appends the name of a place on this line.
+    fn push_place(
+        &self,
+        text: &mut String,
+        spot: Option<Spot<'_>>,
+        place: Option<Place<'_>>,
+        line: u32,
+    ) -> Result<(), AllocError>
+        ensures { OnOk result (IsPlaced self.now.file.now (string_bytes text.old) (string_bytes text.new)) }
+    {
+        match (spot, place) {
+            (Some(spot), _) if !spot.is_in_source => write!(text, "{COMMAND_LINE}: "),
+            (_, Some(place)) => write!(text, "{}:{line}:{}: ", self.file, place.column()),
+            _ => write!(text, "{}: ", self.file),
         }
     }
 
@@ -189,24 +244,30 @@ impl<'a> Reporter<'a> {
         &self,
         text: &mut String,
         kind: Kind,
-        place: Place<'_>,
-    ) -> Result<(), AllocError> {
+        place: Option<Place<'_>>,
+    ) -> Result<(), AllocError>
+        ensures { OnOk result (IsLonger (string_bytes text.old) (string_bytes text.new)) }
+    {
+        let Some(place) = place else {
+            return Ok(());
+        };
         writeln!(text, "{}{}{}", place.before, place.here, place.behind)?;
-        for c in place.before.chars() {
-            push_blank_under(text, c)?;
-        }
+        push_blanks_under(text, place.before)?;
         write!(text, "{}^", self.style.colour(kind))?;
-        for c in place.here.chars().skip(1) {
-            push_wave_under(text, c)?;
-        }
+        push_waves_under(text, place.here)?;
         writeln!(text, "{}", self.style.end())
     }
 
-    fn push_bold(&self, text: &mut String) -> Result<(), AllocError> {
+    fn push_bold(&self, text: &mut String) -> Result<(), AllocError>
+        ensures { OnOk result (string_bytes text.new ≡ string_bytes text.old ++ bold self.now.style) }
+    {
         text.push_str(self.style.bold())
     }
 
-    fn push_kind(&self, text: &mut String, kind: Kind) -> Result<(), AllocError> {
+    fn push_kind(&self, text: &mut String, kind: Kind) -> Result<(), AllocError>
+        ensures { OnOk result (string_bytes text.new
+            ≡ string_bytes text.old ++ kind_text self.now.style kind) }
+    {
         let style = self.style;
         write!(
             text,
@@ -225,9 +286,31 @@ fn place_of<'a>(texts: &'a Texts<'_>, location: Location) -> Option<Place<'a>> {
     }
 }
 
+// Appends the blanks under the text before the caret.
+fn push_blanks_under(text: &mut String, before: &str) -> Result<(), AllocError>
+    ensures { OnOk result (IsLonger (string_bytes text.old) (string_bytes text.new)) }
+{
+    for c in before.chars() {
+        push_blank_under(text, c)?;
+    }
+    Ok(())
+}
+
+// Appends waves under what is at the place, but for its first character, which has the caret.
+fn push_waves_under(text: &mut String, here: &str) -> Result<(), AllocError>
+    ensures { OnOk result (IsLonger (string_bytes text.old) (string_bytes text.new)) }
+{
+    for c in here.chars().skip(1) {
+        push_wave_under(text, c)?;
+    }
+    Ok(())
+}
+
 // Appends the blanks under a character before the caret: a tab under a tab, nothing under a mark that takes no room,
 // and else spaces.
-fn push_blank_under(text: &mut String, c: char) -> Result<(), AllocError> {
+fn push_blank_under(text: &mut String, c: char) -> Result<(), AllocError>
+    ensures { OnOk result (IsLonger (string_bytes text.old) (string_bytes text.new)) }
+{
     match (c, columns_of(c)) {
         ('\t', _) => text.push('\t'),
         (_, 0) => Ok(()),
@@ -236,7 +319,9 @@ fn push_blank_under(text: &mut String, c: char) -> Result<(), AllocError> {
     }
 }
 
-fn push_wave_under(text: &mut String, c: char) -> Result<(), AllocError> {
+fn push_wave_under(text: &mut String, c: char) -> Result<(), AllocError>
+    ensures { OnOk result (IsLonger (string_bytes text.old) (string_bytes text.new)) }
+{
     match columns_of(c) {
         0 => Ok(()),
         2 => text.push_str("~~"),

@@ -1,5 +1,7 @@
 //! The failures with which the program ends with status 2.
 
+ghost use Rattle.glslpp_parts.specs.Failures.{Says};
+
 use std::alloc::{AllocError, AllocFailed, Global};
 use std::fmt::Display;
 
@@ -35,7 +37,9 @@ impl<T: Drop> From<AllocFailed<T>> for Failure {
 }
 
 /// Returns the failure of a subject, such as a file, with its cause: `subject: cause`.
-pub fn failure_of<C: Display + Drop>(alloc: Global, subject: &str, cause: C) -> Failure {
+pub fn failure_of<C: Display + Drop>(alloc: Global, subject: &str, cause: C) -> Failure
+    ensures { Says subject.now (C.output cause) result }
+{
     match format!(in alloc; "{subject}: {cause}") {
         Ok(text) => Failure::Told(text),
         Err(_) => Failure::OutOfMemory,

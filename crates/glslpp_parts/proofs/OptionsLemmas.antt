@@ -1,0 +1,15 @@
+-- Options that are added one after another.
+use Rattle.std.proofs.Common.{◌≡◌, ◌∙◌, ◌++◌, ◌∷◌, [], List, ap, append_assoc}
+use Rattle.glslpp_parts.specs.Options.{Known}
+
+pub two_added : (old one two : List Known) (a b x y : Known) → one ≡ old ++ x ∷ [] → two ≡ one ++ y ∷ [] → x ≡ a → y ≡ b
+    → two ≡ old ++ (a ∷ b ∷ [])
+two_added old one two a b x y e f p q =
+    f ∙ ap (λ (ks : List Known). ks ++ y ∷ []) e ∙ append_assoc old (x ∷ []) (y ∷ [])
+    ∙ ap (λ (k : Known). old ++ (k ∷ y ∷ [])) p ∙ ap (λ (k : Known). old ++ (a ∷ k ∷ [])) q
+
+pub three_added : (old one two three : List Known) (a b c x y z : Known) → one ≡ old ++ x ∷ [] → two ≡ one ++ y ∷ []
+    → three ≡ two ++ z ∷ [] → x ≡ a → y ≡ b → z ≡ c → three ≡ old ++ (a ∷ b ∷ c ∷ [])
+three_added old one two three a b c x y z e f g p q r =
+    g ∙ ap (λ (ks : List Known). ks ++ z ∷ []) (two_added old one two a b x y e f p q) ∙ append_assoc old (a ∷ b ∷ []) (z ∷ [])
+    ∙ ap (λ (k : Known). old ++ (a ∷ b ∷ k ∷ [])) r

@@ -1,0 +1,56 @@
+-- Parts of a report, one after another.
+use Rattle.std.proofs.Common.{◌≡◌, ◌∙◌, ◌++◌, ◌∷◌, [], ℕ, List, ap, sym, refl, inl, inr, append_assoc, codes}
+use Rattle.std.specs.Fmt.{decimal}
+use Rattle.glslpp_parts.specs.declared.diagnostics.Style.{Style}
+use Rattle.glslpp_parts.specs.declared.diagnostics.Kind.{Kind}
+use Rattle.glslpp_parts.specs.Reports.{bold, kind_text, IsLonger, IsPlaced, IsReported}
+
+pub placed_at : (file old new : List ℕ) (line column : ℕ)
+    → new ≡ old ++ (file ++ (codes ":" ++ (decimal line ++ (codes ":" ++ (decimal column ++ codes ": ")))))
+    → IsPlaced file old new
+placed_at file old new line column e = record {
+  place = file ++ codes ":" ++ decimal line ++ codes ":" ++ decimal column ++ codes ": ";
+  is = inr (inr (line, (column, refl)));
+  text = e ∙ simp append_assoc;
+}
+
+module _ (style : Style) (file : List ℕ) (kind : Kind) (message : List ℕ) where
+  -- the parts of a report, from what was there to the whole
+  pub reported : (old bolded placed kinded new more : List ℕ) → bolded ≡ old ++ bold style → IsPlaced file bolded placed
+      → kinded ≡ placed ++ kind_text style kind → new ≡ kinded ++ (message ++ more) → IsReported style file kind message old new
+  reported old bolded placed kinded new more e at f g = record {
+    place = at.place;
+    more = more;
+    is = at.is;
+    text = g ∙ ap (λ (t : List ℕ). t ++ (message ++ more))
+        (f ∙ ap (λ (t : List ℕ). t ++ kind_text style kind) (at.text ∙ ap (λ (t : List ℕ). t ++ at.place) e))
+        ∙ sym (append_assoc _ message more);
+  }
+
+  -- with more after the report
+  pub reported_on : (old mid new : List ℕ) → IsReported style file kind message old mid → IsLonger mid new
+      → IsReported style file kind message old new
+  reported_on old mid new report longer = record {
+    place = report.place;
+    more = report.more ++ longer.more;
+    is = report.is;
+    text = longer.text ∙ ap (λ (t : List ℕ). t ++ longer.more) report.text ∙ append_assoc _ report.more longer.more;
+  }
+
+  -- a report stands after what was there
+  pub longer_by : (old new : List ℕ) → IsReported style file kind message old new → IsLonger old new
+  longer_by old new report = record {
+    more = bold style ++ (report.place ++ (kind_text style kind ++ (message ++ report.more)));
+    text = report.text ∙ simp append_assoc;
+  }
+
+  -- a report of a message that begins with a sentence
+  pub reported_by : (sentence rest old new : List ℕ) → message ≡ sentence ++ rest → IsReported style file kind message old new
+      → IsReported style file kind sentence old new
+  reported_by sentence rest old new e report = record {
+    place = report.place;
+    more = rest ++ report.more;
+    is = report.is;
+    text = report.text ∙ ap (λ (t : List ℕ). old ++ bold style ++ report.place ++ kind_text style kind ++ t ++ report.more) e
+        ∙ simp append_assoc;
+  }

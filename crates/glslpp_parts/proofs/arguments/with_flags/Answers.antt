@@ -1,0 +1,12 @@
+use Rattle.std.proofs.Common.{codes}
+use Rattle.clap.specs.Words.{rule_of}
+use Rattle.glslpp_parts.specs.Options.{known_of, options_of, named}
+use Rattle.glslpp_parts.proofs.OptionsLemmas.{two_added}
+use Rattle.glslpp_parts.proofs.arguments.with_flags.Goals as goal
+
+pub returns : goal.returns
+returns c =
+    two_added (options_of c.args.command) (options_of c.in_ok-first.first) (options_of c.in_ok-second.second)
+    (named (codes "first-error")) (named (codes "undef")) (known_of (rule_of c.long_flag-first_error.result))
+    (known_of (rule_of c.long_flag-undef.result)) (c.in_ok-first.ensures {u = tt}) (c.in_ok-second.ensures {u = tt})
+    c.long_flag-first_error.ensures.says c.long_flag-undef.ensures.says

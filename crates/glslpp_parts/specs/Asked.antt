@@ -1,0 +1,37 @@
+-- What the command line asks for, by what `clap` found in it.
+use Rattle.std.specs.Prelude.{◌≡◌, ℕ, Bool, true, false, None, Some, List, [], ◌∷◌, Option, codes, if◌then◌else◌}
+use Rattle.std.specs.Option.{option_map_or}
+use Rattle.clap.specs.Matches.{matched_of, one_text, raw_values}
+use Rattle.clap.specs.declared.parser.matches.Found.{Found}
+use Rattle.glslpp_parts.specs.declared.arguments.Form.{Form}
+use Rattle.glslpp_parts.specs.declared.arguments.Form.TheVariants.{Lines, Compact, Tokens, Directives}
+
+-- the words that an argument was given, in order
+abbrev pub words_of : Found → List ℕ → List (List ℕ)
+words_of found id = option_map_or raw_values (matched_of found id) []
+
+-- whether a flag was given, which `clap` keeps as the text `true`
+pub record IsFlag (found : Found) (id : List ℕ) (flag : Bool) : Type 0 where
+  pub given : one_text found id ≡ Some (codes "true") → flag ≡ true
+  pub other : one_text found id ≡ Some (codes "false") → flag ≡ false
+  pub none : one_text found id ≡ None → flag ≡ false
+
+-- the form of the flags for tokens, for directives and for runs of tokens; of several that are given, the first counts
+abbrev pub form_of : Bool → Bool → Bool → Form
+form_of tokens directives compact =
+    if tokens then Tokens else if directives then Directives else if compact then Compact else Lines
+
+-- the form that the flags say
+pub record IsForm (found : Found) (form : Form) : Type 0 where
+  pub tokens : Bool
+  pub directives : Bool
+  pub compact : Bool
+  pub are_tokens : IsFlag found (codes "tokens") tokens
+  pub are_directives : IsFlag found (codes "directives") directives
+  pub is_compact : IsFlag found (codes "compact") compact
+  pub is : form ≡ form_of tokens directives compact
+
+-- the files, or `-` for the standard input if none is named
+abbrev pub files_or_input : List (List ℕ) → List (List ℕ)
+files_or_input [] = codes "-" ∷ []
+files_or_input (file ∷ files) = file ∷ files

@@ -1,0 +1,59 @@
+-- The options of the command line, as `clap` is told of them.
+use Rattle.std.specs.Prelude.{◌≡◌, ℕ, List, [], ◌∷◌, ◌++◌, Option, Some, None, codes, map, false}
+use Rattle.clap.specs.Words.{Rule, app_of, rule_of}
+use Rattle.clap.specs.declared.builder.action.ArgAction.{ArgAction}
+use Rattle.clap.specs.declared.builder.action.ArgAction.TheVariants.{Set, SetTrue, Append}
+use Rattle.clap.specs.declared.builder.arg.Arg.{Arg}
+use Rattle.clap.specs.declared.builder.command.Command.{Command}
+
+-- an option: the id by which the program asks for it, its letter and its long name on the command line, and what a use
+-- does: it gives the value, gives one more value, or sets a flag
+pub record Known : Type 0 where
+  pub id : List ℕ
+  pub letter : Option ℕ
+  pub long : Option (List ℕ)
+  pub action : Option ArgAction
+
+abbrev pub known_of : Rule → Known
+known_of rule = record { id = rule.id; letter = rule.short; long = rule.long; action = rule.action }
+
+-- the options that a command has so far, in order
+abbrev pub options_of : Command → List Known
+options_of command = map known_of (app_of command).top.rules
+
+-- an argument that is this option, of the command alone
+pub record IsOption (arg : Arg) (known : Known) : Type 0 where
+  pub says : known_of (rule_of arg) ≡ known
+  pub own : arg.global ≡ false
+
+abbrev pub lettered : List ℕ → ℕ → ArgAction → Known
+lettered id letter action = record { id = id; letter = Some letter; long = None; action = Some action }
+
+-- a flag with a long name, which is its id too
+abbrev pub named : List ℕ → Known
+named id = record { id = id; letter = None; long = Some id; action = Some SetTrue }
+
+abbrev pub nameless : List ℕ → ArgAction → Known
+nameless id action = record { id = id; letter = None; long = None; action = Some action }
+
+-- `-D`, `-U` and `-o`
+abbrev pub value_options : List Known
+value_options = lettered (codes "define") 68 Append ∷ lettered (codes "undefine") 85 Append
+    ∷ lettered (codes "output") 111 Set ∷ []
+
+-- `-P`, `--tokens` and `--directives`
+abbrev pub forms : List Known
+forms = lettered (codes "compact") 80 SetTrue ∷ named (codes "tokens") ∷ named (codes "directives") ∷ []
+
+-- `--first-error` and `--undef`
+abbrev pub flags : List Known
+flags = named (codes "first-error") ∷ named (codes "undef") ∷ []
+
+-- those of other preprocessors: `-E`, `-S` and `-I`
+abbrev pub foreign : List Known
+foreign = lettered (codes "only") 69 SetTrue ∷ lettered (codes "stage") 83 Append
+    ∷ lettered (codes "include") 73 Append ∷ []
+
+-- all of them, and the files
+abbrev pub options : List Known
+options = value_options ++ forms ++ flags ++ foreign ++ nameless (codes "files") Append ∷ []
