@@ -171,8 +171,7 @@ impl<'a> ListLexer<'a> {
         ensures { MatchOption result (self.new ≡ self.old) (λ read. IsUnnamed self.old read self.new) }
     {
         let is_line = self.is_line;
-        if self.tokens.len() <= self.position || !opens_none(&self.tokens[self.position], is_line)
-        {
+        if self.tokens.len() <= self.position || !opens_none(&self.tokens[self.position], is_line) {
             return None;
         }
         self.take_apart()

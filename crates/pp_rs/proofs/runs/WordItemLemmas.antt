@@ -62,15 +62,15 @@ passed_next old between new answer fresh passed next = record {
       (passed.spent ∙ fresh) next.gives) [
         | inl refused ↦ inl refused
         | inr given ↦ inr (record {
-              item = λ state stands.
-                  let there : StandsBetween between state = passed.item state stands in
-                  let emitted : Emitted answer there.between new = given.item there.between there.stands in
-                  record { after = emitted.after; emits = there.comes _ emitted.after emitted.emits; goes_on = emitted.goes_on };
-              no_refusal = given.no_refusal;
-              holds = given.holds;
-              reports = reports_passed answer old between new passed given.reports;
-              spent = given.spent;
-            })
+          item = λ state stands.
+              let there : StandsBetween between state = passed.item state stands in
+              let emitted : Emitted answer there.between new = given.item there.between there.stands in
+              record { after = emitted.after; emits = there.comes _ emitted.after emitted.emits; goes_on = emitted.goes_on };
+          no_refusal = given.no_refusal;
+          holds = given.holds;
+          reports = reports_passed answer old between new passed given.reports;
+          spent = given.spent;
+        })
       ]);
   less_left = less_passed answer old between new passed next.less_left;
 }
