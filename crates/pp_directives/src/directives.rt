@@ -1,7 +1,7 @@
 //! The source's reader: directives act, and the tokens between them are given.
 
 ghost use Rattle.std.specs.Prelude.{◌≡◌, ◌≢◌, ◌||◌, ◌-◌, ◌^◌, ◌<◌, [], length, drop, false, true, Ok, Err, is_ok, IfOk, IfSome, option_map, Some, None, pos, ◌+ℤ◌, ◌-ℤ◌};
-ghost use Rattle.std.specs.Str.{chars};
+ghost use Rattle.std.specs.Str.{IsAscii, chars};
 ghost use Rattle.pp_lexer.specs.declared.lexer.item.TokenValue.TheVariants.{NewLine};
 ghost use Rattle.pp_model.specs.Conversions.{conversion};
 ghost use Rattle.pp_model.specs.Lines.{only_name, line_tokens, comments_before_end, first_token};
@@ -12,7 +12,9 @@ ghost use Rattle.pp_macros.specs.inner.Defined.{meaning_of};
 ghost use Rattle.pp_macros.specs.Held.{HoldsOrdinary};
 ghost use Rattle.pp_macros.specs.Item.{as_step};
 ghost use Rattle.pp_macros.specs.inner.Reader.{of_source, ReadsOnto};
-ghost use Rattle.pp_directives.specs.inner.PlainText.{StepsPlain, GivesWord, GivesApart, PausesAtNewline};
+ghost use Rattle.pp_directives.specs.inner.PlainText.{StepsPlain, GivesWord, GivesBare, GivesApart, PausesAtNewline};
+ghost use Rattle.pp_directives.specs.WordTokens.{word_value};
+ghost use Rattle.pp_macros.specs.inner.Turns.{macro_of_value};
 ghost use Rattle.pp_directives.specs.inner.ReadNames.{as_named};
 ghost use Rattle.pp_macros.specs.inner.OpenBlocks.{last_block, facts_among, is_live_among};
 ghost use Rattle.pp_directives.specs.inner.SettingContent.{SetsContent};
@@ -30,9 +32,9 @@ use crate::lines::{
     DefineLine, define_line, ended_line, endif_end, first_name, first_token, line_reads,
     line_tokens, only_name, skip_line,
 };
-use crate::live_names::{LineName, LiveNames};
+use crate::live_names::{LineName, LiveNames, OtherNames};
 use crate::source_lexer::SourceLexer;
-use pp_lexer::lexer::{self, PlainItem};
+use pp_lexer::lexer::{self, Form, PlainItem};
 use pp_lexer::token::{
     Extension, Location, Pragma, PreprocessorError, Text, Token, TokenValue, Version, out_of_memory,
 };
@@ -599,6 +601,37 @@ impl<'a> DirectiveProcessor<'a> {
         let item = self.lexer.next_unknown(&names)?;
         self.has_text = true;
         Some(item)
+    }
+
+    /// The next word of plain text before memory is taken for it, if it is in live text and is the name of a macro
+    /// without parentheses, or no identifier. Otherwise nothing changes.
+    #[inline(always)]
+    pub fn next_bare(&mut self) -> Option<PlainItem<'a>>
+        ensures { GivesBare self.old result self.new }
+    {
+        let is_live = self.is_live();
+        if !is_live {
+            return None;
+        }
+        let names = OtherNames {
+            definitions: &self.definitions,
+        };
+        let item = self.lexer.next_unknown(&names)?;
+        self.has_text = true;
+        Some(item)
+    }
+
+    /// The macro that the word is the name of, if it is defined.
+    #[inline(always)]
+    pub fn macro_of_word(&self, word: &PlainItem<'_>) -> Option<&Rc<Macro>>
+        requires { IsAscii word.now.spelling.now }
+        ensures { option_map (λ m. (m.now.value.name, m.now.value.definition)) result
+            ≡ macro_of_value (of_source self.now) (word_value word.now.form word.now.spelling.now) }
+    {
+        match word.form {
+            Form::Identifier => self.find(word.spelling),
+            _ => None,
+        }
     }
 
     // The token of a word of plain text, if one comes first in live text and isn't `__LINE__`. Otherwise nothing

@@ -20,6 +20,29 @@ impl<'d> KnownNames for LiveNames<'d> {
     }
 }
 
+/// All names but those that open a macro without parentheses in live text.
+#[derive(Drop)]
+pub struct OtherNames<'d> {
+    pub definitions: &'d Definitions,
+}
+
+impl<'d> KnownNames for OtherNames<'d> {
+    ghost use Rattle.std.specs.Prelude.{not};
+    ghost use Rattle.pp_directives.specs.inner.PlainText.{opens_bare};
+
+    ghost knows = { λ names name. not (opens_bare names.definitions.now name) };
+
+    fn is_known(&self, name: &str) -> bool {
+        if name == "__LINE__" {
+            return true;
+        }
+        match self.definitions.find(name) {
+            Some(found) => found.define().is_function_like(),
+            None => true,
+        }
+    }
+}
+
 /// The name `__LINE__` alone.
 #[derive(Clone, Copy)]
 pub struct LineName;

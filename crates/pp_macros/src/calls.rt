@@ -442,8 +442,8 @@ impl Expander {
         }
     }
 
-    // Opens the frame of an object-like macro.
-    fn open_bare(&mut self, opened: Rc<Macro>, line: u32) -> Result<(), AllocError>
+    /// Opens the frame of an object-like macro.
+    pub fn open_bare(&mut self, opened: Rc<Macro>, line: u32) -> Result<(), AllocError>
         ensures { OnOk result (self.new ≡ record self.old {
           frames = new_frame opened.value.name line opened.value.definition []
               ∷ self.old.frames;

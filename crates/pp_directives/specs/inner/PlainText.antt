@@ -1,5 +1,5 @@
 -- A word of plain text, before memory is taken for it.
-use Rattle.std.specs.Prelude.{◌≡◌, ◌≢◌, ℕ, Bool, true, false, ◌||◌, is_some, List, Option, Some, Ok, Err, MatchBool}
+use Rattle.std.specs.Prelude.{◌≡◌, ◌≢◌, ℕ, Bool, true, false, not, ◌&&◌, ◌||◌, is_some, List, Option, Some, None, Ok, Err, MatchBool}
 use Rattle.std.specs.Prelude.{MatchOption, IsTrue, []}
 use Rattle.std.specs.Str.{IsAscii}
 use Rattle.pp_lexer.specs.PlainItems.{token_of, begins_newline, IsUnknown}
@@ -9,6 +9,7 @@ use Rattle.pp_macros.specs.inner.LineReading.{HasTaken, next_token, next_line_to
 use Rattle.pp_macros.specs.inner.SourceLexed.{SourceLexed, unreported_at}
 use Rattle.pp_directives.specs.WordTokens.{word_value, word_token}
 use Rattle.pp_model.specs.Names.{is_identifier, is_same_name, line_name}
+use Rattle.pp_model.specs.Definitions.{Definition}
 use Rattle.pp_macros.specs.inner.Defined.{Defined, meaning_of}
 use Rattle.pp_macros.specs.inner.Plain.{gives_itself}
 use Rattle.pp_macros.specs.declared.step.StepExit.TheVariants.{Continue}
@@ -94,6 +95,28 @@ pub record TakesWord (old : Source) (item : PlainItem) (new : Source) : Type 0 w
 -- such a word, or nothing changed
 abbrev pub GivesWord : Source → Option PlainItem → Source → Type 0
 GivesWord old answer new = MatchOption answer (new ≡ old) (λ item. TakesWord old item new)
+
+-- a definition of a macro without parentheses
+abbrev pub is_bare : Option Definition → Bool
+is_bare (Some definition) = not definition.function_like
+is_bare None = false
+
+-- a name that opens a macro without parentheses
+abbrev pub opens_bare : List Defined → List ℕ → Bool
+opens_bare definitions name = not (is_same_name name line_name) && is_bare (meaning_of definitions name)
+
+-- A step at a word of plain text before memory is taken for it. An identifier is the name of a macro without
+-- parentheses.
+pub record TakesBare (old : Source) (item : PlainItem) (new : Source) : Type 0 where
+  pub no_hash : item.form ≢ Hash
+  pub ascii : IsAscii item.spelling.now
+  pub opens : IsUnknown (λ name. not (opens_bare new.definitions name)) item.form item.spelling.now
+  pub holds : HoldsOrdinary (word_value item.form item.spelling.now)
+  pub step : IsStep old (Ok (word_token item)) new
+
+-- such a word, or nothing changed
+abbrev pub GivesBare : Source → Option PlainItem → Source → Type 0
+GivesBare old answer new = MatchOption answer (new ≡ old) (λ item. TakesBare old item new)
 
 -- a step at a word of plain text that isn't `__LINE__`
 pub record IsApart (old : Source) (token : Token) (new : Source) : Type 0 where

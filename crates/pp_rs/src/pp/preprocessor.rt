@@ -1,6 +1,6 @@
 //! The items of a preprocessed source.
 
-ghost use Rattle.std.specs.Prelude.{◌≡◌, ◌-◌, ◌^◌, ◌<◌, false, length, if◌then◌else◌, true, IsTrue, OnOk, OnErr, IfOk, IfErr, Some, Ok};
+ghost use Rattle.std.specs.Prelude.{◌≡◌, ◌-◌, ◌^◌, ◌<◌, ◌∷◌, [], false, length, if◌then◌else◌, true, IsTrue, OnOk, OnErr, IfOk, IfErr, Some, Ok, Err};
 ghost use Rattle.pp_lexer.specs.TokenValue.{is_ordinary};
 ghost use Rattle.pp_lexer.specs.declared.token.Token.{Token};
 ghost use Rattle.std.specs.Iterator.{at_most};
@@ -10,6 +10,7 @@ ghost use Rattle.pp_model.specs.Run.{items_of, start};
 ghost use Rattle.pp_rs.specs.Adding.{IsAdded};
 ghost use Rattle.pp_rs.specs.CallLine.{IsCallLine};
 ghost use Rattle.pp_macros.specs.Item.{is_out_of_memory};
+ghost use Rattle.pp_macros.specs.inner.Frames.{new_frame};
 ghost use Rattle.pp_rs.specs.Kept.{Stands, IsAhead, is_spent, most_items, errors_left, error_place};
 ghost use Rattle.pp_macros.specs.LexerErrors.{lexer_errors};
 ghost use Rattle.pp_directives.specs.WordTokens.{word_token};
@@ -22,10 +23,12 @@ use crate::token::{Location, NOWHERE, PreprocessorError, Token, out_of_memory};
 use pp_directives::convert::word_token;
 use pp_directives::directives::DirectiveProcessor;
 use pp_macros::calls::Expander;
+use pp_macros::define::Macro;
 use pp_macros::halt::Halt;
 use pp_macros::step::{StepExit, is_out_of_memory};
 use std::alloc::{AllocError, Global};
 use std::marker::Model;
+use std::rc::Rc;
 
 /// An item of the preprocessor: a token, or an error with its place.
 pub type PreprocessorItem = Result<Token, (PreprocessorError, Location)>;
@@ -63,6 +66,16 @@ fn place_refusal(error: (PreprocessorError, Location)) -> (PreprocessorError, Lo
         return out_of_memory();
     }
     error
+}
+
+// Opens the frame of a macro without parentheses.
+fn open_shared(expander: &mut Expander, found: &Rc<Macro>, line: u32) -> Result<(), AllocError>
+    ensures { OnOk result (expander.new ≡ record expander.old {
+      frames = new_frame found.now.value.name line found.now.value.definition [] ∷ expander.old.frames;
+    }) }
+{
+    let opened = found.clone()?;
+    expander.open_bare(opened, line)
 }
 
 impl<'a> Preprocessor<'a> {
@@ -106,6 +119,35 @@ impl<'a> Preprocessor<'a> {
         }
     }
 
+    /// Opens the macro without parameters that the next word of plain text names, while no macro is open, and passes
+    /// the name. Then what its body has comes next. If that word is no identifier, returns it, as `next_word` does.
+    ///
+    /// It is private to the repository. Call it if `next_word` returned `None`. The only error is that an allocation
+    /// failed; then `next` returns `None` from then on.
+    #[inline(never)]
+    pub fn open_word(&mut self) -> Result<Option<PlainItem<'a>>, AllocError>
+        ensures gives { IfOk result (λ word. IsNextWord self.old word self.new) }
+        ensures spent { OnErr result (is_spent self.new ≡ true) }
+        ensures refused { OnErr result (IsNextItem self.old (Some (Err out_of_memory)) self.new) }
+    {
+        if self.spent || !self.expander.is_idle() {
+            return Ok(None);
+        }
+        let Some(word) = self.source.next_bare() else {
+            return Ok(None);
+        };
+        let Some(found) = self.source.macro_of_word(&word) else {
+            return Ok(Some(word));
+        };
+        match open_shared(&mut self.expander, found, word.location.line) {
+            Ok(()) => Ok(None),
+            Err(refused) => {
+                self.spent = true;
+                Err(refused)
+            }
+        }
+    }
+
     // The item of a word that `next_word` gave.
     #[inline(always)]
     fn item_of(&mut self, word: PlainItem<'a>) -> PreprocessorItem
@@ -124,10 +166,25 @@ impl<'a> Preprocessor<'a> {
         }
     }
 
-    // What `next` returns, looked for step by step. It is a function of its own, so that a word of plain text is given
-    // without it.
+    // What `next` returns if `next_word` gives nothing. It is a function of its own, so that a word of plain text is
+    // given without it.
     #[inline(never)]
-    fn next_item(&mut self) -> Option<PreprocessorItem>
+    fn next_opened(&mut self) -> Option<PreprocessorItem>
+        requires { is_spent self.old ≡ false }
+        ensures { IsNextItem self.old result self.new }
+    {
+        match self.open_word() {
+            Ok(Some(word)) => Some(self.item_of(word)),
+            Ok(None) => self.next_item(),
+            Err(_) => Some(Err(out_of_memory())),
+        }
+    }
+
+    /// Returns what `next` does, step by step.
+    ///
+    /// It is private to the repository. Call it if neither `next_word` nor `open_word` goes on.
+    #[inline(never)]
+    pub fn next_item(&mut self) -> Option<PreprocessorItem>
         ensures { IsNextItem self.old result self.new }
     {
         if self.spent {
@@ -278,7 +335,7 @@ impl<'a> Iterator for Preprocessor<'a> {
         }
         match self.next_word() {
             Some(word) => Some(self.item_of(word)),
-            None => self.next_item(),
+            None => self.next_opened(),
         }
     }
 }
