@@ -27,8 +27,8 @@ use crate::content::content_tokens;
 use crate::convert::{convert_lexer_token_to_step, word_token};
 use crate::line_value::{condition, line_number};
 use crate::lines::{
-    DefineLine, define_line, ended_line, endif_end, first_name, first_token, line_tokens,
-    line_reads, only_name, skip_line,
+    DefineLine, define_line, ended_line, endif_end, first_name, first_token, line_reads,
+    line_tokens, only_name, skip_line,
 };
 use crate::live_names::{LineName, LiveNames};
 use crate::source_lexer::SourceLexer;

@@ -162,10 +162,7 @@ fn plain_token(alloc: Global, lexer: &mut SourceLexer<'_>) -> Result<Option<Toke
 
 /// The next token of the line, or `None` if the line ends.
 #[inline(always)]
-pub fn next_line_token(
-    alloc: Global,
-    lexer: &mut SourceLexer<'_>,
-) -> Result<Option<Token>, Halt>
+pub fn next_line_token(alloc: Global, lexer: &mut SourceLexer<'_>) -> Result<Option<Token>, Halt>
     requires { lexer.old.spent ≡ false }
     ensures is { spec.Meets (λ t. t) result (spec.next_line_token lexer.old.rest) }
     ensures takes { spec.TakesItems 1 lexer.old result lexer.new }
