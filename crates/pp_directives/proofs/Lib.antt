@@ -1,3 +1,4 @@
+pub mod NamedMacroLemmas
 pub mod LinedLemmas
 pub mod EndedLemmas
 pub mod UnreportedLemmas

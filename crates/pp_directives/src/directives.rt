@@ -3,6 +3,7 @@
 ghost use Rattle.std.specs.Prelude.{◌≡◌, ◌≢◌, ◌||◌, ◌-◌, ◌^◌, ◌<◌, [], length, drop, false, true, Ok, Err, is_ok, IfOk, IfSome, option_map, Some, None, pos, ◌+ℤ◌, ◌-ℤ◌};
 ghost use Rattle.std.specs.Str.{IsAscii, chars};
 ghost use Rattle.pp_lexer.specs.declared.lexer.item.TokenValue.TheVariants.{NewLine};
+ghost use Rattle.pp_lexer.specs.declared.lexer.plain.Form.TheVariants.{Hash};
 ghost use Rattle.pp_model.specs.Conversions.{conversion};
 ghost use Rattle.pp_model.specs.Lines.{only_name, line_tokens, comments_before_end, first_token};
 ghost use Rattle.pp_model.specs.LineValues.{as_line_number};
@@ -624,7 +625,8 @@ impl<'a> DirectiveProcessor<'a> {
     /// The macro that the word is the name of, if it is defined.
     #[inline(always)]
     pub fn macro_of_word(&self, word: &PlainItem<'_>) -> Option<&Rc<Macro>>
-        requires { IsAscii word.now.spelling.now }
+        requires no_hash { word.now.form ≢ Hash }
+        requires ascii { IsAscii word.now.spelling.now }
         ensures { option_map (λ m. (m.now.value.name, m.now.value.definition)) result
             ≡ macro_of_value (of_source self.now) (word_value word.now.form word.now.spelling.now) }
     {

@@ -1,13 +1,19 @@
 -- What the next item of a preprocessor says of the states that it stands for.
-use Rattle.std.proofs.Common.{◌≡◌, ◌≢◌, Bool, true, false, Some, None, Ok, Err, inl, inr}
+use Rattle.std.proofs.Common.{◌≡◌, ◌≢◌, ◌≤◌, Bool, true, false, Some, None, Ok, Err, inl, inr, arith}
 use Rattle.std.specs.Prelude.{MatchBool}
 use Rattle.pp_model.specs.Calls.{Fault}
 use Rattle.pp_model.specs.declared.outcome.Outcome.TheVariants as outcome
 use Rattle.pp_rs.specs.Comes.{State, Comes}
-use Rattle.pp_rs.specs.Kept.{Preprocessing, Stands, is_spent}
+use Rattle.pp_print.specs.inner.Printing.{HasLeft}
+use Rattle.pp_rs.specs.Kept.{Preprocessing, Stands, is_spent, most_items}
 use Rattle.pp_rs.specs.Preprocessing.{IsGivenItem, IsNextItem}
 use Rattle.pp_rs.specs.declared.token.PreprocessorError.TheVariants.{OutOfMemory}
 use Rattle.pp_rs.specs.declared.token.Token.{Token}
+
+-- less is left after what came later, too
+pub has_less : (pushed : Bool) (old between new : Preprocessing) → most_items between ≤ most_items old → HasLeft pushed between new → HasLeft pushed old new
+has_less true old between new no_more less = omega (arith, no_more, less)
+has_less false old between new no_more less = omega (arith, no_more, less)
 
 unspent : (spent : Bool) (A B : Type 0) → spent ≡ false → MatchBool spent A B → B
 unspent true A B e h = cc

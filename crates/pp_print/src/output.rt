@@ -64,7 +64,7 @@ fn print_rest<W: Sink>(
     // A run of tokens that may continue. It is kept as text, which is smaller than its tokens.
     let mut line = None;
     push_words(alloc, items, &mut line)?;
-    'items: while let Some(item) = items.next() {
+    'items: while let Some(item) = items.next_item() {
         match item {
             Ok(token) => print_token(alloc, token, &mut line, writer)?,
             Err(refusal) => return print_stop(alloc, refusal, line, writer),
@@ -106,12 +106,53 @@ fn push_next(
         items.new (option_map string_bytes line.new)) }
 {
     if items.call_line().is_none() {
-        return push_next_word(alloc, items, line);
+        return push_live(alloc, items, line);
     }
     if push_given(alloc, items, line)? {
         return Ok(true);
     }
-    push_next_word(alloc, items, line)
+    push_live(alloc, items, line)
+}
+
+// Takes the next token of live text into the line: a word, or what a macro without parameters gives first. Returns
+// whether there was one.
+#[inline(always)]
+fn push_live(
+    alloc: Global,
+    items: &mut Preprocessor<'_>,
+    line: &mut Option<String>,
+) -> Result<bool, AllocError>
+    requires unspent { is_spent items.old ≡ false }
+    ensures spent { OnOk result (is_spent items.new ≡ false) }
+    ensures left { IfOk result (λ pushed. HasLeft pushed items.old items.new) }
+    ensures printing { OnOk result (KeepsPrinting items.old (option_map string_bytes line.old)
+        items.new (option_map string_bytes line.new)) }
+{
+    if push_next_word(alloc, items, line)? {
+        return Ok(true);
+    }
+    push_opened(alloc, items, line)
+}
+
+// Opens the macro without parameters that comes next, and takes its first token into the line. Returns whether there
+// was one. It is a function of its own, so that a word of plain text is taken without it.
+#[inline(never)]
+fn push_opened(
+    alloc: Global,
+    items: &mut Preprocessor<'_>,
+    line: &mut Option<String>,
+) -> Result<bool, AllocError>
+    requires unspent { is_spent items.old ≡ false }
+    ensures spent { OnOk result (is_spent items.new ≡ false) }
+    ensures left { IfOk result (λ pushed. HasLeft pushed items.old items.new) }
+    ensures printing { OnOk result (KeepsPrinting items.old (option_map string_bytes line.old)
+        items.new (option_map string_bytes line.new)) }
+{
+    if let Some(word) = items.open_word()? {
+        push_plain(alloc, line, &word)?;
+        return Ok(true);
+    }
+    push_given(alloc, items, line)
 }
 
 // Takes the next word of plain text into the line, spelled as in the source. Returns whether there was one.

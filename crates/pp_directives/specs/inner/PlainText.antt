@@ -1,6 +1,6 @@
 -- A word of plain text, before memory is taken for it.
-use Rattle.std.specs.Prelude.{◌≡◌, ◌≢◌, ℕ, Bool, true, false, not, ◌&&◌, ◌||◌, is_some, List, Option, Some, None, Ok, Err, MatchBool}
-use Rattle.std.specs.Prelude.{MatchOption, IsTrue, []}
+use Rattle.std.specs.Prelude.{◌≡◌, ◌≢◌, ℕ, Bool, true, false, not, ◌&&◌, ◌||◌, is_some, List, Option, Some, None, Ok}
+use Rattle.std.specs.Prelude.{Err, MatchBool, MatchOption, IsTrue, []}
 use Rattle.std.specs.Str.{IsAscii}
 use Rattle.pp_lexer.specs.PlainItems.{token_of, begins_newline, IsUnknown}
 use Rattle.pp_lexer.specs.declared.lexer.plain.Form.TheVariants.{Hash}

@@ -1,19 +1,19 @@
 -- A token of a source, while no macro is open: it is given at once, or it is taken and held, and the expander goes on
 -- from there.
-use Rattle.std.proofs.Common.{◌≡◌, ◌∙◌, inl, inr, ℕ, Bool, true, not, [], ◌∷◌, List, refl, ap, sym, Option, Some, None, Ok, Err}
+use Rattle.std.proofs.Common.{◌≡◌, ◌∙◌, inl, inr, ℕ, Bool, true, false, not, [], ◌∷◌, List, refl, ap, sym, Option, Some, None, Ok, Err}
 use Rattle.std.specs.Prelude.{is_none}
 use Rattle.std.proofs.lemmas.Bool.{and_parts}
 use Rattle.pp_lexer.specs.declared.token.Token.{Token}
 use Rattle.pp_lexer.specs.declared.token.TokenValue.{TokenValue}
 use Rattle.pp_lexer.specs.declared.token.TokenValue.TheVariants.{Ident}
 use Rattle.pp_model.specs.declared.read.Read.{Read}
-use Rattle.pp_model.specs.Names.{Name, is_same_name, line_name}
+use Rattle.pp_model.specs.Names.{Name, is_same_name, is_identifier, line_name}
 use Rattle.pp_model.specs.Definitions.{Definition}
 use Rattle.pp_model.specs.Painting.{unpainted}
 use Rattle.pp_model.proofs.SpelledRunLemmas.{or_none}
-use Rattle.pp_macros.specs.inner.CallTurns.{TurnsTo, passes, gives, object, seeks}
+use Rattle.pp_macros.specs.inner.CallTurns.{TurnsTo, TakesSomething, passes, gives, object, seeks}
 use Rattle.pp_macros.specs.inner.Defined.{meaning_of}
-use Rattle.pp_macros.specs.inner.Frames.{Frame}
+use Rattle.pp_macros.specs.inner.Frames.{Frame, new_frame}
 use Rattle.pp_macros.specs.inner.Idle.{is_idle, IsHeld, HoldsWord}
 use Rattle.pp_macros.specs.Item.{Step}
 use Rattle.pp_macros.specs.inner.Expander.{Expander, taken_as, StepsFetching, StepsTaking, held, moved}
@@ -26,6 +26,7 @@ use Rattle.pp_macros.specs.inner.Turns.{masks, opened_by, macro_of_value}
 use Rattle.pp_macros.specs.declared.calls.Taken.{Taken}
 use Rattle.pp_macros.specs.declared.calls.Taken.TheVariants as taken
 use Rattle.pp_macros.specs.declared.step.StepExit.{StepExit}
+use Rattle.pp_macros.specs.declared.step.StepExit.TheVariants.{Continue}
 use Rattle.pp_macros.proofs.taking.PlainLemmas.{itself_apart}
 use Rattle.pp_macros.proofs.taking.ExpanderLemmas.{fetches_shown, fetches_step, shows_token}
 use Rattle.pp_rs.proofs.source.UnpaintedLemmas.{StepsReporting, reads_step}
@@ -87,6 +88,13 @@ module _ (levels : ℕ) (r s : Source) where
   takes_first : (step : Step Read) → StepsFetching idle (of_source r) step idle (of_source s) → StepsTaking idle (of_source r) step idle (of_source s)
   takes_first step fetches = record { first = step; fetches = fetches; paints = sym (painted_nothing step) }
 
+  -- a token that isn't `__LINE__` is taken as it stands there
+  takes_token : (token : Token) → StepsReporting r (Ok token) s → is_identifier line_name token.value ≡ false
+      → StepsTaking idle (of_source r) (Ok (unpainted token)) idle (of_source s)
+  takes_token token reads apart =
+      takes_first (Ok (unpainted token)) (fetches_step idle None None [] [] (Ok (unpainted token)) (of_source r) (of_source s) refl refl refl
+      (refl, reads_step r s (Ok token) reads) apart)
+
   exits : (exit : StepExit) (step : Step Token) → StepsTaking idle (of_source r) (Err exit) idle (of_source s) → step ≡ Err exit
       → StepsOver levels idle r step idle s
   exits exit step takes is =
@@ -106,12 +114,26 @@ module _ (levels : ℕ) (r s : Source) where
       → gives_itself s.definitions token.value ≡ true → StepsOver levels m r (Ok token) m s
   idle_token m token e reads itself =
       let read = unpainted token in
-      let apart = itself_apart s.definitions token.value itself in
-      let fetches = fetches_step idle None None [] [] (Ok read) (of_source r) (of_source s) refl refl refl
-      (refl, reads_step r s (Ok token) reads) apart in
-      let turns = gives read (Ok (taken.Token read)) idle idle (of_source r) (of_source s) (takes_first (Ok read) fetches)
-      (opens_none s token.value itself) refl in
+      let turns = gives read (Ok (taken.Token read)) idle idle (of_source r) (of_source s)
+      (takes_token token reads (itself_apart s.definitions token.value itself)) (opens_none s token.value itself) refl in
       rw e (inl (record { taken = Ok (taken.Token read); between = idle; turns = turns; follows = (refl, refl) }))
+
+  -- the name of a macro without parentheses, which opens
+  pub idle_opens : (m n : Expander) (token : Token) (name : Name) (definition : Definition) → m ≡ idle → StepsReporting r (Ok token) s
+      → is_identifier line_name token.value ≡ false → macro_of_value (of_source s) token.value ≡ Some (name, definition)
+      → definition.function_like ≡ false → n ≡ record m { frames = new_frame name token.location.line definition [] ∷ m.frames }
+      → StepsOver levels m r (Err Continue) n s
+  idle_opens m n token name definition e reads apart opens bare is =
+      let opened : Expander = record { held = None; frames = new_frame name token.location.line definition [] ∷ [] } in
+      let turns = object (unpainted token) name definition (Err Continue) idle idle opened (of_source r) (of_source s)
+      (takes_token token reads apart) opens bare refl refl in
+      rw (is, e) (inl (record { taken = Err Continue; between = opened; turns = turns; follows = (refl, refl) }))
+
+  -- such a token is something to take
+  pub idle_some : (m : Expander) (token : Token) → m ≡ idle → StepsReporting r (Ok token) s → is_identifier line_name token.value ≡ false
+      → TakesSomething m (of_source r)
+  idle_some m token e reads apart =
+      rw e (record { step = Ok (unpainted token); after = idle; reader = of_source s; takes = takes_token token reads apart; goes = refl })
 
   -- a step as which the word is taken
   shown : (word : Token) (step : Step Read) → StepsReporting r (Ok word) s → step ≡ taken_as (Ok (unpainted word)) [] (of_source s)

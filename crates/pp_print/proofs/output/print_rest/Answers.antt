@@ -23,7 +23,7 @@ returns-in_err-push_words-clause-begun g c = λ e start stands.
 pub items-smaller : goal.items-smaller
 items-smaller g c =
     let words = c.in_ok-push_words-2.ensures {u = tt} in
-    let steps = rw c.in-Ok.is at c.in-Some.ensures.steps in
+    let steps = rw c.in-Ok.is at c.in-Some.ensures in
     omega (arith, words.left, steps.less_left)
 
 pub items-preserved : goal.items-preserved
@@ -31,13 +31,13 @@ items-preserved g c =
     let before = c.items.invariant in
     let printed = c.in_ok-print_token-in-Ok.ensures {u = tt} in
     let words = c.in_ok-push_words-2.ensures {u = tt} in
-    let steps = rw c.in-Ok.is at c.in-Some.ensures.steps in
+    let steps = rw c.in-Ok.is at c.in-Some.ensures in
     record {
       ok = printed.ok;
       unspent = words.spent;
       printing = λ start stands.
           let printing = before.printing start stands in
-          let next = next_token c.items.items c.next.new.self before.unspent c.in-Ok.token steps printing.now.between printing.now.stands in
+          let next = next_token c.items.items c.next_item.new.self before.unspent c.in-Ok.token steps printing.now.between printing.now.stands in
           words.printing start _ _ (printing_goes_on start _ _ _ _ _ printing _ c.in-Ok.token next.0 _ (printing.now.comes _ _ next.1) next.2
           printed.line printed.written);
     }
@@ -46,9 +46,9 @@ pub returns-in_err-push_words-2-clause-begun : goal.returns-in_err-push_words-2-
 returns-in_err-push_words-2-clause-begun g c = λ e start stands.
     let before = c.items.invariant in
     let printed = c.in_ok-print_token-in-Ok.ensures {u = tt} in
-    let steps = rw c.in-Ok.is at c.in-Some.ensures.steps in
+    let steps = rw c.in-Ok.is at c.in-Some.ensures in
     let printing = before.printing start stands in
-    let next = next_token c.items.items c.next.new.self before.unspent c.in-Ok.token steps printing.now.between printing.now.stands in
+    let next = next_token c.items.items c.next_item.new.self before.unspent c.in-Ok.token steps printing.now.between printing.now.stands in
     printing_begun start _ _ _ _ (printing_goes_on start _ _ _ _ _ printing _ c.in-Ok.token next.0 _ (printing.now.comes _ _ next.1) next.2
     printed.line printed.written)
 
@@ -66,8 +66,8 @@ pub returns-in-Err-clause-printed : goal.returns-in-Err-clause-printed
 returns-in-Err-clause-printed g c = IfOk-one c.print_stop.result IsStoppedBySource _ _ (Stopped c.in-Err.refusal.0 c.in-Err.refusal.1)
     c.print_stop.ensures.stopped c.print_stop.ensures.written (λ stopped written start stands.
     let printing = c.items.invariant.printing start stands in
-    let next = next_error c.items.items c.next.new.self c.items.invariant.unspent
-    c.in-Err.refusal (rw c.in-Err.is at c.in-Some.ensures.steps) stopped printing.now.between printing.now.stands in
+    let next = next_error c.items.items c.next_item.new.self c.items.invariant.unspent
+    c.in-Err.refusal (rw c.in-Err.is at c.in-Some.ensures) stopped printing.now.between printing.now.stands in
     printing_ends start _ _ _ _ _ printing (Stopped c.in-Err.refusal.0 c.in-Err.refusal.1) next.0 (printing.now.comes _ _ next.1) written)
 
 pub returns-in_err-print_line-clause-begun : goal.returns-in_err-print_line-clause-begun
@@ -79,5 +79,5 @@ returns-in_err-print_line-clause-begun g c = λ e start stands.
 pub returns-clause-printed : goal.returns-clause-printed
 returns-clause-printed g c = λ start stands.
     let printing = c.items.invariant.printing start stands in
-    let next = next_none c.items.items c.next.new.self c.items.invariant.unspent c.in_default.ensures.steps printing.now.between printing.now.stands in
+    let next = next_none c.items.items c.next_item.new.self c.items.invariant.unspent c.in_default.ensures printing.now.between printing.now.stands in
     printing_ends start _ _ _ _ _ printing Done next.0 (printing.now.comes _ _ next.1) c.in_ok-print_line.ensures.written

@@ -1,7 +1,7 @@
 use Rattle.std.proofs.Common.{◌≡◌, false, string_bytes}
 use Rattle.std.specs.Option.{option_map}
 use Rattle.pp_rs.specs.Comes.{State}
-use Rattle.pp_rs.specs.Kept.{Stands, is_spent}
+use Rattle.pp_rs.specs.Kept.{Stands, is_spent, most_items}
 use Rattle.pp_print.specs.inner.Printing.{IsPrinting}
 use Rattle.pp_print.proofs.output.print_rest.Given as goal
 
@@ -12,3 +12,6 @@ invariant-items g l = record {
   printing : (start : State) → Stands l.fn.items start → IsPrinting start l.items (option_map string_bytes l.line)
       (g.W.Sink.contents l.fn.writer) (g.W.Sink.contents l.writer);
 }
+
+abbrev pub decreases-items : goal.decreases-items
+decreases-items g l = most_items l.items

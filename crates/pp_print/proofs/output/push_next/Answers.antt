@@ -1,25 +1,19 @@
-use Rattle.std.proofs.Common.{Bool, true, false, ◌≤◌, arith}
 use Rattle.std.proofs.lemmas.Result.{on_ok_weaker, IfOk-weaker}
-use Rattle.pp_rs.specs.Kept.{Preprocessing, most_items}
-use Rattle.pp_print.specs.inner.Printing.{HasLeft}
+use Rattle.pp_print.proofs.NextLemmas.{has_less}
 use Rattle.pp_print.proofs.output.push_next.Goals as goal
 
-has_less : (pushed : Bool) (old between new : Preprocessing) → most_items between ≤ most_items old → HasLeft pushed between new → HasLeft pushed old new
-has_less true old between new no_more less = omega (arith, no_more, less)
-has_less false old between new no_more less = omega (arith, no_more, less)
-
--- a word, with no macro open
+-- live text, with no macro open
 pub returns-then-is_none-clause-printing : goal.returns-then-is_none-clause-printing
-returns-then-is_none-clause-printing c = c.push_next_word.ensures.printing
+returns-then-is_none-clause-printing c = c.push_live.ensures.printing
 
--- a word, after the open macros
+-- live text, after the open macros
 pub returns-clause-left : goal.returns-clause-left
 returns-clause-left c =
     let given = c.in_ok-push_given.ensures {u = tt} in
-    IfOk-weaker c.push_next_word-2.result _ _ (λ pushed less. has_less pushed _ _ _ (rw c.if-branch.false at given.left) less)
-    c.push_next_word-2.ensures.left
+    IfOk-weaker c.push_live-2.result _ _ (λ pushed less. has_less pushed _ _ _ (rw c.if-branch.false at given.left) less)
+    c.push_live-2.ensures.left
 
 pub returns-clause-printing : goal.returns-clause-printing
 returns-clause-printing c =
     let given = c.in_ok-push_given.ensures {u = tt} in
-    on_ok_weaker c.push_next_word-2.result (λ keeps start old new p. keeps start old new (given.printing start old new p)) c.push_next_word-2.ensures.printing
+    on_ok_weaker c.push_live-2.result (λ keeps start old new p. keeps start old new (given.printing start old new p)) c.push_live-2.ensures.printing

@@ -25,4 +25,10 @@ pub returns-in-None-clause-steps : goal.returns-in-None-clause-steps
 unfolding is_spent
 returns-in-None-clause-steps c =
     passed_next c.args.self.now c.next_word.new.self _ _ (ap (λ p. p.spent) (sym c.self.view_is) ∙ c.if-self.false)
-    (rw c.in-None.is at c.next_word.ensures) c.next_item.ensures
+    (rw c.in-None.is at c.next_word.ensures) c.next_opened.ensures
+
+pub next_opened-requires : goal.next_opened-requires
+unfolding is_spent
+next_opened-requires c =
+    let passed = rw c.in-None.is at c.next_word.ensures in
+    passed.spent ∙ ap (λ p. p.spent) (sym c.self.view_is) ∙ c.if-self.false
