@@ -610,8 +610,8 @@ impl<'a> DirectiveProcessor<'a> {
     pub fn next_bare(&mut self) -> Option<PlainItem<'a>>
         ensures { GivesBare self.old result self.new }
     {
-        let is_live = self.is_live();
-        if !is_live {
+        let live_text = self.is_live();
+        if !live_text {
             return None;
         }
         let names = OtherNames {

@@ -148,8 +148,8 @@ fn push_opened(
     ensures printing { OnOk result (KeepsPrinting items.old (option_map string_bytes line.old)
         items.new (option_map string_bytes line.new)) }
 {
-    if let Some(word) = items.open_word()? {
-        push_plain(alloc, line, &word)?;
+    if let Some(other) = items.open_word()? {
+        push_plain(alloc, line, &other)?;
         return Ok(true);
     }
     push_given(alloc, items, line)
