@@ -180,6 +180,22 @@ impl<'a> Preprocessor<'a> {
         }
     }
 
+    // What `next` returns while a macro is open. First it goes on in the open macros.
+    #[inline(always)]
+    fn next_given(&mut self) -> Option<PreprocessorItem>
+        requires { is_spent self.old ≡ false }
+        ensures { IsNextItem self.old result self.new }
+    {
+        match self.expander.give_next(&self.source) {
+            Ok(Some(token)) => Some(Ok(token)),
+            Ok(None) => self.next_item(),
+            Err(_) => {
+                self.spent = true;
+                Some(Err(out_of_memory()))
+            }
+        }
+    }
+
     /// Returns what `next` does, step by step.
     ///
     /// It is private to the repository. Call it if neither `next_word` nor `open_word` goes on.
@@ -332,6 +348,9 @@ impl<'a> Iterator for Preprocessor<'a> {
     fn next(&mut self) -> Option<PreprocessorItem> {
         if self.spent {
             return None;
+        }
+        if !self.expander.is_idle() {
+            return self.next_given();
         }
         match self.next_word() {
             Some(word) => Some(self.item_of(word)),

@@ -32,3 +32,7 @@ unfolding is_spent
 next_opened-requires c =
     let passed = rw c.in-None.is at c.next_word.ensures in
     passed.spent ∙ ap (λ p. p.spent) (sym c.self.view_is) ∙ c.if-self.false
+
+pub next_given-requires : goal.next_given-requires
+unfolding is_spent
+next_given-requires c = ap (λ p. p.spent) (sym c.self.view_is) ∙ c.if-self.false
