@@ -180,8 +180,9 @@ impl<'a> Preprocessor<'a> {
         }
     }
 
-    // What `next` returns while a macro is open. First it goes on in the open macros.
-    #[inline(always)]
+    // What `next` returns while a macro is open. First it goes on in the open macros. It is a function of its own, so that
+    // a word of plain text is given without it.
+    #[inline(never)]
     fn next_given(&mut self) -> Option<PreprocessorItem>
         requires { is_spent self.old ≡ false }
         ensures { IsNextItem self.old result self.new }
