@@ -3,7 +3,8 @@ use Rattle.std.proofs.Common.{◌≡◌, ◌∙◌, ◌++◌, ◌∷◌, [], ℕ
 use Rattle.std.specs.Fmt.{decimal}
 use Rattle.glslpp_parts.specs.declared.diagnostics.Style.{Style}
 use Rattle.glslpp_parts.specs.declared.diagnostics.Kind.{Kind}
-use Rattle.glslpp_parts.specs.Reports.{bold, kind_text, IsLonger, IsPlaced, IsReported}
+use Rattle.glslpp_parts.specs.Reports.{bold, kind_text, IsReported}
+use Rattle.glslpp_parts.specs.inner.Adding.{IsLonger, IsPlaced}
 
 pub placed_at : (file old new : List ℕ) (line column : ℕ)
     → new ≡ old ++ (file ++ (codes ":" ++ (decimal line ++ (codes ":" ++ (decimal column ++ codes ": ")))))

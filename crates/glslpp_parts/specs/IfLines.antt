@@ -21,4 +21,5 @@ first_word (b ∷ before) here = b ∷ before
 
 -- `#` is the first character before the place that is no white space, and the word behind it begins with `if`
 abbrev pub is_on_if_line : Place → Bool
-is_on_if_line place = option_map_or (λ before. begins_with_if (first_word before place.here.now)) (behind_sign (trim_start place.before.now)) false
+is_on_if_line place = option_map_or (λ before. begins_with_if (first_word before place.here.now))
+    (behind_sign (trim_start place.before.now)) false

@@ -12,3 +12,4 @@ pub mod Reports
 pub mod Spots
 pub mod Texts
 pub mod Version
+pub mod inner

@@ -1,9 +1,8 @@
 -- The options of the command line, as `clap` is told of them.
-use Rattle.std.specs.Prelude.{◌≡◌, ℕ, List, [], ◌∷◌, ◌++◌, Option, Some, None, codes, map, false}
-use Rattle.clap.specs.Words.{Rule, app_of, rule_of}
+use Rattle.std.specs.Prelude.{ℕ, List, [], ◌∷◌, ◌++◌, Option, Some, None, codes, map}
+use Rattle.clap.specs.Words.{Rule, app_of}
 use Rattle.clap.specs.declared.builder.action.ArgAction.{ArgAction}
 use Rattle.clap.specs.declared.builder.action.ArgAction.TheVariants.{Set, SetTrue, Append}
-use Rattle.clap.specs.declared.builder.arg.Arg.{Arg}
 use Rattle.clap.specs.declared.builder.command.Command.{Command}
 
 -- an option: the id by which the program asks for it, its letter and its long name on the command line, and what a use
@@ -20,11 +19,6 @@ known_of rule = record { id = rule.id; letter = rule.short; long = rule.long; ac
 -- the options that a command has so far, in order
 abbrev pub options_of : Command → List Known
 options_of command = map known_of (app_of command).top.rules
-
--- an argument that is this option, of the command alone
-pub record IsOption (arg : Arg) (known : Known) : Type 0 where
-  pub says : known_of (rule_of arg) ≡ known
-  pub own : arg.global ≡ false
 
 abbrev pub lettered : List ℕ → ℕ → ArgAction → Known
 lettered id letter action = record { id = id; letter = Some letter; long = None; action = Some action }

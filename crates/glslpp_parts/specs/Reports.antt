@@ -6,11 +6,6 @@ use Rattle.glslpp_parts.specs.declared.diagnostics.Style.TheVariants.{Plain, Col
 use Rattle.glslpp_parts.specs.declared.diagnostics.Kind.{Kind}
 use Rattle.glslpp_parts.specs.declared.diagnostics.Kind.TheVariants.{Error, Note}
 
--- with some text at the end; what was there stays
-pub record IsLonger (old new : List ℕ) : Type 0 where
-  pub more : List ℕ
-  pub text : new ≡ old ++ more
-
 -- a terminal reads ESC, byte 27, and `[` with a code as a colour
 abbrev pub bold : Style → List ℕ
 bold Plain = []
@@ -37,13 +32,8 @@ kind_text style kind = colour style kind ++ name_of kind ++ codes ": " ++ ended 
 -- `FILE:LINE:COLUMN: `
 abbrev pub IsPlace : List ℕ → List ℕ → Type 0
 IsPlace file place = (place ≡ codes "<command line>: ") ⊎ ((place ≡ file ++ codes ": ")
-    ⊎ ((line : ℕ) × ((column : ℕ) × (place ≡ file ++ codes ":" ++ decimal line ++ codes ":" ++ decimal column ++ codes ": "))))
-
--- with the name of a place at the end
-pub record IsPlaced (file old new : List ℕ) : Type 0 where
-  pub place : List ℕ
-  pub is : IsPlace file place
-  pub text : new ≡ old ++ place
+    ⊎ ((line : ℕ) × ((column : ℕ)
+    × (place ≡ file ++ codes ":" ++ decimal line ++ codes ":" ++ decimal column ++ codes ": "))))
 
 -- with a report at the end, which begins with a place, the kind, as `error: `, and the message
 pub record IsReported (style : Style) (file : List ℕ) (kind : Kind) (message old new : List ℕ) : Type 0 where

@@ -5,7 +5,8 @@ ghost use Rattle.clap.specs.Words.{first_value, found_of, matched_of, rule_of};
 ghost use Rattle.clap.specs.declared.builder.action.ArgAction.TheVariants.{Append, Set, SetTrue};
 ghost use Rattle.glslpp_parts.specs.Asked.{IsFlag, IsForm, files_or_input, words_of};
 ghost use Rattle.glslpp_parts.specs.Options.{options, options_of, value_options, forms, flags, foreign, known_of};
-ghost use Rattle.glslpp_parts.specs.Options.{lettered, named, nameless, IsOption};
+ghost use Rattle.glslpp_parts.specs.Options.{lettered, named, nameless};
+ghost use Rattle.glslpp_parts.specs.inner.Adding.{IsOption};
 
 use crate::changes::Change;
 use clap::{Arg, ArgAction, ArgMatches, Command};

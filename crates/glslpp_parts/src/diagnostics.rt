@@ -2,7 +2,8 @@
 
 ghost use Rattle.std.specs.Prelude.{◌≡◌, ℕ, List, [], ◌++◌, OnOk, IfOk, string_bytes};
 ghost use Rattle.pp_rs.specs.Sentences.{sentence_of};
-ghost use Rattle.glslpp_parts.specs.Reports.{bold, colour, ended, name_of, kind_text, IsLonger, IsPlaced, IsReported};
+ghost use Rattle.glslpp_parts.specs.Reports.{bold, colour, ended, name_of, kind_text, IsReported};
+ghost use Rattle.glslpp_parts.specs.inner.Adding.{IsLonger, IsPlaced};
 
 use crate::place::Place;
 use crate::search::last_define;

@@ -1,6 +1,6 @@
--- How items are shown as text, as UTF-8. No contract says which name a punctuator has, so of a value with a punctuator, and
--- of a directive, whose tokens are shown, nothing is said but where it ends. There a definition is about the text before and
--- the text after.
+-- How items are shown as text, as UTF-8. No contract says which name a punctuator has, so of a value with a
+-- punctuator, and of a directive, whose tokens are shown, nothing is said but where it ends. There a definition is
+-- about the text before and the text after.
 use Rattle.std.specs.Prelude.{◌≡◌, ℕ, Bool, true, false, List, [], ◌∷◌, ◌++◌, Option, Some, None, Result, Ok, Err}
 use Rattle.std.specs.Prelude.{codes, if◌then◌else◌, ⊤}
 use Rattle.std.specs.Fmt.{decimal}
@@ -33,7 +33,8 @@ IsWith None old new = ⊤
 
 -- a place, as ` 3..4 L1`
 abbrev pub place_text : Location → List ℕ
-place_text place = codes " " ++ decimal place.start ++ codes ".." ++ decimal place.end ++ codes " L" ++ decimal place.line
+place_text place =
+    codes " " ++ decimal place.start ++ codes ".." ++ decimal place.end ++ codes " L" ++ decimal place.line
 
 -- the digits of an integer, and a `u` if it is unsigned
 abbrev pub integer_text : Integer → List ℕ

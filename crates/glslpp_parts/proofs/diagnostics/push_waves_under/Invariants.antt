@@ -1,5 +1,5 @@
 use Rattle.std.proofs.Common.{string_bytes}
-use Rattle.glslpp_parts.specs.Reports.{IsLonger}
+use Rattle.glslpp_parts.specs.inner.Adding.{IsLonger}
 use Rattle.glslpp_parts.proofs.diagnostics.push_waves_under.Given as goal
 
 -- what was there stays
