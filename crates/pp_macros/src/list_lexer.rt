@@ -1,6 +1,6 @@
 //! A list of tokens as a reader: an argument of a call, or the line of a directive.
 
-ghost use Rattle.std.specs.Prelude.{◌≡◌, ◌&&◌, ◌||◌, ◌∷◌, ◌<◌, not, false, true, length, map, IfOk, MatchOption};
+ghost use Rattle.std.specs.Prelude.{◌≡◌, ◌&&◌, ◌||◌, ◌∷◌, ◌<◌, not, false, true, length, MatchOption};
 ghost use Rattle.std.specs.Str.{chars};
 ghost use Rattle.pp_model.specs.Names.{is_identifier, is_same_name, defined_name, line_name};
 ghost use Rattle.pp_model.specs.Painting.{is_one_of};
@@ -17,7 +17,7 @@ use crate::step::{Step, StepExit};
 use pp_lexer::token::{Location, NOWHERE, Punct, Token, TokenValue};
 use pp_model::names::is_line_name;
 use pp_model::read::Read;
-use std::alloc::{AllocError, Global};
+use std::alloc::AllocError;
 use std::marker::Model;
 use std::mem;
 use std::rc::Rc;

@@ -27,6 +27,7 @@ pub fn step_unnamed(expander: &Expander, list: &mut ListLexer<'_>) -> Option<Rea
 }
 
 /// One step of the expander, with a list as what follows the frames.
+#[inline(always)]
 pub fn step_list(expander: &mut Expander, list: &mut ListLexer<'_>) -> Step<Taken>
     ensures turns { TurnsOrRefuses expander.old (of_list list.old) result expander.new
         (of_list list.new) }
@@ -39,7 +40,6 @@ pub fn step_list(expander: &mut Expander, list: &mut ListLexer<'_>) -> Step<Take
 }
 
 // Does the same with any token.
-#[inline(never)]
 fn step_any(expander: &mut Expander, list: &mut ListLexer<'_>) -> Step<Taken>
     ensures turns { TurnsOrRefuses expander.old (of_list list.old) result expander.new
         (of_list list.new) }
@@ -62,7 +62,6 @@ pub fn take_list(expander: &mut Expander, list: &mut ListLexer<'_>) -> Step<Read
 }
 
 // Does the same with any token.
-#[inline(never)]
 fn take_any(expander: &mut Expander, list: &mut ListLexer<'_>) -> Step<Read>
     ensures takes { TakesNext expander.old (of_list list.old) result expander.new (of_list list.new) }
     ensures holds { IfOk result (λ read. HoldsOrdinary read.token.value) }
