@@ -151,15 +151,19 @@ static void check_sources(void) {
 static void check_refused(void) {
     define_all();
     bool answered = true;
-    uint64_t number = 0;
+    uint64_t number = 0, spared = 0;
     do {
         asked = 0;
         failing = ++number;
         uint32_t status = call(MOST, 4 * MOST);
-        answered &= status == (asked < failing ? PP_DONE : PP_OUT_OF_MEMORY);
+        bool spares = asked >= failing && status == PP_DONE;
+        spared += spares;
+        answered &= spares || status == (asked < failing ? PP_DONE : PP_OUT_OF_MEMORY);
     } while (asked >= failing && number < 10000);
     failing = 0;
     check("an allocation that fails is answered", answered);
+    /* Each of the four definitions and the item of #version asks for a smaller block, and keeps its own if there is none. */
+    check("without five allocations at most nothing changes", spared <= 5);
     check("several allocations can fail", number > 10 && number < 10000);
 }
 
