@@ -3,7 +3,6 @@ pub mod UnreportedTurnLemmas
 pub mod Leads
 pub mod LeftLemmas
 pub mod UnspentLemmas
-pub mod WordItemLemmas
 pub mod NextLemmas
 pub mod PausesLemmas
 pub mod StartLemmas

@@ -11,7 +11,7 @@ use Rattle.pp_model.specs.Names.{Name, is_same_name, is_identifier, line_name}
 use Rattle.pp_model.specs.Definitions.{Definition}
 use Rattle.pp_model.specs.Painting.{unpainted}
 use Rattle.pp_model.proofs.SpelledRunLemmas.{or_none}
-use Rattle.pp_macros.specs.inner.CallTurns.{TurnsTo, TakesSomething, passes, gives, object, seeks}
+use Rattle.pp_macros.specs.inner.CallTurns.{TurnsTo, passes, gives, object, seeks}
 use Rattle.pp_macros.specs.inner.Defined.{meaning_of}
 use Rattle.pp_macros.specs.inner.Frames.{Frame, new_frame}
 use Rattle.pp_macros.specs.inner.Idle.{is_idle, IsHeld, HoldsWord}
@@ -128,12 +128,6 @@ module _ (levels : ℕ) (r s : Source) where
       let turns = object (unpainted token) name definition (Err Continue) idle idle opened (of_source r) (of_source s)
       (takes_token token reads apart) opens bare refl refl in
       rw (is, e) (inl (record { taken = Err Continue; between = opened; turns = turns; follows = (refl, refl) }))
-
-  -- such a token is something to take
-  pub idle_some : (m : Expander) (token : Token) → m ≡ idle → StepsReporting r (Ok token) s → is_identifier line_name token.value ≡ false
-      → TakesSomething m (of_source r)
-  idle_some m token e reads apart =
-      rw e (record { step = Ok (unpainted token); after = idle; reader = of_source s; takes = takes_token token reads apart; goes = refl })
 
   -- a step as which the word is taken
   shown : (word : Token) (step : Step Read) → StepsReporting r (Ok word) s → step ≡ taken_as (Ok (unpainted word)) [] (of_source s)

@@ -16,13 +16,12 @@ use Rattle.pp_directives.specs.WordTokens.{word_value, word_token}
 use Rattle.pp_directives.specs.inner.PlainText.{is_bare, opens_bare, TakesBare}
 use Rattle.pp_lexer.specs.declared.lexer.plain_item.PlainItem.{PlainItem}
 use Rattle.pp_model.specs.Emitting.{expansion_limit}
-use Rattle.pp_macros.specs.inner.CallTurns.{TakesSomething}
 use Rattle.pp_macros.specs.inner.Expander.{Expander}
 use Rattle.pp_macros.specs.inner.Frames.{new_frame}
 use Rattle.pp_macros.specs.inner.Idle.{is_idle}
 use Rattle.pp_macros.specs.declared.step.StepExit.TheVariants.{Continue}
 use Rattle.pp_rs.specs.inner.SourceTurns.{StepsOver}
-use Rattle.pp_rs.proofs.runs.IdleLemmas.{is_idle-idle, idle_opens, idle_some}
+use Rattle.pp_rs.proofs.runs.IdleLemmas.{is_idle-idle, idle_opens}
 use Rattle.pp_rs.proofs.runs.PassedLemmas.{word_over}
 
 -- what such a word is: no `__LINE__`; the macro that it names, if it names one, has no parentheses, and otherwise it
@@ -78,6 +77,3 @@ module _ (m : Expander) (r s : Source) (word : PlainItem) (idle : is_idle m ≡ 
   opens_over n name definition e is =
       idle_opens expansion_limit r s m n (word_token word) name definition (is_idle-idle m idle) (takes.step.reads, takes.step.errors)
       is_bare_word.apart e (is_bare_word.bare name definition e) is
-
-  pub some_word : TakesSomething m (of_source r)
-  some_word = idle_some expansion_limit r s m (word_token word) (is_idle-idle m idle) (takes.step.reads, takes.step.errors) is_bare_word.apart

@@ -1,6 +1,6 @@
 //! The items of a preprocessed source.
 
-ghost use Rattle.std.specs.Prelude.{◌≡◌, ◌-◌, ◌^◌, ◌<◌, ◌∷◌, [], false, length, if◌then◌else◌, true, IsTrue, OnOk, OnErr, IfOk, IfErr, Some, Ok, Err};
+ghost use Rattle.std.specs.Prelude.{◌≡◌, ◌-◌, ◌^◌, ◌<◌, ◌∷◌, [], false, length, if◌then◌else◌, true, IsTrue, OnOk, OnErr, IfOk, Some, Ok};
 ghost use Rattle.pp_lexer.specs.TokenValue.{is_ordinary};
 ghost use Rattle.pp_lexer.specs.declared.token.Token.{Token};
 ghost use Rattle.std.specs.Iterator.{at_most};
@@ -13,14 +13,12 @@ ghost use Rattle.pp_macros.specs.Item.{is_out_of_memory};
 ghost use Rattle.pp_macros.specs.inner.Frames.{new_frame};
 ghost use Rattle.pp_rs.specs.Kept.{Stands, IsAhead, is_spent, most_items, errors_left, error_place};
 ghost use Rattle.pp_macros.specs.LexerErrors.{lexer_errors};
-ghost use Rattle.pp_directives.specs.WordTokens.{word_token};
-ghost use Rattle.pp_rs.specs.NextWord.{IsNextWord, IsPassed, IsPlain, SomeAhead};
+ghost use Rattle.pp_rs.specs.NextWord.{IsNextWord, IsPassed, SomeAhead};
 ghost use Rattle.pp_rs.specs.Preprocessing.{IsNextItem};
 
 use crate::lexer::PlainItem;
 use crate::pp::source_turn::turn_source;
 use crate::token::{Location, NOWHERE, PreprocessorError, Token, out_of_memory};
-use pp_directives::convert::word_token;
 use pp_directives::directives::DirectiveProcessor;
 use pp_macros::calls::Expander;
 use pp_macros::define::Macro;
@@ -127,8 +125,7 @@ impl<'a> Preprocessor<'a> {
     #[inline(never)]
     pub fn open_word(&mut self) -> Result<Option<PlainItem<'a>>, AllocError>
         ensures gives { IfOk result (λ word. IsNextWord self.old word self.new) }
-        ensures spent { OnErr result (is_spent self.new ≡ true) }
-        ensures refused { OnErr result (IsNextItem self.old (Some (Err out_of_memory)) self.new) }
+        ensures refused { OnErr result (is_spent self.new ≡ true) }
     {
         if self.spent || !self.expander.is_idle() {
             return Ok(None);
@@ -148,59 +145,10 @@ impl<'a> Preprocessor<'a> {
         }
     }
 
-    // The item of a word that `next_word` gave.
-    #[inline(always)]
-    fn item_of(&mut self, word: PlainItem<'a>) -> PreprocessorItem
-        requires { IsPlain word }
-        ensures given { OnOk result (self.new ≡ self.old) }
-        ensures token { IfOk result (λ token. token ≡ word_token word.entry) }
-        ensures refused { OnErr result (is_spent self.new ≡ true) }
-        ensures error { IfErr result (λ error. error ≡ out_of_memory) }
-    {
-        match word_token(self.alloc, word) {
-            Ok(token) => Ok(token),
-            Err(_) => {
-                self.spent = true;
-                Err(out_of_memory())
-            }
-        }
-    }
-
-    // What `next` returns if `next_word` gives nothing. It is a function of its own, so that a word of plain text is
-    // given without it.
-    #[inline(never)]
-    fn next_opened(&mut self) -> Option<PreprocessorItem>
-        requires { is_spent self.old ≡ false }
-        ensures { IsNextItem self.old result self.new }
-    {
-        match self.open_word() {
-            Ok(Some(word)) => Some(self.item_of(word)),
-            Ok(None) => self.next_item(),
-            Err(_) => Some(Err(out_of_memory())),
-        }
-    }
-
-    // What `next` returns while a macro is open. First it goes on in the open macros. It is a function of its own, so that
-    // a word of plain text is given without it.
-    #[inline(never)]
-    fn next_given(&mut self) -> Option<PreprocessorItem>
-        requires { is_spent self.old ≡ false }
-        ensures { IsNextItem self.old result self.new }
-    {
-        match self.expander.give_next(&self.source) {
-            Ok(Some(token)) => Some(Ok(token)),
-            Ok(None) => self.next_item(),
-            Err(_) => {
-                self.spent = true;
-                Some(Err(out_of_memory()))
-            }
-        }
-    }
-
-    /// Returns what `next` does, step by step.
+    /// Returns what `next` does.
     ///
-    /// It is private to the repository. Call it if neither `next_word` nor `open_word` goes on.
-    #[inline(never)]
+    /// It is private to the repository: the program calls it, so that the compiler builds it into its loop.
+    #[inline(always)]
     pub fn next_item(&mut self) -> Option<PreprocessorItem>
         ensures { IsNextItem self.old result self.new }
     {
@@ -347,15 +295,6 @@ impl<'a> Iterator for Preprocessor<'a> {
     ghost remaining = { λ p. at_most (most_items p) };
 
     fn next(&mut self) -> Option<PreprocessorItem> {
-        if self.spent {
-            return None;
-        }
-        if !self.expander.is_idle() {
-            return self.next_given();
-        }
-        match self.next_word() {
-            Some(word) => Some(self.item_of(word)),
-            None => self.next_opened(),
-        }
+        self.next_item()
     }
 }

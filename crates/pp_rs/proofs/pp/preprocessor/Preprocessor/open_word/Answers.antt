@@ -1,8 +1,8 @@
 use Rattle.std.proofs.Common.{◌≡◌, ◌∙◌, refl, ap, sym, false}
 use Rattle.pp_directives.specs.WordTokens.{word_token}
 use Rattle.pp_rs.specs.Kept.{is_spent}
-use Rattle.pp_rs.proofs.runs.NextLemmas.{reached_first, reached_more, token_fits, next_token, next_refused}
-use Rattle.pp_rs.proofs.runs.OpenWordLemmas.{bare_over, opens_over, some_word}
+use Rattle.pp_rs.proofs.runs.NextLemmas.{reached_first, reached_more, token_fits, next_token}
+use Rattle.pp_rs.proofs.runs.OpenWordLemmas.{bare_over, opens_over}
 use Rattle.pp_rs.proofs.runs.PassedLemmas.{passed_pauses}
 use Rattle.pp_rs.proofs.pp.preprocessor.Preprocessor.open_word.Goals as goal
 
@@ -49,14 +49,6 @@ returns-in-Ok-clause-gives c =
     (ap (λ p. p.place) c.self.view_is)
 
 -- no memory to open it
-pub returns-in-Err-clause-spent : goal.returns-in-Err-clause-spent
-unfolding is_spent
-returns-in-Err-clause-spent c = refl
-
 pub returns-in-Err-clause-refused : goal.returns-in-Err-clause-refused
-returns-in-Err-clause-refused c =
-    let first = reached_first _ _ _ _ (ap (λ p. p.expander) c.self.view_is) (ap (λ p. p.source) c.self.view_is) (c.self.invariant c.if-self.false) in
-    let takes = rw c.in-Some.is at c.next_bare.ensures in
-    next_refused _ _ c.open_shared.new.expander _ _ c.next_bare.new.self first c.args.self.now
-    (ap (λ p. p.spent) (sym c.self.view_is) ∙ c.if-self.false) refl refl
-    (some_word _ _ _ c.in-Some.word (sym c.is_idle.ensures ∙ c.if-not-is_idle.false) takes) _ refl
+unfolding is_spent
+returns-in-Err-clause-refused c = refl
