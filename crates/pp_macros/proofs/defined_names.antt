@@ -2,6 +2,7 @@ pub mod NameKeysLemmas
 pub mod DefineLemmas
 pub mod DistinctNamesLemmas
 pub mod NamePlacesLemmas
+pub mod MarksLemmas
 pub mod FoundNamesLemmas
 pub mod SharedNamesLemmas
 pub mod DefinitionsLemmas

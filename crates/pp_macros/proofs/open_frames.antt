@@ -3,6 +3,8 @@ pub mod SoundLemmas
 pub mod AdvanceLemmas
 pub mod FrameLemmas
 pub mod OpenMacroLemmas
+pub mod OpenMarksLemmas
+pub mod OpenMarksLemmas
 pub mod OpenNamesLemmas
 pub mod OpenAroundLemmas
 pub mod OpenSoundLemmas

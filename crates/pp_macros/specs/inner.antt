@@ -11,6 +11,7 @@ pub mod Reading
 pub mod Frames
 pub mod NamePlaces
 pub mod NameTable
+pub mod Marks
 pub mod Giving
 pub mod Parts
 pub mod OpenNames

@@ -13,6 +13,7 @@ pub mod list_lexer;
 pub mod list_step;
 pub mod macro_processor;
 pub mod macros;
+pub mod marks;
 pub mod open_around;
 pub mod open_names;
 pub mod parameter_names;

@@ -19,6 +19,7 @@ use crate::argument_lists::ArgumentLists;
 use crate::define::Macro;
 use crate::frames::{Ahead, Frame, give};
 use crate::macros::is_text;
+use crate::marks::Marks;
 use crate::open_names::OpenNames;
 use crate::reader::MeLexer;
 use crate::step::{Step, StepExit};
@@ -39,19 +40,23 @@ pub struct MacroProcessor {
     frames: Vec<Frame>,
     // the names of the macros that are open inside the first `FEW`
     open_names: OpenNames,
+    // those of the open macros, and of others that have closed since the outermost one opened
+    marks: Marks,
 }
 
 impl Model for MacroProcessor {
     ghost use Rattle.std.specs.Prelude.{◌≡◌, List, reverse};
     ghost use Rattle.pp_macros.specs.inner.Frames as spec;
     ghost use Rattle.pp_macros.specs.inner.Frames.{names_of};
+    ghost use Rattle.pp_macros.specs.inner.Marks.{AreMarked};
     ghost use Rattle.pp_macros.specs.inner.OpenNames.{deeper_names, outermost_positions};
 
     ghost Value = { List spec.Frame };
 
     ghost view = { λ p. reverse p.frames.items };
 
-    ghost invariant = { λ p. p.open_names ≡ outermost_positions (deeper_names (names_of (reverse p.frames.items))) };
+    ghost invariant = { λ p. (p.open_names ≡ outermost_positions (deeper_names (names_of (reverse p.frames.items))))
+        × AreMarked p.marks (names_of (reverse p.frames.items)) };
 }
 
 // Whether the frame is of the macro with this name.
@@ -134,6 +139,7 @@ impl MacroProcessor {
             alloc,
             frames: Vec::new(alloc),
             open_names: OpenNames::new(alloc),
+            marks: Marks::none(),
         }
     }
 
@@ -146,7 +152,16 @@ impl MacroProcessor {
     }
 
     /// Whether the macro of this name is open.
+    #[inline(always)]
     pub fn is_open(&self, name: &str) -> bool
+        ensures { result ≡ is_in (chars name.now) (names_of self.now) }
+    {
+        self.marks.has(name) && self.is_among(name)
+    }
+
+    // Whether the macro of this name is open. It is a function of its own, since the mark of most names isn't there.
+    #[inline(never)]
+    fn is_among(&self, name: &str) -> bool
         ensures { result ≡ is_in (chars name.now) (names_of self.now) }
     {
         is_name_of(&self.frames, name) || self.open_names.is_open(name)
@@ -171,6 +186,9 @@ impl MacroProcessor {
     {
         self.frames.pop();
         free_name(&mut self.open_names, self.frames.len());
+        if self.frames.is_empty() {
+            self.marks = Marks::none();
+        }
     }
 
     /// The token that the innermost frame gives next, or `None` if its next step is a pause.
@@ -281,6 +299,7 @@ impl MacroProcessor {
     {
         self.frames.reserve(1)?;
         note_name(&mut self.open_names, &opened, self.frames.len())?;
+        self.marks.add(opened.name().as_str());
         let frame = Frame::new(opened, line, arguments);
         self.frames.push_reserved(frame);
         Ok(())

@@ -12,6 +12,7 @@ mod table;
 use crate::define::Macro;
 pub use crate::macros::table::is_text;
 use crate::macros::table::{Table, has_name};
+use crate::marks::Marks;
 use std::alloc::{AllocError, Global};
 use std::marker::Model;
 use std::rc::Rc;
@@ -50,13 +51,15 @@ impl MacroId {
 
 /// Macros that are shared, in the order in which they were added, all of different names.
 ///
-/// A few names are compared one by one. If there are more, each has one of eight places by its hash. A name whose eight
+/// Most names of others are known by their marks. A few names are compared one by one. If there are more, each has one of eight places by its hash. A name whose eight
 /// places are taken is in an ordered map. So nobody can make the search slow by a choice of names, and no seed is
 /// needed.
 #[derive(Drop)]
 pub struct Macros {
     alloc: Global,
     macros: Vec<Rc<Macro>>,
+    // those of the macros, and of macros that were removed
+    marks: Marks,
     // `None` until there were more than a few macros
     table: Option<Table>,
 }
@@ -64,6 +67,7 @@ pub struct Macros {
 impl Model for Macros {
     ghost use Rattle.std.specs.Prelude.{List, map};
     ghost use Rattle.pp_macros.specs.inner.Defined.{Defined, shared_names};
+    ghost use Rattle.pp_macros.specs.inner.Marks.{AreMarked};
     ghost use Rattle.pp_macros.specs.inner.NamePlaces.{AreDistinct};
     ghost use Rattle.pp_macros.specs.inner.NameTable.{IsTableOf};
 
@@ -72,7 +76,7 @@ impl Model for Macros {
     ghost view = { λ m. map (λ shared. shared.value) m.macros.items };
 
     ghost invariant = { λ m. AreDistinct (shared_names m.macros.items)
-        × IsTableOf (shared_names m.macros.items) m.table };
+        × IsTableOf (shared_names m.macros.items) m.table × AreMarked m.marks (shared_names m.macros.items) };
 }
 
 // The number of the macro with this name, found without a table.
@@ -147,6 +151,7 @@ impl Macros {
         Macros {
             alloc,
             macros: Vec::new(alloc),
+            marks: Marks::none(),
             table: None,
         }
     }
@@ -155,6 +160,9 @@ impl Macros {
     pub fn find(&self, name: &str) -> Option<MacroId>
         ensures { result ≡ position (is_same_name (chars name.now)) (macro_names self.now) }
     {
+        if !self.marks.has(name) {
+            return None;
+        }
         match number_of(&self.table, &self.macros, name) {
             Some(number) => Some(MacroId { number }),
             None => None,
@@ -192,6 +200,7 @@ impl Macros {
             &self.macros,
             shared.name().as_str(),
         )?;
+        self.marks.add(shared.name().as_str());
         self.macros.push_reserved(shared);
         Ok(())
     }

@@ -54,7 +54,7 @@ outermost_first (g ∷ gs) f e =
     let same : g ≡ f = cc in
     rw (reverse-append (g ∷ []) gs) (outermost_at_end (reverse gs) g ∙ ap (λ h. Some h.line) same)
 
-reverse_last : {X : Type 0} (xs : List X) (d : X) → 0 < length xs → reverse xs ≡ get_or xs (length xs - 1) d ∷ reverse (take (length xs - 1) xs)
+pub reverse_last : {X : Type 0} (xs : List X) (d : X) → 0 < length xs → reverse xs ≡ get_or xs (length xs - 1) d ∷ reverse (take (length xs - 1) xs)
 reverse_last xs d some = ap reverse (with_last xs d some) ∙ reverse-append (take (length xs - 1) xs) (get_or xs (length xs - 1) d ∷ [])
 
 reverse_set_last : {X : Type 0} (xs : List X) (v : X) → 0 < length xs → reverse (set xs (length xs - 1) v) ≡ v ∷ reverse (take (length xs - 1) xs)

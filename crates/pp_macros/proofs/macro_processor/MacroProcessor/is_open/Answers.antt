@@ -1,15 +1,10 @@
+use Rattle.std.proofs.Common.{◌∙◌, sym}
 use Rattle.std.specs.Str.{chars}
-use Rattle.pp_macros.proofs.open_frames.OpenMacroLemmas.{open_first, open_inside}
+use Rattle.pp_macros.specs.inner.Frames.{names_of}
+use Rattle.pp_macros.proofs.defined_names.MarksLemmas.{unmarked}
 use Rattle.pp_macros.proofs.macro_processor.MacroProcessor.is_open.Goals as goal
 
-pub returns-then-is_name_of : goal.returns-then-is_name_of
-returns-then-is_name_of c =
-    rw (← c.self.view_is)
-    (open_first (chars c.args.name.now) c.self.inside.frames.items c.self.inside.open_names c.is_name_of.result c.self.invariant
-    (rw c.deref.ensures.value at c.is_name_of.ensures) c.if-is_name_of.true)
-
-pub returns-else-is_name_of : goal.returns-else-is_name_of
-returns-else-is_name_of c =
-    rw (← c.self.view_is)
-    (open_inside (chars c.args.name.now) c.self.inside.frames.items c.self.inside.open_names c.is_name_of.result c.is_open.result c.self.invariant
-    (rw c.deref.ensures.value at c.is_name_of.ensures) c.if-is_name_of.false c.is_open.ensures)
+pub returns-else-has : goal.returns-else-has
+returns-else-has c =
+    let without = rw c.if-has.false at (sym c.has.ensures) in
+    c.if-has.false ∙ sym (unmarked c.self.inside.marks (names_of c.args.self.now) (chars c.args.name.now) (rw c.self.view_is at c.self.invariant.1) without)

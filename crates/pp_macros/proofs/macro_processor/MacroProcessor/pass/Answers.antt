@@ -1,13 +1,14 @@
 use Rattle.std.proofs.Common.{◌≡◌, refl, vec_len, subst, sym, ◌∙◌}
 use Rattle.pp_model.specs.Names.{Name}
 use Rattle.std.specs.Prelude.{List}
+use Rattle.pp_macros.specs.inner.Marks.{AreMarked}
 use Rattle.pp_macros.specs.inner.OpenNames.{deeper_names, outermost_positions}
 use Rattle.pp_macros.proofs.open_frames.OpenMacroLemmas.{last_passes, names_kept}
 use Rattle.pp_macros.proofs.macro_processor.MacroProcessor.pass.Goals as goal
 
 pub invariant_of-self-2 : goal.invariant_of-self-2
 invariant_of-self-2 c =
-    subst (λ (names : List Name). c.self.inside.open_names ≡ outermost_positions (deeper_names names))
+    subst (λ (names : List Name). (c.self.inside.open_names ≡ outermost_positions (deeper_names names)) × AreMarked c.self.inside.marks names)
     (sym (names_kept c.self.inside.frames.items c.in-Some.frame.now c.pass.new.self (vec_len c.self.inside.frames) c.self.inside.frames.ok.0
     (c.in-Some.ensures.variant.0 refl) c.in-Some.ensures.value c.pass.ensures.name)) c.self.invariant
 

@@ -1,0 +1,15 @@
+use Rattle.std.specs.Str.{chars}
+use Rattle.pp_macros.proofs.open_frames.OpenMacroLemmas.{open_first, open_inside}
+use Rattle.pp_macros.proofs.macro_processor.MacroProcessor.is_among.Goals as goal
+
+pub returns-then-is_name_of : goal.returns-then-is_name_of
+returns-then-is_name_of c =
+    rw (← c.self.view_is)
+    (open_first (chars c.args.name.now) c.self.inside.frames.items c.self.inside.open_names c.is_name_of.result c.self.invariant.0
+    (rw c.deref.ensures.value at c.is_name_of.ensures) c.if-is_name_of.true)
+
+pub returns-else-is_name_of : goal.returns-else-is_name_of
+returns-else-is_name_of c =
+    rw (← c.self.view_is)
+    (open_inside (chars c.args.name.now) c.self.inside.frames.items c.self.inside.open_names c.is_name_of.result c.is_open.result c.self.invariant.0
+    (rw c.deref.ensures.value at c.is_name_of.ensures) c.if-is_name_of.false c.is_open.ensures)
