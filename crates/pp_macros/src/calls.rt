@@ -682,7 +682,7 @@ impl Expander {
         let Some(ahead) = self.processor.token() else {
             unreachable!();
         };
-        items.push(ahead.copied_as(self.alloc, painted)?)?;
+        ahead.put_copy(self.alloc, painted, items)?;
         self.processor.pass_token();
         Ok(())
     }

@@ -1,7 +1,7 @@
 //! Frames: macros that are open, each with the positions up to which its body and its arguments
 //! were read.
 
-ghost use Rattle.std.specs.Prelude.{◌≡◌, ◌⊎◌, ◌<◌, ◌^◌, IfOk, IfSome, Some, None, Ok, Err, IsSome, option_map, slice_get, is_none};
+ghost use Rattle.std.specs.Prelude.{◌≡◌, ◌⊎◌, ◌<◌, ◌^◌, ◌++◌, ◌∷◌, [], IfOk, OnOk, IfSome, Some, None, Ok, Err, IsSome, option_map, slice_get, is_none};
 ghost use Rattle.pp_lexer.specs.PreprocessorError.{out_of_memory};
 ghost use Rattle.pp_macros.specs.inner.Frames.{new_frame, argument_at, advance};
 ghost use Rattle.pp_macros.specs.Held.{HoldsOrdinary, AllHoldOrdinary};
@@ -70,6 +70,31 @@ impl<'a> Ahead<'a> {
             token: copy_of(alloc, self.token)?,
             painted,
         })
+    }
+
+    /// Puts a copy of the token after the items, painted or not. A punctuator is made where it is put.
+    #[inline(always)]
+    pub fn put_copy(
+        &self,
+        alloc: Global,
+        painted: bool,
+        items: &mut Vec<Read>,
+    ) -> Result<(), AllocError>
+        ensures { OnOk result (items.new.items
+            ≡ items.old.items ++ record { token = self.now.token; painted = painted } ∷ []) }
+    {
+        if let TokenValue::Punct(punct) = self.value() {
+            items.push(Read {
+                token: Token {
+                    value: TokenValue::Punct(*punct),
+                    location: self.token.location,
+                },
+                painted,
+            })?;
+            return Ok(());
+        }
+        items.push(self.copied_as(alloc, painted)?)?;
+        Ok(())
     }
 
     /// A copy of the token, with its paint.
