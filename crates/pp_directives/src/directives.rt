@@ -43,6 +43,7 @@ use pp_macros::blocks::{Blocks, OpenBlock};
 use pp_macros::define::{Define, Macro};
 use pp_macros::definitions::Definitions;
 use pp_macros::halt::Halt;
+use pp_macros::macros::MacroId;
 use pp_macros::step::{Step, StepExit};
 use pp_model::conversion::refused_token;
 use pp_model::directive::{Directive, directive_of};
@@ -119,6 +120,16 @@ impl<'a> DirectiveProcessor<'a> {
         ensures name { IfSome result (λ m. m.now.value.name ≡ chars name.now) }
     {
         self.definitions.find(name)
+    }
+
+    /// The macro of the name, if it is defined. It is looked for first at the number that is guessed, if one is.
+    #[inline(always)]
+    pub fn find_first_at(&self, guess: Option<MacroId>, name: &str) -> Option<&Rc<Macro>>
+        ensures definition { option_map (λ m. m.now.value.definition) result
+            ≡ meaning_of self.now.definitions (chars name.now) }
+        ensures name { IfSome result (λ m. m.now.value.name ≡ chars name.now) }
+    {
+        self.definitions.find_first_at(guess, name)
     }
 
     /// The definitions that hold now.

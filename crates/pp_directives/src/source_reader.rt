@@ -5,6 +5,7 @@ ghost use Rattle.pp_macros.specs.inner.Reader.{of_source};
 use crate::directives::DirectiveProcessor;
 use pp_lexer::token::{Location, PreprocessorError};
 use pp_macros::define::Macro;
+use pp_macros::macros::MacroId;
 use pp_macros::reader::MeLexer;
 use pp_macros::step::{Step, StepExit};
 use pp_model::read::Read;
@@ -25,8 +26,8 @@ impl<'a> MeLexer for DirectiveProcessor<'a> {
         self.push_word(tokens)
     }
 
-    fn get_define(&self, name: &str) -> Option<&Rc<Macro>> {
-        self.find(name)
+    fn get_define(&self, guess: Option<MacroId>, name: &str) -> Option<&Rc<Macro>> {
+        self.find_first_at(guess, name)
     }
 
     fn is_hidden(&self, _name: &str) -> bool {

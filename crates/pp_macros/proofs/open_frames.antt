@@ -4,7 +4,6 @@ pub mod AdvanceLemmas
 pub mod FrameLemmas
 pub mod OpenMacroLemmas
 pub mod OpenMarksLemmas
-pub mod OpenMarksLemmas
 pub mod OpenNamesLemmas
 pub mod OpenAroundLemmas
 pub mod OpenSoundLemmas

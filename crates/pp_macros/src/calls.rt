@@ -184,9 +184,10 @@ fn out_of_memory_step() -> Step<Taken>
     Err(StepExit::Error(out_of_memory()))
 }
 
-// The macro that a token of a frame opens when it is taken, painted or not.
+// The macro that the token of the innermost frame opens when it is taken, painted or not.
 #[inline(always)]
 fn opened_by<'l, L: MeLexer>(
+    processor: &MacroProcessor,
     lexer: &'l L,
     ahead: &Ahead<'_>,
     painted: bool,
@@ -198,7 +199,7 @@ fn opened_by<'l, L: MeLexer>(
         return None;
     }
     match ahead.value() {
-        TokenValue::Ident(name) => lexer.get_define(name.as_str()),
+        TokenValue::Ident(name) => lexer.get_define(processor.number_ahead(), name.as_str()),
         _ => None,
     }
 }
@@ -218,7 +219,7 @@ fn find_macro(
     let TokenValue::Ident(name) = value else {
         return Ok(None);
     };
-    match lexer.get_define(name.as_str()) {
+    match lexer.get_define(None, name.as_str()) {
         Some(found) => Ok(Some(found.clone()?)),
         None => Ok(None),
     }
@@ -588,7 +589,7 @@ impl Expander {
             return Ok(Turn::Other);
         }
         let painted = self.paints(lexer, &ahead);
-        let Some(found) = opened_by(lexer, &ahead, painted) else {
+        let Some(found) = opened_by(&self.processor, lexer, &ahead, painted) else {
             return Ok(Turn::Token { painted });
         };
         if found.define().is_function_like() {

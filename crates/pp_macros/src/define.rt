@@ -1,14 +1,15 @@
 //! Macros.
 
-ghost use Rattle.std.specs.Prelude.{◌≡◌, ◌↔◌, true, IsTrue, All, IfOk, map, slice_get};
+ghost use Rattle.std.specs.Prelude.{◌≡◌, ◌↔◌, true, IsTrue, All, IfOk, OnOk, OnErr, map, slice_get};
 ghost use Rattle.pp_lexer.specs.TokenValue.{is_ordinary};
 ghost use Rattle.pp_lexer.specs.Spelling.{values_of};
 ghost use Rattle.pp_model.specs.Definitions.{IsSameDefinition, object_like};
 ghost use Rattle.pp_model.specs.SpliceList.{parameter_of};
 ghost use Rattle.pp_macros.specs.inner.ParameterPositions.{parameter_at};
 
+use crate::macros::{MacroId, Macros};
 use crate::parameter_names::ParameterNames;
-use pp_lexer::token::{Text, Token};
+use pp_lexer::token::{Text, Token, TokenValue};
 use std::alloc::{AllocError, Global};
 use std::marker::Model;
 
@@ -20,6 +21,9 @@ pub struct Define {
     body: Vec<Token>,
     // for each token of the body the position of its parameter, if it is one; empty for a macro without parentheses
     positions: Vec<Option<usize>>,
+    // for each token of the body the number of the macro that it names, if it names one that was there when this one was
+    // defined; empty if none does
+    numbers: Vec<Option<MacroId>>,
 }
 
 impl Model for Define {
@@ -91,6 +95,32 @@ fn positions_in(
     Ok(positions)
 }
 
+// The number of the macro that the token names, if it is one of these.
+#[inline(always)]
+fn number_of(macros: &Macros, token: &Token) -> Option<MacroId> {
+    match &token.value {
+        TokenValue::Ident(name) => macros.find(name.as_str()),
+        _ => None,
+    }
+}
+
+// For each token of a body the number of the macro that it names, if it is one of these. The list is empty if no token
+// names one.
+fn numbers_in(
+    alloc: Global,
+    macros: &Macros,
+    body: &[Token],
+) -> Result<Vec<Option<MacroId>>, AllocError> {
+    if !body.iter().any(|token| number_of(macros, token).is_some()) {
+        return Ok(Vec::new(alloc));
+    }
+    let mut numbers = Vec::with_capacity(alloc, body.len())?;
+    for token in body {
+        numbers.push(number_of(macros, token))?;
+    }
+    Ok(numbers)
+}
+
 impl Macro {
     /// The macro of this name, with this definition.
     pub fn new(name: Text, define: Define) -> Macro
@@ -128,6 +158,7 @@ impl Define {
             parameters: Vec::new(alloc),
             body,
             positions: Vec::new(alloc),
+            numbers: Vec::new(alloc),
         }
     }
 
@@ -151,6 +182,7 @@ impl Define {
             parameters: parameters.into_names(),
             body,
             positions,
+            numbers: Vec::new(alloc),
         })
     }
 
@@ -182,6 +214,25 @@ impl Define {
     {
         match self.positions.get(position) {
             Some(parameter) => *parameter,
+            None => None,
+        }
+    }
+
+    /// Notes the number of each of these macros that a token of the body names. If an allocation fails, nothing changes.
+    pub fn note_numbers(&mut self, alloc: Global, macros: &Macros) -> Result<(), AllocError>
+        ensures ok { OnOk result (self.new ≡ self.old) }
+        ensures err { OnErr result (self.new ≡ self.old) }
+    {
+        self.numbers = numbers_in(alloc, macros, &self.body)?;
+        Ok(())
+    }
+
+    /// The number that was noted for the body's token at this position. It says where to look for the macro of the
+    /// token's name first.
+    #[inline(always)]
+    pub fn number_at(&self, position: usize) -> Option<MacroId> {
+        match self.numbers.get(position) {
+            Some(number) => *number,
             None => None,
         }
     }

@@ -6,7 +6,7 @@ ghost use Rattle.pp_macros.specs.inner.Defined.{meaning_of, IsChanged};
 ghost use Rattle.pp_macros.specs.inner.Plain.{gives_itself};
 
 use crate::define::{Define, Macro};
-use crate::macros::Macros;
+use crate::macros::{MacroId, Macros};
 use pp_lexer::token::{Text, TokenValue};
 use pp_model::names::is_line_name;
 use std::alloc::{AllocError, Global};
@@ -75,7 +75,17 @@ impl Definitions {
             ≡ meaning_of self.now (chars name.now) }
         ensures name { IfSome result (λ m. m.now.value.name ≡ chars name.now) }
     {
-        let id = self.macros.find(name)?;
+        self.find_first_at(None, name)
+    }
+
+    /// The macro of the name, if it is defined. It is looked for first at the number that is guessed, if one is.
+    #[inline(always)]
+    pub fn find_first_at(&self, guess: Option<MacroId>, name: &str) -> Option<&Rc<Macro>>
+        ensures definition { option_map (λ m. m.now.value.definition) result
+            ≡ meaning_of self.now (chars name.now) }
+        ensures name { IfSome result (λ m. m.now.value.name ≡ chars name.now) }
+    {
+        let id = self.macros.find_first_at(guess, name)?;
         if !self.defined[id.number()] {
             return None;
         }
@@ -83,10 +93,11 @@ impl Definitions {
     }
 
     /// Defines the name, replacing any definition of it. If an allocation fails, nothing changes.
-    pub fn set(&mut self, name: Text, define: Define) -> Result<(), AllocError>
+    pub fn set(&mut self, name: Text, mut define: Define) -> Result<(), AllocError>
         ensures ok { OnOk result (IsChanged name (Some define) self.old self.new) }
         ensures err { OnErr result (self.new ≡ self.old) }
     {
+        define.note_numbers(self.alloc, &self.macros)?;
         if let Some(id) = self.macros.find(name.as_str()) {
             let new = shared(self.alloc, name, define)?;
             self.macros.replace(id, new);

@@ -10,6 +10,7 @@ ghost use Rattle.pp_macros.specs.declared.step.StepExit.TheVariants.{Error};
 
 use crate::argument_lists::ArgumentLists;
 use crate::define::Macro;
+use crate::macros::MacroId;
 use crate::step::{Step, StepExit};
 use pp_lexer::token::{Text, Token, TokenValue, out_of_memory};
 use pp_model::read::Read;
@@ -255,6 +256,15 @@ impl Frame {
                 token,
                 painted: false,
             }),
+        }
+    }
+
+    /// The number that was noted for the token of the body that its next step gives.
+    #[inline(always)]
+    pub fn number_ahead(&self) -> Option<MacroId> {
+        match self.expanding {
+            Some(_) => None,
+            None => self.opened.define().number_at(self.position),
         }
     }
 

@@ -11,6 +11,7 @@ ghost use Rattle.pp_macros.specs.inner.Reader.{of_list};
 
 use crate::define::Macro;
 use crate::definitions::Definitions;
+use crate::macros::MacroId;
 use crate::open_around::OpenAround;
 use crate::reader::MeLexer;
 use crate::step::{Step, StepExit};
@@ -199,11 +200,11 @@ impl<'a> MeLexer for ListLexer<'a> {
         Ok(true)
     }
 
-    fn get_define(&self, name: &str) -> Option<&Rc<Macro>> {
+    fn get_define(&self, guess: Option<MacroId>, name: &str) -> Option<&Rc<Macro>> {
         if is_reserved(self.is_line, name) {
             return None;
         }
-        self.definitions.find(name)
+        self.definitions.find_first_at(guess, name)
     }
 
     fn is_hidden(&self, name: &str) -> bool {

@@ -1,6 +1,6 @@
 //! Macros with numbers, found by their names.
 
-ghost use Rattle.std.specs.Prelude.{◌≡◌, ◌-◌, ◌++◌, ◌∷◌, [], false, length, take, set, slice_get, position, Some, OnOk, OnErr, IfSome, ◌<◌};
+ghost use Rattle.std.specs.Prelude.{◌≡◌, ◌-◌, ◌++◌, ◌∷◌, [], false, length, take, set, slice_get, position, Some, OnOk, OnErr, IfSome, IsTrue, ◌<◌};
 ghost use Rattle.std.specs.Str.{chars};
 ghost use Rattle.pp_model.specs.Names.{is_in, is_same_name};
 ghost use Rattle.pp_macros.specs.inner.Defined.{macro_names, shared_names};
@@ -167,6 +167,27 @@ impl Macros {
             Some(number) => Some(MacroId { number }),
             None => None,
         }
+    }
+
+    // Whether there is a macro with this number, and it has this name.
+    #[inline(always)]
+    fn has_at(&self, id: MacroId, name: &str) -> bool
+        ensures { IsTrue result → position (is_same_name (chars name.now)) (macro_names self.now) ≡ Some id }
+    {
+        id.number < self.macros.len() && has_name(&self.macros[id.number], name)
+    }
+
+    /// The number of the macro with this name. It is looked for first at the number that is guessed, if one is.
+    #[inline(always)]
+    pub fn find_first_at(&self, guess: Option<MacroId>, name: &str) -> Option<MacroId>
+        ensures { result ≡ position (is_same_name (chars name.now)) (macro_names self.now) }
+    {
+        if let Some(id) = guess {
+            if self.has_at(id, name) {
+                return Some(id);
+            }
+        }
+        self.find(name)
     }
 
     /// The macro with this number.

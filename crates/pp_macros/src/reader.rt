@@ -9,6 +9,7 @@ ghost use Rattle.pp_macros.specs.Item.{as_step};
 ghost use Rattle.pp_macros.specs.inner.Reader.{Reader, Reads, ReadsOnto, visible, hidden_of, shown_line};
 
 use crate::define::Macro;
+use crate::macros::MacroId;
 use crate::step::Step;
 use pp_lexer::token::Location;
 use pp_model::read::Read;
@@ -30,8 +31,8 @@ pub trait MeLexer {
         ensures { IfOk result (λ pushed. ReadsOnto (reader self.old) tokens.old.items pushed
             (reader self.new) tokens.new.items) };
 
-    /// The macro of the name there, if it is defined.
-    fn get_define(&self, name: &str) -> Option<&Rc<Macro>>
+    /// The macro of the name there, if it is defined. It is looked for first at the number that is guessed, if one is.
+    fn get_define(&self, guess: Option<MacroId>, name: &str) -> Option<&Rc<Macro>>
         ensures definition { option_map (λ m. m.now.value.definition) result
             ≡ visible (reader self.now) (chars name.now) }
         ensures name { IfSome result (λ m. m.now.value.name ≡ chars name.now) };

@@ -3,7 +3,7 @@ use Rattle.std.specs.Str.{chars}
 use Rattle.pp_macros.specs.inner.Defined.{macro_names}
 use Rattle.pp_macros.proofs.defined_names.FoundNamesLemmas.{not_found, found_at}
 use Rattle.pp_macros.proofs.defined_names.DefinitionsLemmas.{meaning_found, meaning_gone, meaning_absent, named_found}
-use Rattle.pp_macros.proofs.definitions.Definitions.find.Goals as goal
+use Rattle.pp_macros.proofs.definitions.Definitions.find_first_at.Goals as goal
 
 pub returns-in_err-id-clause-definition : goal.returns-in_err-id-clause-definition
 returns-in_err-id-clause-definition c =
