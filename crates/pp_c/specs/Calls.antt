@@ -9,7 +9,7 @@ use Rattle.pp_rs.specs.declared.token.Token.{Token}
 use Rattle.pp_c.specs.Numbers.{error_number}
 use Rattle.pp_c.specs.declared.items.Definition.{Definition}
 
--- so many bytes of the words, from a start
+-- `count` bytes of the words, from a start
 abbrev pub part_of : List ℕ → ℕ → ℕ → List ℕ
 part_of words start count = slice_range words start (start + count)
 

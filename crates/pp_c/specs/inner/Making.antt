@@ -113,8 +113,8 @@ pub record GoesOn (old : Preprocessing) (output : Output) (progress : Progress) 
       → HasCome start first (calls ++ replicate (made_of progress_after - made_of progress) next)
       progress_after new output_after
 
--- items are given until there are at most `count` of them, or up to the end
-pub record GivesUntil (count : ℕ) (old : Preprocessing) (output : Output) (progress : Progress)
+-- items were given, perhaps not yet `count` of them, nor all up to the end
+pub record GivesTowards (count : ℕ) (old : Preprocessing) (output : Output) (progress : Progress)
     (new : Preprocessing) (output_after : Output) (progress_after : Progress) : Type 0 where
   pub unspent : is_spent new ≡ false
   pub approaches : Approaches count progress progress_after

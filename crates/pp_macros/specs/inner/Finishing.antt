@@ -46,7 +46,7 @@ Finishes levels definitions hidden call old (Err (halt.Fault fault)) new =
     × (new ≡ old)
 Finishes levels definitions hidden call old (Err halt.OutOfMemory) new = ⊤
 
--- an argument, expanded alone, is no longer than the bound for so many tokens
+-- an argument of at most `n` tokens, expanded alone, is no longer than the bound for these
 abbrev pub IsShort : ℕ → List Defined → ℕ → List Read → Type 0
 IsShort levels definitions n out = length out ≤ most_alone levels definitions n
 

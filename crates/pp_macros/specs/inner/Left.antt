@@ -16,13 +16,13 @@ abbrev pub reads_left : Reader → ℕ
 reads_left (of_source source) = most_reads source
 reads_left (of_list list) = length list.tokens
 
--- at most so many names are open over each other: those that are defined, those that may still be, and one that was
+-- the most names that are open over each other: those that are defined, those that may still be, and one that was
 -- defined when its call began
 abbrev pub most_open : Reader → ℕ
 most_open (of_source source) = length source.definitions + most_reads source + 1
 most_open (of_list list) = length list.definitions + 1
 
--- at most so many tokens are in all bodies together, with those that are still to be defined
+-- the most tokens that all bodies have together, with those that are still to be defined
 abbrev pub most_bodies : Reader → ℕ
 most_bodies (of_source source) = body_tokens source.definitions + most_reads source
 most_bodies (of_list list) = body_tokens list.definitions
@@ -45,7 +45,7 @@ regions_of (f ∷ fs) reads = steps_left f ∷ regions_of fs reads
 abbrev pub regions : Expander → Reader → List ℕ
 regions m r = holding_step m.held (regions_of m.frames (reads_left r))
 
--- how much is left, if arguments may be read inside each other so many levels deeper
+-- how much is left, if arguments may be read inside each other `levels` levels deeper
 abbrev pub work_of : ℕ → Expander → Reader → ℕ
 work_of levels m r = work_in (frame_steps (most_bodies r) (most_open r) levels) (most_open r) (regions m r)
 
@@ -65,7 +65,7 @@ pub record AreOpenSoundly (definitions : List Defined) (names : List Name) : Typ
 abbrev pub IsSound : Expander → Reader → Type 0
 IsSound m r = AreOpenSoundly (definitions_of r) (names_of m.frames)
 
--- so many tokens, expanded alone, give at most this many, if arguments may be read inside each other so many levels
+-- the most tokens that `n` tokens give, expanded alone, if arguments may be read inside each other `levels` levels
 -- deeper
 abbrev pub most_alone : ℕ → List Defined → ℕ → ℕ
 most_alone levels definitions n =

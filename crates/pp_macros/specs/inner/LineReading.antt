@@ -22,7 +22,7 @@ Meets shows (Ok value) wanted = wanted ≡ Ok (shows value)
 Meets shows (Err (halt.Fault fault)) wanted = wanted ≡ Err fault
 Meets shows (Err halt.OutOfMemory) wanted = ⊤
 
--- so many items were taken, and memory didn't run out
+-- `taken` items were taken, and memory didn't run out
 pub record HasTaken (taken : ℕ) (old new : SourceLexed) : Type 0 where
   pub rest : new.rest ≡ drop taken old.rest
   pub spent : new.spent ≡ false
@@ -32,7 +32,7 @@ pub record HasGoneOn (old new : SourceLexed) : Type 0 where
   pub rest : length new.rest ≤ length old.rest
   pub spent : new.spent ≡ false
 
--- a value takes so many items
+-- a value takes `taken` items
 abbrev pub TakesItems : {A : Type 0} → ℕ → SourceLexed → Result A Halt → SourceLexed → Type 0
 TakesItems taken old (Ok value) new = HasTaken taken old new
 TakesItems taken old (Err (halt.Fault fault)) new = HasGoneOn old new

@@ -19,7 +19,7 @@ hash_step hash byte = (bit_xor hash byte * 0x01000193) % 2 ^ 32
 unfoldable pub hash_of : Name → ℕ
 hash_of name = fold hash_step 0x811c9dc5 (encode_utf8_all name)
 
--- the index of the place so many places after the first one of a hash
+-- the index of the place that is `after` places after the first one of a hash
 abbrev pub place_index : List Place → ℕ → ℕ → ℕ
 place_index places hash after = bit_and (hash + after) (length places - 1)
 
@@ -29,7 +29,7 @@ no_place = record { hash = 0; number = 0 }
 abbrev pub place_after : List Place → ℕ → ℕ → Place
 place_after places hash after = slice_index_or places (place_index places hash after) no_place
 
--- the first so many places of the hash have names with numbers below this one
+-- the first `count` places of the hash have names with numbers below this one
 abbrev pub AreTaken : List Place → ℕ → ℕ → ℕ → Type 0
 AreTaken places hash count number = (k : ℕ) → k < count → (place_after places hash k).number < number
 
@@ -45,7 +45,7 @@ pub record IsPlaced (places : List Place) (hash number : ℕ) : Type 0 where
   pub here : place_after places hash after ≡ record { hash = hash; number = number }
   pub before : AreTaken places hash after number
 
--- with so many names, the place is the first of the hash's eight that has none of them
+-- in a table of `count` names, the place is the first of the hash's eight that has none of them
 pub record IsFree (places : List Place) (hash count place : ℕ) : Type 0 where
   pub after : ℕ
   pub near : after < 8

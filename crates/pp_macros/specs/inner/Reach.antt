@@ -43,7 +43,7 @@ abbrev pub most_tokens : (ℕ → ℕ) → ℕ → ℕ → ℕ
 most_tokens frame names c = iterate (growth frame names) c c
 
 -- how many steps a frame has at most that opens with `c` at hand: all bodies have `bodies` tokens together, and
--- arguments may be read inside each other so many levels deeper
+-- arguments may be read inside each other `levels` levels deeper
 abbrev pub frame_steps : ℕ → ℕ → ℕ → ℕ → ℕ
 frame_steps bodies names zero c = bodies * 2 + 1
 frame_steps bodies names (suc levels) c = bodies * (most_tokens (frame_steps bodies names levels) names c + 2) + 1

@@ -42,7 +42,7 @@ pub record Source : Type 0 where
 abbrev pub unreported_of : Source → Unreported
 unreported_of s = unreported s.rest s.places s.error_place
 
--- after so many items, with this remembered of them, and with these blocks open
+-- after `taken` items, with this remembered of them, and with these blocks open
 pub record IsAfter (taken : ℕ) (note : Note) (still_open : List OpenBlock) (old new : Source) : Type 0 where
   pub rest : new.rest ≡ drop taken old.rest
   pub blocks : new.blocks ≡ still_open
@@ -87,7 +87,7 @@ abbrev pub Ends : Option OpenBlock → Source → Step Token → Source → Type
 Ends (Some block) old step new = (step ≡ Err (Error (UnfinishedBlock, block.word))) × IsAfterBlock old new
 Ends None old step new = (step ≡ Err Finished) × (new ≡ old)
 
--- a pause after so many items, with this remembered of them, and with these blocks open
+-- a pause after `taken` items, with this remembered of them, and with these blocks open
 abbrev pub Pauses : ℕ → Note → List OpenBlock → Source → Step Token → Source → Type 0
 Pauses taken note blocks old step new =
     (step ≡ Err Continue) × IsAfter taken note blocks old new × (new.definitions ≡ old.definitions)

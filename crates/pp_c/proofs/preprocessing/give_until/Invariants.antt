@@ -1,9 +1,9 @@
 use Rattle.std.proofs.Common.{◌-◌, ◌+◌, if◌then◌else◌}
-use Rattle.pp_c.specs.inner.Making.{GivesUntil}
+use Rattle.pp_c.specs.inner.Making.{GivesTowards}
 use Rattle.pp_c.proofs.preprocessing.give_until.Given as goal
 
 abbrev pub invariant-items : goal.invariant-items
-invariant-items l = GivesUntil l.count l.fn.pp l.fn.output l.fn.progress l.pp l.output l.progress
+invariant-items l = GivesTowards l.count l.fn.pp l.fn.output l.fn.progress l.pp l.output l.progress
 
 abbrev pub decreases-items : goal.decreases-items
 decreases-items l = l.count - l.progress.given + (if l.progress.has_ended then 0 else 1)
