@@ -33,10 +33,6 @@ pub none_held : (o : Option (Step Read)) → is_some o ≡ false → o ≡ None
 none_held None e = refl
 none_held (Some step) e = cc
 
-pub none_opened : {A : Type 0} → (o : Option A) → is_some o ≡ false → o ≡ None
-none_opened None e = refl
-none_opened (Some value) e = cc
-
 -- a step of the frames or the reader that gives no `__LINE__`
 pub fetches_step : (m : Expander) (old new : Option (Step Read)) (frames after : List Frame) (move : Step Read) (r s : Reader)
     → m ≡ record { held = old; frames = frames } → old ≡ None → new ≡ None
@@ -65,21 +61,30 @@ pub shows_token : (frames : List Frame) (reader : Reader) (read : Read) (step : 
 shows_token frames reader read (Ok t) h = ap step_of_outcome (sym h)
 shows_token frames reader read (Err exit) h = ap Err h.0 ∙ ap step_of_outcome (sym h.1)
 
-idle_is : (o : Option (Step Read)) (fs : List Frame) → is_idle (record { held = o; frames = fs }) ≡ true → (o ≡ None) × (fs ≡ [])
-idle_is None [] e = (refl, refl)
-idle_is None (f ∷ fs) e = cc
-idle_is (Some step) fs e = cc
+abbrev pub idle : Expander
+idle = record { held = None; frames = [] }
+
+idle_at : (o : Option (Step Read)) (fs : List Frame) → is_idle (record { held = o; frames = fs }) ≡ true
+    → ◌≡◌ {A = Expander} (record { held = o; frames = fs }) idle
+idle_at None [] e = refl
+idle_at None (f ∷ fs) e = cc
+idle_at (Some step) fs e = cc
+
+pub is_idle-idle : (m : Expander) → is_idle m ≡ true → m ≡ idle
+is_idle-idle m e = idle_at m.held m.frames e
 
 -- if nothing is held and no macro is open, a token of the reader is taken as it is, unless it is `__LINE__` or is painted then
 pub idle_steps : (m : Expander) (r s : Reader) (read : Read) → is_idle m ≡ true → Reads r (Ok read) s → is_identifier line_name read.token.value ≡ false
     → painted_among (hidden_of s) read ≡ read → StepsTaking m r (Ok read) m s
-idle_steps m r s read idle reads apart unmasked =
-    let none = idle_is m.held m.frames idle in
+idle_steps m r s read waits reads apart unmasked =
+    let none = is_idle-idle m waits in
+    let held = ap (λ (k : Expander). k.held) none in
+    let frames = ap (λ (k : Expander). k.frames) none in
     record {
       first = Ok read;
-      fetches = fetches_step m m.held m.held m.frames m.frames (Ok read) r s refl none.0 none.0
-          (subst (λ (fs : List Frame). Moves fs r (Ok read) fs s) (sym none.1) (refl, reads)) apart;
-      paints = subst (λ (fs : List Frame). Ok read ≡ painted_step (masks fs s) (Ok read)) (sym none.1) (ap (λ (t : Read). Ok t) (sym unmasked));
+      fetches = fetches_step m m.held m.held m.frames m.frames (Ok read) r s refl held held
+          (subst (λ (fs : List Frame). Moves fs r (Ok read) fs s) (sym frames) (refl, reads)) apart;
+      paints = subst (λ (fs : List Frame). Ok read ≡ painted_step (masks fs s) (Ok read)) (sym frames) (ap (λ (t : Read). Ok t) (sym unmasked));
     }
 
 -- so is the token that a reader puts after the tokens

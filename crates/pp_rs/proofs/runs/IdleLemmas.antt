@@ -28,20 +28,8 @@ use Rattle.pp_macros.specs.declared.calls.Taken.TheVariants as taken
 use Rattle.pp_macros.specs.declared.step.StepExit.{StepExit}
 use Rattle.pp_macros.specs.declared.step.StepExit.TheVariants.{Continue}
 use Rattle.pp_macros.proofs.taking.PlainLemmas.{itself_apart}
-use Rattle.pp_macros.proofs.taking.ExpanderLemmas.{fetches_shown, fetches_step, shows_token}
+use Rattle.pp_macros.proofs.taking.ExpanderLemmas.{idle, fetches_shown, fetches_step, shows_token}
 use Rattle.pp_rs.proofs.source.UnpaintedLemmas.{StepsReporting, reads_step}
-
-abbrev pub idle : Expander
-idle = record { held = None; frames = [] }
-
-idle_at : (h : Option (Step Read)) (fs : List Frame) → is_idle (record { held = h; frames = fs }) ≡ true
-    → ◌≡◌ {A = Expander} (record { held = h; frames = fs }) idle
-idle_at None [] e = refl
-idle_at None (f ∷ fs) e = cc
-idle_at (Some step) fs e = cc
-
-pub is_idle-idle : (m : Expander) → is_idle m ≡ true → m ≡ idle
-is_idle-idle m e = idle_at m.held m.frames e
 
 unopened : (name : Name) (o : Option Definition) → is_none o ≡ true → opened_by name o ≡ None
 unopened name None e = refl

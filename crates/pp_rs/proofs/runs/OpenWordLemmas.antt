@@ -21,7 +21,8 @@ use Rattle.pp_macros.specs.inner.Frames.{new_frame}
 use Rattle.pp_macros.specs.inner.Idle.{is_idle}
 use Rattle.pp_macros.specs.declared.step.StepExit.TheVariants.{Continue}
 use Rattle.pp_rs.specs.inner.SourceTurns.{StepsOver}
-use Rattle.pp_rs.proofs.runs.IdleLemmas.{is_idle-idle, idle_opens}
+use Rattle.pp_rs.proofs.runs.IdleLemmas.{idle_opens}
+use Rattle.pp_macros.proofs.taking.ExpanderLemmas.{is_idle-idle}
 use Rattle.pp_rs.proofs.runs.PassedLemmas.{word_over}
 
 -- what such a word is: no `__LINE__`; the macro that it names, if it names one, has no parentheses, and otherwise it

@@ -17,7 +17,8 @@ use Rattle.pp_rs.specs.NextWord.{IsPassed}
 use Rattle.pp_rs.specs.Preprocessing.{IsNextItem}
 use Rattle.pp_rs.specs.inner.Fit.{IsFit, IsReported}
 use Rattle.pp_rs.specs.inner.SourceTurns.{StepsOver}
-use Rattle.pp_rs.proofs.runs.IdleLemmas.{is_idle-idle, idle_exit, idle_token}
+use Rattle.pp_rs.proofs.runs.IdleLemmas.{idle_exit, idle_token}
+use Rattle.pp_macros.proofs.taking.ExpanderLemmas.{is_idle-idle}
 use Rattle.pp_rs.proofs.runs.Leads.{LeadsFrom}
 use Rattle.pp_rs.proofs.runs.PausesLemmas.{given_over}
 use Rattle.pp_rs.proofs.runs.NextLemmas.{Reached, reached_first, token_fits, next_token}

@@ -1,7 +1,8 @@
 use Rattle.std.proofs.Common.{◌∙◌, ap, sym, Err}
 use Rattle.std.proofs.lemmas.Result.{err_from_is_err_and}
 use Rattle.pp_model.specs.Emitting.{expansion_limit}
-use Rattle.pp_rs.proofs.runs.IdleLemmas.{is_idle-idle, idle_exit, idle_token, idle_fault, idle_word}
+use Rattle.pp_rs.proofs.runs.IdleLemmas.{idle_exit, idle_token, idle_fault, idle_word}
+use Rattle.pp_macros.proofs.taking.ExpanderLemmas.{is_idle-idle}
 use Rattle.pp_rs.proofs.pp.source_turn.turn_source.Goals as goal
 use Rattle.pp_rs.proofs.pp.source_turn.turn_source.Goals.{then-is_idle+in_ok-token+else-gives_itself+in_ok-hold_word, else-is_idle}
 
