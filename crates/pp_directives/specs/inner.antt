@@ -7,6 +7,7 @@ pub mod SourceActs
 pub mod SettingContent
 pub mod LineReads
 pub mod LineItems
+pub mod DefineReading
 pub mod LineHalts
 pub mod IfParsing
 pub mod Starting

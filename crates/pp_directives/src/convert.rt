@@ -9,6 +9,7 @@ ghost use Rattle.pp_lexer.specs.TokenValue.{is_ordinary};
 ghost use Rattle.pp_lexer.specs.declared.lexer.item.TokenValue.TheVariants.{NewLine};
 ghost use Rattle.pp_model.specs.Conversions.{conversion};
 ghost use Rattle.pp_macros.specs.Item.{as_step};
+ghost use Rattle.pp_directives.specs.WordTokens.{word_token};
 
 use pp_lexer::lexer::{self, PlainItem, plain_value};
 use pp_lexer::token::{Token, TokenValue};
@@ -31,6 +32,7 @@ pub fn word_token(alloc: Global, item: PlainItem<'_>) -> Result<Token, AllocErro
     requires no_hash { item.form ≢ Hash }
     requires ascii { IsAscii item.spelling.now }
     ensures is { IfOk result (λ token. conversion (token_of item.entry) ≡ Ok token) }
+    ensures word { IfOk result (λ token. token ≡ word_token item.entry) }
     ensures holds { IfOk result (λ token. HoldsOrdinary token.value) }
 {
     let value = match plain_value(alloc, item.form, item.spelling)? {

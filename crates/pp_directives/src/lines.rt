@@ -6,6 +6,7 @@ ghost use Rattle.pp_lexer.specs.TokenValue.{is_ordinary};
 ghost use Rattle.pp_model.specs.DefineLines.{is_attached_paren, definition_at, defined_on};
 ghost use Rattle.pp_model.specs.Lines.{first_token, first_name, ended_line, only_name, line_tokens, line_length, comments_before_end};
 ghost use Rattle.pp_directives.specs.inner.LineEntries.{line_entries};
+ghost use Rattle.pp_directives.specs.inner.DefineReading.{opens_list};
 ghost use Rattle.pp_directives.specs.inner.PlainText.{GivesLineToken};
 ghost use Rattle.pp_macros.specs.Held.{is_ordinary_leaf};
 ghost use Rattle.pp_macros.specs.inner.LineReading as spec;
@@ -185,6 +186,16 @@ fn is_attached_paren(token: &lexer::Token) -> bool
     matches!(token.value, lexer::TokenValue::Punct(Punct::LeftParen)) && !token.leading_whitespace
 }
 
+// Whether the token after a macro's name is a `(` without a blank before it.
+fn opens_parameters(token: &Option<lexer::Token>) -> bool
+    ensures { result ≡ opens_list token.now }
+{
+    match token {
+        Some(token) => is_attached_paren(token),
+        None => false,
+    }
+}
+
 // Reads the tokens of a line from its first one, which was read already, onto the list. There are none if the line was
 // empty.
 fn read_line<T: TokenList>(
@@ -317,14 +328,14 @@ fn definition(alloc: Global, word: Location, lexer: &mut SourceLexer<'_>) -> Res
     ensures takes { spec.TakesItems (line_length lexer.old.rest) lexer.old result lexer.new }
     ensures errors { Reports result (unreported_at lexer.old) (unreported_at lexer.new) }
 {
-    match lexer.next_token()? {
-        Some(token) if is_attached_paren(&token) => function_after(alloc, word, lexer),
-        token => {
-            let first = line_token(token)?;
-            let body = line_tokens_from(alloc, first, lexer)?;
-            Ok(Define::object_like(alloc, body))
-        }
+    let token = lexer.next_token()?;
+    if opens_parameters(&token) {
+        drop(token);
+        return function_after(alloc, word, lexer);
     }
+    let first = line_token(token)?;
+    let body = line_tokens_from(alloc, first, lexer)?;
+    Ok(Define::object_like(alloc, body))
 }
 
 /// Reads a `#define` line, after its word.
