@@ -5,3 +5,5 @@ pub mod CodeText
 pub mod DefinedFirst
 pub mod Reading
 pub mod Versions
+pub mod Texts
+pub mod Minified

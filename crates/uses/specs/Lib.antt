@@ -1,2 +1,3 @@
 pub mod Sources
 pub mod Versions
+pub mod Minified
