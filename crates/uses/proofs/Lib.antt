@@ -7,3 +7,4 @@ pub mod Reading
 pub mod Versions
 pub mod Texts
 pub mod Minified
+pub mod OneVariant

@@ -1,3 +1,4 @@
 pub mod Sources
 pub mod Versions
 pub mod Minified
+pub mod Variants
