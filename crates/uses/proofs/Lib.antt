@@ -5,6 +5,7 @@ pub mod CodeText
 pub mod DefinedFirst
 pub mod Reading
 pub mod Versions
-pub mod Texts
 pub mod Minified
+pub mod Texts
 pub mod OneVariant
+pub mod Pages

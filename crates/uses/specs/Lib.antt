@@ -2,3 +2,4 @@ pub mod Sources
 pub mod Versions
 pub mod Minified
 pub mod Variants
+pub mod Pages
