@@ -21,8 +21,8 @@ pub struct Define {
     body: Vec<Token>,
     // for each token of the body the position of its parameter, if it is one; empty for a macro without parentheses
     positions: Vec<Option<usize>>,
-    // for each token of the body the number of the macro that it names, if it named one when the line was read; empty if
-    // none did
+    // for each token of the body the number of the macro that it names, if it named one when the line was read; empty
+    // if none did
     numbers: Vec<Option<MacroId>>,
 }
 
