@@ -3,3 +3,9 @@ pub mod OneToken
 pub mod AItems
 pub mod CodeText
 pub mod DefinedFirst
+pub mod Reading
+pub mod Versions
+pub mod Minified
+pub mod Texts
+pub mod OneVariant
+pub mod Pages

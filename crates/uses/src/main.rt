@@ -1,7 +1,8 @@
-//! Uses of `pp_rs`, as a user writes them, each in a module of its own. Six have no proof file, and the program runs
-//! them over the source on its standard input. Three have contracts that say what they give (`code_text`,
-//! `defined_first`, `one_token`), and run over examples. With the argument `requirements` it does that one alone, and
-//! ends with 1 if the source has an error.
+//! Uses of `pp_rs`, as a user writes them, each in a module of its own. The program runs six of them over the source on
+//! its standard input: two promise nothing and have no proof file (`errors`, `requirements`), and four have contracts
+//! that say what they give (`highlighter`, `minifier`, `variants`, `version`). Three more have such contracts
+//! (`code_text`, `defined_first`, `one_token`), and run over examples. With the argument `requirements` it does that
+//! one alone, and ends with 1 if the source has an error.
 #![tactic(auto)]
 
 mod code_text;
@@ -73,11 +74,11 @@ fn show_uses(rt: &impl Print, alloc: Global, source: &str) -> Result<()> {
         println!(rt; "no variant: {refusal:#}")?;
     }
     print_errors(rt, alloc, "faulty", FAULTY)?;
-    show_proved(rt, alloc)
+    show_examples(rt, alloc)
 }
 
-// Shows what the callers give whose results are proved.
-fn show_proved(rt: &impl Print, alloc: Global) -> Result<()> {
+// Shows what the callers give that run over examples.
+fn show_examples(rt: &impl Print, alloc: Global) -> Result<()> {
     'replies: for reply in replies_to_a(alloc)? {
         show_reply(rt, &reply)?;
     }

@@ -1,5 +1,15 @@
 //! Whether a compiler for GLSL ES 3.00 takes a shader.
 
+ghost use Rattle.std.specs.Prelude.{◌≡◌, ◌<◌, ◌≤◌, ◌^◌, ◌-◌, ◌⊎◌, false, ℕ, List, None, Option, codes, length};
+ghost use Rattle.std.specs.Prelude.{IfErr, IfOk, IsOkAnd};
+ghost use Rattle.pp_lexer.specs.PlacedErrors.{placed};
+ghost use Rattle.pp_lexer.specs.PreprocessorError.{out_of_memory};
+ghost use Rattle.pp_lexer.specs.declared.token.Token.{Token as TheToken};
+ghost use Rattle.pp_model.specs.Run.{items_of, start};
+ghost use Rattle.pp_rs.specs.Kept.{Stands, is_spent};
+ghost use Rattle.uses.specs.Sources.{FailsAfter};
+ghost use Rattle.uses.specs.Versions.{AsksFor, first_version_number, version_number, verdict};
+
 use pp_rs::pp::Preprocessor;
 use pp_rs::token::{PlacedError, Token, TokenValue};
 use std::alloc::Global;
@@ -8,7 +18,14 @@ use std::alloc::Global;
 const LATEST: u64 = 300;
 
 /// What a compiler says of the version that a source asks for, up to its first error.
-pub fn check_version(alloc: Global, source: &str) -> Result<&'static str, PlacedError> {
+pub fn check_version(alloc: Global, source: &str) -> Result<&'static str, PlacedError>
+    ensures too_long { 2 ^ 32 - 1 ≤ length source.now
+        → IsOkAnd result (λ said. said.now ≡ codes "the source is too long") }
+    ensures verdict { length source.now < 2 ^ 32 - 1
+        → IfOk result (λ said. (asked : Option ℕ) × AsksFor source.now asked × (said.now ≡ verdict asked)) }
+    ensures error { IfErr result (λ error. (error ≡ placed out_of_memory)
+        ⊎ ((tokens : List TheToken) × FailsAfter source.now tokens error × (first_version_number tokens ≡ None))) }
+{
     let Some(mut pp) = Preprocessor::try_new(alloc, source) else {
         return Ok("the source is too long");
     };
@@ -22,16 +39,29 @@ pub fn check_version(alloc: Global, source: &str) -> Result<&'static str, Placed
 }
 
 // The number of the first `#version`.
-fn first_version(pp: &mut Preprocessor<'_>) -> Result<Option<u64>, PlacedError> {
+fn first_version(pp: &mut Preprocessor<'_>) -> Result<Option<u64>, PlacedError>
+    requires { is_spent pp.old ≡ false }
+    ensures asked { IfOk result (λ asked. (source : List ℕ) → Stands pp.old (start (items_of source))
+        → AsksFor source asked) }
+    ensures error { IfErr result (λ error. (error ≡ placed out_of_memory)
+        ⊎ ((source : List ℕ) → Stands pp.old (start (items_of source))
+        → (tokens : List TheToken) × FailsAfter source tokens error × (first_version_number tokens ≡ None))) }
+{
     'items: while let Some(item) = pp.next() {
-        if let Some(number) = version_of(&item?) {
-            return Ok(Some(number));
+        let token = item?;
+        let number = version_of(&token);
+        drop(token);
+        if number.is_some() {
+            return Ok(number);
         }
     }
     Ok(None)
 }
 
-fn version_of(token: &Token) -> Option<u64> {
+// The number of a `#version`.
+fn version_of(token: &Token) -> Option<u64>
+    ensures { result ≡ version_number token.now.value }
+{
     let TokenValue::Version(version) = &token.value else {
         return None;
     };

@@ -1,0 +1,5 @@
+pub mod Sources
+pub mod Versions
+pub mod Minified
+pub mod Variants
+pub mod Pages
