@@ -21,8 +21,8 @@ pub struct Define {
     body: Vec<Token>,
     // for each token of the body the position of its parameter, if it is one; empty for a macro without parentheses
     positions: Vec<Option<usize>>,
-    // for each token of the body the number of the macro that it names, if it names one that was there when this one was
-    // defined; empty if none does
+    // for each token of the body the number of the macro that it names, if it named one when the line was read; empty
+    // if none did
     numbers: Vec<Option<MacroId>>,
 }
 
@@ -218,7 +218,8 @@ impl Define {
         }
     }
 
-    /// Notes the number of each of these macros that a token of the body names. If an allocation fails, nothing changes.
+    /// Notes the number of each of these macros that a token of the body names. If an allocation fails, nothing
+    /// changes.
     pub fn note_numbers(&mut self, alloc: Global, macros: &Macros) -> Result<(), AllocError>
         ensures ok { OnOk result (self.new ≡ self.old) }
         ensures err { OnErr result (self.new ≡ self.old) }

@@ -51,9 +51,9 @@ impl MacroId {
 
 /// Macros that are shared, in the order in which they were added, all of different names.
 ///
-/// Most names of others are known by their marks. A few names are compared one by one. If there are more, each has one of eight places by its hash. A name whose eight
-/// places are taken is in an ordered map. So nobody can make the search slow by a choice of names, and no seed is
-/// needed.
+/// Most names of others are known by their marks. A few names are compared one by one. If there are more, each has one
+/// of eight places by its hash. A name whose eight places are taken is in an ordered map. So nobody can make the search
+/// slow by a choice of names, and no seed is needed.
 #[derive(Drop)]
 pub struct Macros {
     alloc: Global,
