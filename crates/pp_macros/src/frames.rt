@@ -262,10 +262,10 @@ impl Frame {
     /// The number that was noted for the token of the body that its next step gives.
     #[inline(always)]
     pub fn number_ahead(&self) -> Option<MacroId> {
-        match self.expanding {
-            Some(_) => None,
-            None => self.opened.define().number_at(self.position),
+        if self.expanding.is_some() {
+            return None;
         }
+        self.opened.define().number_at(self.position)
     }
 
     /// Advances by a step that gives a token.

@@ -18,3 +18,4 @@ pub mod SourceTurnLemmas
 pub mod IdleLemmas
 pub mod PassedLemmas
 pub mod OpenWordLemmas
+pub mod NextWordLemmas

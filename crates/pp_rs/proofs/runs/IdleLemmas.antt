@@ -14,7 +14,7 @@ use Rattle.pp_model.proofs.SpelledRunLemmas.{or_none}
 use Rattle.pp_macros.specs.inner.CallTurns.{TurnsTo, passes, gives, object, seeks}
 use Rattle.pp_macros.specs.inner.Defined.{meaning_of}
 use Rattle.pp_macros.specs.inner.Frames.{Frame, new_frame}
-use Rattle.pp_macros.specs.inner.Idle.{is_idle, IsHeld, HoldsWord}
+use Rattle.pp_macros.specs.inner.Idle.{IsHeld, HoldsWord}
 use Rattle.pp_macros.specs.Item.{Step}
 use Rattle.pp_macros.specs.inner.Expander.{Expander, taken_as, StepsFetching, StepsTaking, held, moved}
 use Rattle.pp_macros.specs.inner.Plain.{gives_itself}

@@ -1,6 +1,6 @@
 //! The items of a preprocessed source.
 
-ghost use Rattle.std.specs.Prelude.{◌≡◌, ◌-◌, ◌^◌, ◌<◌, ◌∷◌, [], false, length, if◌then◌else◌, true, IsTrue, OnOk, OnErr, IfOk, Some, Ok};
+ghost use Rattle.std.specs.Prelude.{◌≡◌, ◌-◌, ◌^◌, ◌<◌, ◌∷◌, [], false, length, if◌then◌else◌, true, IsTrue, OnOk, OnErr, IfOk, IfErr, Some, Ok};
 ghost use Rattle.pp_lexer.specs.TokenValue.{is_ordinary};
 ghost use Rattle.pp_lexer.specs.declared.token.Token.{Token};
 ghost use Rattle.std.specs.Iterator.{at_most};
@@ -13,12 +13,14 @@ ghost use Rattle.pp_macros.specs.Item.{is_out_of_memory};
 ghost use Rattle.pp_macros.specs.inner.Frames.{new_frame};
 ghost use Rattle.pp_rs.specs.Kept.{Stands, IsAhead, is_spent, most_items, errors_left, error_place};
 ghost use Rattle.pp_macros.specs.LexerErrors.{lexer_errors};
-ghost use Rattle.pp_rs.specs.NextWord.{IsNextWord, IsPassed, SomeAhead};
+ghost use Rattle.pp_directives.specs.WordTokens.{word_token};
+ghost use Rattle.pp_rs.specs.NextWord.{IsNextWord, IsPassed, IsPlain, SomeAhead};
 ghost use Rattle.pp_rs.specs.Preprocessing.{IsNextItem};
 
 use crate::lexer::PlainItem;
 use crate::pp::source_turn::turn_source;
 use crate::token::{Location, NOWHERE, PreprocessorError, Token, out_of_memory};
+use pp_directives::convert::word_token;
 use pp_directives::directives::DirectiveProcessor;
 use pp_macros::calls::Expander;
 use pp_macros::define::Macro;
@@ -145,9 +147,26 @@ impl<'a> Preprocessor<'a> {
         }
     }
 
+    // The token of the word that `next_word` returned, as an item.
+    #[inline(always)]
+    fn word_item(&mut self, word: PlainItem<'a>) -> PreprocessorItem
+        requires { IsPlain word }
+        ensures token { IfOk result (λ token. (token ≡ word_token word.entry) × (self.new ≡ self.old)) }
+        ensures refused { IfErr result (λ e. (e ≡ out_of_memory) × (self.new ≡ record self.old { spent = true })) }
+    {
+        match word_token(self.alloc, word) {
+            Ok(token) => Ok(token),
+            Err(_) => {
+                self.spent = true;
+                Err(out_of_memory())
+            }
+        }
+    }
+
     /// Returns what `next` does.
     ///
-    /// It is private to the repository: the program calls it, so that the compiler builds it into its loop.
+    /// It is private to the repository: the program calls it after `next_word`, and the compiler builds it into the
+    /// program's loop.
     #[inline(always)]
     pub fn next_item(&mut self) -> Option<PreprocessorItem>
         ensures { IsNextItem self.old result self.new }
@@ -176,6 +195,21 @@ impl<'a> Preprocessor<'a> {
                 Err(StepExit::Continue) => {}
             }
         }
+    }
+
+    // Does what `next` does. Most items are words of plain text, and these are moved less than others if they are asked
+    // for first.
+    #[inline(always)]
+    fn next_word_or_item(&mut self) -> Option<PreprocessorItem>
+        ensures { IsNextItem self.old result self.new }
+    {
+        if self.spent {
+            return None;
+        }
+        if let Some(word) = self.next_word() {
+            return Some(self.word_item(word));
+        }
+        self.next_item()
     }
 
     /// Goes on in the open macros, and returns whether the next token is ordinary, and the body or an argument of an
@@ -295,6 +329,6 @@ impl<'a> Iterator for Preprocessor<'a> {
     ghost remaining = { λ p. at_most (most_items p) };
 
     fn next(&mut self) -> Option<PreprocessorItem> {
-        self.next_item()
+        self.next_word_or_item()
     }
 }

@@ -1,0 +1,58 @@
+-- A call of `next` that asks for a word of plain text first.
+use Rattle.std.proofs.Common.{◌≡◌, ◌∙◌, ◌⊎◌, inl, inr, ◌≤◌, true, false, refl, sym, Option, Some, None, Ok, Err, IfOk, IfErr, arith}
+use Rattle.pp_lexer.specs.PreprocessorError.{out_of_memory}
+use Rattle.pp_lexer.specs.declared.token.Token.{Token}
+use Rattle.pp_macros.specs.Item.{Item}
+use Rattle.pp_rs.specs.Kept.{Preprocessing, is_spent, most_items, errors_left, error_place}
+use Rattle.pp_rs.specs.NextWord.{IsPassed}
+use Rattle.pp_rs.specs.Preprocessing.{IsNextItem, IsRefusedItem, IsGivenItem, IsLessLeft, ReportsError, of_lexer, of_its_own}
+
+-- what is reported once nothing was is reported from the start
+reports_over : (old mid new : Preprocessing) (answer : Option Item) → errors_left mid ≡ errors_left old → error_place mid ≡ error_place old
+    → ReportsError answer mid new → ReportsError answer old new
+reports_over old mid new (Some (Err fault)) left place (of_lexer e) = of_lexer (sym left ∙ e)
+reports_over old mid new (Some (Err fault)) left place (of_its_own e f) = of_its_own e (f ∙ left)
+reports_over old mid new (Some (Ok token)) left place reports = (reports.0 ∙ left, reports.1 ∙ place)
+reports_over old mid new None left place reports = (sym left ∙ reports.0, reports.1, reports.2 ∙ place)
+
+less_over : (old mid new : Preprocessing) (answer : Option Item) → most_items mid ≤ most_items old → IsLessLeft answer mid new → IsLessLeft answer old new
+less_over old mid new (Some item) fewer less = omega (arith, fewer, less)
+less_over old mid new None fewer less = less
+
+-- what comes once nothing was given comes from the start
+pub passed_next : (old mid new : Preprocessing) (answer : Option Item) → is_spent old ≡ false → IsPassed old mid → IsNextItem mid answer new → IsNextItem old answer new
+passed_next old mid new answer fresh p next =
+    record {
+      gives = rw fresh (gives (rw (p.spent, fresh) at next.gives));
+      less_left = less_over old mid new answer p.no_more_left next.less_left;
+    }
+  where
+    gives : IsRefusedItem answer new ⊎ IsGivenItem mid answer new → IsRefusedItem answer new ⊎ IsGivenItem old answer new
+    gives (inl refused) = inl refused
+    gives (inr given) = inr (record {
+      item = λ state stands.
+          let between = p.item state stands in
+          let emitted = given.item between.between between.stands in
+          record { after = emitted.after; emits = between.comes _ _ emitted.emits; goes_on = emitted.goes_on };
+      no_refusal = given.no_refusal;
+      holds = given.holds;
+      reports = reports_over old mid new answer p.errors p.place given.reports;
+      spent = given.spent;
+    })
+
+-- memory for a token that was to come runs out
+pub word_refused : (old mid new : Preprocessing) (token : Token) → is_spent old ≡ false → IsNextItem old (Some (Ok token)) mid → new ≡ record mid { spent = true }
+    → IsNextItem old (Some (Err out_of_memory)) new
+unfolding is_spent most_items
+word_refused old mid new token fresh next is =
+    rw is (record {
+      gives = rw fresh (inl (record { item = refl; spent = refl }));
+      less_left = omega (arith, next.less_left);
+    })
+
+-- the item of a word that is next
+pub word_comes : (old mid new : Preprocessing) (token : Token) (item : Item) → is_spent old ≡ false → IsNextItem old (Some (Ok token)) mid
+    → IfOk item (λ given. (given ≡ token) × (new ≡ mid)) → IfErr item (λ e. (e ≡ out_of_memory) × (new ≡ record mid { spent = true }))
+    → IsNextItem old (Some item) new
+word_comes old mid new token (Ok given) fresh next of_token refused = rw (of_token.0, of_token.1) next
+word_comes old mid new token (Err e) fresh next of_token refused = rw refused.0 (word_refused old mid new token fresh next refused.1)
