@@ -16,7 +16,8 @@ use std::alloc::Global;
 
 /// The source preprocessed once with each content of `QUALITY`, one after another.
 pub fn build_variants(alloc: Global, source: &str, contents: &[&str]) -> Result<String>
-    ensures { IfOk result (λ text. AreVariants source.now (map (λ content. content.now) contents.now) (string_bytes text)) }
+    ensures { IfOk result (λ text. AreVariants source.now
+        (map (λ content. content.now) contents.now) (string_bytes text)) }
 {
     let mut variants = String::new(alloc);
     for content in contents {
