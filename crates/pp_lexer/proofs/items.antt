@@ -3,6 +3,7 @@ pub mod SegmentsLemmas
 pub mod PassingLemmas
 pub mod LexLemmas
 pub mod PlainLexLemmas
+pub mod AfterSpacesLemmas
 pub mod PassedCommentsLemmas
 pub mod ItemsLemmas
 pub mod ItemPlacesLemmas

@@ -7,6 +7,7 @@ pub mod Lines
 pub mod Words
 pub mod Readers
 pub mod Fronts
+pub mod AfterSpaces
 pub mod Scan
 pub mod Passing
 pub mod PlainWords

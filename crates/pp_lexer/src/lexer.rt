@@ -10,7 +10,7 @@ ghost use Rattle.pp_lexer.specs.Spots.{spots_of};
 ghost use Rattle.pp_lexer.specs.Words.{is_blank};
 ghost use Rattle.pp_lexer.specs.Lexed.{start_of, first_item, after_first_item, first_place, places_after_first, IsNext};
 ghost use Rattle.pp_lexer.specs.inner.Passing.{is_newline_result, seen_of, newline_seen, lexeme_seen, comments_at_end, newline_places, places_left, IsPlaced, IsLexed};
-ghost use Rattle.pp_lexer.specs.inner.Fronts.{IsLeft};
+ghost use Rattle.pp_lexer.specs.inner.AfterSpaces.{IsAfterSpaces};
 ghost use Rattle.pp_lexer.specs.inner.PlainWords.{IsFirstWord, IsPlainLexed, IsNewlineLexed};
 ghost use Rattle.pp_lexer.specs.PlainItems.{token_of, is_newline_lexeme, IsUnknown, IsNextPlain, IsNextUnknown, PassesNewline};
 
@@ -172,23 +172,69 @@ fn skip_spaces_and_comments(inner: &mut LexerCharIterator<'_>, flags: &mut Flags
     }
 }
 
+// What is left after spaces, which weren't passed.
+#[derive(Clone, Copy)]
+struct Front<'a> {
+    left: Left<'a>,
+    // whether there are spaces before it
+    spaced: bool,
+}
+
+// What is left after the spaces at the front.
+#[inline(always)]
+fn front_of<'a>(inner: &LexerCharIterator<'a>) -> Front<'a>
+    ensures { IsAfterSpaces result.left.line result.left.at result.left.text.now result.spaced inner.now }
+{
+    let left = inner.left();
+    let count = spaces_length(left.text.as_bytes());
+    if count == 0 {
+        return Front { left, spaced: false };
+    }
+    Front {
+        left: Left {
+            text: &left.text[count..],
+            line: left.line,
+            at: left.at + count,
+        },
+        spaced: true,
+    }
+}
+
+// Passes the spaces and comments before the next item, but not spaces alone. Returns what is left after these.
+#[inline(always)]
+fn find_front<'a>(inner: &mut LexerCharIterator<'a>, flags: &mut Flags) -> Front<'a>
+    ensures same { seen_of flags.new inner.new ≡ seen_of flags.old inner.old }
+    ensures at_end { comments_at_end flags.new inner.new ≡ comments_at_end flags.old inner.old }
+    ensures places { places_left flags.new inner.new ≡ places_left flags.old inner.old }
+    ensures front { IsAfterSpaces result.left.line result.left.at result.left.text.now result.spaced inner.new }
+{
+    let front = front_of(inner);
+    if !begins_comment(front.left.text.as_bytes()) {
+        return front;
+    }
+    skip_spaces(inner, flags);
+    skip_comments(inner, flags);
+    front_of(inner)
+}
+
 // Takes the word of plain text at the front of what is left.
 #[inline(always)]
 fn take_word<'a>(
     inner: &mut LexerCharIterator<'a>,
     flags: &mut Flags,
     place: &mut Location,
-    left: Left<'a>,
+    front: Front<'a>,
     word: Word,
 ) -> PlainItem<'a>
-    requires left { IsLeft left.line left.at left.text.now inner.now.rest }
-    requires word { IsFirstWord left.text.now word }
+    requires front { IsAfterSpaces front.left.line front.left.at front.left.text.now front.spaced inner.now }
+    requires word { IsFirstWord front.left.text.now word }
     ensures form { result.form ≡ word.form }
-    ensures spelling { result.spelling.now ≡ take word.taken left.entry.text.now }
+    ensures spelling { result.spelling.now ≡ take word.taken front.entry.left.text.now }
     ensures lexed { IsLexed flags.old inner.old (Ok (Some (Ok (token_of result)))) flags.new inner.new }
     ensures placed { IsPlaced flags.old inner.old place.old flags.new inner.new place.new }
     ensures comments { flags.new.had_comments ≡ flags.old.had_comments }
 {
+    let left = front.left;
     let taken = word.taken;
     let end = left.at + taken;
     let spelling = &left.text[..taken];
@@ -207,7 +253,7 @@ fn take_word<'a>(
         form: word.form,
         spelling,
         location: *place,
-        leading_whitespace: flags.leading_whitespace,
+        leading_whitespace: flags.leading_whitespace | front.spaced,
         start_of_line: flags.start_of_line,
     };
     flags.leading_whitespace = false;
@@ -250,7 +296,11 @@ fn lex_plain(
     let Some(word) = plain_word(left.text) else {
         return Ok(None);
     };
-    let item = take_word(inner, flags, place, left, word);
+    let front = Front {
+        left,
+        spaced: false,
+    };
+    let item = take_word(inner, flags, place, front, word);
     Ok(Some(Ok(Token {
         value: plain_value(alloc, item.form, item.spelling)?,
         location: item.location,
@@ -525,9 +575,9 @@ impl<'a> Lexer<'a> {
         if self.spent {
             return None;
         }
-        skip_spaces_and_comments(&mut self.inner, &mut self.flags);
-        let left = self.inner.left();
-        let Some(word) = plain_word(left.text) else {
+        let front = find_front(&mut self.inner, &mut self.flags);
+        let Some(word) = plain_word(front.left.text) else {
+            skip_spaces(&mut self.inner, &mut self.flags);
             return None;
         };
         if matches!(word.form, Form::Hash) {
@@ -537,7 +587,7 @@ impl<'a> Lexer<'a> {
             &mut self.inner,
             &mut self.flags,
             &mut self.place,
-            left,
+            front,
             word,
         ))
     }
@@ -550,19 +600,19 @@ impl<'a> Lexer<'a> {
         if self.spent {
             return None;
         }
-        skip_spaces_and_comments(&mut self.inner, &mut self.flags);
-        let left = self.inner.left();
-        let Some(word) = plain_word(left.text) else {
+        let front = find_front(&mut self.inner, &mut self.flags);
+        let Some(word) = plain_word(front.left.text) else {
+            skip_spaces(&mut self.inner, &mut self.flags);
             return None;
         };
-        if !is_unknown(names, left.text, word) {
+        if !is_unknown(names, front.left.text, word) {
             return None;
         }
         Some(take_word(
             &mut self.inner,
             &mut self.flags,
             &mut self.place,
-            left,
+            front,
             word,
         ))
     }

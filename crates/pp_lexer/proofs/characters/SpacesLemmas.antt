@@ -1,6 +1,7 @@
 -- Spaces of a plain text are passed.
 use Rattle.std.proofs.Common.{◌≡◌, ℕ, ◌+◌, List, [], ◌∷◌, ◌++◌, length, get_or, Bool, true, false, ◌||◌, refl, ◌∙◌, ap, arith, suc}
 use Rattle.std.specs.List.{list_all, list_any}
+use Rattle.std.proofs.Math.Bool.{or-false}
 use Rattle.std.proofs.lemmas.Bool.{and_parts}
 use Rattle.std.proofs.lemmas.Bool.Decides.{nat_tests}
 use Rattle.pp_lexer.specs.declared.lexer.char_iterator.Spot.{Spot}
@@ -25,17 +26,13 @@ space_no_mark b h = grind (arith, nat_tests)
 
 -- spaces are passed
 
-or_false : (b : Bool) → (b || false) ≡ b
-or_false true = refl
-or_false false = refl
-
 -- the flags after spaces
 abbrev pub spaced : Flags → Flags
 spaced f = record { leading_whitespace = true; start_of_line = f.start_of_line; had_comments = f.had_comments }
 
 blanked_space : (f : Flags) (c : ℕ) → is_space c ≡ true → blanked f c ≡ spaced f
 blanked_space f c h =
-    let k : (f.had_comments || is_mark c) ≡ f.had_comments = ap (λ b. f.had_comments || b) (space_no_mark c h) ∙ or_false f.had_comments in
+    let k : (f.had_comments || is_mark c) ≡ f.had_comments = ap (λ b. f.had_comments || b) (space_no_mark c h) ∙ or-false f.had_comments in
     ap (λ b. record { leading_whitespace = true; start_of_line = f.start_of_line; had_comments = b }) k
 
 -- the items to come, and whether comments will have been passed

@@ -1,5 +1,5 @@
 -- Punctuators and `#` at the front of a plain text.
-use Rattle.std.proofs.Common.{◌≡◌, ℕ, suc, ◌+◌, ◌<◌, ◌≤◌, List, [], ◌∷◌, ◌++◌, length, take, drop, get_or, Bool, true, false, not, ◌&&◌, ◌||◌, ◌==◌, nat_lt, refl, sym, ◌∙◌, ap, subst, arith, Option, Some, None, is_some, Ok, inl, inr}
+use Rattle.std.proofs.Common.{◌≡◌, ℕ, suc, ◌+◌, ◌<◌, ◌≤◌, List, [], ◌∷◌, ◌++◌, length, take, drop, get_or, Bool, true, false, not, ◌&&◌, ◌||◌, ◌==◌, nat_lt, if◌then◌else◌, refl, sym, ◌∙◌, ap, subst, arith, Option, Some, None, is_some, Ok, inl, inr}
 use Rattle.std.specs.List.{list_all}
 use Rattle.std.specs.Str.{chars, IsUtf8, IsAscii}
 use Rattle.std.proofs.lemmas.Bool.{and_parts, and_right, or_parts, or_cases, eqb-true, eq-eqb, ne_eqb, eqb-false, false≢true}
@@ -14,7 +14,7 @@ use Rattle.pp_lexer.specs.inner.Fronts.{spots_from, is_plain, run}
 use Rattle.pp_lexer.specs.Identifiers.{is_start}
 use Rattle.pp_lexer.specs.Lines.{pieces}
 use Rattle.pp_lexer.specs.Numbers.{is_point, is_decimal, begins_number}
-use Rattle.pp_lexer.specs.inner.PlainWords.{begins, begins_comment, continues_punct, continues_pair, single, before_equals, doubled, Stops, IsFront, IsPlainWord}
+use Rattle.pp_lexer.specs.inner.PlainWords.{begins, begins_comment, is_lone, continues_punct, continues_pair, single, before_equals, doubled, Stops, IsFront, IsPlainWord}
 use Rattle.pp_lexer.specs.Punctuators.{punctuator, punct_of, is_punctuator}
 use Rattle.pp_lexer.specs.inner.Readers.{placed_from}
 use Rattle.pp_lexer.specs.Reading.{letters}
@@ -249,6 +249,53 @@ single_word (c ∷ text) p u some h stops =
     (IsCharBoundary-after_ascii (c ∷ text) 0 u some f.small) (subst IsAscii (sym one) (IsAscii-cons c [] f.small no_more_ascii))
     (single_front c text u (passes_of c [] p h) stops) f.no_blank refl
     (λ cs k. ap (λ t. word_at (t ++ cs)) one ∙ single_at c cs p h k)
+
+-- one that begins no other, whatever follows
+
+record Lone (c : ℕ) : Type 0 where
+  plain : is_plain c ≡ true
+  alone : (d : ℕ) → continues_punct c d ≡ false
+
+or_this : (c k : ℕ) (more : Bool) → Lone k → (more ≡ true → Lone c) → (if c == k then true else more) ≡ true → Lone c
+or_this c k more this other h = by (c == k) refl h
+  where
+    by : (b : Bool) → (c == k) ≡ b → (if b then true else more) ≡ true → Lone c
+    by true e h = subst Lone (sym (eqb-true c k e)) this
+    by false e h = other h
+
+lone_of : (c : ℕ) → is_lone c ≡ true → Lone c
+unfolding punct_of
+lone_of c =
+    or_this c 40 _ (record { plain = refl; alone = λ d. refl })
+    (or_this c 41 _ (record { plain = refl; alone = λ d. refl })
+    (or_this c 44 _ (record { plain = refl; alone = λ d. refl })
+    (or_this c 58 _ (record { plain = refl; alone = λ d. refl })
+    (or_this c 59 _ (record { plain = refl; alone = λ d. refl })
+    (or_this c 63 _ (record { plain = refl; alone = λ d. refl })
+    (or_this c 91 _ (record { plain = refl; alone = λ d. refl })
+    (or_this c 93 _ (record { plain = refl; alone = λ d. refl })
+    (or_this c 123 _ (record { plain = refl; alone = λ d. refl })
+    (or_this c 125 _ (record { plain = refl; alone = λ d. refl })
+    (or_this c 126 _ (record { plain = refl; alone = λ d. refl }) (λ h. absurd (false≢true h))))))))))))
+
+lone_before : (c : ℕ) (cs : List ℕ) → Lone c → begins_with (continues_punct c) cs ≡ false
+lone_before c [] l = refl
+lone_before c (d ∷ cs) l = l.alone d
+
+pub lone_word : (text : List ℕ) (p : Punctuator) → IsUtf8 text → 0 < length text → punct_of (get_or text 0 0 ∷ []) ≡ Some p
+    → is_lone (get_or text 0 0) ≡ true → IsPlainWord text (Punct p) 1
+lone_word [] p u some h lone = absurd (omega arith)
+lone_word (c ∷ text) p u some h lone =
+    let one : take 1 (c ∷ text) ≡ c ∷ [] = take_one c text in
+    let f = first_of c [] p h in
+    let l = lone_of c lone in
+    let plain : list_all is_plain (take 1 (c ∷ text)) ≡ true = ap (list_all is_plain) one ∙ ap (λ b. b && true) l.plain in
+    word_always (c ∷ text) 1 (Punct p) (omega arith) (omega arith)
+    (IsCharBoundary-after_ascii (c ∷ text) 0 u some f.small) (plain_ascii (take 1 (c ∷ text)) plain)
+    (front_plain 1 (c ∷ text) u (omega arith) plain) f.no_blank refl
+    (λ line at.
+    let more = letters (spots_from line at (drop 1 (c ∷ text))) in
+    ap (λ t. word_at (t ++ more)) one ∙ single_at c more p h (lone_before c more l))
 
 -- Two and three
 

@@ -72,6 +72,16 @@ single c =
     else if c == 38 then Some Ampersand else if c == 63 then Some Question
     else None
 
+-- the character is a punctuator, and begins no longer one, no number and no comment
+abbrev pub is_lone : ℕ → Bool
+is_lone c =
+    if c == 40 then true else if c == 41 then true
+    else if c == 44 then true else if c == 58 then true
+    else if c == 59 then true else if c == 63 then true
+    else if c == 91 then true else if c == 93 then true
+    else if c == 123 then true else if c == 125 then true
+    else if c == 126 then true else false
+
 -- the punctuator of a character and an equals sign
 abbrev pub before_equals : ℕ → Option Punctuator
 before_equals c =

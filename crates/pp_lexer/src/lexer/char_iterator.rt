@@ -1,6 +1,6 @@
 //! The characters after the phases, with their places and with a look at the next one.
 
-ghost use Rattle.std.specs.Prelude.{⊤, ◌≡◌, ◌+◌, ◌-◌, ◌^◌, ◌<◌, ◌≤◌, length, option_map, MatchOption};
+ghost use Rattle.std.specs.Prelude.{⊤, ◌≡◌, ◌+◌, ◌-◌, ◌^◌, ◌<◌, ◌≤◌, length, None, option_map, MatchOption};
 ghost use Rattle.std.specs.Str.{IsUtf8};
 ghost use Rattle.pp_lexer.specs.Reading.{IsAhead, first_char, first_of, spots_after_first, after_first, spots};
 ghost use Rattle.pp_lexer.specs.Spots.{spots_of};
@@ -52,6 +52,16 @@ impl<'a> Model for LexerCharIterator<'a> {
     ghost invariant = { λ s. (length (spots s.inner.offset s.inner.rest) < 2 ^ 32)
         × MatchOption s.ahead ⊤ (λ a. IsAhead a.spot (spots a.after.offset a.after.rest)
         (spots s.inner.offset s.inner.rest)) };
+}
+
+// Forgets the next character. Most often none is kept, and then nothing is written.
+#[inline(always)]
+fn forget(ahead: &mut Option<Ahead<'_>>)
+    ensures { ahead.new ≡ None }
+{
+    if ahead.is_some() {
+        *ahead = None;
+    }
 }
 
 // Whether the byte is an ASCII character other than a newline, a backslash and a slash.
@@ -209,7 +219,7 @@ impl<'a> LexerCharIterator<'a> {
         } }
     {
         self.inner = ReplaceComments::at(rest);
-        self.ahead = None;
+        forget(&mut self.ahead);
         self.last = last;
     }
 

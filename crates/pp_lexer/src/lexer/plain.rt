@@ -41,6 +41,17 @@ pub struct Word {
     pub taken: usize,
 }
 
+// Each byte with which an identifier may continue is at its own place, and a comma at every other place.
+static CONTINUING: [u8; 256] = *b"\
+    ,,,,,,,,,,,,,,,,,,,,,,,,,,,,,,,,\
+    ,,,,,,,,,,,,,,,,0123456789,,,,,,\
+    ,ABCDEFGHIJKLMNOPQRSTUVWXYZ,,,,_\
+    ,abcdefghijklmnopqrstuvwxyz,,,,,\
+    ,,,,,,,,,,,,,,,,,,,,,,,,,,,,,,,,\
+    ,,,,,,,,,,,,,,,,,,,,,,,,,,,,,,,,\
+    ,,,,,,,,,,,,,,,,,,,,,,,,,,,,,,,,\
+    ,,,,,,,,,,,,,,,,,,,,,,,,,,,,,,,,";
+
 // Whether the byte is a space, a tab, a vertical tab or a form feed.
 #[inline(always)]
 fn is_space(byte: u8) -> bool
@@ -54,7 +65,7 @@ fn is_space(byte: u8) -> bool
 fn begins(byte: u8) -> bool
     ensures { result ≡ begins byte }
 {
-    byte.is_ascii_alphabetic() || byte == 95
+    continues(byte) && !byte.is_ascii_digit()
 }
 
 // Whether an identifier may continue with the byte.
@@ -62,7 +73,7 @@ fn begins(byte: u8) -> bool
 fn continues(byte: u8) -> bool
     ensures { result ≡ continues byte }
 {
-    byte.is_ascii_alphanumeric() || byte == 95
+    CONTINUING[byte as usize] != b','
 }
 
 /// How many spaces there are at the front.

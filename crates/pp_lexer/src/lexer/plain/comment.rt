@@ -14,12 +14,23 @@ pub struct Comment {
     pub newlines: usize,
 }
 
-// Whether the byte is an ASCII character other than a backslash and, of control characters, a tab.
+// A point for each byte of ASCII other than a newline, a carriage return and a backslash.
+static STRAIGHT: [u8; 256] = *b"\
+    ..........!..!..................\
+    ................................\
+    ............................!...\
+    ................................\
+    !!!!!!!!!!!!!!!!!!!!!!!!!!!!!!!!\
+    !!!!!!!!!!!!!!!!!!!!!!!!!!!!!!!!\
+    !!!!!!!!!!!!!!!!!!!!!!!!!!!!!!!!\
+    !!!!!!!!!!!!!!!!!!!!!!!!!!!!!!!!";
+
+// Whether the byte is an ASCII character other than a newline, a carriage return and a backslash.
 #[inline(always)]
 fn is_straight(byte: u8) -> bool
-    ensures { IsTrue result → is_straight byte ≡ true }
+    ensures { result ≡ is_straight byte }
 {
-    (byte >= 32 && byte < 128 && byte != 92) || byte == 9
+    STRAIGHT[byte as usize] == b'.'
 }
 
 /// How many bytes at the front are ASCII, and neither a newline nor a backslash.

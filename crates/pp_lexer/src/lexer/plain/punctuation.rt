@@ -2,7 +2,7 @@
 
 ghost use Rattle.std.specs.Prelude.{⊤, ◌≡◌, ◌<◌, ◌∷◌, [], ◌&&◌, ◌||◌, length, slice_index, Some, MatchOption};
 ghost use Rattle.std.specs.Str.{IsUtf8};
-ghost use Rattle.pp_lexer.specs.inner.PlainWords.{single, before_equals, doubled, begins_comment, IsFirstWord};
+ghost use Rattle.pp_lexer.specs.inner.PlainWords.{is_lone, single, before_equals, doubled, begins_comment, IsFirstWord};
 ghost use Rattle.pp_lexer.specs.Numbers.{is_decimal, is_point};
 ghost use Rattle.pp_lexer.specs.Punctuators.{punct_of};
 
@@ -40,6 +40,17 @@ fn single(first: u8) -> Option<Punct>
         38 => Some(Punct::Ampersand),
         63 => Some(Punct::Question),
         _ => None,
+    }
+}
+
+// Whether the character is a punctuator and begins no other.
+#[inline(always)]
+fn is_lone(first: u8) -> bool
+    ensures { result ≡ is_lone first }
+{
+    match first {
+        40 | 41 | 44 | 58 | 59 | 63 | 91 | 93 | 123 | 125 | 126 => true,
+        _ => false,
     }
 }
 
@@ -168,6 +179,12 @@ pub fn plain_punctuation(bytes: &[u8]) -> Option<Word>
         });
     }
     let one = single(first)?;
+    if is_lone(first) {
+        return Some(Word {
+            form: Form::Punct(one),
+            taken: 1,
+        });
+    }
     if !ends_plainly(bytes, 1) {
         return None;
     }

@@ -9,4 +9,4 @@ returns c = ap (λ ss. record { rest = ss; last = c.args.last })
 pub invariant_of-self : goal.invariant_of-self
 invariant_of-self c =
     let e = ap length (left_of c.at-self-inside.result c.args.rest.line c.args.rest.at c.args.rest.text.now c.at-self-inside.ensures) in
-    (omega (arith, e, length-spots_from c.args.rest.line c.args.rest.at c.args.rest.text.now c.requires.utf8, c.requires.room), tt)
+    (omega (arith, e, length-spots_from c.args.rest.line c.args.rest.at c.args.rest.text.now c.requires.utf8, c.requires.room), rw c.forget.ensures tt)

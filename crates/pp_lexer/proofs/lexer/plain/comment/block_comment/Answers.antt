@@ -40,6 +40,6 @@ loop-i-preserved c =
           rw (w.newlines-is, w.if-byte-eq10.true) s
       | else-byte-eq10+else-not-is_straight w ↦
           let s =
-          block_more body i c.loop-i.newlines c.loop-i.was_star c.loop-i.invariant l open_yet (w.is_straight.ensures w.if-not-is_straight.false) in
+          block_more body i c.loop-i.newlines c.loop-i.was_star c.loop-i.invariant l open_yet (sym w.is_straight.ensures ∙ w.if-not-is_straight.false) in
           rw w.newlines-is s
     ]
