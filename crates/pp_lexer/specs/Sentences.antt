@@ -1,6 +1,5 @@
 -- The sentence of each error.
-use Rattle.std.specs.Prelude.{ℕ, List, [], ◌++◌, codes, if◌then◌else◌}
-use Rattle.std.specs.Fmt.{decimal}
+use Rattle.std.specs.Prelude.{ℕ, List, [], ◌++◌, codes}
 use Rattle.std.specs.Str.{encode_utf8_all}
 use Rattle.pp_lexer.specs.ItemText.{item_text}
 use Rattle.pp_lexer.specs.declared.token.PreprocessorError.{PreprocessorError}

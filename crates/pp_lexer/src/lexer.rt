@@ -188,7 +188,10 @@ fn front_of<'a>(inner: &LexerCharIterator<'a>) -> Front<'a>
     let left = inner.left();
     let count = spaces_length(left.text.as_bytes());
     if count == 0 {
-        return Front { left, spaced: false };
+        return Front {
+            left,
+            spaced: false,
+        };
     }
     Front {
         left: Left {
