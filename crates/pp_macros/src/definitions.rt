@@ -70,6 +70,7 @@ impl Definitions {
     }
 
     /// The macro of the name, if it is defined.
+    #[inline(always)]
     pub fn find(&self, name: &str) -> Option<&Rc<Macro>>
         ensures definition { option_map (λ m. m.now.value.definition) result
             ≡ meaning_of self.now (chars name.now) }

@@ -157,12 +157,22 @@ impl Macros {
     }
 
     /// The number of the macro with this name.
+    #[inline(always)]
     pub fn find(&self, name: &str) -> Option<MacroId>
         ensures { result ≡ position (is_same_name (chars name.now)) (macro_names self.now) }
     {
         if !self.marks.has(name) {
             return None;
         }
+        self.find_marked(name)
+    }
+
+    // The number of the macro with this name. It is a function of its own, so that a name whose mark is missing is known
+    // without a call.
+    #[inline(never)]
+    fn find_marked(&self, name: &str) -> Option<MacroId>
+        ensures { result ≡ position (is_same_name (chars name.now)) (macro_names self.now) }
+    {
         match number_of(&self.table, &self.macros, name) {
             Some(number) => Some(MacroId { number }),
             None => None,
