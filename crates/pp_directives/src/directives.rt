@@ -1,6 +1,6 @@
 //! The source's reader: directives act, and the tokens between them are given.
 
-ghost use Rattle.std.specs.Prelude.{◌≡◌, ◌≢◌, ◌||◌, ◌-◌, ◌^◌, ◌<◌, [], length, drop, false, true, Ok, Err, is_ok, IfOk, IfSome, option_map, Some, None, pos, ◌+ℤ◌, ◌-ℤ◌};
+ghost use Rattle.std.specs.Prelude.{◌≡◌, ◌≢◌, ◌||◌, ◌-◌, ◌^◌, ◌<◌, [], length, drop, false, true, Ok, Err, is_ok, IsTrue, IfOk, IfSome, option_map, Some, None, pos, ◌+ℤ◌, ◌-ℤ◌};
 ghost use Rattle.std.specs.Str.{IsAscii, chars};
 ghost use Rattle.pp_lexer.specs.declared.lexer.item.TokenValue.TheVariants.{NewLine};
 ghost use Rattle.pp_lexer.specs.declared.lexer.plain.Form.TheVariants.{Hash};
@@ -13,7 +13,7 @@ ghost use Rattle.pp_macros.specs.inner.Defined.{meaning_of};
 ghost use Rattle.pp_macros.specs.Held.{HoldsOrdinary};
 ghost use Rattle.pp_macros.specs.Item.{as_step};
 ghost use Rattle.pp_macros.specs.inner.Reader.{of_source, ReadsOnto};
-ghost use Rattle.pp_directives.specs.inner.PlainText.{StepsPlain, GivesWord, GivesBare, GivesApart, PausesAtNewline};
+ghost use Rattle.pp_directives.specs.inner.PlainText.{IsInText, StepsPlain, GivesWord, GivesBare, GivesApart, PausesAtNewline};
 ghost use Rattle.pp_directives.specs.WordTokens.{word_value};
 ghost use Rattle.pp_macros.specs.inner.Turns.{macro_of_value};
 ghost use Rattle.pp_directives.specs.inner.ReadNames.{as_named};
@@ -167,6 +167,14 @@ impl<'a> DirectiveProcessor<'a> {
         let name = Text::from(String::from_str(self.alloc, name)?);
         self.definitions.set(name, define)?;
         Ok(())
+    }
+
+    /// Whether the text is live, and no allocation failed.
+    #[inline(always)]
+    pub fn is_in_text(&self) -> bool
+        ensures { IsTrue result → IsInText self.now }
+    {
+        self.is_live() && !self.lexer.is_spent()
     }
 
     // Whether the text is live.
@@ -597,20 +605,18 @@ impl<'a> DirectiveProcessor<'a> {
         }
     }
 
-    /// The next word of plain text before memory is taken for it, if it is in live text and neither defined nor
-    /// `__LINE__`. Otherwise nothing changes.
+    /// The next word of plain text before memory is taken for it, if it is neither defined nor `__LINE__`. Otherwise
+    /// nothing changes. The text has to be live.
     #[inline(always)]
     pub fn next_word(&mut self) -> Option<PlainItem<'a>>
-        ensures { GivesWord self.old result self.new }
+        requires { IsInText self.old }
+        ensures gives { GivesWord self.old result self.new }
+        ensures stays { IsInText self.new }
     {
-        let is_live = self.is_live();
-        if !is_live {
-            return None;
-        }
         let names = LiveNames {
             definitions: &self.definitions,
         };
-        let item = self.lexer.next_unknown(&names)?;
+        let item = self.lexer.next_unknown_unspent(&names)?;
         self.has_text = true;
         Some(item)
     }
@@ -679,11 +685,14 @@ impl<'a> DirectiveProcessor<'a> {
     }
 
     /// Passes a newline of plain text, if one comes first, and returns whether it did. Otherwise it changes nothing.
+    /// The text has to be live.
     #[inline(always)]
     pub fn pass_newline(&mut self) -> bool
-        ensures { PausesAtNewline self.old result self.new }
+        requires { IsInText self.old }
+        ensures pauses { PausesAtNewline self.old result self.new }
+        ensures stays { IsInText self.new }
     {
-        self.lexer.pass_newline()
+        self.lexer.pass_newline_unspent()
     }
 
     // A step at a word of plain text, if one comes first: a token in live text, and a pause without memory in dead

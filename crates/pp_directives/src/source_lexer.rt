@@ -101,6 +101,27 @@ impl<'a> SourceLexer<'a> {
         self.lexer.next_unknown(names)
     }
 
+    /// Does the same as `next_unknown`, if no allocation failed before.
+    #[inline(always)]
+    pub fn next_unknown_unspent<N: KnownNames>(&mut self, names: &N) -> Option<PlainItem<'a>>
+        requires { self.old.spent ≡ false }
+        ensures gives { GivesUnknown (N.knows names.now) self.old result self.new }
+        ensures unspent { self.new.spent ≡ false }
+    {
+        self.lexer.next_unknown_unspent(names)
+    }
+
+    /// Passes the next token if it is a newline of plain text, and returns whether it did. Otherwise it changes
+    /// nothing. No allocation may have failed before.
+    #[inline(always)]
+    pub fn pass_newline_unspent(&mut self) -> bool
+        requires { self.old.spent ≡ false }
+        ensures passes { PassesNewline self.old result self.new }
+        ensures unspent { self.new.spent ≡ false }
+    {
+        self.lexer.pass_newline_unspent()
+    }
+
     /// Passes the next token if it is a newline of plain text, and returns whether it did. Otherwise it changes
     /// nothing.
     #[inline(always)]

@@ -603,6 +603,15 @@ impl<'a> Lexer<'a> {
         if self.spent {
             return None;
         }
+        self.next_unknown_unspent(names)
+    }
+
+    /// Does the same as `next_unknown`, if no allocation failed before. It is private to the repository.
+    #[inline(always)]
+    pub fn next_unknown_unspent<N: KnownNames>(&mut self, names: &N) -> Option<PlainItem<'a>>
+        requires { self.old.spent ≡ false }
+        ensures { IsNextUnknown (N.knows names.now) self.old result self.new }
+    {
         let front = find_front(&mut self.inner, &mut self.flags);
         let Some(word) = plain_word(front.left.text) else {
             skip_spaces(&mut self.inner, &mut self.flags);
@@ -629,6 +638,15 @@ impl<'a> Lexer<'a> {
         if self.spent {
             return false;
         }
+        self.pass_newline_unspent()
+    }
+
+    /// Does the same as `pass_newline`, if no allocation failed before. It is private to the repository.
+    #[inline(always)]
+    pub fn pass_newline_unspent(&mut self) -> bool
+        requires { self.old.spent ≡ false }
+        ensures { PassesNewline self.old result self.new }
+    {
         lex_newline(&mut self.inner, &mut self.flags, &mut self.place).is_some()
     }
 

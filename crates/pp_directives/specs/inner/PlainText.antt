@@ -13,6 +13,7 @@ use Rattle.pp_model.specs.Definitions.{Definition}
 use Rattle.pp_macros.specs.inner.Defined.{Defined, meaning_of}
 use Rattle.pp_macros.specs.inner.Plain.{gives_itself}
 use Rattle.pp_macros.specs.declared.step.StepExit.TheVariants.{Continue}
+use Rattle.pp_macros.specs.inner.OpenBlocks.{is_live_among}
 use Rattle.pp_macros.specs.inner.Source.{Source, StepsSource, unreported_of}
 use Rattle.pp_macros.specs.inner.Unreported.{StepReports}
 use Rattle.pp_macros.specs.Held.{HoldsOrdinary}
@@ -79,6 +80,11 @@ pub record IsStep (old : Source) (step : Step Token) (new : Source) : Type 0 whe
 -- a step at a word of plain text, or nothing changed
 abbrev pub StepsPlain : Source → Option (Step Token) → Source → Type 0
 StepsPlain old answer new = MatchOption answer (new ≡ old) (λ step. IsStep old step new)
+
+-- the text is live, and memory didn't run out
+pub record IsInText (source : Source) : Type 0 where
+  pub live : is_live_among source.dead_for_good source.blocks ≡ true
+  pub unspent : source.spent ≡ false
 
 -- a name that is `__LINE__`, or is defined
 abbrev pub opens : List Defined → List ℕ → Bool

@@ -1,7 +1,7 @@
 use Rattle.std.proofs.Common.{◌∙◌, ap}
 use Rattle.pp_lexer.specs.Lexed.{Lexed}
 use Rattle.pp_lexer.proofs.items.PlainLexLemmas.{lexed_same}
-use Rattle.pp_lexer.proofs.lexer.Lexer.next_unknown.Goals as goal
+use Rattle.pp_lexer.proofs.lexer.Lexer.next_unknown_unspent.Goals as goal
 
 pub returns-in_default : goal.returns-in_default
 returns-in_default g c =
