@@ -1,6 +1,6 @@
 //! The items of a preprocessed source.
 
-ghost use Rattle.std.specs.Prelude.{◌≡◌, ◌-◌, ◌^◌, ◌<◌, ◌∷◌, [], false, length, if◌then◌else◌, true, IsTrue, OnOk, OnErr, IfOk, IfErr, Some, Ok};
+ghost use Rattle.std.specs.Prelude.{◌≡◌, ◌-◌, ◌^◌, ◌<◌, ◌∷◌, [], false, length, if◌then◌else◌, true, IsTrue, OnOk, OnErr, IfOk, IfErr, None, Some, Ok, Err, unwrap_or};
 ghost use Rattle.pp_lexer.specs.TokenValue.{is_ordinary};
 ghost use Rattle.pp_lexer.specs.declared.token.Token.{Token};
 ghost use Rattle.std.specs.Iterator.{at_most};
@@ -8,6 +8,7 @@ ghost use Rattle.pp_lexer.specs.Location.{nowhere};
 ghost use Rattle.pp_lexer.specs.PreprocessorError.{out_of_memory};
 ghost use Rattle.pp_model.specs.Run.{items_of, start};
 ghost use Rattle.pp_rs.specs.Adding.{IsAdded};
+ghost use Rattle.pp_rs.specs.inner.Fit.{ReadsText};
 ghost use Rattle.pp_rs.specs.CallLine.{IsCallLine};
 ghost use Rattle.pp_macros.specs.Item.{is_out_of_memory};
 ghost use Rattle.pp_macros.specs.inner.Frames.{new_frame};
@@ -42,19 +43,23 @@ pub struct Preprocessor<'a> {
     expander: Expander,
     source: DirectiveProcessor<'a>,
     spent: bool,
+    // whether the next token is known to be one of live text
+    in_text: bool,
     place: Location,
 }
 
 impl<'a> Model for Preprocessor<'a> {
     ghost use Rattle.std.specs.Prelude.{◌≡◌, false};
-    ghost use Rattle.pp_rs.specs.inner.Fit.{IsFit, IsReported};
+    ghost use Rattle.std.specs.Prelude.{true};
+    ghost use Rattle.pp_rs.specs.inner.Fit.{IsFit, IsReported, ReadsText};
     ghost use Rattle.pp_rs.specs.Kept.{Preprocessing};
 
     ghost Value = { Preprocessing };
 
     ghost view = { λ p. record { expander = p.expander; source = p.source; spent = p.spent; place = p.place } };
 
-    ghost invariant = { λ p. p.spent ≡ false → IsFit p.expander p.source × IsReported p.expander p.source };
+    ghost invariant = { λ p. (p.spent ≡ false → IsFit p.expander p.source × IsReported p.expander p.source)
+        × (p.in_text ≡ true → ReadsText p.expander p.source p.spent) };
 }
 
 // The error. `OutOfMemory` always gets the same place.
@@ -66,6 +71,27 @@ fn place_refusal(error: (PreprocessorError, Location)) -> (PreprocessorError, Lo
         return out_of_memory();
     }
     error
+}
+
+// The item of an error, whose place is noted, and whether memory ran out. It is a function of its own, so that tokens are
+// moved without it.
+#[inline(never)]
+fn refused_item(
+    error: (PreprocessorError, Location),
+    source: &mut DirectiveProcessor<'_>,
+    spent: &mut bool,
+    place: &mut Location,
+) -> PreprocessorItem
+    ensures item { result ≡ Err (if is_out_of_memory error.0 then out_of_memory else error) }
+    ensures spent { spent.new ≡ is_out_of_memory error.0 }
+    ensures place { place.new ≡ unwrap_or source.old.error_place
+        (if is_out_of_memory error.0 then out_of_memory else error).1 }
+    ensures source { source.new ≡ record source.old { error_place = None } }
+{
+    *spent = is_out_of_memory(&error.0);
+    let error = place_refusal(error);
+    *place = source.take_error_place().unwrap_or(error.1);
+    Err(error)
 }
 
 // Opens the frame of a macro without parentheses.
@@ -94,8 +120,23 @@ impl<'a> Preprocessor<'a> {
             expander: Expander::new(alloc),
             source: DirectiveProcessor::new(alloc, input),
             spent: false,
+            in_text: false,
             place: NOWHERE,
         }
+    }
+
+    // Whether the next token is one of live text: no macro is open, nothing is held, and memory didn't run out. Once it
+    // is, this is noted until a token is asked for that isn't a word of plain text.
+    #[inline(always)]
+    fn is_in_text(&mut self) -> bool
+        ensures same { self.new ≡ self.old }
+        ensures text { IsTrue result → ReadsText self.old.expander self.old.source self.old.spent }
+    {
+        if self.in_text {
+            return true;
+        }
+        self.in_text = !self.spent && self.expander.is_idle() && self.source.is_in_text();
+        self.in_text
     }
 
     /// Returns the next token before memory is taken for it, if it is a word of plain text that is given as it is
@@ -106,7 +147,7 @@ impl<'a> Preprocessor<'a> {
     pub fn next_word(&mut self) -> Option<PlainItem<'a>>
         ensures { IsNextWord self.old result self.new }
     {
-        if self.spent || !self.expander.is_idle() {
+        if !self.is_in_text() {
             return None;
         }
         'words: loop {
@@ -114,6 +155,7 @@ impl<'a> Preprocessor<'a> {
                 return Some(word);
             }
             if !self.source.pass_newline() {
+                self.in_text = false;
                 return None;
             }
         }
@@ -132,6 +174,7 @@ impl<'a> Preprocessor<'a> {
         if self.spent || !self.expander.is_idle() {
             return Ok(None);
         }
+        self.in_text = false;
         let Some(word) = self.source.next_bare() else {
             return Ok(None);
         };
@@ -158,6 +201,7 @@ impl<'a> Preprocessor<'a> {
             Ok(token) => Ok(token),
             Err(_) => {
                 self.spent = true;
+                self.in_text = false;
                 Err(out_of_memory())
             }
         }
@@ -174,6 +218,7 @@ impl<'a> Preprocessor<'a> {
         if self.spent {
             return None;
         }
+        self.in_text = false;
         loop {
             match self.expander.give_next(&self.source) {
                 Ok(Some(token)) => return Some(Ok(token)),
@@ -186,10 +231,12 @@ impl<'a> Preprocessor<'a> {
             match turn_source(self.alloc, &mut self.expander, &mut self.source) {
                 Ok(token) => return Some(Ok(token)),
                 Err(StepExit::Error(error)) => {
-                    self.spent = is_out_of_memory(&error.0);
-                    let error = place_refusal(error);
-                    self.place = self.source.take_error_place().unwrap_or(error.1);
-                    return Some(Err(error));
+                    return Some(refused_item(
+                        error,
+                        &mut self.source,
+                        &mut self.spent,
+                        &mut self.place,
+                    ));
                 }
                 Err(StepExit::Finished) => return None,
                 Err(StepExit::Continue) => {}
@@ -203,11 +250,10 @@ impl<'a> Preprocessor<'a> {
     fn next_word_or_item(&mut self) -> Option<PreprocessorItem>
         ensures { IsNextItem self.old result self.new }
     {
-        if self.spent {
-            return None;
-        }
-        if let Some(word) = self.next_word() {
-            return Some(self.word_item(word));
+        if self.is_in_text() {
+            if let Some(word) = self.next_word() {
+                return Some(self.word_item(word));
+            }
         }
         self.next_item()
     }
@@ -227,6 +273,7 @@ impl<'a> Preprocessor<'a> {
         if self.spent || self.expander.is_idle() {
             return Ok(false);
         }
+        self.in_text = false;
         match self.expander.advance(&self.source) {
             Ok(Some(_)) => {}
             Ok(None) => return Ok(false),
@@ -264,6 +311,7 @@ impl<'a> Preprocessor<'a> {
         requires { SomeAhead self.old }
         ensures { (token : Token) → IsAhead self.old token → IsNextItem self.old (Some (Ok token)) self.new }
     {
+        self.in_text = false;
         self.expander.pass();
     }
 
@@ -313,6 +361,7 @@ impl<'a> Preprocessor<'a> {
         requires { length content.now < 2 ^ 32 - 1 }
         ensures { IsAdded self.old name.now content.now result self.new }
     {
+        self.in_text = false;
         match self.source.set_content(name, content) {
             Ok(()) => Ok(()),
             Err(Halt::Fault(fault)) => Err(fault),

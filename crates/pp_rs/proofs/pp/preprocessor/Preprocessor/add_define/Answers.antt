@@ -5,6 +5,7 @@ use Rattle.pp_rs.specs.Kept.{Preprocessing}
 use Rattle.pp_macros.specs.inner.Source.{Source}
 use Rattle.pp_rs.proofs.runs.AddingLemmas.{added_now, faulty_now, refused_now, fit_added, reported_added}
 use Rattle.pp_rs.proofs.pp.preprocessor.Preprocessor.add_define.Goals.{in-Ok, in-Err-Fault, in-Err-OutOfMemory}
+use Rattle.std.proofs.lemmas.Bool.{false≢true}
 use Rattle.pp_rs.proofs.pp.preprocessor.Preprocessor.add_define.Goals as goal
 
 pub returns : goal.returns
@@ -29,17 +30,19 @@ returns c =
 pub invariant_of-self : goal.invariant_of-self
 invariant_of-self c =
     let p = c.self.inside in
-    let new = c.set_content.new.self in
-    λ unspent.
-    let fit : IsFit p.expander p.source × IsReported p.expander p.source = c.self.invariant unspent in
-    elim c.match-set_content.branch [
-      | in-Ok w ↦
-          (let h = w.in-Ok.ensures {u = tt} in
-          (fit_added (chars c.args.name.now) h.0 p.source new h.2 p.expander fit.0, reported_added (chars c.args.name.now) h.0 p.source new h.2 p.expander fit.1))
-      | in-Err-Fault w ↦
-          (let h = rw w.in-Err-Fault.field-0-is at (w.in-Err-Fault.ensures {u = tt}) in
-          subst (λ (s : Source). IsFit p.expander s × IsReported p.expander s) (sym h.1) fit)
-      | in-Err-OutOfMemory w ↦
-          (let h = rw w.in-Err-OutOfMemory.field-0-is at (w.in-Err-OutOfMemory.ensures {u = tt}) in
-          subst (λ (s : Source). IsFit p.expander s × IsReported p.expander s) (sym h) fit)
-    ]
+    let new = c.set_content.new.self in (
+      λ unspent.
+          let fit : IsFit p.expander p.source × IsReported p.expander p.source = c.self.invariant.0 unspent in
+          elim c.match-set_content.branch [
+            | in-Ok w ↦
+                (let h = w.in-Ok.ensures {u = tt} in
+                (fit_added (chars c.args.name.now) h.0 p.source new h.2 p.expander fit.0, reported_added (chars c.args.name.now) h.0 p.source new h.2 p.expander fit.1))
+            | in-Err-Fault w ↦
+                (let h = rw w.in-Err-Fault.field-0-is at (w.in-Err-Fault.ensures {u = tt}) in
+                subst (λ (s : Source). IsFit p.expander s × IsReported p.expander s) (sym h.1) fit)
+            | in-Err-OutOfMemory w ↦
+                (let h = rw w.in-Err-OutOfMemory.field-0-is at (w.in-Err-OutOfMemory.ensures {u = tt}) in
+                subst (λ (s : Source). IsFit p.expander s × IsReported p.expander s) (sym h) fit)
+          ],
+      λ h. absurd (false≢true h),
+    )

@@ -1,7 +1,6 @@
-use Rattle.std.proofs.Common.{◌≡◌, ◌∙◌, refl, ap, sym, false, Option, arith}
-use Rattle.std.specs.Prelude.{unwrap_or}
-use Rattle.pp_lexer.specs.declared.token.Location.{Location}
-use Rattle.pp_macros.specs.Item.{Fault, is_out_of_memory}
+use Rattle.std.proofs.Common.{◌≡◌, ◌∙◌, refl, ap, sym, false, arith}
+use Rattle.std.proofs.lemmas.Bool.{false≢true}
+use Rattle.pp_macros.specs.Item.{is_out_of_memory}
 use Rattle.pp_rs.proofs.runs.PausesLemmas.{reached_on, given_over}
 use Rattle.pp_rs.proofs.runs.NextLemmas.{reached_first, reached_more, falls_more, token_fits, end_fits, fault_fits, next_token, next_end, next_error, next_none, next_refused}
 use Rattle.pp_rs.proofs.pp.preprocessor.Preprocessor.next_item.Goals as goal
@@ -10,7 +9,8 @@ pub loop-token-init : goal.loop-token-init
 loop-token-init c = record {
   unspent = c.if-self.false;
   placed = ap (λ p. p.place) c.self.view_is;
-  reached = reached_first _ _ _ _ (ap (λ p. p.expander) c.self.view_is) (ap (λ p. p.source) c.self.view_is) (c.self.invariant c.if-self.false);
+  unnoted = refl;
+  reached = reached_first _ _ _ _ (ap (λ p. p.expander) c.self.view_is) (ap (λ p. p.source) c.self.view_is) (c.self.invariant.0 c.if-self.false);
 }
 
 pub loop-token-smaller : goal.loop-token-smaller
@@ -25,31 +25,43 @@ loop-token-preserved c =
     record {
       unspent = c.loop-token.invariant.unspent;
       placed = c.loop-token.invariant.placed;
+      unnoted = c.loop-token.invariant.unnoted;
       reached = reached_more _ _ _ _ _ _ on.reached (rw c.in-Err-Continue.field-0-is at c.in-Err-Continue.ensures.turns);
     }
 
 pub invariant_of-self : goal.invariant_of-self
-invariant_of-self c = λ e.
-    let given = rw c.in-Ok-Some.field-0-is at (c.in-Ok-Some.ensures {u = tt}).gives in
-    let on = reached_on _ _ _ _ c.loop-token.invariant.reached _ given.pauses in
-    token_fits _ _ _ _ _ _ on.reached c.in-Ok-Some.token (given_over _ _ _ _ _ given.gives given.passes)
+invariant_of-self c = (
+  λ e.
+      let given = rw c.in-Ok-Some.field-0-is at (c.in-Ok-Some.ensures {u = tt}).gives in
+      let on = reached_on _ _ _ _ c.loop-token.invariant.reached _ given.pauses in
+      token_fits _ _ _ _ _ _ on.reached c.in-Ok-Some.token (given_over _ _ _ _ _ given.gives given.passes),
+  λ h. absurd (false≢true (sym c.loop-token.invariant.unnoted ∙ h)),
+)
 
 pub invariant_of-self-in-Ok : goal.invariant_of-self-in-Ok
-invariant_of-self-in-Ok c = λ e.
-    let on = reached_on _ _ _ _ c.loop-token.invariant.reached _ (rw c.in-Ok-None.field-0-is at (c.in-Ok-None.ensures {u = tt}).gives) in
-    token_fits _ _ _ _ _ _ on.reached c.in-Ok.token c.in-Ok.ensures.turns
+invariant_of-self-in-Ok c = (
+  λ e.
+      let on = reached_on _ _ _ _ c.loop-token.invariant.reached _ (rw c.in-Ok-None.field-0-is at (c.in-Ok-None.ensures {u = tt}).gives) in
+      token_fits _ _ _ _ _ _ on.reached c.in-Ok.token c.in-Ok.ensures.turns,
+  λ h. absurd (false≢true (sym c.loop-token.invariant.unnoted ∙ h)),
+)
 
 pub invariant_of-self-in-Err-Finished : goal.invariant_of-self-in-Err-Finished
-invariant_of-self-in-Err-Finished c = λ e.
-    let on = reached_on _ _ _ _ c.loop-token.invariant.reached _ (rw c.in-Ok-None.field-0-is at (c.in-Ok-None.ensures {u = tt}).gives) in
-    end_fits _ _ _ _ _ _ on.reached
-    (rw c.in-Err-Finished.field-0-is at c.in-Err-Finished.ensures.turns)
+invariant_of-self-in-Err-Finished c = (
+  λ e.
+      let on = reached_on _ _ _ _ c.loop-token.invariant.reached _ (rw c.in-Ok-None.field-0-is at (c.in-Ok-None.ensures {u = tt}).gives) in
+      end_fits _ _ _ _ _ _ on.reached
+      (rw c.in-Err-Finished.field-0-is at c.in-Err-Finished.ensures.turns),
+  λ h. absurd (false≢true (sym c.loop-token.invariant.unnoted ∙ h)),
+)
 
 pub invariant_of-self-in-Err-Error : goal.invariant_of-self-in-Err-Error
 invariant_of-self-in-Err-Error c =
-    let on = reached_on _ _ _ _ c.loop-token.invariant.reached _ (rw c.in-Ok-None.field-0-is at (c.in-Ok-None.ensures {u = tt}).gives) in
-    λ e. fault_fits _ _ _ _ _ _ on.reached c.in-Err-Error.error c.take_error_place.new.self c.take_error_place.ensures.others
-    (rw c.in-Err-Error.field-0-is at c.in-Err-Error.ensures.turns) (sym c.is_out_of_memory-self-inside.ensures ∙ e)
+    let on = reached_on _ _ _ _ c.loop-token.invariant.reached _ (rw c.in-Ok-None.field-0-is at (c.in-Ok-None.ensures {u = tt}).gives) in (
+      λ e. fault_fits _ _ _ _ _ _ on.reached c.in-Err-Error.error c.refused_item.new.source c.refused_item.ensures.source
+          (rw c.in-Err-Error.field-0-is at c.in-Err-Error.ensures.turns) (sym c.refused_item.ensures.spent ∙ e),
+      λ h. absurd (false≢true (sym c.loop-token.invariant.unnoted ∙ h)),
+    )
 
 pub returns-then-self : goal.returns-then-self
 returns-then-self c = next_none c.args.self.now (ap (λ p. p.spent) (sym c.self.view_is) ∙ c.if-self.true)
@@ -83,13 +95,10 @@ returns-in-Err-Error c =
     let on = reached_on _ _ _ _ c.loop-token.invariant.reached _ (rw c.in-Ok-None.field-0-is at (c.in-Ok-None.ensures {u = tt}).gives) in
     let fresh : c.args.self.now.spent ≡ false = ap (λ p. p.spent) (sym c.self.view_is) ∙ c.if-self.false in
     let error = c.in-Err-Error.error in
-    let at = c.unwrap_or-self-inside.ensures
-    ∙ ap (λ (o : Option Location). unwrap_or o c.place_refusal-error.result.1) c.take_error_place.ensures.place
-    ∙ ap (λ (e : Fault). unwrap_or c.turn_source.new.source.error_place e.1) c.place_refusal-error.ensures in
-    rw (c.place_refusal-error.ensures, c.is_out_of_memory-self-inside.ensures)
-    (next_error _ _ _ _ _ _ on.reached c.args.self.now fresh refl refl error c.take_error_place.new.self
-    c.unwrap_or-self-inside.result c.take_error_place.ensures.others (is_out_of_memory error.0) refl
-    (rw c.in-Err-Error.field-0-is at c.in-Err-Error.ensures.turns) at)
+    rw (c.refused_item.ensures.item, c.refused_item.ensures.spent)
+    (next_error _ _ _ _ _ _ on.reached c.args.self.now fresh refl refl error c.refused_item.new.source
+    c.refused_item.new.place c.refused_item.ensures.source (is_out_of_memory error.0) refl
+    (rw c.in-Err-Error.field-0-is at c.in-Err-Error.ensures.turns) c.refused_item.ensures.place)
 
 pub returns-in-Err : goal.returns-in-Err
 returns-in-Err c =

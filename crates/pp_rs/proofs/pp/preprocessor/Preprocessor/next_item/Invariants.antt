@@ -10,6 +10,7 @@ abbrev pub invariant-loop-token : goal.invariant-loop-token
 invariant-loop-token l = record {
   unspent : l.self-inside.spent ≡ false;
   placed : l.self-inside.place ≡ l.fn.self.place;
+  unnoted : l.self-inside.in_text ≡ false;
   reached : Reached l.fn.self.expander l.fn.self.source l.self-inside.expander l.self-inside.source;
 }
 

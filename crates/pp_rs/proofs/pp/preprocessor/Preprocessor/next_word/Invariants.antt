@@ -3,6 +3,7 @@ use Rattle.pp_model.specs.Emitting.{expansion_limit}
 use Rattle.pp_macros.specs.inner.Idle.{is_idle}
 use Rattle.pp_macros.specs.inner.Left.{work_of}
 use Rattle.pp_macros.specs.inner.Reader.{of_source}
+use Rattle.pp_directives.specs.inner.PlainText.{IsInText}
 use Rattle.pp_rs.proofs.runs.NextLemmas.{Reached}
 use Rattle.pp_rs.proofs.pp.preprocessor.Preprocessor.next_word.Given as goal
 
@@ -12,6 +13,7 @@ invariant-words l = record {
   unspent : l.self-inside.spent ≡ false;
   placed : l.self-inside.place ≡ l.fn.self.place;
   idle : is_idle l.self-inside.expander ≡ true;
+  text : IsInText l.self-inside.source;
   reached : Reached l.fn.self.expander l.fn.self.source l.self-inside.expander l.self-inside.source;
 }
 

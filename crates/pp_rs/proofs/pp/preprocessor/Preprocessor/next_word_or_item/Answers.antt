@@ -1,23 +1,33 @@
-use Rattle.std.proofs.Common.{◌≡◌, ◌∙◌, ap, sym, false}
+use Rattle.std.proofs.Common.{◌∙◌, subst}
 use Rattle.pp_directives.specs.WordTokens.{word_token}
-use Rattle.pp_rs.specs.Kept.{is_spent}
-use Rattle.pp_rs.proofs.runs.NextLemmas.{next_none}
+use Rattle.pp_rs.specs.Kept.{Preprocessing, is_spent}
+use Rattle.pp_rs.specs.NextWord.{IsPassed}
+use Rattle.pp_rs.specs.Preprocessing.{IsNextItem}
+use Rattle.pp_rs.specs.inner.Fit.{ReadsText}
 use Rattle.pp_rs.proofs.runs.NextWordLemmas.{passed_next, word_comes}
 use Rattle.pp_rs.proofs.pp.preprocessor.Preprocessor.next_word_or_item.Goals as goal
-
-pub returns-then-self : goal.returns-then-self
-returns-then-self c = next_none c.args.self.now (ap (λ p. p.spent) (sym c.self.view_is) ∙ c.if-self.true)
+use Rattle.pp_rs.proofs.pp.preprocessor.Preprocessor.next_word_or_item.Goals.{then-is_in_text+in_default, else-is_in_text}
 
 pub returns-in-Some : goal.returns-in-Some
 unfolding is_spent
 returns-in-Some c =
-    let fresh : c.args.self.now.spent ≡ false = ap (λ p. p.spent) (sym c.self.view_is) ∙ c.if-self.false in
+    let old = c.args.self.now in
+    let reads : ReadsText old.expander old.source old.spent = c.is_in_text.ensures.text c.if-is_in_text.true in
     let word = rw c.in-Some.is at c.next_word.ensures in
-    word_comes c.args.self.now c.next_word.new.self c.word_item.new.self (word_token c.in-Some.word) c.word_item.result fresh word.next
-    c.word_item.ensures.token c.word_item.ensures.refused
+    word_comes old c.next_word.new.self c.word_item.new.self (word_token c.in-Some.word) c.word_item.result reads.unspent
+    (rw c.is_in_text.ensures.same at word.next) c.word_item.ensures.token c.word_item.ensures.refused
 
 pub returns : goal.returns
 unfolding is_spent
 returns c =
-    let fresh : c.args.self.now.spent ≡ false = ap (λ p. p.spent) (sym c.self.view_is) ∙ c.if-self.false in
-    passed_next c.args.self.now c.next_word.new.self c.next_item.new.self c.next_item.result fresh (rw c.in_default.is at c.next_word.ensures) c.next_item.ensures
+    let old = c.args.self.now in
+    elim c.if-is_in_text.branch [
+      | then-is_in_text+in_default w ↦
+          let reads : ReadsText old.expander old.source old.spent = c.is_in_text.ensures.text w.if-is_in_text.true in
+          let passed : IsPassed c.is_in_text.new.self w.next_word.new.self = rw w.in_default.is at w.next_word.ensures in
+          passed_next old w.next_word.new.self c.next_item.new.self c.next_item.result reads.unspent
+          (subst (λ (p : Preprocessing). IsPassed p w.next_word.new.self) c.is_in_text.ensures.same passed)
+          (subst (λ (p : Preprocessing). IsNextItem p c.next_item.result c.next_item.new.self) w.self-is c.next_item.ensures)
+      | else-is_in_text w ↦
+          subst (λ (p : Preprocessing). IsNextItem p c.next_item.result c.next_item.new.self) (w.self-is ∙ c.is_in_text.ensures.same) c.next_item.ensures
+    ]

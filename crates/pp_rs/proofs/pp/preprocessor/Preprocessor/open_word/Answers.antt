@@ -8,16 +8,19 @@ use Rattle.pp_rs.proofs.pp.preprocessor.Preprocessor.open_word.Goals as goal
 
 -- a word that names no macro
 pub invariant_of-self-in_default-macro_of_word : goal.invariant_of-self-in_default-macro_of_word
-invariant_of-self-in_default-macro_of_word c = λ e.
-    let first = reached_first _ _ _ _ (ap (λ p. p.expander) c.self.view_is) (ap (λ p. p.source) c.self.view_is) (c.self.invariant c.if-self.false) in
-    let takes = rw c.in-Some.is at c.next_bare.ensures in
-    token_fits _ _ _ _ _ _ first (word_token c.in-Some.word)
-    (bare_over _ _ _ c.in-Some.word (sym c.is_idle.ensures ∙ c.if-not-is_idle.false) takes
-    (sym (rw c.in_default-macro_of_word.is at c.macro_of_word.ensures)))
+invariant_of-self-in_default-macro_of_word c = (
+  λ e.
+      let first = reached_first _ _ _ _ (ap (λ p. p.expander) c.self.view_is) (ap (λ p. p.source) c.self.view_is) (c.self.invariant.0 c.if-self.false) in
+      let takes = rw c.in-Some.is at c.next_bare.ensures in
+      token_fits _ _ _ _ _ _ first (word_token c.in-Some.word)
+      (bare_over _ _ _ c.in-Some.word (sym c.is_idle.ensures ∙ c.if-not-is_idle.false) takes
+      (sym (rw c.in_default-macro_of_word.is at c.macro_of_word.ensures))),
+  λ h. cc,
+)
 
 pub returns-in_default-macro_of_word-clause-gives : goal.returns-in_default-macro_of_word-clause-gives
 returns-in_default-macro_of_word-clause-gives c =
-    let first = reached_first _ _ _ _ (ap (λ p. p.expander) c.self.view_is) (ap (λ p. p.source) c.self.view_is) (c.self.invariant c.if-self.false) in
+    let first = reached_first _ _ _ _ (ap (λ p. p.expander) c.self.view_is) (ap (λ p. p.source) c.self.view_is) (c.self.invariant.0 c.if-self.false) in
     let takes = rw c.in-Some.is at c.next_bare.ensures in
     let fresh : c.args.self.now.spent ≡ false = ap (λ p. p.spent) (sym c.self.view_is) ∙ c.if-self.false in
     record {
@@ -30,17 +33,20 @@ returns-in_default-macro_of_word-clause-gives c =
 
 -- a macro that opens
 pub invariant_of-self-in-Ok : goal.invariant_of-self-in-Ok
-invariant_of-self-in-Ok c = λ e.
-    let first = reached_first _ _ _ _ (ap (λ p. p.expander) c.self.view_is) (ap (λ p. p.source) c.self.view_is) (c.self.invariant c.if-self.false) in
-    let takes = rw c.in-Some.is at c.next_bare.ensures in
-    let on = reached_more _ _ _ _ _ _ first
-    (opens_over _ _ _ c.in-Some.word (sym c.is_idle.ensures ∙ c.if-not-is_idle.false) takes c.open_shared.new.expander _ _
-    (sym (rw c.in-Some-macro_of_word.is at c.macro_of_word.ensures)) (rw c.in-Ok.is at c.open_shared.ensures)) in
-    (on.fit, on.reported)
+invariant_of-self-in-Ok c = (
+  λ e.
+      let first = reached_first _ _ _ _ (ap (λ p. p.expander) c.self.view_is) (ap (λ p. p.source) c.self.view_is) (c.self.invariant.0 c.if-self.false) in
+      let takes = rw c.in-Some.is at c.next_bare.ensures in
+      let on = reached_more _ _ _ _ _ _ first
+      (opens_over _ _ _ c.in-Some.word (sym c.is_idle.ensures ∙ c.if-not-is_idle.false) takes c.open_shared.new.expander _ _
+      (sym (rw c.in-Some-macro_of_word.is at c.macro_of_word.ensures)) (rw c.in-Ok.is at c.open_shared.ensures)) in
+      (on.fit, on.reported),
+  λ h. cc,
+)
 
 pub returns-in-Ok-clause-gives : goal.returns-in-Ok-clause-gives
 returns-in-Ok-clause-gives c =
-    let first = reached_first _ _ _ _ (ap (λ p. p.expander) c.self.view_is) (ap (λ p. p.source) c.self.view_is) (c.self.invariant c.if-self.false) in
+    let first = reached_first _ _ _ _ (ap (λ p. p.expander) c.self.view_is) (ap (λ p. p.source) c.self.view_is) (c.self.invariant.0 c.if-self.false) in
     let takes = rw c.in-Some.is at c.next_bare.ensures in
     let on = reached_more _ _ _ _ _ _ first
     (opens_over _ _ _ c.in-Some.word (sym c.is_idle.ensures ∙ c.if-not-is_idle.false) takes c.open_shared.new.expander _ _

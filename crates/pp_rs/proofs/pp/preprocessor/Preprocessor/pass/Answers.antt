@@ -3,15 +3,18 @@ use Rattle.pp_rs.proofs.runs.PassedLemmas.{fresh_ahead, pass_fits, ahead_passes}
 use Rattle.pp_rs.proofs.pp.preprocessor.Preprocessor.pass.Goals as goal
 
 pub invariant_of-self : goal.invariant_of-self
-invariant_of-self c = λ e.
-    rw c.pass.ensures
-    (pass_fits c.args.self.now c.self.inside.expander c.self.inside.source (ap (λ p. p.expander) (sym c.self.view_is))
-    (ap (λ p. p.source) (sym c.self.view_is)) (c.self.invariant e) c.requires.0 c.requires.1)
+invariant_of-self c = (
+  λ e.
+      rw c.pass.ensures
+      (pass_fits c.args.self.now c.self.inside.expander c.self.inside.source (ap (λ p. p.expander) (sym c.self.view_is))
+      (ap (λ p. p.source) (sym c.self.view_is)) (c.self.invariant.0 e) c.requires.0 c.requires.1),
+  λ h. cc,
+)
 
 pub returns : goal.returns
 returns c = λ token ahead.
     let fresh = ap (λ p. p.spent) c.self.view_is ∙ fresh_ahead c.args.self.now token ahead in
     rw c.pass.ensures
     (ahead_passes c.args.self.now c.self.inside.expander c.self.inside.source (ap (λ p. p.expander) (sym c.self.view_is))
-    (ap (λ p. p.source) (sym c.self.view_is)) (c.self.invariant fresh) token ahead c.self.inside.spent c.self.inside.place fresh
+    (ap (λ p. p.source) (sym c.self.view_is)) (c.self.invariant.0 fresh) token ahead c.self.inside.spent c.self.inside.place fresh
     (ap (λ p. p.place) c.self.view_is))
