@@ -172,6 +172,29 @@ fn skip_spaces_and_comments(inner: &mut LexerCharIterator<'_>, flags: &mut Flags
     }
 }
 
+// Passes the spaces at the front, and the comments and blanks after them. It is a function of its own, since most words
+// come without a comment.
+#[inline(never)]
+fn pass_comments(inner: &mut LexerCharIterator<'_>, flags: &mut Flags)
+    ensures same { seen_of flags.new inner.new ≡ seen_of flags.old inner.old }
+    ensures at_end { comments_at_end flags.new inner.new ≡ comments_at_end flags.old inner.old }
+    ensures places { places_left flags.new inner.new ≡ places_left flags.old inner.old }
+{
+    skip_spaces_and_comments(inner, flags);
+}
+
+// Passes the spaces at the front, which there are if `spaced` says so. Most are passed with the word after them.
+#[inline(always)]
+fn pass_spaces(inner: &mut LexerCharIterator<'_>, flags: &mut Flags, spaced: bool)
+    ensures same { seen_of flags.new inner.new ≡ seen_of flags.old inner.old }
+    ensures at_end { comments_at_end flags.new inner.new ≡ comments_at_end flags.old inner.old }
+    ensures places { places_left flags.new inner.new ≡ places_left flags.old inner.old }
+{
+    if spaced {
+        pass_comments(inner, flags);
+    }
+}
+
 // What is left after spaces, which weren't passed.
 #[derive(Clone, Copy)]
 struct Front<'a> {
@@ -215,9 +238,11 @@ fn find_front<'a>(inner: &mut LexerCharIterator<'a>, flags: &mut Flags) -> Front
     if !begins_comment(front.left.text.as_bytes()) {
         return front;
     }
-    skip_spaces(inner, flags);
-    skip_comments(inner, flags);
-    front_of(inner)
+    pass_comments(inner, flags);
+    Front {
+        left: inner.left(),
+        spaced: false,
+    }
 }
 
 // Takes the word of plain text at the front of what is left.
@@ -580,7 +605,7 @@ impl<'a> Lexer<'a> {
         }
         let front = find_front(&mut self.inner, &mut self.flags);
         let Some(word) = plain_word(front.left.text) else {
-            skip_spaces(&mut self.inner, &mut self.flags);
+            pass_spaces(&mut self.inner, &mut self.flags, front.spaced);
             return None;
         };
         if matches!(word.form, Form::Hash) {
@@ -614,7 +639,7 @@ impl<'a> Lexer<'a> {
     {
         let front = find_front(&mut self.inner, &mut self.flags);
         let Some(word) = plain_word(front.left.text) else {
-            skip_spaces(&mut self.inner, &mut self.flags);
+            pass_spaces(&mut self.inner, &mut self.flags, front.spaced);
             return None;
         };
         if !is_unknown(names, front.left.text, word) {

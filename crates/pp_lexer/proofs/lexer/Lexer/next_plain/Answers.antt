@@ -7,9 +7,9 @@ pub returns-in_default : goal.returns-in_default
 returns-in_default c =
     let l = c.self.inside in
     let d = c.find_front-front.ensures in
-    let e = c.skip_spaces.ensures in
-    let g = c.skip_spaces.new.flags in
-    lexed_same l.flags g l.inner c.skip_spaces.new.inner l.place l.spent (e.same ∙ d.same) (e.at_end ∙ d.at_end) (e.places ∙ d.places)
+    let e = c.pass_spaces.ensures in
+    let g = c.pass_spaces.new.flags in
+    lexed_same l.flags g l.inner c.pass_spaces.new.inner l.place l.spent (e.same ∙ d.same) (e.at_end ∙ d.at_end) (e.places ∙ d.places)
     ∙ ap (λ (x : Lexed). record x { had_comments = g.had_comments }) c.self.view_is
 
 pub returns-then-matches : goal.returns-then-matches
