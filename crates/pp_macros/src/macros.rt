@@ -167,8 +167,8 @@ impl Macros {
         self.find_marked(name)
     }
 
-    // The number of the macro with this name. It is a function of its own, so that a name whose mark is missing is known
-    // without a call.
+    // The number of the macro with this name. It is a function of its own, so that a name whose mark is missing is
+    // known without a call.
     #[inline(never)]
     fn find_marked(&self, name: &str) -> Option<MacroId>
         ensures { result ≡ position (is_same_name (chars name.now)) (macro_names self.now) }

@@ -105,7 +105,7 @@ fn push_next(
     ensures printing { OnOk result (KeepsPrinting items.old (option_map string_bytes line.old)
         items.new (option_map string_bytes line.new)) }
 {
-    if items.call_line().is_none() {
+    if items.is_noted_in_text() || items.call_line().is_none() {
         return push_live(alloc, items, line);
     }
     if push_given(alloc, items, line)? {

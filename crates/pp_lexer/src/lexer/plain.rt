@@ -176,7 +176,8 @@ pub fn plain_word(text: &str) -> Option<Word>
     if begins(first) {
         return plain_identifier(bytes);
     }
-    if first.is_ascii_digit() || first == 46 {
+    // no letter, so a digit
+    if continues(first) || first == 46 {
         if let Some(number) = plain_number(bytes) {
             return Some(number);
         }

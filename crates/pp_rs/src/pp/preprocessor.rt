@@ -73,8 +73,8 @@ fn place_refusal(error: (PreprocessorError, Location)) -> (PreprocessorError, Lo
     error
 }
 
-// The item of an error, whose place is noted, and whether memory ran out. It is a function of its own, so that tokens are
-// moved without it.
+// The item of an error, whose place is noted, and whether memory ran out. It is a function of its own, so that tokens
+// are moved without it.
 #[inline(never)]
 fn refused_item(
     error: (PreprocessorError, Location),
@@ -136,6 +136,17 @@ impl<'a> Preprocessor<'a> {
             return true;
         }
         self.in_text = !self.spent && self.expander.is_idle() && self.source.is_in_text();
+        self.in_text
+    }
+
+    /// Returns whether it is noted that the next token is one of live text, so that `next_word` is to be asked first.
+    /// `false` says nothing.
+    ///
+    /// It is private to the repository.
+    #[inline(always)]
+    pub fn is_noted_in_text(&self) -> bool
+        ensures { IsTrue result → is_spent self.now ≡ false }
+    {
         self.in_text
     }
 
