@@ -3,8 +3,8 @@ use Rattle.pp_print.proofs.NextLemmas.{has_less}
 use Rattle.pp_print.proofs.output.push_next.Goals as goal
 
 -- live text, with no macro open
-pub returns-then-is_none-clause-printing : goal.returns-then-is_none-clause-printing
-returns-then-is_none-clause-printing c = c.push_live.ensures.printing
+pub returns-then-is_noted_in_text-clause-printing : goal.returns-then-is_noted_in_text-clause-printing
+returns-then-is_noted_in_text-clause-printing c = c.push_live.ensures.printing
 
 -- live text, after the open macros
 pub returns-clause-left : goal.returns-clause-left
