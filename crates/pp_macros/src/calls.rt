@@ -444,14 +444,14 @@ impl Expander {
     }
 
     /// Opens the frame of an object-like macro.
+    #[inline(always)]
     pub fn open_bare(&mut self, opened: Rc<Macro>, line: u32) -> Result<(), AllocError>
         ensures { OnOk result (self.new ≡ record self.old {
           frames = new_frame opened.value.name line opened.value.definition []
               ∷ self.old.frames;
         }) }
     {
-        let arguments = ArgumentLists::nothing(self.alloc);
-        self.processor.open(opened, line, arguments)
+        self.processor.open_bare(opened, line)
     }
 
     // Opens the frame of an object-like macro, as a step.
@@ -582,7 +582,7 @@ impl Expander {
             return Ok(Turn::Other);
         }
         let Some(ahead) = self.processor.token() else {
-            self.processor.pass();
+            self.processor.pass_pause();
             return Ok(Turn::Passed);
         };
         if is_line_name(ahead.value()) {
