@@ -60,16 +60,6 @@ impl Model for ArgumentLists {
 }
 
 impl ArgumentLists {
-    /// No lists. It allocates nothing.
-    pub fn nothing(alloc: Global) -> ArgumentLists
-        ensures { result ≡ [] }
-    {
-        ArgumentLists {
-            tokens: Vec::new(alloc),
-            parts: Vec::new(alloc),
-        }
-    }
-
     /// Makes a list of each of these parts of the tokens, which follow one another.
     pub fn new(tokens: Vec<Read>, parts: Vec<Part>) -> ArgumentLists
         requires holds { AllReadOrdinary tokens.items }
