@@ -316,7 +316,7 @@ impl MacroProcessor {
     {
         self.frames.reserve(1)?;
         note_name(&mut self.open_names, frame.opened(), self.frames.len())?;
-        self.marks.add(frame.name().as_str());
+        self.marks.add(frame.opened().mark());
         self.frames.push_reserved(frame);
         Ok(())
     }
@@ -340,6 +340,11 @@ impl MacroProcessor {
         ensures { OnOk result (self.new
             ≡ new_frame opened.value.name line opened.value.definition [] ∷ self.old) }
     {
-        self.push(Frame::bare(self.alloc, opened, line))
+        self.frames.reserve(1)?;
+        note_name(&mut self.open_names, &opened, self.frames.len())?;
+        self.marks.add(opened.mark());
+        self.frames
+            .push_reserved(Frame::bare(self.alloc, opened, line));
+        Ok(())
     }
 }

@@ -9,7 +9,7 @@ invariant_of-self-2 c =
       names_noted c.self.inside.frames.items _ c.opened.result.now.value.name c.len.result c.self.inside.open_names c.note_name.new.names c.opened.ensures
           (c.len.ensures ∙ c.reserve.new.self.ok.0 ∙ ap length c.reserve.ensures.items)
           c.in_ok-note_name.ensures.few (c.in_ok-note_name.ensures.many) c.self.invariant.0,
-      rw (c.add.ensures, c.as_str.ensures, c.name.ensures) (marked_opened c.self.inside.marks c.self.inside.frames.items _ c.self.invariant.1),
+      rw (c.add.ensures, c.mark.ensures, c.deref.ensures, c.opened-2.ensures) (marked_opened c.self.inside.marks c.self.inside.frames.items _ c.self.invariant.1),
     )
 
 pub invariant_of-self-in_err-note_name : goal.invariant_of-self-in_err-note_name
