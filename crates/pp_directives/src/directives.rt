@@ -12,7 +12,7 @@ ghost use Rattle.pp_model.specs.declared.directive.Directive.TheVariants as d;
 ghost use Rattle.pp_macros.specs.inner.Defined.{meaning_of};
 ghost use Rattle.pp_macros.specs.Held.{HoldsOrdinary};
 ghost use Rattle.pp_macros.specs.Item.{as_step};
-ghost use Rattle.pp_macros.specs.inner.Reader.{of_source, ReadsOnto};
+ghost use Rattle.pp_macros.specs.inner.Reader.{of_source, ReadsOnto, ReadsRun};
 ghost use Rattle.pp_directives.specs.inner.PlainText.{IsInText, StepsPlain, GivesWord, GivesBare, GivesApart, PausesAtNewline};
 ghost use Rattle.pp_directives.specs.WordTokens.{word_value};
 ghost use Rattle.pp_macros.specs.inner.Turns.{macro_of_value};
@@ -44,6 +44,7 @@ use pp_macros::define::{Define, Macro};
 use pp_macros::definitions::Definitions;
 use pp_macros::halt::Halt;
 use pp_macros::macros::MacroId;
+use pp_macros::reader::ends_at_parenthesis;
 use pp_macros::step::{Step, StepExit};
 use pp_model::conversion::refused_token;
 use pp_model::directive::{Directive, directive_of};
@@ -671,9 +672,10 @@ impl<'a> DirectiveProcessor<'a> {
         Ok(Some(token))
     }
 
-    /// Reads a word of plain text onto the end of the tokens, if one comes first in live text and isn't `__LINE__`.
-    /// Returns whether it did. Otherwise nothing changes.
-    pub fn push_word(&mut self, tokens: &mut Vec<Read>) -> Result<bool, AllocError>
+    // Reads a word of plain text onto the end of the tokens, if one comes first in live text and isn't `__LINE__`.
+    // Returns whether it did. Otherwise nothing changes.
+    #[inline(always)]
+    fn push_word(&mut self, tokens: &mut Vec<Read>) -> Result<bool, AllocError>
         ensures { IfOk result (λ pushed. ReadsOnto (of_source self.old) tokens.old.items pushed
             (of_source self.new) tokens.new.items) }
     {
@@ -682,6 +684,20 @@ impl<'a> DirectiveProcessor<'a> {
         };
         tokens.push(Read::unpainted(token))?;
         Ok(true)
+    }
+
+    /// Reads words of plain text onto the end of the tokens, up to a parenthesis, which is read too, if they come first
+    /// in live text. Stops before `__LINE__`. Returns whether it came to a parenthesis.
+    pub fn push_words(&mut self, tokens: &mut Vec<Read>) -> Result<bool, AllocError>
+        ensures { IfOk result (λ found. ReadsRun (of_source self.old) tokens.old.items found
+            (of_source self.new) tokens.new.items) }
+    {
+        'words: while self.push_word(tokens)? {
+            if ends_at_parenthesis(tokens) {
+                return Ok(true);
+            }
+        }
+        Ok(false)
     }
 
     /// Passes a newline of plain text, if one comes first, and returns whether it did. Otherwise it changes nothing.

@@ -22,8 +22,8 @@ impl<'a> MeLexer for DirectiveProcessor<'a> {
         }
     }
 
-    fn push_next(&mut self, tokens: &mut Vec<Read>) -> Result<bool, AllocError> {
-        self.push_word(tokens)
+    fn push_flat(&mut self, tokens: &mut Vec<Read>) -> Result<bool, AllocError> {
+        self.push_words(tokens)
     }
 
     fn get_define(&self, guess: Option<MacroId>, name: &str) -> Option<&Rc<Macro>> {

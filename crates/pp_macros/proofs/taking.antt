@@ -6,6 +6,7 @@ pub mod PieceLemmas
 pub mod PlainLemmas
 pub mod Walk
 pub mod ExpanderLemmas
+pub mod RunLemmas
 pub mod ApartLemmas
 pub mod SearchSimulates
 pub mod TurnLeadsLemmas

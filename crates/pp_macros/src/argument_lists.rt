@@ -1,10 +1,10 @@
 //! The arguments of a call: lists of tokens, each a part of one list.
 
-ghost use Rattle.std.specs.Prelude.{◌≡◌, ◌<◌, ◌^◌, [], IfSome, option_map, slice_get, length};
+ghost use Rattle.std.specs.Prelude.{◌≡◌, ◌<◌, ◌^◌, [], Some, None, IfSome, IsSome, is_some, option_map, slice_get, length};
 ghost use Rattle.pp_model.specs.Calls.{is_one_empty};
 ghost use Rattle.pp_macros.specs.Held.{HoldsOrdinary};
 ghost use Rattle.pp_macros.specs.inner.Frames.{argument_at};
-ghost use Rattle.pp_macros.specs.inner.Parts.{lists_of, AreInOrder};
+ghost use Rattle.pp_macros.specs.inner.Parts.{lists_of, AreInOrder, next_read, after_read};
 ghost use Rattle.pp_macros.specs.inner.Reading.{AllReadOrdinary};
 
 use pp_model::read::Read;
@@ -60,16 +60,6 @@ impl Model for ArgumentLists {
 }
 
 impl ArgumentLists {
-    /// No lists. It allocates nothing.
-    pub fn nothing(alloc: Global) -> ArgumentLists
-        ensures { result ≡ [] }
-    {
-        ArgumentLists {
-            tokens: Vec::new(alloc),
-            parts: Vec::new(alloc),
-        }
-    }
-
     /// Makes a list of each of these parts of the tokens, which follow one another.
     pub fn new(tokens: Vec<Read>, parts: Vec<Part>) -> ArgumentLists
         requires holds { AllReadOrdinary tokens.items }
@@ -104,15 +94,115 @@ impl ArgumentLists {
             _ => false,
         }
     }
+}
 
-    /// The token of the list with this index at the position.
-    pub fn token_at(&self, index: usize, position: usize) -> Option<&Read>
-        ensures token { option_map (λ read. read.now) result
-            ≡ slice_get (argument_at self.now index) position }
-        ensures small { IfSome result (λ _. position < 2 ^ 63) }
+/// Lists of tokens with their paint, one for each argument of an open macro, and what is left of the one that is being
+/// read.
+#[derive(Drop)]
+pub struct OpenArguments {
+    tokens: Vec<Read>,
+    parts: Vec<Part>,
+    reading: Option<Part>,
+}
+
+impl Model for OpenArguments {
+    ghost use Rattle.std.specs.Prelude.{option_map};
+    ghost use Rattle.pp_macros.specs.inner.Parts.{OpenLists, list_of, lists_of};
+    ghost use Rattle.pp_macros.specs.inner.Reading.{AllReadOrdinary};
+
+    ghost Value = { OpenLists };
+
+    ghost view = { λ a. record {
+      lists = lists_of a.tokens.items a.parts.items;
+      reading = option_map (list_of a.tokens.items) a.reading;
+    } };
+
+    ghost invariant = { λ a. AllReadOrdinary a.tokens.items };
+}
+
+impl OpenArguments {
+    /// No lists. It allocates nothing.
+    #[inline(always)]
+    pub fn nothing(alloc: Global) -> OpenArguments
+        ensures { result ≡ record { lists = []; reading = None } }
+    {
+        OpenArguments {
+            tokens: Vec::new(alloc),
+            parts: Vec::new(alloc),
+            reading: None,
+        }
+    }
+
+    /// These lists. None of them is being read.
+    #[inline(always)]
+    pub fn new(lists: ArgumentLists) -> OpenArguments
+        ensures { result ≡ record { lists = lists; reading = None } }
+    {
+        let (tokens, parts) = lists.into_parts();
+        OpenArguments {
+            tokens,
+            parts,
+            reading: None,
+        }
+    }
+
+    /// Whether a list is being read.
+    #[inline(always)]
+    pub fn is_reading(&self) -> bool
+        ensures { result ≡ is_some self.now.reading }
+    {
+        self.reading.is_some()
+    }
+
+    /// The next token of the list that is being read.
+    #[inline(always)]
+    pub fn token(&self) -> Option<&Read>
+        ensures token { option_map (λ read. read.now) result ≡ next_read self.now.reading }
         ensures holds { IfSome result (λ read. HoldsOrdinary read.now.token.value) }
     {
-        let part = part_at(&self.parts, index)?;
-        read_at(&self.tokens[part.start..part.end], position)
+        let Some(part) = self.reading else {
+            return None;
+        };
+        if part.end <= part.start {
+            return None;
+        }
+        read_at(&self.tokens, part.start)
+    }
+
+    /// Passes that token.
+    #[inline(always)]
+    pub fn pass(&mut self)
+        requires { IsSome (next_read self.old.reading) }
+        ensures { self.new ≡ record self.old { reading = after_read self.old.reading } }
+    {
+        let Some(part) = self.reading else {
+            return;
+        };
+        if part.end <= part.start {
+            return;
+        }
+        self.reading = Some(Part {
+            start: part.start + 1,
+            end: part.end,
+        });
+    }
+
+    /// Begins to read the list with this index.
+    #[inline(always)]
+    pub fn begin(&mut self, index: usize)
+        ensures { self.new ≡ record self.old { reading = Some (argument_at self.old.lists index) } }
+    {
+        self.reading = match part_at(&self.parts, index) {
+            Some(part) => Some(*part),
+            None => Some(Part { start: 0, end: 0 }),
+        };
+    }
+
+    /// Ends the list that is being read.
+    #[inline(always)]
+    pub fn end(&mut self)
+        ensures { self.new ≡ record self.old { reading = None } }
+    {
+        self.reading = None;
     }
 }

@@ -122,10 +122,11 @@ impl Blocks {
     }
 
     /// Whether the text is live in the innermost block.
+    #[inline(always)]
     pub fn are_live(&self) -> bool
         ensures { result ≡ spec.is_live_in (spec.last_block self.now) }
     {
-        match self.last() {
+        match self.open.last() {
             Some(block) => block.live_around && block.chosen,
             None => true,
         }

@@ -10,12 +10,14 @@ ghost use Rattle.pp_macros.specs.inner.Reading.{AllReadOrdinary};
 ghost use Rattle.pp_macros.specs.inner.Giving.{AdvancesTo, GivesEach, GivesNext, RefusesWithin, TurnsFrames, passed, token_ahead};
 ghost use Rattle.pp_macros.specs.inner.Idle.{is_idle};
 ghost use Rattle.pp_macros.specs.inner.CallTurns.{TurnsOrRefuses, TakesSomething, is_out_of_memory_step, paren_of, TakenHoldsOrdinary};
-ghost use Rattle.pp_macros.specs.inner.Expander.{StepsFetching, StepsTaking, TakesNext, TakesOnto, GathersNext, Satisfies, gathered_to, taken_as, is_pause};
+ghost use Rattle.pp_macros.specs.inner.Expander.{StepsFetching, StepsTaking, TakesNext, TakesOnto, TakesRun, GathersNext, Satisfies, place_after, gathered_to, taken_as, is_pause};
 ghost use Rattle.pp_macros.specs.inner.Left.{IsSound};
 ghost use Rattle.pp_macros.specs.inner.Reader.{of_list};
 ghost use Rattle.pp_macros.specs.inner.Turns.{macro_of, macro_of_value, masks};
 ghost use Rattle.pp_lexer.specs.declared.token.TokenValue.TheVariants as value;
-ghost use Rattle.pp_macros.specs.declared.step.StepExit.TheVariants.{Error, Continue};
+ghost use Rattle.pp_macros.specs.declared.step.StepExit.TheVariants.{Error, Continue, Finished};
+ghost use Rattle.pp_macros.specs.declared.halt.Halt.TheVariants as halt;
+ghost use Rattle.pp_lexer.specs.declared.token.PreprocessorError.TheVariants.{UnexpectedEndOfInput};
 
 use crate::argument_lists::ArgumentLists;
 use crate::define::{Define, Macro};
@@ -225,6 +227,17 @@ fn find_macro(
     }
 }
 
+// The fault of a call that doesn't end, after its `(` and these tokens.
+#[inline(never)]
+fn ended_after(paren: Location, tokens: &[Read]) -> Halt
+    ensures { result ≡ halt.Fault (UnexpectedEndOfInput, place_after paren tokens.now) }
+{
+    match tokens.last() {
+        Some(read) => Halt::Fault((PreprocessorError::UnexpectedEndOfInput, read.token.location)),
+        None => Halt::Fault((PreprocessorError::UnexpectedEndOfInput, paren)),
+    }
+}
+
 // What one step of the open macros does.
 #[derive(Clone, Copy)]
 enum Turn {
@@ -234,6 +247,11 @@ enum Turn {
     Token { painted: bool },
     // Anything else. It isn't made.
     Other,
+}
+
+// The number of tokens to make room for when a call of this macro is gathered.
+fn room_for(define: &Define) -> usize {
+    define.parameters().len().saturating_mul(2).clamp(16, 256)
 }
 
 impl Expander {
@@ -349,19 +367,12 @@ impl Expander {
         }
     }
 
-    // Takes the next step that isn't a pause, and puts its token after the tokens. If no macro is open and nothing is
-    // held, the reader puts it there at once.
+    // Takes the next step that isn't a pause, and puts its token after the tokens.
     fn push_next(&mut self, lexer: &mut dyn MeLexer, tokens: &mut Vec<Read>) -> Step<()>
         ensures takes { TakesOnto self.old (reader lexer.old) tokens.old.items result self.new
             (reader lexer.new) tokens.new.items }
+        ensures kept { result ≡ Err Finished → tokens.new.items ≡ tokens.old.items }
     {
-        if self.is_idle() {
-            match lexer.push_next(tokens) {
-                Ok(true) => return Ok(()),
-                Ok(false) => {}
-                Err(_) => return Err(StepExit::Error(out_of_memory())),
-            }
-        }
         let read = self.take_next(lexer)?;
         match tokens.push(read) {
             Ok(()) => Ok(()),
@@ -369,12 +380,33 @@ impl Expander {
         }
     }
 
+    // Takes tokens that are no parentheses, and then one more, and puts them after the tokens. If no macro is open and
+    // nothing is held, the reader puts them there at once.
+    fn push_run(&mut self, lexer: &mut dyn MeLexer, tokens: &mut Vec<Read>) -> Step<()>
+        ensures takes { TakesRun self.old (reader lexer.old) tokens.old.items result self.new
+            (reader lexer.new) tokens.new.items }
+    {
+        if !self.is_idle() {
+            return self.push_next(lexer, tokens);
+        }
+        match lexer.push_flat(tokens) {
+            Ok(true) => Ok(()),
+            Ok(false) => self.push_next(lexer, tokens),
+            Err(_) => Err(StepExit::Error(out_of_memory())),
+        }
+    }
+
     // The tokens up to the `)` of a call whose `(` is at `paren`, or the first fault before it.
-    fn gather(&mut self, lexer: &mut dyn MeLexer, paren: Location) -> Result<Gathered, Halt>
+    fn gather(
+        &mut self,
+        lexer: &mut dyn MeLexer,
+        room: usize,
+        paren: Location,
+    ) -> Result<Gathered, Halt>
         ensures gathers { Satisfies result
             (λ g. GathersNext 0 paren self.old (reader lexer.old) g self.new (reader lexer.new)) }
     {
-        let mut tokens = Vec::with_capacity(self.alloc, 16)?;
+        let mut tokens = Vec::with_capacity(self.alloc, room)?;
         let closing = self.gather_tokens(lexer, paren, &mut tokens)?;
         Ok(Gathered { tokens, closing })
     }
@@ -391,30 +423,25 @@ impl Expander {
             (gathered_to tokens.new.items end) self.new (reader lexer.new)) }
         ensures holds { OnOk result (AllReadOrdinary tokens.new.items) }
     {
-        let mut last = paren;
         let mut depth: u32 = 0;
         'tokens: loop {
-            match self.push_next(lexer, tokens) {
+            match self.push_run(lexer, tokens) {
                 Ok(()) => {}
                 Err(StepExit::Error(fault)) => return Err(halt_of(fault)),
-                Err(StepExit::Finished) => {
-                    return Err(Halt::Fault((PreprocessorError::UnexpectedEndOfInput, last)));
-                }
-                Err(StepExit::Continue) => {
-                    return Err(Halt::Fault((PreprocessorError::UnexpectedEndOfInput, last)));
-                }
+                Err(StepExit::Finished) => return Err(ended_after(paren, tokens)),
+                Err(StepExit::Continue) => return Err(ended_after(paren, tokens)),
             }
             let Some(read) = tokens.last() else {
                 unreachable!();
             };
-            last = read.token.location;
+            let place = read.token.location;
             match nesting_of(depth, &read.token.value) {
                 Nesting::Closes => {
                     drop(tokens.pop());
-                    return Ok(last);
+                    return Ok(place);
                 }
                 Nesting::TooMany => {
-                    return Err(Halt::Fault((PreprocessorError::IntegerOverflow, last)));
+                    return Err(Halt::Fault((PreprocessorError::IntegerOverflow, place)));
                 }
                 Nesting::Within(deeper) => depth = deeper,
             }
@@ -422,7 +449,7 @@ impl Expander {
     }
 
     // Looks for a call after the name of a function-like macro. Anything else is held.
-    fn seek(&mut self, lexer: &mut dyn MeLexer) -> Result<AfterName, Halt>
+    fn seek(&mut self, lexer: &mut dyn MeLexer, room: usize) -> Result<AfterName, Halt>
         ensures finds { FindsBy self.old (reader lexer.old) result self.new (reader lexer.new) }
     {
         let next = self.take_next(lexer);
@@ -437,21 +464,21 @@ impl Expander {
             }
             Some(paren) => {
                 drop(next);
-                let gathered = self.gather(lexer, paren)?;
+                let gathered = self.gather(lexer, room, paren)?;
                 Ok(AfterName::Whole(paren, gathered))
             }
         }
     }
 
     /// Opens the frame of an object-like macro.
+    #[inline(always)]
     pub fn open_bare(&mut self, opened: Rc<Macro>, line: u32) -> Result<(), AllocError>
         ensures { OnOk result (self.new ≡ record self.old {
           frames = new_frame opened.value.name line opened.value.definition []
               ∷ self.old.frames;
         }) }
     {
-        let arguments = ArgumentLists::nothing(self.alloc);
-        self.processor.open(opened, line, arguments)
+        self.processor.open_bare(opened, line)
     }
 
     // Opens the frame of an object-like macro, as a step.
@@ -485,7 +512,8 @@ impl Expander {
             (reader lexer.new) ⊎ (result ≡ Err (Error out_of_memory)) }
         ensures holds { IfOk result TakenHoldsOrdinary }
     {
-        match self.seek(lexer)? {
+        let room = room_for(opened.define());
+        match self.seek(lexer, room)? {
             AfterName::NoCall => Ok(Taken::Token(Read::unpainted(Token {
                 value: TokenValue::Ident(name),
                 location,
@@ -582,7 +610,7 @@ impl Expander {
             return Ok(Turn::Other);
         }
         let Some(ahead) = self.processor.token() else {
-            self.processor.pass();
+            self.processor.pass_pause();
             return Ok(Turn::Passed);
         };
         if is_line_name(ahead.value()) {

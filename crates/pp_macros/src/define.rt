@@ -5,9 +5,11 @@ ghost use Rattle.pp_lexer.specs.TokenValue.{is_ordinary};
 ghost use Rattle.pp_lexer.specs.Spelling.{values_of};
 ghost use Rattle.pp_model.specs.Definitions.{IsSameDefinition, object_like};
 ghost use Rattle.pp_model.specs.SpliceList.{parameter_of};
+ghost use Rattle.pp_macros.specs.inner.Marks.{mark_of};
 ghost use Rattle.pp_macros.specs.inner.ParameterPositions.{parameter_at};
 
 use crate::macros::{MacroId, Macros};
+use crate::marks::mark_of;
 use crate::parameter_names::ParameterNames;
 use pp_lexer::token::{Text, Token, TokenValue};
 use std::alloc::{AllocError, Global};
@@ -45,14 +47,20 @@ impl Model for Define {
 pub struct Macro {
     name: Text,
     define: Define,
+    // the mark of the name
+    mark: u64,
 }
 
 impl Model for Macro {
+    ghost use Rattle.std.specs.Prelude.{◌≡◌};
+    ghost use Rattle.pp_macros.specs.inner.Marks.{mark_of};
     ghost use Rattle.pp_macros.specs.inner.Defined.{Defined};
 
     ghost Value = { Defined };
 
     ghost view = { λ m. record { name = m.name; definition = m.define } };
+
+    ghost invariant = { λ m. m.mark ≡ mark_of m.name };
 }
 
 // Whether both lists have equal values, places aside.
@@ -126,7 +134,8 @@ impl Macro {
     pub fn new(name: Text, define: Define) -> Macro
         ensures { result ≡ record { name = name; definition = define } }
     {
-        Macro { name, define }
+        let mark = mark_of(name.as_str());
+        Macro { name, define, mark }
     }
 
     /// Its name.
@@ -135,6 +144,14 @@ impl Macro {
         ensures { result.now ≡ self.now.name }
     {
         &self.name
+    }
+
+    /// The mark of its name.
+    #[inline(always)]
+    pub fn mark(&self) -> u64
+        ensures { result ≡ mark_of self.now.name }
+    {
+        self.mark
     }
 
     /// Its definition.

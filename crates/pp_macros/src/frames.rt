@@ -1,14 +1,14 @@
 //! Frames: macros that are open, each with the positions up to which its body and its arguments
 //! were read.
 
-ghost use Rattle.std.specs.Prelude.{◌≡◌, ◌⊎◌, ◌<◌, ◌^◌, ◌++◌, ◌∷◌, [], IfOk, OnOk, IfSome, Some, None, Ok, Err, IsSome, option_map, slice_get, is_none};
+ghost use Rattle.std.specs.Prelude.{◌≡◌, ◌⊎◌, ◌<◌, ◌^◌, ◌++◌, ◌∷◌, [], IfOk, OnOk, IfSome, None, Ok, Err, IsSome, option_map, slice_get, is_some};
 ghost use Rattle.pp_lexer.specs.PreprocessorError.{out_of_memory};
-ghost use Rattle.pp_macros.specs.inner.Frames.{new_frame, argument_at, advance};
+ghost use Rattle.pp_macros.specs.inner.Frames.{new_frame, advance};
 ghost use Rattle.pp_macros.specs.Held.{HoldsOrdinary, AllHoldOrdinary};
 ghost use Rattle.pp_macros.specs.inner.Ahead.{given_by, frame_after};
 ghost use Rattle.pp_macros.specs.declared.step.StepExit.TheVariants.{Error};
 
-use crate::argument_lists::ArgumentLists;
+use crate::argument_lists::{ArgumentLists, OpenArguments};
 use crate::define::Macro;
 use crate::macros::MacroId;
 use crate::step::{Step, StepExit};
@@ -112,15 +112,12 @@ pub struct Frame {
     opened: Rc<Macro>,
     line: u32,
     position: usize,
-    arguments: ArgumentLists,
-    expanding: Option<usize>,
-    argument_position: usize,
+    arguments: OpenArguments,
 }
 
 impl Model for Frame {
-    ghost use Rattle.std.specs.Prelude.{drop, option_map};
+    ghost use Rattle.std.specs.Prelude.{drop};
     ghost use Rattle.pp_macros.specs.inner.Frames as spec;
-    ghost use Rattle.pp_macros.specs.inner.Frames.{argument_at};
 
     ghost Value = { spec.Frame };
 
@@ -129,9 +126,8 @@ impl Model for Frame {
       line = f.line;
       parameters = f.opened.value.definition.parameters;
       body = drop f.position f.opened.value.definition.body;
-      arguments = f.arguments;
-      reading = option_map (λ k. drop f.argument_position
-          (argument_at f.arguments k)) f.expanding;
+      arguments = f.arguments.lists;
+      reading = f.arguments.reading;
     } };
 }
 
@@ -143,19 +139,6 @@ pub fn token_at(tokens: &[Token], position: usize) -> Option<&Token>
     ensures holds { IfSome result (λ token. HoldsOrdinary token.now.value) }
 {
     tokens.get(position)
-}
-
-// The token of the argument with this index at the position.
-fn argument_token(arguments: &ArgumentLists, index: usize, position: usize) -> Option<Ahead<'_>>
-    ensures token { result ≡ slice_get (argument_at arguments.now index) position }
-    ensures small { IfSome result (λ _. position < 2 ^ 63) }
-    ensures holds { IfSome result (λ ahead. HoldsOrdinary ahead.token.value) }
-{
-    let read = arguments.token_at(index, position)?;
-    Some(Ahead {
-        token: &read.token,
-        painted: read.painted,
-    })
 }
 
 /// A copy of a token.
@@ -200,6 +183,7 @@ fn out_of_memory_step() -> Step<Read>
 
 impl Frame {
     /// The frame of a macro that opens.
+    #[inline(always)]
     pub fn new(opened: Rc<Macro>, line: u32, arguments: ArgumentLists) -> Frame
         ensures { result ≡ new_frame opened.value.name line opened.value.definition arguments }
     {
@@ -207,10 +191,29 @@ impl Frame {
             opened,
             line,
             position: 0,
-            arguments,
-            expanding: None,
-            argument_position: 0,
+            arguments: OpenArguments::new(arguments),
         }
+    }
+
+    /// The frame of a macro without arguments that opens.
+    #[inline(always)]
+    pub fn bare(alloc: Global, opened: Rc<Macro>, line: u32) -> Frame
+        ensures { result ≡ new_frame opened.value.name line opened.value.definition [] }
+    {
+        Frame {
+            opened,
+            line,
+            position: 0,
+            arguments: OpenArguments::nothing(alloc),
+        }
+    }
+
+    /// The macro.
+    #[inline(always)]
+    pub fn opened(&self) -> &Rc<Macro>
+        ensures { result.now.value.name ≡ self.now.name }
+    {
+        &self.opened
     }
 
     /// The macro's name.
@@ -227,24 +230,19 @@ impl Frame {
         self.line
     }
 
-    /// Whether its body has ended and no argument is read.
-    pub fn is_spent(&self) -> bool
-        ensures { result ≡ is_none (advance self.now) }
-    {
-        match self.expanding {
-            Some(_) => false,
-            None => self.opened.define().body().len() <= self.position,
-        }
-    }
-
     /// The token that its next step gives. The step is a pause at a parameter, at the end of an
     /// argument and at the end of the body.
+    #[inline(always)]
     pub fn token(&self) -> Option<Ahead<'_>>
         ensures token { result ≡ given_by (advance self.now) }
         ensures holds { IfSome result (λ ahead. HoldsOrdinary ahead.token.value) }
     {
-        if let Some(index) = self.expanding {
-            return argument_token(&self.arguments, index, self.argument_position);
+        if self.arguments.is_reading() {
+            let read = self.arguments.token()?;
+            return Some(Ahead {
+                token: &read.token,
+                painted: read.painted,
+            });
         }
         let define = self.opened.define();
         let Some(token) = token_at(define.body(), self.position) else {
@@ -262,7 +260,7 @@ impl Frame {
     /// The number that was noted for the token of the body that its next step gives.
     #[inline(always)]
     pub fn number_ahead(&self) -> Option<MacroId> {
-        if self.expanding.is_some() {
+        if self.arguments.is_reading() {
             return None;
         }
         self.opened.define().number_at(self.position)
@@ -275,10 +273,8 @@ impl Frame {
         ensures step { self.new ≡ frame_after self.old (advance self.old) }
         ensures name { self.new.name ≡ self.old.name }
     {
-        if let Some(index) = self.expanding {
-            if let Some(_) = argument_token(&self.arguments, index, self.argument_position) {
-                self.argument_position += 1;
-            }
+        if self.arguments.is_reading() {
+            self.arguments.pass();
             return;
         }
         if let Some(_) = token_at(self.opened.define().body(), self.position) {
@@ -286,27 +282,27 @@ impl Frame {
         }
     }
 
-    /// Advances by one step. A frame at its end stays as it is.
-    pub fn pass(&mut self)
+    /// Advances by a step that is a pause, and returns whether there was one. A frame at its end stays as it is.
+    #[inline(always)]
+    pub fn pass_pause(&mut self) -> bool
+        requires { given_by (advance self.old) ≡ None }
+        ensures some { result ≡ is_some (advance self.old) }
         ensures step { self.new ≡ frame_after self.old (advance self.old) }
         ensures name { self.new.name ≡ self.old.name }
     {
-        if let Some(index) = self.expanding {
-            match argument_token(&self.arguments, index, self.argument_position) {
-                Some(_) => self.argument_position += 1,
-                None => self.expanding = None,
-            }
-            return;
+        if self.arguments.is_reading() {
+            self.arguments.end();
+            return true;
         }
         let define = self.opened.define();
         let Some(_) = token_at(define.body(), self.position) else {
-            return;
+            return false;
         };
-        let parameter = define.parameter_at(self.position);
+        let Some(index) = define.parameter_at(self.position) else {
+            return false;
+        };
         self.position += 1;
-        if let Some(index) = parameter {
-            self.expanding = Some(index);
-            self.argument_position = 0;
-        }
+        self.arguments.begin(index);
+        true
     }
 }

@@ -1,19 +1,19 @@
 //! A list of tokens as a reader: an argument of a call, or the line of a directive.
 
-ghost use Rattle.std.specs.Prelude.{◌≡◌, ◌&&◌, ◌||◌, ◌∷◌, ◌<◌, not, false, true, length, MatchOption};
+ghost use Rattle.std.specs.Prelude.{◌≡◌, ◌&&◌, ◌||◌, ◌∷◌, ◌<◌, not, false, true, length, IfOk, MatchOption};
 ghost use Rattle.std.specs.Str.{chars};
 ghost use Rattle.pp_model.specs.Names.{is_identifier, is_same_name, defined_name, line_name};
 ghost use Rattle.pp_model.specs.Painting.{is_one_of};
 ghost use Rattle.pp_macros.specs.Held.{HoldsOrdinary};
 ghost use Rattle.pp_macros.specs.inner.Apart.{IsApart, IsUnnamed, opens_none};
 ghost use Rattle.pp_macros.specs.inner.Reading.{AllReadOrdinary};
-ghost use Rattle.pp_macros.specs.inner.Reader.{of_list};
+ghost use Rattle.pp_macros.specs.inner.Reader.{ReadsOnto, ReadsRun, of_list};
 
 use crate::define::Macro;
 use crate::definitions::Definitions;
 use crate::macros::MacroId;
 use crate::open_around::OpenAround;
-use crate::reader::MeLexer;
+use crate::reader::{MeLexer, ends_at_parenthesis};
 use crate::step::{Step, StepExit};
 use pp_lexer::token::{Location, NOWHERE, Punct, Token, TokenValue};
 use pp_model::names::is_line_name;
@@ -177,6 +177,36 @@ impl<'a> ListLexer<'a> {
         }
         self.take_apart()
     }
+
+    // Moves the next token to the end of the tokens, if it is neither `__LINE__` nor the name of a macro that is open
+    // around. Returns whether it did. Otherwise nothing changes.
+    #[inline(always)]
+    fn push_apart(&mut self, tokens: &mut Vec<Read>) -> Result<bool, AllocError>
+        ensures { IfOk result (λ pushed. ReadsOnto (of_list self.old) tokens.old.items pushed
+            (of_list self.new) tokens.new.items) }
+    {
+        let hidden = self.hidden;
+        if self.tokens.len() <= self.position
+            || !is_taken_as_it_is(&self.tokens[self.position], hidden)
+        {
+            return Ok(false);
+        }
+        tokens.push(self.take_first())?;
+        Ok(true)
+    }
+
+    // Does so up to a parenthesis, which is moved too. Returns whether it came to one.
+    fn push_each(&mut self, tokens: &mut Vec<Read>) -> Result<bool, AllocError>
+        ensures { IfOk result (λ found. ReadsRun (of_list self.old) tokens.old.items found
+            (of_list self.new) tokens.new.items) }
+    {
+        'tokens: while self.push_apart(tokens)? {
+            if ends_at_parenthesis(tokens) {
+                return Ok(true);
+            }
+        }
+        Ok(false)
+    }
 }
 
 impl<'a> MeLexer for ListLexer<'a> {
@@ -189,15 +219,8 @@ impl<'a> MeLexer for ListLexer<'a> {
         Ok(self.take_first())
     }
 
-    fn push_next(&mut self, tokens: &mut Vec<Read>) -> Result<bool, AllocError> {
-        let hidden = self.hidden;
-        if self.tokens.len() <= self.position
-            || !is_taken_as_it_is(&self.tokens[self.position], hidden)
-        {
-            return Ok(false);
-        }
-        tokens.push(self.take_first())?;
-        Ok(true)
+    fn push_flat(&mut self, tokens: &mut Vec<Read>) -> Result<bool, AllocError> {
+        self.push_each(tokens)
     }
 
     fn get_define(&self, guess: Option<MacroId>, name: &str) -> Option<&Rc<Macro>> {

@@ -1,6 +1,6 @@
 //! The macros that are open, over a reader.
 
-ghost use Rattle.std.specs.Prelude.{◌≡◌, ◌≤◌, ◌<◌, ◌-◌, ◌∷◌, [], drop, take, IfOk, IfSome, OnErr, OnOk, MatchResult, Ok, Err, IsSome, option_map, is_some, not, pos, false};
+ghost use Rattle.std.specs.Prelude.{◌≡◌, ◌≤◌, ◌<◌, ◌-◌, ◌∷◌, [], drop, take, IfOk, IfSome, OnErr, OnOk, MatchResult, Ok, Err, None, IsSome, option_map, is_some, not, pos, false};
 ghost use Rattle.std.specs.List.{list_any};
 ghost use Rattle.std.specs.Str.{chars};
 ghost use Rattle.pp_lexer.specs.declared.token.PreprocessorError.TheVariants.{LineOverflow};
@@ -31,7 +31,7 @@ use std::marker::Model;
 use std::rc::Rc;
 
 // The names of this many macros, the outermost ones, are compared one by one.
-const FEW: usize = 8;
+const FEW: usize = 16;
 
 /// Macros that are open, the innermost last.
 #[derive(Drop)]
@@ -70,16 +70,17 @@ fn has_name(frame: &Frame, name: &str) -> bool
 // Whether one of the first few frames is of the macro with this name.
 #[inline(always)]
 fn is_name_of(frames: &[Frame], name: &str) -> bool
-    ensures { result ≡ list_any (λ frame. is_same_name (chars name.now) frame.name) (take 8 frames.now) }
+    ensures { result ≡ list_any (λ frame. is_same_name (chars name.now) frame.name) (take 16 frames.now) }
 {
     frames.iter().take(FEW).any(|frame| has_name(frame, name))
 }
 
 // Adds the name of a frame of this macro that opens inside `frames` others, unless it is one of the first few.
+#[inline(always)]
 fn note_name(names: &mut OpenNames, opened: &Rc<Macro>, frames: usize) -> Result<(), AllocError>
-    ensures few { frames < 8 → OnOk result (names.new ≡ names.old) }
-    ensures many { 8 ≤ frames
-        → OnOk result (names.new ≡ after_opening opened.now.value.name (frames - 8) names.old) }
+    ensures few { frames < 16 → OnOk result (names.new ≡ names.old) }
+    ensures many { 16 ≤ frames
+        → OnOk result (names.new ≡ after_opening opened.now.value.name (frames - 16) names.old) }
     ensures err { OnErr result (names.new ≡ names.old) }
 {
     if frames < FEW {
@@ -91,8 +92,8 @@ fn note_name(names: &mut OpenNames, opened: &Rc<Macro>, frames: usize) -> Result
 // Removes the name of a frame that closes inside `frames` others, unless it is one of the first
 // few.
 fn free_name(names: &mut OpenNames, frames: usize)
-    ensures few { frames < 8 → names.new ≡ names.old }
-    ensures many { 8 ≤ frames → names.new ≡ after_closing (frames - 8) names.old }
+    ensures few { frames < 16 → names.new ≡ names.old }
+    ensures many { 16 ≤ frames → names.new ≡ after_closing (frames - 16) names.old }
 {
     if frames >= FEW {
         names.close(frames - FEW);
@@ -180,7 +181,7 @@ impl MacroProcessor {
     }
 
     // Closes the innermost frame. It is a function of its own, since most steps close none.
-    #[inline(never)]
+    #[inline(always)]
     fn close(&mut self)
         ensures { self.new ≡ drop 1 self.old }
     {
@@ -211,19 +212,31 @@ impl MacroProcessor {
         }
     }
 
-    /// Advances the innermost frame by one step. A frame at its end is closed.
-    #[inline(never)]
-    pub fn pass(&mut self)
+    /// Passes the pause that the innermost frame has next. A frame at its end is closed.
+    #[inline(always)]
+    pub fn pass_pause(&mut self)
+        requires { given_next self.old ≡ None }
         ensures { self.new ≡ frames_after self.old }
     {
         let Some(frame) = self.frames.last_mut() else {
             return;
         };
-        if frame.is_spent() {
-            self.close();
+        if frame.pass_pause() {
             return;
         }
-        frame.pass();
+        self.close();
+    }
+
+    /// Advances the innermost frame by one step. A frame at its end is closed.
+    #[inline(always)]
+    pub fn pass(&mut self)
+        ensures { self.new ≡ frames_after self.old }
+    {
+        if self.token().is_some() {
+            self.pass_token();
+        } else {
+            self.pass_pause();
+        }
     }
 
     /// Passes the token that the innermost frame gives next.
@@ -296,6 +309,18 @@ impl MacroProcessor {
         }
     }
 
+    // Puts the frame of a macro that opens inside the others.
+    #[inline(always)]
+    fn push(&mut self, frame: Frame) -> Result<(), AllocError>
+        ensures { OnOk result (self.new ≡ frame ∷ self.old) }
+    {
+        self.frames.reserve(1)?;
+        note_name(&mut self.open_names, frame.opened(), self.frames.len())?;
+        self.marks.add(frame.opened().mark());
+        self.frames.push_reserved(frame);
+        Ok(())
+    }
+
     /// Opens a macro with these arguments. `line` is the line that `__LINE__` shows in it.
     pub fn open(
         &mut self,
@@ -306,11 +331,20 @@ impl MacroProcessor {
         ensures { OnOk result (self.new
             ≡ new_frame opened.value.name line opened.value.definition arguments ∷ self.old) }
     {
+        self.push(Frame::new(opened, line, arguments))
+    }
+
+    /// Opens a macro without arguments. `line` is the line that `__LINE__` shows in it.
+    #[inline(always)]
+    pub fn open_bare(&mut self, opened: Rc<Macro>, line: u32) -> Result<(), AllocError>
+        ensures { OnOk result (self.new
+            ≡ new_frame opened.value.name line opened.value.definition [] ∷ self.old) }
+    {
         self.frames.reserve(1)?;
         note_name(&mut self.open_names, &opened, self.frames.len())?;
-        self.marks.add(opened.name().as_str());
-        let frame = Frame::new(opened, line, arguments);
-        self.frames.push_reserved(frame);
+        self.marks.add(opened.mark());
+        self.frames
+            .push_reserved(Frame::bare(self.alloc, opened, line));
         Ok(())
     }
 }

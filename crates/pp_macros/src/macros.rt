@@ -231,7 +231,7 @@ impl Macros {
             &self.macros,
             shared.name().as_str(),
         )?;
-        self.marks.add(shared.name().as_str());
+        self.marks.add(shared.mark());
         self.macros.push_reserved(shared);
         Ok(())
     }

@@ -41,9 +41,9 @@ fn mark_number(name: &str) -> usize
     (bytes.len() + *first as usize * 5 + last as usize * 3) % MARKS
 }
 
-// The mark of a name.
+/// The mark of a name.
 #[inline(always)]
-fn mark_of(name: &str) -> u64
+pub fn mark_of(name: &str) -> u64
     ensures { result ≡ mark_of (chars name.now) }
 {
     1 << mark_number(name)
@@ -57,12 +57,12 @@ impl Marks {
         Marks { bits: 0 }
     }
 
-    /// Adds the mark of a name.
+    /// Adds a mark.
     #[inline(always)]
-    pub fn add(&mut self, name: &str)
-        ensures { self.new ≡ bit_or self.old (mark_of (chars name.now)) }
+    pub fn add(&mut self, mark: u64)
+        ensures { self.new ≡ bit_or self.old mark }
     {
-        self.bits |= mark_of(name);
+        self.bits |= mark;
     }
 
     /// Whether the mark of the name is there. If it isn't, the name is none of those whose marks were added.

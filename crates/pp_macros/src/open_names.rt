@@ -54,6 +54,7 @@ impl OpenNames {
     }
 
     /// Adds the name of a frame of this macro that opens at the position. If an allocation fails, nothing changes.
+    #[inline(never)]
     pub fn open(&mut self, opened: &Rc<Macro>, position: usize) -> Result<(), AllocError>
         ensures ok { OnOk result (self.new ≡ after_opening opened.now.value.name position self.old) }
         ensures err { OnErr result (self.new ≡ self.old) }
@@ -69,6 +70,7 @@ impl OpenNames {
     }
 
     /// Removes the name of the innermost frame, at this position, when it closes.
+    #[inline(never)]
     pub fn close(&mut self, position: usize)
         ensures { self.new ≡ after_closing position self.old }
     {

@@ -1,17 +1,19 @@
 //! The reader of tokens that comes after the frames.
 
-ghost use Rattle.std.specs.Prelude.{◌≡◌, IfOk, IfSome, option_map, ok_or};
+ghost use Rattle.std.specs.Prelude.{◌≡◌, ◌++◌, ◌∷◌, [], List, IfOk, IfSome, option_map, ok_or};
 ghost use Rattle.std.specs.Str.{chars};
 ghost use Rattle.pp_lexer.specs.declared.token.PreprocessorError.TheVariants.{LineOverflow};
 ghost use Rattle.pp_model.specs.Names.{is_in};
+ghost use Rattle.pp_model.specs.declared.read.Read.{Read};
 ghost use Rattle.pp_macros.specs.Held.{HoldsOrdinary};
 ghost use Rattle.pp_macros.specs.Item.{as_step};
-ghost use Rattle.pp_macros.specs.inner.Reader.{Reader, Reads, ReadsOnto, visible, hidden_of, shown_line};
+ghost use Rattle.pp_macros.specs.inner.Reader.{Reader, Reads, ReadsRun, nests, visible, hidden_of, shown_line};
 
 use crate::define::Macro;
 use crate::macros::MacroId;
 use crate::step::Step;
 use pp_lexer::token::Location;
+use pp_model::parentheses::{is_left_paren, is_right_paren};
 use pp_model::read::Read;
 use std::alloc::AllocError;
 use std::rc::Rc;
@@ -25,10 +27,10 @@ pub trait MeLexer {
         ensures reads { Reads (reader self.old) result (reader self.new) }
         ensures holds { IfOk result (λ read. HoldsOrdinary read.token.value) };
 
-    /// Reads the next token onto the end of the tokens, if no pause comes before it and it isn't `__LINE__`. Returns
-    /// whether it did. If it didn't, nothing changes.
-    fn push_next(&mut self, tokens: &mut Vec<Read>) -> Result<bool, AllocError>
-        ensures { IfOk result (λ pushed. ReadsOnto (reader self.old) tokens.old.items pushed
+    /// Reads tokens onto the end of these, up to a parenthesis, which is read too. Stops before a pause, `__LINE__` and
+    /// the name of a macro that is open around. Returns whether it came to a parenthesis.
+    fn push_flat(&mut self, tokens: &mut Vec<Read>) -> Result<bool, AllocError>
+        ensures { IfOk result (λ found. ReadsRun (reader self.old) tokens.old.items found
             (reader self.new) tokens.new.items) };
 
     /// The macro of the name there, if it is defined. It is looked for first at the number that is guessed, if one is.
@@ -45,4 +47,15 @@ pub trait MeLexer {
     fn apply_line_offset(&self, line: u32, location: Location) -> Step<u32>
         ensures { result ≡ as_step (ok_or (shown_line (reader self.now) line)
             (LineOverflow, location)) };
+}
+
+/// Whether the last of the tokens is a parenthesis.
+#[inline(always)]
+pub fn ends_at_parenthesis(tokens: &[Read]) -> bool
+    ensures { (before : List Read) (read : Read) → tokens.now ≡ before ++ read ∷ [] → result ≡ nests read.token.value }
+{
+    match tokens.last() {
+        Some(read) => is_left_paren(&read.token.value) || is_right_paren(&read.token.value),
+        None => false,
+    }
 }

@@ -1,7 +1,7 @@
 -- Open macros, which the expander keeps with the innermost last.
 use Rattle.std.proofs.Common.{◌≡◌, ◌∙◌, ◌⊎◌, inl, inr, ℕ, suc, ◌-◌, ◌<◌, ◌≤◌, Bool, true, false, ◌||◌, List, [], ◌∷◌, ◌++◌, length, get_or, take, drop, reverse, set, refl, ap, sym, arith, Option, Some, None, slice_get, get_or-set_same}
 use Rattle.std.specs.List.{list_any}
-use Rattle.std.specs.Prelude.{is_none, IsSome}
+use Rattle.std.specs.Prelude.{is_none, is_some, IsSome}
 use Rattle.std.proofs.Math.Seq.{take-append_seam}
 use Rattle.std.proofs.lemmas.List.{reverse-append, length-map, length-reverse, length-take-le, length-drop, take-append-drop, length-set, take-set}
 use Rattle.std.proofs.lemmas.Bool.{cases_lt}
@@ -92,6 +92,23 @@ last_passes fs f v n e some last goes passes =
     let is = rw e at last in
     rw (e, reverse_last fs f more, ← is, reverse_set_last fs v more) (frame_passes (advance f) f v (reverse (take (length fs - 1) fs)) goes passes)
 
+-- what has a step isn't at its end
+pub has_step : (advanced : Option Advance) → is_some advanced ≡ true → is_none advanced ≡ false
+has_step (Some a) some = refl
+has_step None some = cc
+
+-- the innermost frame is closed if it is at its end
+frame_closes : (advanced : Option Advance) (fs : List Frame) → is_some advanced ≡ false → fs ≡ (frame_move fs advanced).after
+frame_closes (Some a) fs ends = cc
+frame_closes None fs ends = refl
+
+pub last_closes : (fs : List Frame) (f v : Frame) (n : ℕ) → n ≡ length fs → 0 < n → f ≡ get_or fs (n - 1) f
+    → is_some (advance f) ≡ false → drop 1 (reverse (set fs (n - 1) v)) ≡ frames_after (reverse fs)
+last_closes fs f v n e some last ends =
+    let more = rw e at some in
+    let is = rw e at last in
+    rw (e, reverse_last fs f more, ← is, reverse_set_last fs v more) (frame_closes (advance f) (reverse (take (length fs - 1) fs)) ends)
+
 -- a step keeps the names
 pub names_kept : (fs : List Frame) (f v : Frame) (n : ℕ) → n ≡ length fs → 0 < n → f ≡ get_or fs (n - 1) f → v.name ≡ f.name
     → names_of (reverse (set fs (n - 1) v)) ≡ names_of (reverse fs)
@@ -104,25 +121,25 @@ names_number : (fs : List Frame) → length (names_of (reverse fs)) ≡ length f
 names_number fs = length-map (reverse fs) (λ (f : Frame). f.name) ∙ length-reverse fs
 
 -- one more opens
-number_of : (fs : List Frame) (n deep : ℕ) → n ≡ length fs → deep ≡ n - 8 → deep ≡ length (deeper_names (names_of (reverse fs)))
+number_of : (fs : List Frame) (n deep : ℕ) → n ≡ length fs → deep ≡ n - 16 → deep ≡ length (deeper_names (names_of (reverse fs)))
 number_of fs n deep number is =
     let count = names_number fs in
-    omega (arith, count, length-take-le (length (names_of (reverse fs)) - 8) (names_of (reverse fs)) (omega arith))
+    omega (arith, count, length-take-le (length (names_of (reverse fs)) - 16) (names_of (reverse fs)) (omega arith))
 
-deeper-more : (name : Name) (names : List Name) → 8 ≤ length names → deeper_names (name ∷ names) ≡ name ∷ deeper_names names
+deeper-more : (name : Name) (names : List Name) → 16 ≤ length names → deeper_names (name ∷ names) ≡ name ∷ deeper_names names
 deeper-more name names many = ap (λ (n : ℕ). take n (name ∷ names)) (one_more (length names) many)
   where
-    one_more : (n : ℕ) → 8 ≤ n → suc n - 8 ≡ suc (n - 8)
+    one_more : (n : ℕ) → 16 ≤ n → suc n - 16 ≡ suc (n - 16)
     one_more n many = omega arith
 
-deeper-few : (names : List Name) → length names ≤ 8 → deeper_names names ≡ []
+deeper-few : (names : List Name) → length names ≤ 16 → deeper_names names ≡ []
 deeper-few names few = ap (λ (n : ℕ). take n names) (none (length names) few)
   where
-    none : (n : ℕ) → n ≤ 8 → n - 8 ≡ 0
+    none : (n : ℕ) → n ≤ 16 → n - 16 ≡ 0
     none n few = omega arith
 
 names_opened : (fs : List Frame) (f : Frame) (name : Name) (n deep : ℕ) (positions : List Position) → name ≡ f.name → n ≡ length fs
-    → 8 ≤ n → deep ≡ n - 8 → positions ≡ outermost_positions (deeper_names (names_of (reverse fs)))
+    → 16 ≤ n → deep ≡ n - 16 → positions ≡ outermost_positions (deeper_names (names_of (reverse fs)))
     → after_opening name deep positions ≡ outermost_positions (deeper_names (names_of (reverse (fs ++ f ∷ []))))
 names_opened fs f name n deep positions named number many is are =
     let names = names_of (reverse fs) in
@@ -131,7 +148,7 @@ names_opened fs f name n deep positions named number many is are =
     (outermost-opened f.name (deeper_names names))
 
 -- one of the first few opens
-names_opened-few : (fs : List Frame) (f : Frame) (n : ℕ) (positions : List Position) → n ≡ length fs → n < 8
+names_opened-few : (fs : List Frame) (f : Frame) (n : ℕ) (positions : List Position) → n ≡ length fs → n < 16
     → positions ≡ outermost_positions (deeper_names (names_of (reverse fs))) → positions ≡ outermost_positions (deeper_names (names_of (reverse (fs ++ f ∷ []))))
 names_opened-few fs f n positions number few are =
     let names = names_of (reverse fs) in
@@ -141,16 +158,16 @@ names_opened-few fs f n positions number few are =
 
 -- the name is kept unless it is one of the first few
 pub names_noted : (fs : List Frame) (f : Frame) (name : Name) (n : ℕ) (positions noted : List Position) → name ≡ f.name → n ≡ length fs
-    → (n < 8 → noted ≡ positions) → (8 ≤ n → noted ≡ after_opening name (n - 8) positions) → positions ≡ outermost_positions (deeper_names (names_of (reverse fs)))
+    → (n < 16 → noted ≡ positions) → (16 ≤ n → noted ≡ after_opening name (n - 16) positions) → positions ≡ outermost_positions (deeper_names (names_of (reverse fs)))
     → noted ≡ outermost_positions (deeper_names (names_of (reverse (fs ++ f ∷ []))))
-names_noted fs f name n positions noted named number few many are = by (cases_lt n 8)
+names_noted fs f name n positions noted named number few many are = by (cases_lt n 16)
   where
-    by : (n < 8) ⊎ (8 ≤ n) → noted ≡ outermost_positions (deeper_names (names_of (reverse (fs ++ f ∷ []))))
+    by : (n < 16) ⊎ (16 ≤ n) → noted ≡ outermost_positions (deeper_names (names_of (reverse (fs ++ f ∷ []))))
     by (inl h) = few h ∙ names_opened-few fs f n positions number h are
-    by (inr h) = many h ∙ names_opened fs f name n (n - 8) positions named number h refl are
+    by (inr h) = many h ∙ names_opened fs f name n (n - 16) positions named number h refl are
 
 -- the last of them closes, if there is one
-names_closed : (fs : List Frame) (n deep : ℕ) (positions : List Position) → n ≡ length (take (length fs - 1) fs) → 8 ≤ n → deep ≡ n - 8
+names_closed : (fs : List Frame) (n deep : ℕ) (positions : List Position) → n ≡ length (take (length fs - 1) fs) → 16 ≤ n → deep ≡ n - 16
     → positions ≡ outermost_positions (deeper_names (names_of (reverse fs)))
     → after_closing deep positions ≡ outermost_positions (deeper_names (names_of (reverse (take (length fs - 1) fs))))
 names_closed [] n deep positions number many is are = absurd (omega (arith, number, many))
@@ -163,7 +180,7 @@ names_closed (f ∷ fs) n deep positions number many is are =
     rw (number_of before n deep number is, are, frames, deeper-more last.name names (omega (arith, count, number, many)))
     (outermost-closed last.name (deeper_names names))
 
-names_closed-few : (fs : List Frame) (n : ℕ) (positions : List Position) → n ≡ length (take (length fs - 1) fs) → n < 8
+names_closed-few : (fs : List Frame) (n : ℕ) (positions : List Position) → n ≡ length (take (length fs - 1) fs) → n < 16
     → positions ≡ outermost_positions (deeper_names (names_of (reverse fs))) → positions ≡ outermost_positions (deeper_names (names_of (reverse (take (length fs - 1) fs))))
 names_closed-few [] n positions number few are = are
 names_closed-few (f ∷ fs) n positions number few are =
@@ -176,44 +193,44 @@ names_closed-few (f ∷ fs) n positions number few are =
     ∙ sym (ap outermost_positions (deeper-few names (omega (arith, count, number, few))))
 
 pub names_freed : (fs : List Frame) (n : ℕ) (positions freed : List Position) → n ≡ length (take (length fs - 1) fs)
-    → (n < 8 → freed ≡ positions) → (8 ≤ n → freed ≡ after_closing (n - 8) positions) → positions ≡ outermost_positions (deeper_names (names_of (reverse fs)))
+    → (n < 16 → freed ≡ positions) → (16 ≤ n → freed ≡ after_closing (n - 16) positions) → positions ≡ outermost_positions (deeper_names (names_of (reverse fs)))
     → freed ≡ outermost_positions (deeper_names (names_of (reverse (take (length fs - 1) fs))))
-names_freed fs n positions freed number few many are = by (cases_lt n 8)
+names_freed fs n positions freed number few many are = by (cases_lt n 16)
   where
-    by : (n < 8) ⊎ (8 ≤ n) → freed ≡ outermost_positions (deeper_names (names_of (reverse (take (length fs - 1) fs))))
+    by : (n < 16) ⊎ (16 ≤ n) → freed ≡ outermost_positions (deeper_names (names_of (reverse (take (length fs - 1) fs))))
     by (inl h) = few h ∙ names_closed-few fs n positions number h are
-    by (inr h) = many h ∙ names_closed fs n (n - 8) positions number h refl are
+    by (inr h) = many h ∙ names_closed fs n (n - 16) positions number h refl are
 
 -- a name is open if one of the first few frames has it, or one of those inside them
-names_inside : (fs : List Frame) → deeper_names (names_of (reverse fs)) ≡ names_of (reverse (drop 8 fs))
+names_inside : (fs : List Frame) → deeper_names (names_of (reverse fs)) ≡ names_of (reverse (drop 16 fs))
 names_inside fs =
-    let outer = names_of (reverse (take 8 fs)) in
-    let inner = names_of (reverse (drop 8 fs)) in
+    let outer = names_of (reverse (take 16 fs)) in
+    let inner = names_of (reverse (drop 16 fs)) in
     let split : names_of (reverse fs) ≡ inner ++ outer =
-    ap (λ (gs : List Frame). names_of (reverse gs)) (sym (take-append-drop 8 fs))
-    ∙ ap names_of (reverse-append (take 8 fs) (drop 8 fs)) ∙ names_of-append (reverse (drop 8 fs)) (reverse (take 8 fs)) in
+    ap (λ (gs : List Frame). names_of (reverse gs)) (sym (take-append-drop 16 fs))
+    ∙ ap names_of (reverse-append (take 16 fs) (drop 16 fs)) ∙ names_of-append (reverse (drop 16 fs)) (reverse (take 16 fs)) in
     let whole = names_number fs in
-    let part : length inner ≡ length fs - 8 = names_number (drop 8 fs) ∙ length-drop 8 fs in
-    let number : length (names_of (reverse fs)) - 8 ≡ length inner = omega (arith, whole, part) in
+    let part : length inner ≡ length fs - 16 = names_number (drop 16 fs) ∙ length-drop 16 fs in
+    let number : length (names_of (reverse fs)) - 16 ≡ length inner = omega (arith, whole, part) in
     ap (λ (n : ℕ). take n (names_of (reverse fs))) number ∙ ap (take (length inner)) split ∙ take-append_seam inner outer
 
 pub open_among : (name : Name) (fs : List Frame) (positions : List Position) → positions ≡ outermost_positions (deeper_names (names_of (reverse fs)))
-    → (list_any (λ f. is_same_name name f.name) (take 8 fs) || is_open positions name) ≡ is_in name (names_of (reverse fs))
+    → (list_any (λ f. is_same_name name f.name) (take 16 fs) || is_open positions name) ≡ is_in name (names_of (reverse fs))
 open_among name fs positions are =
     let test = λ (f : Frame). is_same_name name f.name in
-    let inside : is_open positions name ≡ list_any test (drop 8 fs) =
+    let inside : is_open positions name ≡ list_any test (drop 16 fs) =
     ap (λ (ps : List Position). is_open ps name) are ∙ outermost-open (deeper_names (names_of (reverse fs))) name
-    ∙ ap (is_in name) (names_inside fs) ∙ is_in-names name (drop 8 fs) in
-    ap (λ b. list_any test (take 8 fs) || b) inside ∙ sym (list_any-append test (take 8 fs) (drop 8 fs))
-    ∙ ap (list_any test) (take-append-drop 8 fs) ∙ sym (is_in-names name fs)
+    ∙ ap (is_in name) (names_inside fs) ∙ is_in-names name (drop 16 fs) in
+    ap (λ b. list_any test (take 16 fs) || b) inside ∙ sym (list_any-append test (take 16 fs) (drop 16 fs))
+    ∙ ap (list_any test) (take-append-drop 16 fs) ∙ sym (is_in-names name fs)
 
 pub open_first : (name : Name) (fs : List Frame) (positions : List Position) (first : Bool) → positions ≡ outermost_positions (deeper_names (names_of (reverse fs)))
-    → first ≡ list_any (λ f. is_same_name name f.name) (take 8 fs) → first ≡ true → first ≡ is_in name (names_of (reverse fs))
+    → first ≡ list_any (λ f. is_same_name name f.name) (take 16 fs) → first ≡ true → first ≡ is_in name (names_of (reverse fs))
 open_first name fs positions first are is same =
     same ∙ sym (ap (λ b. b || is_open positions name) (sym is ∙ same)) ∙ open_among name fs positions are
 
 pub open_inside : (name : Name) (fs : List Frame) (positions : List Position) (first inside : Bool)
-    → positions ≡ outermost_positions (deeper_names (names_of (reverse fs))) → first ≡ list_any (λ f. is_same_name name f.name) (take 8 fs) → first ≡ false
+    → positions ≡ outermost_positions (deeper_names (names_of (reverse fs))) → first ≡ list_any (λ f. is_same_name name f.name) (take 16 fs) → first ≡ false
     → inside ≡ is_open positions name → inside ≡ is_in name (names_of (reverse fs))
 open_inside name fs positions first inside are is same among =
     among ∙ sym (ap (λ b. b || is_open positions name) (sym is ∙ same)) ∙ open_among name fs positions are

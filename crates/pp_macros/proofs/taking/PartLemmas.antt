@@ -1,5 +1,5 @@
 -- Lists of tokens, each a part of one list.
-use Rattle.std.proofs.Common.{◌≡◌, ◌∙◌, ℕ, zero, suc, ◌+◌, ◌-◌, ◌<◌, ◌≤◌, get_or, List, [], ◌∷◌, ◌++◌, length, take, drop, refl, sym, ap, subst, arith, All, Option, Some, option_map, slice_get, nat_eq}
+use Rattle.std.proofs.Common.{◌≡◌, ◌∙◌, ℕ, zero, suc, ◌+◌, ◌-◌, ◌<◌, ◌≤◌, get_or, List, [], ◌∷◌, ◌++◌, length, take, drop, refl, sym, ap, subst, arith, All, Option, Some, None, option_map, slice_get, nat_eq}
 use Rattle.std.specs.Prelude.{unwrap_or}
 use Rattle.std.proofs.lemmas.List.{take-append-le, drop-append-le, drop-drop, drop_at, get_or-drop, length-map, length-drop, take_rest, take_more, map-append, append_assoc}
 use Rattle.std.proofs.Math.ListN.{get_or-map}
@@ -10,8 +10,9 @@ use Rattle.std.proofs.lemmas.Bool.Decides.{nat_tests}
 use Rattle.pp_model.specs.Calls.{is_one_empty}
 use Rattle.pp_model.specs.declared.read.Read.{Read}
 use Rattle.pp_macros.specs.inner.Frames.{argument_at}
+use Rattle.pp_macros.proofs.open_frames.FrameLemmas.{drop-some, drop-none}
 use Rattle.pp_macros.specs.declared.argument_lists.Part.{Part}
-use Rattle.pp_macros.specs.inner.Parts.{list_of, lists_of, AreInOrder, addition}
+use Rattle.pp_macros.specs.inner.Parts.{list_of, lists_of, AreInOrder, addition, next_read, after_read}
 
 in_order_apart : (from to : ℕ) (parts : List Part) → AreInOrder from parts to → from ≤ to
 in_order_apart from to [] h = h
@@ -49,6 +50,51 @@ one_empty_is tokens (part ∷ []) d one h =
     same : (list : List Read) → length list ≡ part.end - part.start → part.start ≤ part.end → nat_eq part.start part.end ≡ is_one_empty (list ∷ [])
     same [] few within = grind (arith, nat_tests)
     same (read ∷ list) few within = grind (arith, nat_tests)
+
+-- a part with a token has the token at its start, and then those after it
+pub part_starts : (tokens : List Read) (part : Part) (read : Read) → part.start < part.end → slice_get tokens part.start ≡ Some read
+    → list_of tokens part ≡ read ∷ list_of tokens (record part { start = part.start + 1 })
+part_starts tokens part read some at =
+    let more : part.end - part.start ≡ suc (part.end - (part.start + 1)) = omega (arith, some) in
+    ap (λ (n : ℕ). take n (drop part.start tokens)) more ∙ ap (take (suc (part.end - (part.start + 1)))) (drop-some tokens part.start read at)
+
+-- one that starts after the tokens has none
+take-nothing : (n : ℕ) → take {A = Read} n [] ≡ []
+take-nothing zero = refl
+take-nothing (suc n) = refl
+
+part_beyond : (tokens : List Read) (part : Part) → slice_get tokens part.start ≡ None → list_of tokens part ≡ []
+part_beyond tokens part none = ap (take (part.end - part.start)) (drop-none tokens part.start none) ∙ take-nothing (part.end - part.start)
+
+part_past : (tokens : List Read) (part : Part) → slice_get tokens part.start ≡ None
+    → list_of tokens (record part { start = part.start + 1 }) ≡ []
+part_past tokens part none =
+    let empty : drop (part.start + 1) tokens ≡ [] = sym (drop-drop 1 part.start tokens) ∙ ap (drop 1) (drop-none tokens part.start none) in
+    ap (take (part.end - (part.start + 1))) empty ∙ take-nothing (part.end - (part.start + 1))
+
+-- one without a token gives none
+pub part_empty : (tokens : List Read) (part : Part) → part.end ≤ part.start → next_read (Some (list_of tokens part)) ≡ None
+part_empty tokens part low =
+    let none : part.end - part.start ≡ 0 = omega (arith, low) in
+    ap (λ (n : ℕ). next_read (Some (take n (drop part.start tokens)))) none
+
+-- the next token of a part
+pub part_next : (tokens : List Read) (part : Part) → part.start < part.end → slice_get tokens part.start ≡ next_read (Some (list_of tokens part))
+part_next tokens part some = go (slice_get tokens part.start) refl
+  where
+    go : (o : Option Read) → slice_get tokens part.start ≡ o → slice_get tokens part.start ≡ next_read (Some (list_of tokens part))
+    go None e = rw (e, part_beyond tokens part e) refl
+    go (Some read) e = rw (e, part_starts tokens part read some e) refl
+
+-- what is left of a part after it
+pub part_after : (tokens : List Read) (part : Part) → part.start < part.end
+    → Some (list_of tokens (record part { start = part.start + 1 })) ≡ after_read (Some (list_of tokens part))
+part_after tokens part some = go (slice_get tokens part.start) refl
+  where
+    go : (o : Option Read) → slice_get tokens part.start ≡ o
+        → Some (list_of tokens (record part { start = part.start + 1 })) ≡ after_read (Some (list_of tokens part))
+    go None e = rw (part_beyond tokens part e, part_past tokens part e) refl
+    go (Some read) e = rw (part_starts tokens part read some e) refl
 
 -- one more part, after the others
 pub in_order_push : (from to beyond : ℕ) (parts : List Part) (part : Part) → AreInOrder from parts to → to ≤ part.start → part.start ≤ part.end

@@ -10,7 +10,7 @@ use Rattle.pp_model.specs.declared.read.Taken.TheVariants as given
 use Rattle.pp_macros.specs.Held.{HoldsOrdinary}
 use Rattle.pp_macros.specs.Item.{Step, is_out_of_memory}
 use Rattle.pp_macros.specs.inner.Frames.{Frame}
-use Rattle.pp_macros.specs.inner.Reader.{Reader}
+use Rattle.pp_macros.specs.inner.Reader.{Reader, nests}
 use Rattle.pp_macros.specs.inner.Reading.{painted_step}
 use Rattle.pp_macros.specs.inner.Turns.{Moves, taken_in, masks}
 use Rattle.pp_macros.specs.declared.halt.Halt.{Halt}
@@ -90,6 +90,29 @@ TakesOnto m r tokens (Ok done) n s more = IsTakenOnto m r tokens n s more
 TakesOnto m r tokens (Err (Error fault)) n s more =
     is_out_of_memory fault.0 ≡ false → TakesNext m r (Err (Error fault)) n s
 TakesOnto m r tokens (Err exit) n s more = TakesNext m r (Err exit) n s
+
+-- tokens that are no parentheses were taken so, one after the other, while the expander stayed as it is
+pub data TakesFlat (m : Expander) (r : Reader) (tokens : List Read) : Reader → List Read → Type 0 where
+  none_taken : (s : Reader) (more : List Read) → s ≡ r → more ≡ tokens → TakesFlat m r tokens s more
+  taken_more : (s t : Reader) (some more : List Read)
+      → TakesFlat m r tokens s some
+      → (onto : IsTakenOnto m s some m t more)
+      → nests onto.read.token.value ≡ false
+      → TakesFlat m r tokens t more
+
+-- such tokens were, and then one more token, or there was none
+pub record TakesRun (m : Expander) (r : Reader) (tokens : List Read) (step : Step (Unit {0}))
+    (n : Expander) (s : Reader) (more : List Read) : Type 0 where
+  pub between : Reader
+  pub some : List Read
+  pub flat : TakesFlat m r tokens between some
+  pub last : TakesOnto m between some step n s more
+  pub kept : step ≡ Err Finished → more ≡ some
+
+-- the place of the last of the tokens or, if there is none, that of the `(` before them
+abbrev pub place_after : Location → List Read → Location
+place_after paren [] = paren
+place_after paren (read ∷ tokens) = place_after read.token.location tokens
 
 -- the tokens that are taken up to the matching `)`, or the fault that is met before it
 pub data GathersNext : ℕ → Location → Expander → Reader → Result Gathered Fault → Expander → Reader → Type 0 where

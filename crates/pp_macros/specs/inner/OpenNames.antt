@@ -36,6 +36,6 @@ abbrev pub outermost_positions : List Name → List Position
 outermost_positions [] = []
 outermost_positions (name ∷ names) = placed_at (is_in name names) name (length names) (outermost_positions names)
 
--- the names of the frames inside the outermost eight, if the frames have these names, the innermost first
+-- the names of the frames inside the outermost sixteen, if the frames have these names, the innermost first
 abbrev pub deeper_names : List Name → List Name
-deeper_names names = take (length names - 8) names
+deeper_names names = take (length names - 16) names

@@ -1,5 +1,5 @@
 -- Lists of tokens, each a part of one list.
-use Rattle.std.specs.Prelude.{ℕ, ◌≤◌, List, [], ◌∷◌, map, slice_range, length, drop}
+use Rattle.std.specs.Prelude.{ℕ, ◌≤◌, List, [], ◌∷◌, map, slice_range, length, drop, Option, Some, None}
 use Rattle.pp_model.specs.declared.read.Read.{Read}
 use Rattle.pp_macros.specs.declared.argument_lists.Part.{Part}
 
@@ -19,3 +19,20 @@ AreInOrder from (part ∷ parts) to = (from ≤ part.start) × (part.start ≤ p
 -- what was appended to these tokens
 abbrev pub addition : List Read → List Read → List Read
 addition old new = drop (length old) new
+
+-- lists of tokens, and what is left of the one that is being read
+pub record OpenLists : Type 0 where
+  pub lists : List (List Read)
+  pub reading : Option (List Read)
+
+-- the next token of the list that is being read
+abbrev pub next_read : Option (List Read) → Option Read
+next_read None = None
+next_read (Some []) = None
+next_read (Some (read ∷ rest)) = Some read
+
+-- what is left after that token
+abbrev pub after_read : Option (List Read) → Option (List Read)
+after_read None = None
+after_read (Some []) = Some []
+after_read (Some (read ∷ rest)) = Some rest

@@ -1,8 +1,10 @@
 -- What comes after the frames: the reader, as its interface object shows it.
-use Rattle.std.specs.Prelude.{◌≡◌, ◌⊎◌, ℕ, pos, ◌+ℤ◌, Bool, true, false, ◌&&◌, if◌then◌else◌, List, [], ◌∷◌, ◌++◌}
+use Rattle.std.specs.Prelude.{◌≡◌, ◌⊎◌, ℕ, pos, ◌+ℤ◌, Bool, true, false, ◌&&◌, ◌||◌, if◌then◌else◌, List, [], ◌∷◌, ◌++◌}
 use Rattle.std.specs.Prelude.{Option, Some, None, Ok, Err}
 use Rattle.pp_lexer.specs.PreprocessorError.{out_of_memory}
 use Rattle.pp_lexer.specs.declared.token.Token.{Token}
+use Rattle.pp_lexer.specs.declared.token.TokenValue.{TokenValue}
+use Rattle.pp_model.specs.Calls.{is_left_paren, is_right_paren}
 use Rattle.pp_model.specs.Definitions.{Definitions}
 use Rattle.pp_model.specs.LineValues.{as_line_number}
 use Rattle.pp_model.specs.Names.{Name, is_identifier, is_same_name, defined_name, line_name}
@@ -74,6 +76,26 @@ pub record IsReadOnto (old : Reader) (tokens : List Read) (new : Reader) (more :
 abbrev pub ReadsOnto : Reader → List Read → Bool → Reader → List Read → Type 0
 ReadsOnto old tokens true new more = IsReadOnto old tokens new more
 ReadsOnto old tokens false new more = (new ≡ old) × (more ≡ tokens)
+
+-- a parenthesis
+abbrev pub nests : TokenValue → Bool
+nests value = is_left_paren value || is_right_paren value
+
+-- tokens that are no parentheses were read so, one after the other
+pub data ReadsFlat (old : Reader) (tokens : List Read) : Reader → List Read → Type 0 where
+  none_read : (new : Reader) (more : List Read) → new ≡ old → more ≡ tokens → ReadsFlat old tokens new more
+  read_more : (between new : Reader) (some more : List Read)
+      → ReadsFlat old tokens between some
+      → (onto : IsReadOnto between some new more)
+      → nests onto.read.token.value ≡ false
+      → ReadsFlat old tokens new more
+
+-- such tokens were, and then a token if one was found
+pub record ReadsRun (old : Reader) (tokens : List Read) (found : Bool) (new : Reader) (more : List Read) : Type 0 where
+  pub between : Reader
+  pub some : List Read
+  pub flat : ReadsFlat old tokens between some
+  pub last : ReadsOnto between some found new more
 
 -- the definitions that open macros there
 abbrev pub visible : Reader → Definitions

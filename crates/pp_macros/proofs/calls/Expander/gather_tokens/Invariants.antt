@@ -1,4 +1,5 @@
 use Rattle.pp_macros.specs.inner.Reading.{AllReadOrdinary}
+use Rattle.pp_macros.specs.inner.Expander.{place_after}
 use Rattle.pp_macros.specs.inner.Left.{regions}
 use Rattle.pp_macros.specs.inner.Reach.{total}
 use Rattle.pp_macros.proofs.taking.ExpanderLemmas.{Gathering}
@@ -7,7 +8,7 @@ use Rattle.pp_macros.proofs.calls.Expander.gather_tokens.Given as goal
 -- each token that is gathered stands before those that follow
 abbrev pub invariant-tokens : goal.invariant-tokens
 invariant-tokens o l = record {
-  goes_on : Gathering l.fn.paren l.fn.self ((goal.MeLexer-dyn o l.fn.lexer.now).reader l.fn.lexer.now.1) l.tokens.items l.depth l.last l.self
+  goes_on : Gathering l.fn.paren l.fn.self ((goal.MeLexer-dyn o l.fn.lexer.now).reader l.fn.lexer.now.1) l.tokens.items l.depth (place_after l.fn.paren l.tokens.items) l.self
       ((goal.MeLexer-dyn o l.lexer.now).reader l.lexer.now.1);
   holds : AllReadOrdinary l.tokens.items;
 }

@@ -12,7 +12,7 @@ use Rattle.pp_macros.proofs.calls.Expander.turn.Goals as goal
 -- a pause
 pub returns-in_default-clause-turns : goal.returns-in_default-clause-turns
 returns-in_default-clause-turns g c =
-    rw (← c.self.view_is, c.pass.ensures)
+    rw (← c.self.view_is, c.pass_pause.ensures)
     (frame_pauses (record { held = c.self.inside.held; frames = c.self.inside.processor }) (g.L.MeLexer.reader c.args.lexer.now)
     (none_held c.self.inside.held (sym c.is_some.ensures ∙ c.if-is_some.false)) (c.is_idle.ensures ∙ ap not c.if-is_idle.false)
     (c.in_default.ensures {u = tt}).token)

@@ -1,15 +1,15 @@
 use Rattle.std.proofs.Common.{◌∙◌, length, ap, refl}
 use Rattle.pp_macros.proofs.open_frames.OpenMacroLemmas.{names_noted}
 use Rattle.pp_macros.proofs.open_frames.OpenMarksLemmas.{marked_opened}
-use Rattle.pp_macros.proofs.macro_processor.MacroProcessor.open.Goals as goal
+use Rattle.pp_macros.proofs.macro_processor.MacroProcessor.open_bare.Goals as goal
 
 pub invariant_of-self-2 : goal.invariant_of-self-2
 invariant_of-self-2 c =
-    rw (c.push_reserved.ensures.items, c.new-frame.ensures, c.reserve.ensures.items) (
+    rw (c.push_reserved.ensures.items, c.bare.ensures, c.reserve.ensures.items) (
       names_noted c.self.inside.frames.items _ c.args.opened.value.name c.len.result c.self.inside.open_names c.note_name.new.names refl
           (c.len.ensures ∙ c.reserve.new.self.ok.0 ∙ ap length c.reserve.ensures.items)
           c.in_ok-note_name.ensures.few (c.in_ok-note_name.ensures.many) c.self.invariant.0,
-      rw (c.add.ensures, c.as_str.ensures, c.name.ensures, c.deref.ensures) (marked_opened c.self.inside.marks c.self.inside.frames.items _ c.self.invariant.1),
+      rw (c.add.ensures, c.mark.ensures, c.deref.ensures) (marked_opened c.self.inside.marks c.self.inside.frames.items _ c.self.invariant.1),
     )
 
 pub invariant_of-self-in_err-note_name : goal.invariant_of-self-in_err-note_name

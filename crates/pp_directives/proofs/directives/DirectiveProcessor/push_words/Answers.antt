@@ -1,0 +1,19 @@
+use Rattle.std.proofs.Common.{◌∙◌, refl}
+use Rattle.pp_macros.specs.inner.Reader.{IsReadOnto, of_source, none_read}
+use Rattle.pp_macros.proofs.taking.RunLemmas.{flat_more, read_falls}
+use Rattle.pp_directives.proofs.directives.DirectiveProcessor.push_words.Goals as goal
+
+pub words-init : goal.words-init
+words-init c = none_read _ _ refl refl
+
+pub words-preserved : goal.words-preserved
+words-preserved c =
+    let onto : IsReadOnto (of_source c.words.self) c.words.tokens.items (of_source c.push_word.new.self) c.push_word.new.tokens.items
+    = rw c.if-branch.true at (c.in_ok-push_word.ensures {u = tt}) in
+    flat_more _ _ _ _ _ _ _ c.words.invariant onto (c.ends_at_parenthesis.ensures _ onto.read (c.deref.ensures.value ∙ onto.is)) c.if-ends_at_parenthesis.false
+
+pub words-smaller : goal.words-smaller
+words-smaller c =
+    let onto : IsReadOnto (of_source c.words.self) c.words.tokens.items (of_source c.push_word.new.self) c.push_word.new.tokens.items
+    = rw c.if-branch.true at (c.in_ok-push_word.ensures {u = tt}) in
+    read_falls _ _ _ _ onto

@@ -1,0 +1,12 @@
+use Rattle.pp_macros.specs.inner.Left.{regions}
+use Rattle.pp_macros.specs.inner.Reach.{total}
+use Rattle.pp_macros.specs.inner.Reader.{ReadsFlat, of_source}
+use Rattle.pp_macros.proofs.taking.ExpanderLemmas.{idle}
+use Rattle.pp_directives.proofs.directives.DirectiveProcessor.push_words.Given as goal
+
+-- the tokens so far, of which none is a parenthesis
+abbrev pub invariant-words : goal.invariant-words
+invariant-words l = ReadsFlat (of_source l.fn.self) l.fn.tokens.items (of_source l.self) l.tokens.items
+
+abbrev pub decreases-words : goal.decreases-words
+decreases-words l = total (regions idle (of_source l.self))

@@ -1,0 +1,17 @@
+use Rattle.std.proofs.Common.{◌∙◌, length, ap}
+use Rattle.pp_macros.proofs.open_frames.OpenMacroLemmas.{names_noted}
+use Rattle.pp_macros.proofs.open_frames.OpenMarksLemmas.{marked_opened}
+use Rattle.pp_macros.proofs.macro_processor.MacroProcessor.push.Goals as goal
+
+pub invariant_of-self-2 : goal.invariant_of-self-2
+invariant_of-self-2 c =
+    rw (c.push_reserved.ensures.items, c.reserve.ensures.items) (
+      names_noted c.self.inside.frames.items _ c.opened.result.now.value.name c.len.result c.self.inside.open_names c.note_name.new.names c.opened.ensures
+          (c.len.ensures ∙ c.reserve.new.self.ok.0 ∙ ap length c.reserve.ensures.items)
+          c.in_ok-note_name.ensures.few (c.in_ok-note_name.ensures.many) c.self.invariant.0,
+      rw (c.add.ensures, c.mark.ensures, c.deref.ensures, c.opened-2.ensures) (marked_opened c.self.inside.marks c.self.inside.frames.items _ c.self.invariant.1),
+    )
+
+pub invariant_of-self-in_err-note_name : goal.invariant_of-self-in_err-note_name
+invariant_of-self-in_err-note_name c =
+    rw c.reserve.ensures.items (c.in_err-note_name.ensures.err ∙ c.self.invariant.0, c.self.invariant.1)
