@@ -303,11 +303,9 @@ impl Expander {
         ensures steps { StepsTaking self.old (reader lexer.old) result self.new (reader lexer.new) }
         ensures holds { IfOk result (λ read. HoldsOrdinary read.token.value) }
     {
-        let mut step = self.fetch(lexer);
-        if let Ok(read) = &mut step {
-            self.processor.paint(&*lexer, read);
-        }
-        step
+        let mut read = self.fetch(lexer)?;
+        self.processor.paint(&*lexer, &mut read);
+        Ok(read)
     }
 
     // The step that is held or, if none is, the next one of the frames or the reader.

@@ -1,6 +1,6 @@
 //! A list of tokens as a reader: an argument of a call, or the line of a directive.
 
-ghost use Rattle.std.specs.Prelude.{◌≡◌, ◌&&◌, ◌||◌, ◌∷◌, ◌<◌, not, false, true, length, IfOk, MatchOption};
+ghost use Rattle.std.specs.Prelude.{◌≡◌, ◌&&◌, ◌||◌, ◌∷◌, ◌<◌, [], not, false, true, length, IfOk, IsTrue, MatchOption};
 ghost use Rattle.std.specs.Str.{chars};
 ghost use Rattle.pp_model.specs.Names.{is_identifier, is_same_name, defined_name, line_name};
 ghost use Rattle.pp_model.specs.Painting.{is_one_of};
@@ -42,6 +42,7 @@ pub fn take_out(place: &mut Read) -> Read
 }
 
 // Whether the token isn't `__LINE__`, nor a name that is painted when it is taken.
+#[inline(always)]
 fn is_taken_as_it_is(read: &Read, hidden: &OpenAround<'_>) -> bool
     ensures { result ≡ (not (is_identifier line_name read.now.token.value)
         && (read.now.painted || not (is_one_of hidden.now read.now.token.value))) }
@@ -148,6 +149,14 @@ impl<'a> ListLexer<'a> {
         let read = take_out(&mut self.tokens[self.position]);
         self.position += 1;
         read
+    }
+
+    /// Whether all of its tokens were taken.
+    #[inline(always)]
+    pub fn is_spent(&self) -> bool
+        ensures { IsTrue result → self.now.tokens ≡ [] }
+    {
+        self.tokens.len() <= self.position
     }
 
     /// Takes the next token, if it is neither `__LINE__` nor the name of a macro that is open around. Otherwise nothing

@@ -9,7 +9,7 @@ ghost use Rattle.pp_macros.specs.declared.calls.Taken.TheVariants as taken;
 
 use crate::calls::{Expander, Taken};
 use crate::list_lexer::ListLexer;
-use crate::step::Step;
+use crate::step::{Step, StepExit};
 use pp_model::read::Read;
 
 /// One step of the expander, with a list as what follows the frames, if nothing is open or held and the list's next
@@ -35,6 +35,9 @@ pub fn step_list(expander: &mut Expander, list: &mut ListLexer<'_>) -> Step<Take
 {
     if let Some(read) = step_unnamed(&*expander, list) {
         return Ok(Taken::Token(read));
+    }
+    if expander.is_idle() && list.is_spent() {
+        return Err(StepExit::Finished);
     }
     step_any(expander, list)
 }

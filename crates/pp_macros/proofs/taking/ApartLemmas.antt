@@ -1,17 +1,20 @@
 -- What is taken over a list while nothing is open or held.
-use Rattle.std.proofs.Common.{◌≡◌, Bool, true, false, Option, Some, None, Ok, refl}
+use Rattle.std.proofs.Common.{◌≡◌, ◌∙◌, Bool, true, false, List, [], Option, Some, None, Ok, Err, refl, sym, ap, subst, inl}
 use Rattle.std.specs.Prelude.{if◌then◌else◌, MatchOption}
 use Rattle.pp_lexer.specs.declared.token.TokenValue.{TokenValue}
 use Rattle.pp_lexer.specs.declared.token.TokenValue.TheVariants.{Ident}
 use Rattle.pp_model.specs.declared.read.Read.{Read}
 use Rattle.pp_macros.specs.inner.Apart.{IsApart, IsUnnamed, opens_none}
-use Rattle.pp_macros.specs.inner.CallTurns.{TurnsTo, gives}
+use Rattle.pp_macros.specs.inner.CallTurns.{TurnsTo, gives, passes}
 use Rattle.pp_macros.specs.inner.Expander.{Expander, StepsTaking, TakesNext, now}
 use Rattle.pp_macros.specs.inner.Idle.{is_idle}
-use Rattle.pp_macros.specs.inner.Reader.{Listing, of_list}
-use Rattle.pp_macros.specs.inner.Turns.{macro_of_value}
+use Rattle.pp_macros.specs.inner.Reader.{Listing, of_list, Reads, listed_step}
+use Rattle.pp_macros.specs.inner.Turns.{Moves, macro_of_value}
+use Rattle.pp_macros.specs.inner.Frames.{Frame}
+use Rattle.pp_model.specs.inner.Reading.{after_listed}
+use Rattle.pp_macros.specs.declared.step.StepExit.TheVariants.{Finished}
 use Rattle.pp_macros.specs.declared.calls.Taken.TheVariants as given
-use Rattle.pp_macros.proofs.taking.ExpanderLemmas.{idle_steps}
+use Rattle.pp_macros.proofs.taking.ExpanderLemmas.{idle_steps, is_idle-idle, fetches_step}
 
 apart_steps : (m : Expander) (l k : Listing) (read : Read) → is_idle m ≡ true → IsApart l read k → StepsTaking m (of_list l) (Ok read) m (of_list k)
 apart_steps m l k read idle a = idle_steps m (of_list l) (of_list k) read idle a.reads a.apart a.unmasked
@@ -33,3 +36,20 @@ pub unnamed_turns : (m : Expander) (l k : Listing) (taken : Option Read) → is_
 unnamed_turns m l k None idle same = same
 unnamed_turns m l k (Some read) idle u = gives read (Ok (given.Token read)) m m (of_list l) (of_list k) (apart_steps m l k read idle u.apart)
     (value_opens_none k read.painted read.token.value u.unnamed) refl
+
+-- the end of a list, while nothing is open or held
+pub list_ends : (m : Expander) (l : Listing) → is_idle m ≡ true → l.tokens ≡ [] → TurnsTo m (of_list l) (Err Finished) m (of_list l)
+list_ends m l waits none =
+    let idle_now = is_idle-idle m waits in
+    let held = ap (λ (k : Expander). k.held) idle_now in
+    let frames = ap (λ (k : Expander). k.frames) idle_now in
+    let same : l ≡ record l { tokens = after_listed l.tokens } =
+    ap (λ (tokens : List Read). record l { tokens = tokens }) (none ∙ sym (ap after_listed none)) in
+    let reads : Reads (of_list l) (Err Finished) (of_list l) = inl (ap listed_step (sym none), same) in
+    let steps : StepsTaking m (of_list l) (Err Finished) m (of_list l) = record {
+      first = Err Finished;
+      fetches = fetches_step m m.held m.held m.frames m.frames (Err Finished) (of_list l) (of_list l) refl held held
+          (subst (λ (fs : List Frame). Moves fs (of_list l) (Err Finished) fs (of_list l)) (sym frames) (refl, reads)) refl;
+      paints = refl;
+    } in
+    passes Finished (Err Finished) m m (of_list l) (of_list l) steps refl
