@@ -1,11 +1,10 @@
 -- The marks of the names of open macros.
-use Rattle.std.proofs.Common.{◌≡◌, ◌∙◌, ℕ, ◌-◌, Bool, true, false, List, [], ◌∷◌, ◌++◌, length, get_or, take, reverse, refl, ap, sym, subst, arith}
+use Rattle.std.proofs.Common.{ℕ, ◌-◌, List, [], ◌∷◌, ◌++◌, length, get_or, take, reverse, arith}
 use Rattle.std.specs.Prelude.{bit_or}
 use Rattle.std.proofs.lemmas.List.{reverse-append}
-use Rattle.pp_model.specs.Names.{Name, is_in}
 use Rattle.pp_macros.specs.inner.Frames.{Frame, names_of}
-use Rattle.pp_macros.specs.inner.Marks.{mark_of, has_mark, AreMarked}
-use Rattle.pp_macros.proofs.defined_names.MarksLemmas.{marked_more, marked_rest, unmarked}
+use Rattle.pp_macros.specs.inner.Marks.{mark_of, AreMarked}
+use Rattle.pp_macros.proofs.defined_names.MarksLemmas.{marked_more, marked_rest}
 use Rattle.pp_macros.proofs.open_frames.OpenMacroLemmas.{reverse_last}
 
 -- one more opens

@@ -1,7 +1,6 @@
-use Rattle.std.proofs.Common.{◌≡◌, ◌∙◌, ap, sym, [], ◌∷◌, refl}
+use Rattle.std.proofs.Common.{sym}
 use Rattle.std.proofs.lemmas.Str.{encodes-chars}
-use Rattle.std.specs.Str.{chars}
-use Rattle.pp_macros.specs.inner.Marks.{mark_number, number_by_bytes}
+use Rattle.pp_macros.specs.inner.Marks.{mark_number}
 use Rattle.pp_macros.proofs.defined_names.MarksLemmas.{number_of_none, number_of_some}
 use Rattle.pp_macros.proofs.marks.mark_number.Goals as goal
 

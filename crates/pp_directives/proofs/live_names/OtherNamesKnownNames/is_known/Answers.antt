@@ -1,4 +1,4 @@
-use Rattle.std.proofs.Common.{◌≡◌, ◌∙◌, ◌&&◌, not, Bool, true, false, Option, Some, refl, ap, sym}
+use Rattle.std.proofs.Common.{◌≡◌, ◌∙◌, ◌&&◌, not, Bool, true, false, Option, Some, refl, ap}
 use Rattle.std.specs.Str.{chars}
 use Rattle.pp_lexer.proofs.values.TextLemmas.{chars_tested}
 use Rattle.pp_model.specs.Definitions.{Definition}
