@@ -248,7 +248,7 @@ impl Define {
     /// The number that was noted for the body's token at this position. It says where to look for the macro of the
     /// token's name first.
     #[inline(always)]
-    pub fn number_at(&self, position: usize) -> Option<MacroId> {
+    pub(crate) fn number_at(&self, position: usize) -> Option<MacroId> {
         match self.numbers.get(position) {
             Some(number) => *number,
             None => None,

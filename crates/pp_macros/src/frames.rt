@@ -259,7 +259,7 @@ impl Frame {
 
     /// The number that was noted for the token of the body that its next step gives.
     #[inline(always)]
-    pub fn number_ahead(&self) -> Option<MacroId> {
+    pub(crate) fn number_ahead(&self) -> Option<MacroId> {
         if self.arguments.is_reading() {
             return None;
         }

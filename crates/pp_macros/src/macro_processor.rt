@@ -205,7 +205,7 @@ impl MacroProcessor {
 
     /// The number that was noted for the token that the innermost frame gives next.
     #[inline(always)]
-    pub fn number_ahead(&self) -> Option<MacroId> {
+    pub(crate) fn number_ahead(&self) -> Option<MacroId> {
         match self.frames.last() {
             Some(frame) => frame.number_ahead(),
             None => None,

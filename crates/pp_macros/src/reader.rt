@@ -52,7 +52,8 @@ pub trait MeLexer {
 /// Whether the last of the tokens is a parenthesis.
 #[inline(always)]
 pub fn ends_at_parenthesis(tokens: &[Read]) -> bool
-    ensures { (before : List Read) (read : Read) → tokens.now ≡ before ++ read ∷ [] → result ≡ nests read.token.value }
+    ensures { (before : List Read) (read : Read) → tokens.now ≡ before ++ read ∷ []
+        → result ≡ nests read.token.value }
 {
     match tokens.last() {
         Some(read) => is_left_paren(&read.token.value) || is_right_paren(&read.token.value),
