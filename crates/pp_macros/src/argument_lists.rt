@@ -146,6 +146,12 @@ impl OpenArguments {
         }
     }
 
+    /// The lists in which the tokens and the parts are. Nothing is said of them: they are to be used again.
+    #[inline(always)]
+    pub fn into_lists(self) -> (Vec<Read>, Vec<Part>) {
+        (self.tokens, self.parts)
+    }
+
     /// Whether a list is being read.
     #[inline(always)]
     pub fn is_reading(&self) -> bool

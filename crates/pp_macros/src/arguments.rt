@@ -21,19 +21,25 @@ use crate::halt::{Halt, halt_of};
 use crate::list_lexer::{ListLexer, take_out};
 use crate::list_step::step_list;
 use crate::open_around::OpenAround;
+use crate::spares::Spares;
 use crate::step::StepExit;
 use pp_lexer::token::PreprocessorError;
 use pp_model::names::is_line_name;
 use pp_model::parentheses::{ends_argument, nesting_after};
 use pp_model::read::Read;
 use std::alloc::{AllocError, Global};
+use std::mem;
 
 // The parts between the commas that are outside inner parentheses.
-fn parts_of(alloc: Global, tokens: &[Read]) -> Result<Vec<Part>, AllocError>
+fn parts_of(
+    alloc: Global,
+    spares: &mut Spares,
+    tokens: &[Read],
+) -> Result<Vec<Part>, AllocError>
     ensures cut { IfOk result (λ parts. lists_of tokens.now parts.items ≡ arguments_of tokens.now) }
     ensures order { IfOk result (λ parts. AreInOrder 0 parts.items (length tokens.now)) }
 {
-    let mut parts = Vec::with_capacity(alloc, 4)?;
+    let mut parts = spares.take_parts(alloc, 4)?;
     let mut start = 0;
     let mut depth: usize = 0;
     for (at, read) in tokens.iter().enumerate() {
@@ -52,11 +58,15 @@ fn parts_of(alloc: Global, tokens: &[Read]) -> Result<Vec<Part>, AllocError>
 }
 
 // The arguments of a call with these tokens.
-fn arguments_of(alloc: Global, tokens: Vec<Read>) -> Result<ArgumentLists, AllocError>
+fn arguments_of(
+    alloc: Global,
+    spares: &mut Spares,
+    tokens: Vec<Read>,
+) -> Result<ArgumentLists, AllocError>
     requires { AllReadOrdinary tokens.items }
     ensures { IfOk result (λ arguments. arguments ≡ arguments_of tokens.items) }
 {
-    let parts = parts_of(alloc, &tokens)?;
+    let parts = parts_of(alloc, spares, &tokens)?;
     Ok(ArgumentLists::new(tokens, parts))
 }
 
@@ -89,7 +99,18 @@ pub fn finish_call(
 ) -> Result<(), Halt>
     ensures { Finishes levels definitions.now hidden.now call expander.old result expander.new }
 {
-    let expanded = expand_call(alloc, &*expander, &mut call, definitions, hidden, levels)?;
+    let mut spares = expander.lend_spares();
+    let outcome = expand_call(
+        alloc,
+        &mut spares,
+        &*expander,
+        &mut call,
+        definitions,
+        hidden,
+        levels,
+    );
+    expander.return_spares(spares);
+    let expanded = outcome?;
     expander.open_call(call, expanded)?;
     Ok(())
 }
@@ -98,6 +119,7 @@ pub fn finish_call(
 #[cycle(answers)]
 fn expand_call(
     alloc: Global,
+    spares: &mut Spares,
     expander: &Expander,
     call: &mut MacroCall,
     definitions: &Definitions,
@@ -109,7 +131,7 @@ fn expand_call(
     ensures least { IfOk result (λ outs. AreOfCall levels definitions.now call.old outs) }
     ensures left { call.new ≡ record call.old { tokens = [] } }
 {
-    let arguments = arguments_of(alloc, call.take_tokens(alloc))?;
+    let arguments = arguments_of(alloc, spares, call.take_tokens(alloc))?;
     match misfit(call.define(), &arguments) {
         Some(error) => return Err(Halt::Fault((error, call.paren()))),
         None => {}
@@ -117,13 +139,22 @@ fn expand_call(
     if levels == 0 {
         return Err(Halt::Fault((PreprocessorError::RecursionLimitReached, call.paren())));
     }
-    expand_within(alloc, expander, arguments, definitions, hidden, levels - 1)
+    expand_within(
+        alloc,
+        spares,
+        expander,
+        arguments,
+        definitions,
+        hidden,
+        levels - 1,
+    )
 }
 
 // The arguments, each expanded alone, with the macros of the expander and those around it open.
 #[cycle(answers)]
 fn expand_within(
     alloc: Global,
+    spares: &mut Spares,
     expander: &Expander,
     arguments: ArgumentLists,
     definitions: &Definitions,
@@ -135,13 +166,14 @@ fn expand_within(
     ensures least { IfOk result (λ outs. AreShort levels definitions.now arguments outs) }
 {
     let around = (&*expander).around(&*hidden)?;
-    expand_arguments(alloc, arguments, definitions, &around, levels)
+    expand_arguments(alloc, spares, arguments, definitions, &around, levels)
 }
 
 // The arguments, each expanded alone, or the first fault.
 #[cycle(answers)]
 fn expand_arguments(
     alloc: Global,
+    spares: &mut Spares,
     arguments: ArgumentLists,
     definitions: &Definitions,
     hidden: &OpenAround<'_>,
@@ -155,13 +187,25 @@ fn expand_arguments(
     if are_plain(&tokens, definitions, hidden) {
         return Ok(ArgumentLists::new(tokens, parts));
     }
-    expand_parts(alloc, &mut tokens, &parts, definitions, hidden, levels)
+    let expanded = expand_parts(
+        alloc,
+        spares,
+        &mut tokens,
+        &parts,
+        definitions,
+        hidden,
+        levels,
+    );
+    spares.keep_tokens(tokens);
+    spares.keep_parts(parts);
+    expanded
 }
 
 // The parts of the tokens, each expanded alone, or the first fault. The tokens are moved out.
 #[cycle(answers)]
 fn expand_parts(
     alloc: Global,
+    spares: &mut Spares,
     tokens: &mut [Read],
     parts: &[Part],
     definitions: &Definitions,
@@ -175,12 +219,20 @@ fn expand_parts(
     ensures least { IfOk result (λ outs. AreShort levels definitions.now
         (lists_of tokens.old parts.now) outs) }
 {
-    let mut items = Vec::with_capacity(alloc, tokens.len())?;
-    let mut expanded = Vec::with_capacity(alloc, parts.len())?;
+    let mut items = spares.take_tokens(alloc, tokens.len())?;
+    let mut expanded = spares.take_parts(alloc, parts.len())?;
     for part in parts {
         let start = items.len();
         let argument = &mut tokens[part.start..part.end];
-        expand_argument(alloc, argument, &mut items, definitions, hidden, levels)?;
+        expand_argument(
+            alloc,
+            spares,
+            argument,
+            &mut items,
+            definitions,
+            hidden,
+            levels,
+        )?;
         expanded.push(Part {
             start,
             end: items.len(),
@@ -224,6 +276,7 @@ fn append(tokens: &mut [Read], items: &mut Vec<Read>) -> Result<(), AllocError>
 #[cycle(answers)]
 fn expand_argument(
     alloc: Global,
+    spares: &mut Spares,
     tokens: &mut [Read],
     items: &mut Vec<Read>,
     definitions: &Definitions,
@@ -244,13 +297,14 @@ fn expand_argument(
         append(tokens, items)?;
         return Ok(());
     }
-    expand_tokens(alloc, tokens, items, definitions, hidden, levels)
+    expand_tokens(alloc, spares, tokens, items, definitions, hidden, levels)
 }
 
 // Expands a list with a token that doesn't give itself, step by step.
 #[cycle(answers)]
 fn expand_tokens(
     alloc: Global,
+    spares: &mut Spares,
     tokens: &mut [Read],
     items: &mut Vec<Read>,
     definitions: &Definitions,
@@ -267,8 +321,9 @@ fn expand_tokens(
         (addition items.old.items items.new.items)) }
     ensures holds { OnOk result (AllReadOrdinary items.new.items) }
 {
+    let lent = mem::replace(spares, Spares::none(alloc));
+    let mut expander = Expander::over(alloc, lent)?;
     let mut lexer = ListLexer::argument(tokens, definitions, &*hidden);
-    let mut expander = Expander::new(alloc);
     let ended = expand_list(
         alloc,
         &mut expander,
@@ -278,8 +333,8 @@ fn expand_tokens(
         hidden,
         levels,
     );
-    drop(expander);
     drop(lexer);
+    *spares = expander.into_spares();
     ended
 }
 

@@ -27,6 +27,7 @@ use crate::list_lexer::ListLexer;
 use crate::macro_processor::{MacroProcessor, gives_line_name};
 use crate::open_around::OpenAround;
 use crate::reader::MeLexer;
+use crate::spares::Spares;
 use crate::step::{Step, StepExit, is_out_of_memory};
 use pp_lexer::token::{Location, PreprocessorError, Text, Token, TokenValue, out_of_memory};
 use pp_model::names::is_line_name;
@@ -266,6 +267,36 @@ impl Expander {
         }
     }
 
+    /// An expander in which nothing is open or held. It has these spare lists.
+    pub fn over(alloc: Global, spares: Spares) -> Result<Expander, AllocError>
+        ensures { IfOk result (λ expander. expander ≡ record { held = None; frames = [] }) }
+    {
+        Ok(Expander {
+            alloc,
+            processor: MacroProcessor::over(alloc, spares)?,
+            held: None,
+        })
+    }
+
+    /// Its spare lists.
+    pub fn into_spares(self) -> Spares {
+        self.processor.into_spares()
+    }
+
+    /// Moves its spare lists out. `return_spares` takes them back.
+    pub fn lend_spares(&mut self) -> Spares
+        ensures { self.new ≡ self.old }
+    {
+        self.processor.lend_spares()
+    }
+
+    /// Takes spare lists in place of those that it has.
+    pub fn return_spares(&mut self, spares: Spares)
+        ensures { self.new ≡ self.old }
+    {
+        self.processor.return_spares(spares);
+    }
+
     /// Whether nothing is open or held. The next token then comes from the reader.
     #[inline(always)]
     pub fn is_idle(&self) -> bool
@@ -404,7 +435,7 @@ impl Expander {
         ensures gathers { Satisfies result
             (λ g. GathersNext 0 paren self.old (reader lexer.old) g self.new (reader lexer.new)) }
     {
-        let mut tokens = Vec::with_capacity(self.alloc, room)?;
+        let mut tokens = self.processor.take_tokens(room)?;
         let closing = self.gather_tokens(lexer, paren, &mut tokens)?;
         Ok(Gathered { tokens, closing })
     }

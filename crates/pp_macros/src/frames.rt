@@ -8,7 +8,7 @@ ghost use Rattle.pp_macros.specs.Held.{HoldsOrdinary, AllHoldOrdinary};
 ghost use Rattle.pp_macros.specs.inner.Ahead.{given_by, frame_after};
 ghost use Rattle.pp_macros.specs.declared.step.StepExit.TheVariants.{Error};
 
-use crate::argument_lists::{ArgumentLists, OpenArguments};
+use crate::argument_lists::{ArgumentLists, OpenArguments, Part};
 use crate::define::Macro;
 use crate::macros::MacroId;
 use crate::step::{Step, StepExit};
@@ -206,6 +206,12 @@ impl Frame {
             position: 0,
             arguments: OpenArguments::nothing(alloc),
         }
+    }
+
+    /// The lists in which its arguments are. Nothing is said of them: they are to be used again.
+    #[inline(always)]
+    pub fn into_lists(self) -> (Vec<Read>, Vec<Part>) {
+        self.arguments.into_lists()
     }
 
     /// The macro.

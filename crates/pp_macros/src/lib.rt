@@ -18,4 +18,5 @@ pub mod open_around;
 pub mod open_names;
 pub mod parameter_names;
 pub mod reader;
+pub mod spares;
 pub mod step;

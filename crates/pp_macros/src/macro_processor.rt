@@ -22,12 +22,14 @@ use crate::macros::{MacroId, is_text};
 use crate::marks::Marks;
 use crate::open_names::OpenNames;
 use crate::reader::MeLexer;
+use crate::spares::Spares;
 use crate::step::{Step, StepExit};
 use pp_lexer::token::{Integer, Location, Text, Token, TokenValue};
 use pp_model::names::is_line_name;
 use pp_model::read::Read;
 use std::alloc::{AllocError, Global};
 use std::marker::Model;
+use std::mem;
 use std::rc::Rc;
 
 // The names of this many macros, the outermost ones, are compared one by one.
@@ -42,6 +44,7 @@ pub struct MacroProcessor {
     open_names: OpenNames,
     // those of the open macros, and of others that have closed since the outermost one opened
     marks: Marks,
+    spares: Spares,
 }
 
 impl Model for MacroProcessor {
@@ -100,6 +103,17 @@ fn free_name(names: &mut OpenNames, frames: usize)
     }
 }
 
+// Takes back the lists in which the arguments of a frame are.
+#[inline(always)]
+fn keep_lists(spares: &mut Spares, closed: Option<Frame>) {
+    let Some(frame) = closed else {
+        return;
+    };
+    let (tokens, parts) = frame.into_lists();
+    spares.keep_tokens(tokens);
+    spares.keep_parts(parts);
+}
+
 /// Whether the step gives `__LINE__`.
 pub fn gives_line_name(step: &Step<Read>) -> bool
     ensures { result ≡ gives_line_name step.now }
@@ -141,7 +155,51 @@ impl MacroProcessor {
             frames: Vec::new(alloc),
             open_names: OpenNames::new(alloc),
             marks: Marks::none(),
+            spares: Spares::none(alloc),
         }
+    }
+
+    /// No macro is open. It has these spare lists.
+    pub fn over(alloc: Global, mut spares: Spares) -> Result<MacroProcessor, AllocError>
+        ensures { IfOk result (λ processor. processor ≡ []) }
+    {
+        let frames = spares.take_frames(alloc)?;
+        Ok(MacroProcessor {
+            alloc,
+            frames,
+            open_names: OpenNames::new(alloc),
+            marks: Marks::none(),
+            spares,
+        })
+    }
+
+    /// Its spare lists.
+    pub fn into_spares(self) -> Spares {
+        let mut spares = self.spares;
+        spares.keep_frames(self.frames);
+        spares
+    }
+
+    /// Moves its spare lists out. `return_spares` takes them back.
+    pub fn lend_spares(&mut self) -> Spares
+        ensures { self.new ≡ self.old }
+    {
+        mem::replace(&mut self.spares, Spares::none(self.alloc))
+    }
+
+    /// Takes spare lists in place of those that it has.
+    pub fn return_spares(&mut self, spares: Spares)
+        ensures { self.new ≡ self.old }
+    {
+        self.spares = spares;
+    }
+
+    /// An empty list of tokens. A new one has this room.
+    pub fn take_tokens(&mut self, room: usize) -> Result<Vec<Read>, AllocError>
+        ensures same { self.new ≡ self.old }
+        ensures empty { IfOk result (λ tokens. tokens.items ≡ []) }
+    {
+        self.spares.take_tokens(self.alloc, room)
     }
 
     /// Whether no macro is open.
@@ -185,7 +243,8 @@ impl MacroProcessor {
     fn close(&mut self)
         ensures { self.new ≡ drop 1 self.old }
     {
-        self.frames.pop();
+        let closed = self.frames.pop();
+        keep_lists(&mut self.spares, closed);
         free_name(&mut self.open_names, self.frames.len());
         if self.frames.is_empty() {
             self.marks = Marks::none();

@@ -254,13 +254,16 @@ expand_call-returns t c =
 pub finish_call-returns-in_err-expanded : goal.finish_call-returns-in_err-expanded
 finish_call-returns-in_err-expanded t c =
     let e = err_from_is_err_and c.from_residual.result c.from_residual.ensures.1 in
-    finishes_without c.args.levels c.args.definitions.now c.args.hidden.now c.args.call c.args.expander.now c.args.expander.now _
-    c.in_err-expanded.field-0.0 (e.1 ∙ ap Err e.2) c.in_err-expanded.ensures.answers refl
+    let lent = c.lend_spares-spares.ensures in
+    finishes_without c.args.levels c.args.definitions.now c.args.hidden.now c.args.call c.args.expander.now c.return_spares.new.self _
+    c.in_err-expanded.field-0.0 (e.1 ∙ ap Err e.2) (rw lent at c.in_err-expanded.ensures.answers) (c.return_spares.ensures ∙ lent)
 
 pub finish_call-returns : goal.finish_call-returns
-finish_call-returns t c = record {
-  arguments = c.in_ok-expanded.expanded;
-  answers = c.in_ok-expanded.ensures.answers;
-  least = c.in_ok-expanded.ensures.least;
-  opens = rw c.in_ok-expanded.ensures.left at c.in_ok-open_call.ensures;
-}
+finish_call-returns t c =
+    let lent = c.lend_spares-spares.ensures in
+    record {
+      arguments = c.in_ok-expanded.expanded;
+      answers = rw lent at c.in_ok-expanded.ensures.answers;
+      least = c.in_ok-expanded.ensures.least;
+      opens = rw (c.return_spares.ensures, lent, c.in_ok-expanded.ensures.left) at c.in_ok-open_call.ensures;
+    }

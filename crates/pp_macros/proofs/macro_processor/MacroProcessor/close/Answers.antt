@@ -5,10 +5,10 @@ use Rattle.pp_macros.proofs.macro_processor.MacroProcessor.close.Goals as goal
 
 pub invariant_of-self-else-is_empty : goal.invariant_of-self-else-is_empty
 invariant_of-self-else-is_empty c =
-    let rest : c.pop.new.self.items ≡ take (length c.self.inside.frames.items - 1) c.self.inside.frames.items =
-    rw c.self.inside.frames.ok.0 at c.pop.ensures.rest in
+    let rest : c.pop-closed.new.self.items ≡ take (length c.self.inside.frames.items - 1) c.self.inside.frames.items =
+    rw c.self.inside.frames.ok.0 at c.pop-closed.ensures.rest in
     rw rest (
       names_freed c.self.inside.frames.items c.len.result c.self.inside.open_names c.free_name.new.names
-          (c.len.ensures ∙ c.pop.new.self.ok.0 ∙ ap length rest) c.free_name.ensures.few c.free_name.ensures.many c.self.invariant.0,
+          (c.len.ensures ∙ c.pop-closed.new.self.ok.0 ∙ ap length rest) c.free_name.ensures.few c.free_name.ensures.many c.self.invariant.0,
       marked_closed c.self.inside.marks c.self.inside.frames.items c.self.invariant.1,
     )
