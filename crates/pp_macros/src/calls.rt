@@ -21,7 +21,7 @@ ghost use Rattle.pp_lexer.specs.declared.token.PreprocessorError.TheVariants.{Un
 
 use crate::argument_lists::ArgumentLists;
 use crate::define::{Define, Macro};
-use crate::frames::{Ahead, copy_of};
+use crate::frames::Ahead;
 use crate::halt::{Halt, halt_of};
 use crate::list_lexer::ListLexer;
 use crate::macro_processor::{MacroProcessor, gives_line_name};
@@ -710,8 +710,8 @@ impl Expander {
         self.give_ahead(lexer)
     }
 
-    // Does the same. It is a function of its own, so that a plain token of the source is given without it.
-    #[inline(never)]
+    // Does the same if something is open or held.
+    #[inline(always)]
     fn give_ahead<L: MeLexer>(&mut self, lexer: &L) -> Result<Option<Token>, AllocError>
         requires { IsSound self.old (L.reader lexer.now) }
         ensures gives { IfOk result (λ given. GivesNext (L.reader lexer.now) self.old given self.new) }
@@ -724,7 +724,7 @@ impl Expander {
         let Some(ahead) = self.processor.token() else {
             unreachable!();
         };
-        let token = copy_of(self.alloc, ahead.token())?;
+        let token = ahead.copied_token(self.alloc)?;
         self.processor.pass_token();
         Ok(Some(token))
     }

@@ -73,6 +73,20 @@ impl<'a> Ahead<'a> {
         })
     }
 
+    /// A copy of the token, without its paint. A punctuator is made without a call.
+    #[inline(always)]
+    pub fn copied_token(&self, alloc: Global) -> Result<Token, AllocError>
+        ensures { IfOk result (λ copy. copy ≡ self.now.token) }
+    {
+        if let TokenValue::Punct(punct) = self.value() {
+            return Ok(Token {
+                value: TokenValue::Punct(*punct),
+                location: self.token.location,
+            });
+        }
+        copy_of(alloc, self.token)
+    }
+
     /// Puts a copy of the token after the items, painted or not. A punctuator is made where it is put.
     #[inline(always)]
     pub fn put_copy(
@@ -94,6 +108,20 @@ impl<'a> Ahead<'a> {
             })?;
             return Ok(());
         }
+        self.put_other(alloc, painted, items)
+    }
+
+    // Does the same with any token. It is a function of its own, so that a punctuator is put without it.
+    #[inline(never)]
+    fn put_other(
+        &self,
+        alloc: Global,
+        painted: bool,
+        items: &mut Vec<Read>,
+    ) -> Result<(), AllocError>
+        ensures { OnOk result (items.new.items
+            ≡ items.old.items ++ record { token = self.now.token; painted = painted } ∷ []) }
+    {
         items.push(self.copied_as(alloc, painted)?)?;
         Ok(())
     }

@@ -103,13 +103,16 @@ fn free_name(names: &mut OpenNames, frames: usize)
     }
 }
 
-// Takes back the lists in which the arguments of a frame are.
+// Takes back the lists in which the arguments of a frame are, if it has some.
 #[inline(always)]
 fn keep_lists(spares: &mut Spares, closed: Option<Frame>) {
     let Some(frame) = closed else {
         return;
     };
     let (tokens, parts) = frame.into_lists();
+    if parts.is_empty() {
+        return;
+    }
     spares.keep_tokens(tokens);
     spares.keep_parts(parts);
 }
