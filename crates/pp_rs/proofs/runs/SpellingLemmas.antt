@@ -1,10 +1,12 @@
 -- A text that grows token by token.
-use Rattle.std.proofs.Common.{◌≡◌, ℕ, ◌^◌, ◌<◌, true, false, if◌then◌else◌, List, [], ◌∷◌, ◌++◌, Result, Ok, Err, OnOk, refl, sym, ◌∙◌, ap, append_assoc, length, drop, get_or, ◌+◌, ◌≤◌, arith, suc, subst, All, IsTrue}
+use Rattle.std.proofs.Common.{◌≡◌, ℕ, ◌/◌, ◌%◌, map, lit≤, ◌^◌, ◌<◌, true, false, if◌then◌else◌, List, [], ◌∷◌, ◌++◌, Result, Ok, Err, OnOk, refl, sym, ◌∙◌, ap, append_assoc, length, drop, get_or, ◌+◌, ◌≤◌, arith, suc, subst, All, IsTrue}
 use Rattle.std.specs.Prelude.{is_ok}
 use Rattle.std.specs.Fmt.{decimal}
 use Rattle.std.specs.Str.{chars, IsUtf8}
-use Rattle.std.proofs.lemmas.List.{append-nil, at_drop_more, at_drop_all}
-use Rattle.std.proofs.lemmas.Fmt.{IsAscii-decimal}
+use Rattle.std.proofs.lemmas.List.{append-nil, map-append, at_drop_more, at_drop_all}
+use Rattle.std.proofs.lemmas.Fmt.{IsAscii-decimal, decimal-digits_of, decimal_digit}
+use Rattle.std.proofs.lemmas.Int.Digits.{digits_of_step}
+use Rattle.std.specs.Int.Digits.{digits_of}
 use Rattle.std.proofs.lemmas.Str.{chars-append, chars-IsAscii, chars-nil}
 use Rattle.pp_lexer.specs.Punctuators.{punctuator}
 use Rattle.pp_lexer.specs.Spelling.{integer_literal, spelling, spelled_text, values_of}
@@ -102,3 +104,13 @@ word_ordinary_at HashForm w = refl
 
 pub word_ordinary : (word : PlainItem) → IsTrue (is_ordinary (word_token word).value)
 word_ordinary word = word_ordinary_at word.form word.spelling.now
+
+-- the last digit of a number of several digits is that of its remainder by ten, after those of its tenth
+pub decimal-last : (n : ℕ) → 10 ≤ n → n < 2 ^ 64 → decimal n ≡ decimal (n / 10) ++ (48 + n % 10) ∷ []
+decimal-last n more fits =
+    let some : 0 < n = omega arith in
+    let tenth : 0 < n / 10 = omega arith in
+    let less : n / 10 < 2 ^ 64 = omega arith in
+    decimal-digits_of n some fits ∙ ap (map (λ d. 48 + d)) (digits_of_step 10 n (lit≤ tt) some)
+    ∙ map-append (λ d. 48 + d) (digits_of 10 (n / 10)) (n % 10 ∷ [])
+    ∙ ap (λ t. t ++ (48 + n % 10) ∷ []) (sym (decimal-digits_of (n / 10) tenth less))

@@ -1,6 +1,7 @@
 //! The text of tokens.
 
 ghost use Rattle.std.specs.Prelude.{◌≡◌, ◌++◌, IsTrue, All, OnOk, IfOk, MatchResult, string_bytes};
+ghost use Rattle.std.specs.Fmt.{decimal};
 ghost use Rattle.std.specs.Str.{chars};
 ghost use Rattle.pp_directives.specs.WordTokens.{word_token};
 ghost use Rattle.pp_rs.specs.NextWord.{IsPlain};
@@ -117,11 +118,22 @@ pub fn push_word(text: &mut String, word: &PlainItem<'_>) -> Result<(), AllocErr
     }
 }
 
+// Appends the decimal digits of a number, without a formatter: most numbers have one digit.
+fn push_decimal(text: &mut String, value: u64) -> Result<(), AllocError>
+    ensures { OnOk result (string_bytes text.new ≡ string_bytes text.old ++ decimal value) }
+{
+    if value >= 10 {
+        push_decimal(text, value / 10)?;
+    }
+    text.push((b'0' + (value % 10) as u8) as char)?;
+    Ok(())
+}
+
 fn push_integer(text: &mut String, integer: Integer) -> Result<(), AllocError>
     ensures { OnOk result (chars (string_bytes text.new)
         ≡ chars (string_bytes text.old) ++ integer_literal integer) }
 {
-    write!(text, "{}", integer.value)?;
+    push_decimal(text, integer.value)?;
     if !integer.signed {
         text.push('u')?;
     }
