@@ -179,6 +179,10 @@ module _ (expander now after : kept.Expander) (source source_now source_after : 
         as_next (Some (Err out_of_memory)) new (inl (record { item = refl; spent = spent }))
         (rw spent (omega (arith, left_is_work expansion_limit expander source left, most_first)))
 
+    -- before a pause something is left
+    pub some_items : Over (Err Continue) → 0 < most_items old
+    some_items turn = omega (arith, falls_more turn, r.less, most_first)
+
     end_last : (place : Location) → Over (Err Finished) → most_items (record { expander = after; source = source_after; spent = false; place = place }) ≡ 0
     unfolding most_items
     end_last place turn =

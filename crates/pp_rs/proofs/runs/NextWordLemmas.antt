@@ -1,10 +1,12 @@
 -- A call of `next` that asks for a word of plain text first.
-use Rattle.std.proofs.Common.{◌≡◌, ◌∙◌, ◌⊎◌, inl, inr, ◌≤◌, true, false, refl, sym, Option, Some, None, Ok, Err, IfOk, IfErr, arith}
+use Rattle.std.proofs.Common.{◌≡◌, ◌∙◌, ◌⊎◌, inl, inr, ◌<◌, ◌≤◌, true, false, refl, sym, Option, Some, None, Result, Ok, Err, IfOk, IfErr, arith}
 use Rattle.pp_lexer.specs.PreprocessorError.{out_of_memory}
+use Rattle.pp_lexer.specs.declared.lexer.plain_item.PlainItem.{PlainItem}
 use Rattle.pp_lexer.specs.declared.token.Token.{Token}
+use Rattle.pp_directives.specs.WordTokens.{word_token}
 use Rattle.pp_macros.specs.Item.{Item}
 use Rattle.pp_rs.specs.Kept.{Preprocessing, is_spent, most_items, errors_left, error_place}
-use Rattle.pp_rs.specs.NextWord.{IsPassed}
+use Rattle.pp_rs.specs.NextWord.{IsPassed, IsNextWord}
 use Rattle.pp_rs.specs.Preprocessing.{IsNextItem, IsRefusedItem, IsGivenItem, IsLessLeft, ReportsError, of_lexer, of_its_own}
 
 -- what is reported once nothing was is reported from the start
@@ -56,3 +58,35 @@ pub word_comes : (old mid new : Preprocessing) (token : Token) (item : Item) →
     → IsNextItem old (Some item) new
 word_comes old mid new token (Ok given) fresh next of_token refused = rw (of_token.0, of_token.1) next
 word_comes old mid new token (Err e) fresh next of_token refused = rw refused.0 (word_refused old mid new token fresh next refused.1)
+
+-- a word that comes once nothing was given comes from the start
+pub passed_word : (old mid new : Preprocessing) (answer : Option PlainItem) → is_spent old ≡ false → IsPassed old mid → IsNextWord mid answer new
+    → IsNextWord old answer new
+passed_word old mid new (Some word) fresh p is = record {
+  next = passed_next old mid new (Some (Ok (word_token word))) fresh p is.next;
+  plain = is.plain;
+}
+passed_word old mid new None fresh p q = record {
+  item = λ state stands.
+      let first = p.item state stands in
+      let second = q.item first.between first.stands in
+      record { between = second.between; stands = second.stands; comes = λ o f c. first.comes o f (second.comes o f c) };
+  spent = q.spent ∙ p.spent;
+  errors = q.errors ∙ p.errors;
+  place = q.place ∙ p.place;
+  no_more_left = omega (arith, p.no_more_left, q.no_more_left);
+}
+
+pub passed_words : {E : Type 0} (old mid new : Preprocessing) (answer : Result (Option PlainItem) E) → is_spent old ≡ false → IsPassed old mid
+    → IfOk answer (λ word. IsNextWord mid word new) → IfOk answer (λ word. IsNextWord old word new)
+passed_words old mid new (Ok word) fresh p is = passed_word old mid new word fresh p is
+passed_words old mid new (Err e) fresh p is = tt
+
+-- memory runs out where something is left
+pub refused_next : (old new : Preprocessing) → is_spent old ≡ false → is_spent new ≡ true → 0 < most_items old
+    → IsNextItem old (Some (Err out_of_memory)) new
+unfolding is_spent most_items
+refused_next old new fresh spent some = record {
+  gives = rw fresh (inl (record { item = refl; spent = spent }));
+  less_left = rw spent some;
+}

@@ -161,13 +161,26 @@ impl<'a> Preprocessor<'a> {
         if !self.is_in_text() {
             return None;
         }
+        if let Some(word) = self.source.next_word() {
+            return Some(word);
+        }
+        self.next_word_after_newlines()
+    }
+
+    // What `next_word` returns if no word comes first. It is apart from the first try, so that less is computed before
+    // that one.
+    #[inline(always)]
+    fn next_word_after_newlines(&mut self) -> Option<PlainItem<'a>>
+        requires { ReadsText self.old.expander self.old.source self.old.spent }
+        ensures { IsNextWord self.old result self.new }
+    {
         'words: loop {
-            if let Some(word) = self.source.next_word() {
-                return Some(word);
-            }
             if !self.source.pass_newline() {
                 self.in_text = false;
                 return None;
+            }
+            if let Some(word) = self.source.next_word() {
+                return Some(word);
             }
         }
     }
@@ -181,6 +194,7 @@ impl<'a> Preprocessor<'a> {
     pub fn open_word(&mut self) -> Result<Option<PlainItem<'a>>, AllocError>
         ensures gives { IfOk result (λ word. IsNextWord self.old word self.new) }
         ensures refused { OnErr result (is_spent self.new ≡ true) }
+        ensures some_left { OnErr result (0 < most_items self.old) }
     {
         if self.spent || !self.expander.is_idle() {
             return Ok(None);
@@ -255,14 +269,32 @@ impl<'a> Preprocessor<'a> {
         }
     }
 
+    // The next word of plain text, as `next_word` and then `open_word` return it.
+    #[inline(always)]
+    fn next_word_or_open(&mut self) -> Result<Option<PlainItem<'a>>, AllocError>
+        requires { is_spent self.old ≡ false }
+        ensures gives { IfOk result (λ word. IsNextWord self.old word self.new) }
+        ensures refused { OnErr result (is_spent self.new ≡ true) }
+        ensures some_left { OnErr result (0 < most_items self.old) }
+    {
+        if let Some(word) = self.next_word() {
+            return Ok(Some(word));
+        }
+        self.open_word()
+    }
+
     // Does what `next` does. Most items are words of plain text, and these are moved less than others if they are asked
-    // for first.
+    // for first. Then a macro without parameters is opened at its name, as the program does it. `word_item` is called
+    // once, since it is built in at each call.
     #[inline(always)]
     fn next_word_or_item(&mut self) -> Option<PreprocessorItem>
         ensures { IsNextItem self.old result self.new }
     {
         if self.is_in_text() {
-            if let Some(word) = self.next_word() {
+            let Ok(word) = self.next_word_or_open() else {
+                return Some(Err(out_of_memory()));
+            };
+            if let Some(word) = word {
                 return Some(self.word_item(word));
             }
         }

@@ -1,7 +1,7 @@
 use Rattle.std.proofs.Common.{◌≡◌, ◌∙◌, refl, ap, sym, false}
 use Rattle.pp_directives.specs.WordTokens.{word_token}
 use Rattle.pp_rs.specs.Kept.{is_spent}
-use Rattle.pp_rs.proofs.runs.NextLemmas.{reached_first, reached_more, token_fits, next_token}
+use Rattle.pp_rs.proofs.runs.NextLemmas.{reached_first, reached_more, token_fits, next_token, some_items}
 use Rattle.pp_rs.proofs.runs.OpenWordLemmas.{bare_over, opens_over}
 use Rattle.pp_rs.proofs.runs.PassedLemmas.{passed_pauses}
 use Rattle.pp_rs.proofs.pp.preprocessor.Preprocessor.open_word.Goals as goal
@@ -58,3 +58,12 @@ returns-in-Ok-clause-gives c =
 pub returns-in-Err-clause-refused : goal.returns-in-Err-clause-refused
 unfolding is_spent
 returns-in-Err-clause-refused c = refl
+
+-- it would have been a pause
+pub returns-in-Err-clause-some_left : goal.returns-in-Err-clause-some_left
+returns-in-Err-clause-some_left c =
+    let first = reached_first _ _ _ _ (ap (λ p. p.expander) c.self.view_is) (ap (λ p. p.source) c.self.view_is) (c.self.invariant.0 c.if-self.false) in
+    let takes = rw c.in-Some.is at c.next_bare.ensures in
+    some_items _ _ _ _ _ _ first c.args.self.now (ap (λ p. p.spent) (sym c.self.view_is) ∙ c.if-self.false) refl refl
+    (opens_over _ _ _ c.in-Some.word (sym c.is_idle.ensures ∙ c.if-not-is_idle.false) takes _ _ _
+    (sym (rw c.in-Some-macro_of_word.is at c.macro_of_word.ensures)) refl)
