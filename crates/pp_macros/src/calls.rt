@@ -688,12 +688,13 @@ impl Expander {
         }
     }
 
-    /// Advances the innermost open macro by one step.
+    /// Passes the token that `token` gives.
     #[inline(always)]
     pub fn pass(&mut self)
+        requires { IsSome (token_ahead self.old) }
         ensures { self.new ≡ passed self.old }
     {
-        self.processor.pass();
+        self.processor.pass_token();
     }
 
     /// Goes on as `advance` does, and gives a copy of the token that it finds, and passes it.

@@ -1,6 +1,13 @@
 use Rattle.std.proofs.Common.{ap, sym, ◌∙◌}
-use Rattle.pp_rs.proofs.runs.PassedLemmas.{fresh_ahead, pass_fits, ahead_passes}
+use Rattle.std.specs.Prelude.{is_some}
+use Rattle.pp_macros.specs.inner.Giving.{token_ahead}
+use Rattle.pp_rs.proofs.runs.PassedLemmas.{ahead_there, fresh_ahead, pass_fits, ahead_passes}
 use Rattle.pp_rs.proofs.pp.preprocessor.Preprocessor.pass.Goals as goal
+
+pub pass-requires : goal.pass-requires
+pass-requires c =
+    let there = ap (λ p. token_ahead p.expander) c.self.view_is ∙ ahead_there c.args.self.now c.requires.0 c.requires.1 in
+    ap is_some there
 
 pub invariant_of-self : goal.invariant_of-self
 invariant_of-self c = (
