@@ -63,7 +63,7 @@ pub fn push_value(text: &mut String, value: &TokenValue) -> Result<(), AllocErro
         TokenValue::Ident(name) => text.push_str(name.as_str()),
         TokenValue::Integer(integer) => push_integer(text, *integer),
         TokenValue::Float(float) => text.push_str(float.text.as_str()),
-        TokenValue::Punct(punct) => text.push_str(punct.spelling()),
+        TokenValue::Punct(punct) => push_punct(text, *punct),
         TokenValue::Version(_) | TokenValue::Extension(_) | TokenValue::Pragma(_) => {
             unreachable!()
         }
