@@ -92,7 +92,8 @@ fn push_words(
     Ok(())
 }
 
-// Takes the next token into the line, if no memory is needed for it. Returns whether there was such a token.
+// Takes the next token of live text into the line, or the next tokens of the open macros, if no memory is needed for
+// them. Returns whether there was one.
 #[inline(always)]
 fn push_next(
     alloc: Global,
@@ -114,7 +115,7 @@ fn push_next(
     push_live(alloc, items, line)
 }
 
-// Takes the next token of live text into the line: a word, or what a macro without parameters gives first. Returns
+// Takes what comes next of live text into the line: a word, or the first tokens of a macro without parameters. Returns
 // whether there was one.
 #[inline(always)]
 fn push_live(
@@ -134,7 +135,7 @@ fn push_live(
     push_opened(alloc, items, line)
 }
 
-// Opens the macro without parameters that comes next, and takes its first token into the line. Returns whether there
+// Opens the macro without parameters that comes next, and takes its first tokens into the line. Returns whether there
 // was one. It is a function of its own, so that a word of plain text is taken without it.
 #[inline(never)]
 fn push_opened(
@@ -175,8 +176,8 @@ fn push_next_word(
     Ok(true)
 }
 
-// Takes the next token into the line, from the list of the open macro that gives it. Returns whether there was one. It
-// is a function of its own, so that a word of plain text is taken without it.
+// Takes the tokens into the line that the open macros give next, from their lists. Returns whether there was one. It is
+// a function of its own, so that a word of plain text is taken without it.
 #[inline(never)]
 fn push_given(
     alloc: Global,
@@ -189,12 +190,13 @@ fn push_given(
     ensures printing { OnOk result (KeepsPrinting items.old (option_map string_bytes line.old)
         items.new (option_map string_bytes line.new)) }
 {
-    if !items.advance()? {
-        return Ok(false);
+    let mut some = false;
+    'tokens: while items.advance()? {
+        push_token(alloc, line, &items.token().value)?;
+        items.pass();
+        some = true;
     }
-    push_token(alloc, line, &items.token().value)?;
-    items.pass();
-    Ok(true)
+    Ok(some)
 }
 
 // Prints the line that was begun before an error item. For an `OutOfMemory` it prints nothing: the line's run of tokens
