@@ -22,7 +22,11 @@ fn show_items(rt: &impl Print, pp: &mut Preprocessor<'_>) -> Result<()> {
     pp.try_add_define("FAST", "1").context("defining FAST")?;
     'items: while let Some(item) = pp.next() {
         match item {
-            Ok(token) => show_requirement(rt, &token)?,
+            Ok(token) => {
+                if !token.is_ordinary() {
+                    show_requirement(rt, &token)?;
+                }
+            }
             Err((error, _)) => bail!("line {}: {error}", pp.place().line),
         }
     }
