@@ -15,6 +15,7 @@ impl<'d> KnownNames for LiveNames<'d> {
 
     ghost knows = { λ names name. opens names.definitions.now name };
 
+    #[inline(always)]
     fn is_known(&self, name: &str) -> bool {
         name == "__LINE__" || self.definitions.find(name).is_some()
     }
@@ -32,6 +33,7 @@ impl<'d> KnownNames for OtherNames<'d> {
 
     ghost knows = { λ names name. not (opens_bare names.definitions.now name) };
 
+    #[inline(always)]
     fn is_known(&self, name: &str) -> bool {
         if name == "__LINE__" {
             return true;
@@ -52,6 +54,7 @@ impl KnownNames for LineName {
 
     ghost knows = { λ names name. is_same_name name line_name };
 
+    #[inline(always)]
     fn is_known(&self, name: &str) -> bool {
         name == "__LINE__"
     }

@@ -77,11 +77,6 @@ passed_word old mid new None fresh p q = record {
   no_more_left = omega (arith, p.no_more_left, q.no_more_left);
 }
 
-pub passed_words : {E : Type 0} (old mid new : Preprocessing) (answer : Result (Option PlainItem) E) → is_spent old ≡ false → IsPassed old mid
-    → IfOk answer (λ word. IsNextWord mid word new) → IfOk answer (λ word. IsNextWord old word new)
-passed_words old mid new (Ok word) fresh p is = passed_word old mid new word fresh p is
-passed_words old mid new (Err e) fresh p is = tt
-
 -- memory runs out where something is left
 pub refused_next : (old new : Preprocessing) → is_spent old ≡ false → is_spent new ≡ true → 0 < most_items old
     → IsNextItem old (Some (Err out_of_memory)) new

@@ -269,20 +269,6 @@ impl<'a> Preprocessor<'a> {
         }
     }
 
-    // The next word of plain text, as `next_word` and then `open_word` return it.
-    #[inline(always)]
-    fn next_word_or_open(&mut self) -> Result<Option<PlainItem<'a>>, AllocError>
-        requires { is_spent self.old ≡ false }
-        ensures gives { IfOk result (λ word. IsNextWord self.old word self.new) }
-        ensures refused { OnErr result (is_spent self.new ≡ true) }
-        ensures some_left { OnErr result (0 < most_items self.old) }
-    {
-        if let Some(word) = self.next_word() {
-            return Ok(Some(word));
-        }
-        self.open_word()
-    }
-
     // Does what `next` does. Most items are words of plain text, and these are moved less than others if they are asked
     // for first. Then a macro without parameters is opened at its name, as the program does it. `word_item` is called
     // once, since it is built in at each call.
@@ -291,8 +277,12 @@ impl<'a> Preprocessor<'a> {
         ensures { IsNextItem self.old result self.new }
     {
         if self.is_in_text() {
-            let Ok(word) = self.next_word_or_open() else {
-                return Some(Err(out_of_memory()));
+            let word = match self.next_word() {
+                Some(word) => Some(word),
+                None => match self.open_word() {
+                    Ok(word) => word,
+                    Err(_) => return Some(Err(out_of_memory())),
+                },
             };
             if let Some(word) = word {
                 return Some(self.word_item(word));
