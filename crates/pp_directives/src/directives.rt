@@ -701,8 +701,8 @@ impl<'a> DirectiveProcessor<'a> {
     }
 
     /// Passes a newline of plain text, if one comes first, and returns whether it did. Otherwise it changes nothing.
-    /// The text has to be live.
-    #[inline(always)]
+    /// The text has to be live. It is a function of its own, so that less is computed before a word that comes first.
+    #[inline(never)]
     pub fn pass_newline(&mut self) -> bool
         requires { IsInText self.old }
         ensures pauses { PausesAtNewline self.old result self.new }

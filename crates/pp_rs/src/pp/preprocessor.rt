@@ -161,26 +161,13 @@ impl<'a> Preprocessor<'a> {
         if !self.is_in_text() {
             return None;
         }
-        if let Some(word) = self.source.next_word() {
-            return Some(word);
-        }
-        self.next_word_after_newlines()
-    }
-
-    // What `next_word` returns if no word comes first. It is apart from the first try, so that less is computed before
-    // that one.
-    #[inline(always)]
-    fn next_word_after_newlines(&mut self) -> Option<PlainItem<'a>>
-        requires { ReadsText self.old.expander self.old.source self.old.spent }
-        ensures { IsNextWord self.old result self.new }
-    {
         'words: loop {
+            if let Some(word) = self.source.next_word() {
+                return Some(word);
+            }
             if !self.source.pass_newline() {
                 self.in_text = false;
                 return None;
-            }
-            if let Some(word) = self.source.next_word() {
-                return Some(word);
             }
         }
     }

@@ -1,34 +1,70 @@
-use Rattle.std.proofs.Common.{◌∙◌, refl, ap}
+use Rattle.std.proofs.Common.{◌∙◌, refl, ap, sym, subst}
 use Rattle.pp_macros.specs.inner.Idle.{is_idle}
 use Rattle.pp_directives.specs.WordTokens.{word_token}
+use Rattle.pp_directives.specs.inner.PlainText.{IsInText}
 use Rattle.pp_rs.specs.Kept.{Preprocessing}
 use Rattle.pp_rs.specs.inner.Fit.{ReadsText}
-use Rattle.pp_rs.proofs.runs.NextLemmas.{reached_first, token_fits, next_token}
-use Rattle.pp_rs.proofs.runs.PassedLemmas.{word_over}
+use Rattle.pp_rs.proofs.runs.NextLemmas.{reached_first, reached_more, falls_more, token_fits, next_token}
+use Rattle.pp_rs.proofs.runs.PassedLemmas.{newline_over, word_over, passed_pauses}
 use Rattle.pp_rs.proofs.pp.preprocessor.Preprocessor.next_word.Goals as goal
 
-pub invariant_of-self : goal.invariant_of-self
-invariant_of-self c =
+pub words-init : goal.words-init
+words-init c =
     let reads : ReadsText c.args.self.now.expander c.args.self.now.source c.args.self.now.spent = c.is_in_text.ensures.text c.if-not-is_in_text.false in
     let same = c.self.view_is ∙ c.is_in_text.ensures.same in
     let fresh = ap (λ (p : Preprocessing). p.spent) same ∙ reads.unspent in
-    let idle = ap (λ (p : Preprocessing). is_idle p.expander) same ∙ reads.idle in
-    let takes = rw c.in-Some.is at c.next_word.ensures.gives in
-    let first = reached_first _ _ _ _ refl refl (c.self.invariant.0 fresh) in (
-      λ e. token_fits _ _ _ _ _ _ first (word_token c.in-Some.word) (word_over _ _ _ (word_token c.in-Some.word) idle takes.step takes.itself),
-      λ h. record { idle = idle; text = c.next_word.ensures.stays; unspent = fresh },
-    )
+    record {
+      unspent = fresh;
+      placed = ap (λ (p : Preprocessing). p.place) same;
+      idle = ap (λ (p : Preprocessing). is_idle p.expander) same ∙ reads.idle;
+      text = subst (λ (p : Preprocessing). IsInText p.source) (sym same) reads.text;
+      reached = reached_first _ _ _ _ (ap (λ (p : Preprocessing). p.expander) same) (ap (λ (p : Preprocessing). p.source) same) (c.self.invariant.0 fresh);
+    }
+
+pub next_word-requires : goal.next_word-requires
+next_word-requires c = c.words.invariant.text
+
+pub pass_newline-requires : goal.pass_newline-requires
+pass_newline-requires c = c.next_word.ensures.stays
+
+pub words-preserved : goal.words-preserved
+words-preserved c =
+    let step = rw (c.in_default.ensures.gives) at (c.if-not-pass_newline.ensures.pauses) in
+    record {
+      unspent = c.words.invariant.unspent;
+      placed = c.words.invariant.placed;
+      idle = c.words.invariant.idle;
+      text = c.pass_newline.ensures.stays;
+      reached = reached_more _ _ _ _ _ _ c.words.invariant.reached (newline_over _ _ _ c.words.invariant.idle step);
+    }
+
+pub words-smaller : goal.words-smaller
+words-smaller c =
+    let step = rw (c.in_default.ensures.gives) at (c.if-not-pass_newline.ensures.pauses) in
+    falls_more _ _ _ _ _ _ c.words.invariant.reached (newline_over _ _ _ c.words.invariant.idle step)
+
+pub invariant_of-self : goal.invariant_of-self
+invariant_of-self c = (
+  λ e.
+      let takes = rw c.in-Some.is at c.next_word.ensures.gives in
+      token_fits _ _ _ _ _ _ c.words.invariant.reached (word_token c.in-Some.word)
+      (word_over _ _ _ (word_token c.in-Some.word) c.words.invariant.idle takes.step takes.itself),
+  λ h. record { idle = c.words.invariant.idle; text = c.next_word.ensures.stays; unspent = c.words.invariant.unspent },
+)
 
 pub returns-in-Some : goal.returns-in-Some
 returns-in-Some c =
-    let reads : ReadsText c.args.self.now.expander c.args.self.now.source c.args.self.now.spent = c.is_in_text.ensures.text c.if-not-is_in_text.false in
-    let same = c.self.view_is ∙ c.is_in_text.ensures.same in
-    let fresh = ap (λ (p : Preprocessing). p.spent) same ∙ reads.unspent in
     let takes = rw c.in-Some.is at c.next_word.ensures.gives in
-    let first = reached_first _ _ _ _ (ap (λ (p : Preprocessing). p.expander) same) (ap (λ (p : Preprocessing). p.source) same) (c.self.invariant.0 fresh) in
+    let reads : ReadsText c.args.self.now.expander c.args.self.now.source c.args.self.now.spent = c.is_in_text.ensures.text c.if-not-is_in_text.false in
     record {
-      next = next_token _ _ _ _ _ _ first c.args.self.now reads.unspent refl refl (word_token c.in-Some.word) c.self.inside.spent c.self.inside.place
-          fresh (ap (λ (p : Preprocessing). p.place) same)
-          (word_over _ _ _ (word_token c.in-Some.word) (ap (λ (p : Preprocessing). is_idle p.expander) same ∙ reads.idle) takes.step takes.itself) takes.holds;
+      next = next_token _ _ _ _ _ _ c.words.invariant.reached c.args.self.now reads.unspent refl refl (word_token c.in-Some.word) c.words.self-inside.spent
+          c.words.self-inside.place c.words.invariant.unspent c.words.invariant.placed
+          (word_over _ _ _ (word_token c.in-Some.word) c.words.invariant.idle takes.step takes.itself) takes.holds;
       plain = record { no_hash = takes.no_hash; ascii = takes.ascii };
     }
+
+pub returns-then-not-pass_newline : goal.returns-then-not-pass_newline
+returns-then-not-pass_newline c =
+    let reads : ReadsText c.args.self.now.expander c.args.self.now.source c.args.self.now.spent = c.is_in_text.ensures.text c.if-not-is_in_text.false in
+    rw (c.if-not-pass_newline.ensures.pauses, c.in_default.ensures.gives)
+    (passed_pauses c.args.self.now _ _ _ _ c.words.invariant.reached reads.unspent c.words.invariant.unspent c.words.invariant.placed)

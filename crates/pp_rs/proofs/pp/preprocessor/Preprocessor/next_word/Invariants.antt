@@ -5,7 +5,7 @@ use Rattle.pp_macros.specs.inner.Left.{work_of}
 use Rattle.pp_macros.specs.inner.Reader.{of_source}
 use Rattle.pp_directives.specs.inner.PlainText.{IsInText}
 use Rattle.pp_rs.proofs.runs.NextLemmas.{Reached}
-use Rattle.pp_rs.proofs.pp.preprocessor.Preprocessor.next_word_after_newlines.Given as goal
+use Rattle.pp_rs.proofs.pp.preprocessor.Preprocessor.next_word.Given as goal
 
 -- a newline keeps what comes next, and lowers what is left to do
 abbrev pub invariant-words : goal.invariant-words
