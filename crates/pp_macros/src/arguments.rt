@@ -31,11 +31,7 @@ use std::alloc::{AllocError, Global};
 use std::mem;
 
 // The parts between the commas that are outside inner parentheses.
-fn parts_of(
-    alloc: Global,
-    spares: &mut Spares,
-    tokens: &[Read],
-) -> Result<Vec<Part>, AllocError>
+fn parts_of(alloc: Global, spares: &mut Spares, tokens: &[Read]) -> Result<Vec<Part>, AllocError>
     ensures cut { IfOk result (λ parts. lists_of tokens.now parts.items ≡ arguments_of tokens.now) }
     ensures order { IfOk result (λ parts. AreInOrder 0 parts.items (length tokens.now)) }
 {
