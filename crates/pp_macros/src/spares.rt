@@ -8,7 +8,7 @@ use pp_lexer::token::TokenValue;
 use pp_model::read::Read;
 use std::alloc::{AllocError, Global};
 
-// At most this many lists of a kind are kept.
+// There is room to keep this many lists of a kind.
 const MOST_LISTS: usize = 8;
 
 // A list with room for more than this is not kept.
@@ -28,7 +28,8 @@ impl<T: Drop> SpareLists<T> {
         }
     }
 
-    /// An empty list: one of these, or a new one with this room.
+    /// An empty list: one of these, or a new one with this room. Then there is room to keep lists, which `keep` doesn't
+    /// ask for, since it can't say that an allocation failed.
     pub fn take(&mut self, alloc: Global, room: usize) -> Result<Vec<T>, AllocError>
         ensures { IfOk result (λ list. list.items ≡ []) }
     {
@@ -37,7 +38,10 @@ impl<T: Drop> SpareLists<T> {
                 list.clear();
                 Ok(list)
             }
-            None => Ok(Vec::with_capacity(alloc, room)?),
+            None => {
+                self.lists.reserve(MOST_LISTS)?;
+                Ok(Vec::with_capacity(alloc, room)?)
+            }
         }
     }
 
@@ -45,11 +49,11 @@ impl<T: Drop> SpareLists<T> {
     pub fn keep(&mut self, mut list: Vec<T>) {
         list.clear();
         let room = list.capacity();
-        if room == 0 || room > MOST_ROOM || self.lists.len() >= MOST_LISTS {
+        if room == 0 || room > MOST_ROOM || self.lists.len() >= self.lists.capacity() {
             drop(list);
             return;
         }
-        drop(self.lists.push(list));
+        self.lists.push_reserved(list);
     }
 }
 
