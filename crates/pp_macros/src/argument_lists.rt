@@ -146,9 +146,11 @@ impl OpenArguments {
         }
     }
 
-    /// The lists in which the tokens and the parts are. Nothing is said of them: they are to be used again.
+    /// The tokens, and the parts of them that are the lists.
     #[inline(always)]
-    pub fn into_lists(self) -> (Vec<Read>, Vec<Part>) {
+    pub fn into_lists(self) -> (Vec<Read>, Vec<Part>)
+        ensures { lists_of result.0.items result.1.items ≡ self.lists }
+    {
         (self.tokens, self.parts)
     }
 

@@ -279,7 +279,7 @@ impl Expander {
     }
 
     /// Its spare lists.
-    pub fn into_spares(self) -> Spares {
+    pub(crate) fn into_spares(self) -> Spares {
         self.processor.into_spares()
     }
 

@@ -4,6 +4,7 @@
 ghost use Rattle.std.specs.Prelude.{◌≡◌, ◌⊎◌, ◌<◌, ◌^◌, ◌++◌, ◌∷◌, [], IfOk, OnOk, IfSome, None, Ok, Err, IsSome, option_map, slice_get, is_some};
 ghost use Rattle.pp_lexer.specs.PreprocessorError.{out_of_memory};
 ghost use Rattle.pp_macros.specs.inner.Frames.{new_frame, advance};
+ghost use Rattle.pp_macros.specs.inner.Parts.{lists_of};
 ghost use Rattle.pp_macros.specs.Held.{HoldsOrdinary, AllHoldOrdinary};
 ghost use Rattle.pp_macros.specs.inner.Ahead.{given_by, frame_after};
 ghost use Rattle.pp_macros.specs.declared.step.StepExit.TheVariants.{Error};
@@ -236,9 +237,11 @@ impl Frame {
         }
     }
 
-    /// The lists in which its arguments are. Nothing is said of them: they are to be used again.
+    /// The tokens of its arguments, and the parts of them that are the arguments.
     #[inline(always)]
-    pub fn into_lists(self) -> (Vec<Read>, Vec<Part>) {
+    pub fn into_lists(self) -> (Vec<Read>, Vec<Part>)
+        ensures { lists_of result.0.items result.1.items ≡ self.arguments }
+    {
         self.arguments.into_lists()
     }
 

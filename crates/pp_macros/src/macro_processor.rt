@@ -177,7 +177,7 @@ impl MacroProcessor {
     }
 
     /// Its spare lists.
-    pub fn into_spares(self) -> Spares {
+    pub(crate) fn into_spares(self) -> Spares {
         let mut spares = self.spares;
         spares.keep_frames(self.frames);
         spares

@@ -22,7 +22,7 @@ pub struct SpareLists<T> {
 
 impl<T: Drop> SpareLists<T> {
     /// None. It allocates nothing.
-    pub fn none(alloc: Global) -> Self {
+    pub(crate) fn none(alloc: Global) -> Self {
         SpareLists {
             lists: Vec::new(alloc),
         }
@@ -46,7 +46,7 @@ impl<T: Drop> SpareLists<T> {
     }
 
     /// Keeps the room of a list, if it has some and not much. What is in it is dropped.
-    pub fn keep(&mut self, mut list: Vec<T>) {
+    pub(crate) fn keep(&mut self, mut list: Vec<T>) {
         list.clear();
         let room = list.capacity();
         if room == 0 || room > MOST_ROOM || self.lists.len() >= self.lists.capacity() {
@@ -80,7 +80,7 @@ fn drop_tokens(tokens: &mut Vec<Read>)
 
 impl Spares {
     /// None. It allocates nothing.
-    pub fn none(alloc: Global) -> Spares {
+    pub(crate) fn none(alloc: Global) -> Spares {
         Spares {
             tokens: SpareLists::none(alloc),
             parts: SpareLists::none(alloc),
@@ -110,18 +110,18 @@ impl Spares {
     }
 
     /// Takes back a list of tokens, and drops these.
-    pub fn keep_tokens(&mut self, mut tokens: Vec<Read>) {
+    pub(crate) fn keep_tokens(&mut self, mut tokens: Vec<Read>) {
         drop_tokens(&mut tokens);
         self.tokens.keep(tokens);
     }
 
     /// Takes back a list of parts.
-    pub fn keep_parts(&mut self, parts: Vec<Part>) {
+    pub(crate) fn keep_parts(&mut self, parts: Vec<Part>) {
         self.parts.keep(parts);
     }
 
     /// Takes back a list of frames, and drops these.
-    pub fn keep_frames(&mut self, frames: Vec<Frame>) {
+    pub(crate) fn keep_frames(&mut self, frames: Vec<Frame>) {
         self.frames.keep(frames);
     }
 }
