@@ -1,3 +1,4 @@
+pub mod RoleLemmas
 pub mod FlatLemmas
 pub mod SoundLemmas
 pub mod AdvanceLemmas

@@ -2,6 +2,7 @@ pub mod PauseLemmas
 pub mod TakingLemmas
 pub mod StepLemmas
 pub mod PartLemmas
+pub mod LastPartLemmas
 pub mod PieceLemmas
 pub mod PlainLemmas
 pub mod Walk

@@ -1,12 +1,13 @@
 //! The arguments of a call: lists of tokens, each a part of one list.
 
-ghost use Rattle.std.specs.Prelude.{◌≡◌, ◌<◌, ◌^◌, [], Some, None, IfSome, IsSome, is_some, option_map, slice_get, length};
+ghost use Rattle.std.specs.Prelude.{◌≡◌, ◌<◌, ◌^◌, [], Some, None, IfSome, IsSome, MatchOption, is_some, option_map, set, slice_get, length};
 ghost use Rattle.pp_model.specs.Calls.{is_one_empty};
 ghost use Rattle.pp_macros.specs.Held.{HoldsOrdinary};
 ghost use Rattle.pp_macros.specs.inner.Frames.{argument_at};
 ghost use Rattle.pp_macros.specs.inner.Parts.{lists_of, AreInOrder, next_read, after_read};
 ghost use Rattle.pp_macros.specs.inner.Reading.{AllReadOrdinary};
 
+use crate::list_lexer::take_out;
 use pp_model::read::Read;
 use std::alloc::Global;
 use std::marker::Model;
@@ -103,11 +104,13 @@ pub struct OpenArguments {
     tokens: Vec<Read>,
     parts: Vec<Part>,
     reading: Option<Part>,
+    // whether no part has a token of the one that is being read
+    is_last: bool,
 }
 
 impl Model for OpenArguments {
-    ghost use Rattle.std.specs.Prelude.{option_map};
-    ghost use Rattle.pp_macros.specs.inner.Parts.{OpenLists, list_of, lists_of};
+    ghost use Rattle.std.specs.Prelude.{◌≡◌, true, IfSome, option_map, length};
+    ghost use Rattle.pp_macros.specs.inner.Parts.{OpenLists, list_of, lists_of, AreInOrder, AreApart};
     ghost use Rattle.pp_macros.specs.inner.Reading.{AllReadOrdinary};
 
     ghost Value = { OpenLists };
@@ -117,7 +120,9 @@ impl Model for OpenArguments {
       reading = option_map (list_of a.tokens.items) a.reading;
     } };
 
-    ghost invariant = { λ a. AllReadOrdinary a.tokens.items };
+    ghost invariant = { λ a. AllReadOrdinary a.tokens.items
+        × AreInOrder 0 a.parts.items (length a.tokens.items)
+        × (a.is_last ≡ true → IfSome a.reading (λ part. AreApart part a.parts.items)) };
 }
 
 impl OpenArguments {
@@ -130,6 +135,7 @@ impl OpenArguments {
             tokens: Vec::new(alloc),
             parts: Vec::new(alloc),
             reading: None,
+            is_last: false,
         }
     }
 
@@ -143,6 +149,7 @@ impl OpenArguments {
             tokens,
             parts,
             reading: None,
+            is_last: false,
         }
     }
 
@@ -195,15 +202,61 @@ impl OpenArguments {
         });
     }
 
+    /// Moves out the next token of the list that is being read, if that is the last time. Otherwise nothing changes.
+    #[inline(always)]
+    pub fn take(&mut self) -> Option<Read>
+        ensures takes { MatchOption result (self.new ≡ self.old) (λ read. (next_read self.old.reading ≡ Some read)
+            × (self.new ≡ record self.old { reading = after_read self.old.reading })) }
+        ensures holds { IfSome result (λ read. HoldsOrdinary read.token.value) }
+    {
+        if !self.is_last {
+            return None;
+        }
+        let Some(part) = self.reading else {
+            return None;
+        };
+        if part.end <= part.start || self.tokens.len() <= part.start {
+            return None;
+        }
+        let read = take_out(&mut self.tokens[part.start]);
+        self.reading = Some(Part {
+            start: part.start + 1,
+            end: part.end,
+        });
+        Some(read)
+    }
+
     /// Begins to read the list with this index.
     #[inline(always)]
     pub fn begin(&mut self, index: usize)
         ensures { self.new ≡ record self.old { reading = Some (argument_at self.old.lists index) } }
     {
+        self.is_last = false;
         self.reading = match part_at(&self.parts, index) {
             Some(part) => Some(*part),
             None => Some(Part { start: 0, end: 0 }),
         };
+    }
+
+    /// Begins to read the list with this index for the last time. It is empty then.
+    #[inline(always)]
+    pub fn begin_last(&mut self, index: usize)
+        ensures { self.new ≡ record {
+          lists = set self.old.lists index [];
+          reading = Some (argument_at self.old.lists index);
+        } }
+    {
+        if self.parts.len() <= index {
+            self.begin(index);
+            return;
+        }
+        let list = self.parts[index];
+        self.parts[index] = Part {
+            start: list.end,
+            end: list.end,
+        };
+        self.reading = Some(list);
+        self.is_last = true;
     }
 
     /// Ends the list that is being read.

@@ -722,6 +722,9 @@ impl Expander {
         let Some(_) = self.advance(lexer)? else {
             return Ok(None);
         };
+        if let Some(read) = self.processor.take_token() {
+            return Ok(Some(read.token));
+        }
         let Some(ahead) = self.processor.token() else {
             unreachable!();
         };
@@ -730,7 +733,8 @@ impl Expander {
         Ok(Some(token))
     }
 
-    // Puts a copy of the token that `token` gives after the items, painted or not, and passes it.
+    // Puts the token that `token` gives after the items, painted or not, and passes it. It is copied, unless its list
+    // gives it for the last time.
     #[inline(always)]
     fn put_token(&mut self, painted: bool, items: &mut Vec<Read>) -> Result<(), AllocError>
         requires { IsSome (token_ahead self.old) }
@@ -738,6 +742,13 @@ impl Expander {
         ensures puts { OnOk result ((token : Token) → token_ahead self.old ≡ Some token
             → items.new.items ≡ items.old.items ++ record { token = token; painted = painted } ∷ []) }
     {
+        if let Some(read) = self.processor.take_token() {
+            items.push(Read {
+                token: read.token,
+                painted,
+            })?;
+            return Ok(());
+        }
         let Some(ahead) = self.processor.token() else {
             unreachable!();
         };

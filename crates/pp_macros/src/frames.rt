@@ -1,7 +1,7 @@
 //! Frames: macros that are open, each with the positions up to which its body and its arguments
 //! were read.
 
-ghost use Rattle.std.specs.Prelude.{◌≡◌, ◌⊎◌, ◌<◌, ◌^◌, ◌++◌, ◌∷◌, [], IfOk, OnOk, IfSome, None, Ok, Err, IsSome, option_map, slice_get, is_some};
+ghost use Rattle.std.specs.Prelude.{◌≡◌, ◌⊎◌, ◌<◌, ◌^◌, ◌++◌, ◌∷◌, [], IfOk, OnOk, IfSome, MatchOption, Some, None, Ok, Err, IsSome, option_map, slice_get, is_some};
 ghost use Rattle.pp_lexer.specs.PreprocessorError.{out_of_memory};
 ghost use Rattle.pp_macros.specs.inner.Frames.{new_frame, advance};
 ghost use Rattle.pp_macros.specs.inner.Parts.{lists_of};
@@ -10,7 +10,7 @@ ghost use Rattle.pp_macros.specs.inner.Ahead.{given_by, frame_after};
 ghost use Rattle.pp_macros.specs.declared.step.StepExit.TheVariants.{Error};
 
 use crate::argument_lists::{ArgumentLists, OpenArguments, Part};
-use crate::define::Macro;
+use crate::define::{Macro, Role};
 use crate::macros::MacroId;
 use crate::step::{Step, StepExit};
 use pp_lexer::token::{Text, Token, TokenValue, out_of_memory};
@@ -285,12 +285,13 @@ impl Frame {
         let Some(token) = token_at(define.body(), self.position) else {
             return None;
         };
-        match define.parameter_at(self.position) {
-            Some(_) => None,
-            None => Some(Ahead {
+        match define.role_at(self.position) {
+            Role::Itself => Some(Ahead {
                 token,
                 painted: false,
             }),
+            Role::Parameter(_) => None,
+            Role::LastParameter(_) => None,
         }
     }
 
@@ -301,6 +302,18 @@ impl Frame {
             return None;
         }
         self.opened.define().number_at(self.position)
+    }
+
+    /// Moves out the token that its next step gives, and advances by that step, if its list gives the token for the last
+    /// time. Otherwise nothing changes.
+    #[inline(always)]
+    pub fn take_token(&mut self) -> Option<Read>
+        ensures takes { MatchOption result (self.new ≡ self.old) (λ read. (given_by (advance self.old) ≡ Some read)
+            × (self.new ≡ frame_after self.old (advance self.old))) }
+        ensures name { self.new.name ≡ self.old.name }
+        ensures holds { IfSome result (λ read. HoldsOrdinary read.token.value) }
+    {
+        self.arguments.take()
     }
 
     /// Advances by a step that gives a token.
@@ -335,11 +348,18 @@ impl Frame {
         let Some(_) = token_at(define.body(), self.position) else {
             return false;
         };
-        let Some(index) = define.parameter_at(self.position) else {
-            return false;
-        };
-        self.position += 1;
-        self.arguments.begin(index);
-        true
+        match define.role_at(self.position) {
+            Role::Itself => false,
+            Role::Parameter(index) => {
+                self.position += 1;
+                self.arguments.begin(index);
+                true
+            }
+            Role::LastParameter(index) => {
+                self.position += 1;
+                self.arguments.begin_last(index);
+                true
+            }
+        }
     }
 }

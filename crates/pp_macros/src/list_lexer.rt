@@ -32,7 +32,8 @@ fn is_reserved(is_line: bool, name: &str) -> bool
 
 /// Moves a token out of its list. A comma with the place `NOWHERE` replaces it.
 pub fn take_out(place: &mut Read) -> Read
-    ensures { result ≡ place.old }
+    ensures is { result ≡ place.old }
+    ensures left { HoldsOrdinary place.new.token.value }
 {
     let nothing = Token {
         value: TokenValue::Punct(Punct::Comma),

@@ -1,6 +1,6 @@
 //! The macros that are open, over a reader.
 
-ghost use Rattle.std.specs.Prelude.{◌≡◌, ◌≤◌, ◌<◌, ◌-◌, ◌∷◌, [], drop, take, IfOk, IfSome, OnErr, OnOk, MatchResult, Ok, Err, None, IsSome, option_map, is_some, not, pos, false};
+ghost use Rattle.std.specs.Prelude.{◌≡◌, ◌≤◌, ◌<◌, ◌-◌, ◌∷◌, [], drop, take, IfOk, IfSome, OnErr, OnOk, MatchOption, MatchResult, Ok, Err, Some, None, IsSome, option_map, is_some, not, pos, false};
 ghost use Rattle.std.specs.List.{list_any};
 ghost use Rattle.std.specs.Str.{chars};
 ghost use Rattle.pp_lexer.specs.declared.token.PreprocessorError.TheVariants.{LineOverflow};
@@ -301,6 +301,20 @@ impl MacroProcessor {
         }
     }
 
+    /// Moves out the token that the innermost frame gives next, and passes it, if its list gives it for the last time.
+    /// Otherwise nothing changes.
+    #[inline(always)]
+    pub fn take_token(&mut self) -> Option<Read>
+        ensures takes { MatchOption result (self.new ≡ self.old) (λ read. (given_next self.old ≡ Some read)
+            × (self.new ≡ frames_after self.old)) }
+        ensures holds { IfSome result (λ read. HoldsOrdinary read.token.value) }
+    {
+        let Some(frame) = self.frames.last_mut() else {
+            return None;
+        };
+        frame.take_token()
+    }
+
     /// Passes the token that the innermost frame gives next.
     #[inline(always)]
     pub fn pass_token(&mut self)
@@ -321,6 +335,9 @@ impl MacroProcessor {
     {
         if self.is_idle() {
             return lexer.step();
+        }
+        if let Some(read) = self.take_token() {
+            return Ok(read);
         }
         let step = match self.token() {
             Some(ahead) => give(self.alloc, ahead),

@@ -1,5 +1,5 @@
 -- A step of a frame lowers the number of its steps and keeps its name; and how many steps a frame has when it opens.
-use Rattle.std.proofs.Common.{◌≡◌, ℕ, ◌+◌, ◌*◌, ◌<◌, ◌≤◌, Bool, true, false, List, [], ◌∷◌, length, refl, ap, arith, Option, Some, None, IfSome}
+use Rattle.std.proofs.Common.{◌≡◌, ℕ, ◌+◌, ◌*◌, ◌<◌, ◌≤◌, Bool, true, false, if◌then◌else◌, List, [], ◌∷◌, length, refl, ap, arith, Option, Some, None, IfSome}
 use Rattle.pp_lexer.specs.declared.token.Token.{Token}
 use Rattle.pp_model.specs.declared.read.Read.{Read}
 use Rattle.pp_model.specs.Names.{Name, is_same_name}
@@ -7,7 +7,10 @@ use Rattle.pp_model.specs.Definitions.{Definition}
 use Rattle.pp_model.specs.SpliceList.{parameter_of}
 use Rattle.pp_macros.specs.inner.Defined.{Defined, meaning_of, body_tokens}
 use Rattle.pp_macros.specs.inner.Frames.{Frame, Advance, advance, body_token, argument_at}
+use Rattle.pp_macros.specs.inner.Roles.{has_parameter, role_named}
 use Rattle.pp_macros.specs.inner.Work.{token_steps, body_steps, steps_left}
+use Rattle.pp_macros.specs.declared.define.Role.TheVariants.{Parameter, LastParameter}
+use Rattle.pp_macros.proofs.open_frames.RoleLemmas.{steps_without}
 
 -- a frame after a step: fewer steps are left, and its name stays
 pub record Advances (f : Frame) (a : Advance) : Type 0 where
@@ -36,13 +39,21 @@ frame name line parameters body arguments reading = record {
 
 token_lowers : (name : Name) (line : ℕ) (parameters : List Name) (token : Token) (rest : List Token) (arguments : List (List Read)) (p : Option ℕ)
     → parameter_of parameters token.value ≡ p
-    → Advances (frame name line parameters (token ∷ rest) arguments None) (body_token (frame name line parameters (token ∷ rest) arguments None) token rest p)
+    → Advances (frame name line parameters (token ∷ rest) arguments None)
+    (body_token (frame name line parameters (token ∷ rest) arguments None) token rest (role_named parameters rest p))
 token_lowers name line parameters token rest arguments None e =
     let s : token_steps arguments (parameter_of parameters token.value) ≡ 1 = ap (token_steps arguments) e in
     record { lower = omega arith; name = refl }
-token_lowers name line parameters token rest arguments (Some k) e =
-    let s : token_steps arguments (parameter_of parameters token.value) ≡ length (argument_at arguments k) + 2 = ap (token_steps arguments) e in
-    record { lower = omega arith; name = refl }
+token_lowers name line parameters token rest arguments (Some k) e = go (has_parameter parameters rest k) refl
+  where
+    s : token_steps arguments (parameter_of parameters token.value) ≡ length (argument_at arguments k) + 2
+    s = ap (token_steps arguments) e
+
+    go : (again : Bool) → has_parameter parameters rest k ≡ again
+        → Advances (frame name line parameters (token ∷ rest) arguments None)
+        (body_token (frame name line parameters (token ∷ rest) arguments None) token rest (if again then Parameter k else LastParameter k))
+    go true is = record { lower = omega (arith, s); name = refl }
+    go false is = record { lower = omega (arith, s, steps_without parameters arguments rest k is); name = refl }
 
 frame_lowers : (name : Name) (line : ℕ) (parameters : List Name) (body : List Token) (arguments : List (List Read)) (reading : Option (List Read))
     → IfSome (advance (frame name line parameters body arguments reading)) (Advances (frame name line parameters body arguments reading))

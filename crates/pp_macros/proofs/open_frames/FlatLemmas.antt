@@ -1,5 +1,5 @@
 -- The splice list that frames stand for: the names that are open in it, its outermost line, and what one step of the frames does to it.
-use Rattle.std.proofs.Common.{◌≡◌, ◌∙◌, ℕ, List, [], ◌∷◌, refl, ap, Option, Some, None}
+use Rattle.std.proofs.Common.{◌≡◌, ◌∙◌, ℕ, Bool, true, false, if◌then◌else◌, List, [], ◌∷◌, refl, sym, ap, Option, Some, None}
 use Rattle.std.specs.Prelude.{Ok, Err, unwrap_or}
 use Rattle.pp_lexer.specs.declared.token.Token.{Token}
 use Rattle.pp_model.specs.declared.read.Read.{Read}
@@ -11,7 +11,10 @@ use Rattle.pp_model.specs.declared.splice.Entry.{Entry}
 use Rattle.pp_model.specs.declared.splice.Entry.TheVariants.{Plain, End}
 use Rattle.pp_macros.specs.Item.{Step}
 use Rattle.pp_macros.specs.inner.Frames.{Frame, body_token, advance, argument_at, reading_before, layer_before, flat, names_of, outermost_frame_line}
+use Rattle.pp_macros.specs.inner.Roles.{has_parameter, role_named}
 use Rattle.pp_macros.specs.inner.Turns.{frame_move}
+use Rattle.pp_macros.specs.declared.define.Role.TheVariants.{Parameter, LastParameter}
+use Rattle.pp_macros.proofs.open_frames.RoleLemmas.{before_without}
 use Rattle.pp_macros.specs.declared.step.StepExit.TheVariants.{Error, Continue, Finished}
 
 -- a fact that tokens do not change sees through the tokens of a frame
@@ -58,12 +61,23 @@ StepsList (Err Continue) old new = after_marks old ≡ after_marks new
 StepsList (Err Finished) old new = ⊥
 StepsList (Err (Error fault)) old new = ⊥
 
-body_steps : (f : Frame) (token : Token) (rest : List Token) (k : Option ℕ) (fs : List Frame) → let a =
-    frame_move fs (Some (body_token (record f { reading = None }) token rest k)) in
-    StepsList a.gives (replacement f.arguments token k (body_before f.parameters f.arguments rest
+body_steps : (f : Frame) (token : Token) (rest : List Token) (p : Option ℕ) (fs : List Frame) → let a =
+    frame_move fs (Some (body_token (record f { reading = None }) token rest (role_named f.parameters rest p))) in
+    StepsList a.gives (replacement f.arguments token p (body_before f.parameters f.arguments rest
     (End (record { name = f.name; line = f.line }) ∷ flat fs))) (flat a.after)
 body_steps f token rest None fs = refl
-body_steps f token rest (Some k) fs = refl
+body_steps f token rest (Some k) fs = go (has_parameter f.parameters rest k) refl
+  where
+    end : List Entry
+    end = End (record { name = f.name; line = f.line }) ∷ flat fs
+
+    go : (again : Bool) → has_parameter f.parameters rest k ≡ again → let a =
+        frame_move fs (Some (body_token (record f { reading = None }) token rest (if again then Parameter k else LastParameter k))) in
+        StepsList a.gives (replacement f.arguments token (Some k) (body_before f.parameters f.arguments rest end)) (flat a.after)
+    go true is = refl
+    go false is =
+        ap (λ (entries : List Entry). after_marks (followed_by (argument_at f.arguments k) entries))
+        (sym (before_without f.parameters f.arguments rest k end is))
 
 layer_steps : (name : Name) (line : ℕ) (parameters : List Name) (body : List Token) (arguments : List (List Read)) (reading : Option (List Read))
     (fs : List Frame) → let f : Frame = record {

@@ -8,7 +8,9 @@ use Rattle.pp_model.specs.declared.read.Read.{Read}
 use Rattle.pp_model.specs.Painting.{unpainted}
 use Rattle.pp_macros.specs.inner.Ahead.{given_by, frame_after}
 use Rattle.pp_macros.specs.inner.Frames.{Frame, Advance, advance, body_token}
-use Rattle.pp_model.specs.SpliceList.{parameter_of}
+use Rattle.pp_macros.specs.inner.Roles.{role_ahead}
+use Rattle.pp_macros.specs.declared.define.Role.{Role}
+use Rattle.pp_macros.specs.declared.define.Role.TheVariants.{Itself, Parameter, LastParameter}
 
 -- the item at a place, and what stands after it
 pub drop-some : {X : Type 0} (xs : List X) (k : ℕ) (x : X) → slice_get xs k ≡ Some x → drop k xs ≡ x ∷ drop (k + 1) xs
@@ -27,9 +29,9 @@ none_read None e = refl
 none_read (Some x) e = cc
 
 -- a frame that reads no argument gives the next token of its body, unless that is a parameter
-pub given_body : (f : Frame) (body : List Token) (k : ℕ) (x : Token) (p : Option ℕ) → f.reading ≡ None → f.body ≡ drop k body → slice_get body k ≡ Some x
-    → parameter_of f.parameters x.value ≡ p → (body_token f x (drop (k + 1) body) p).gives ≡ given_by (advance f)
-given_body f body k x p reads is at parameter = rw (reads, is, drop-some body k x at, parameter) refl
+pub given_body : (f : Frame) (body : List Token) (k : ℕ) (x : Token) (role : Role) → f.reading ≡ None → f.body ≡ drop k body → slice_get body k ≡ Some x
+    → role_ahead f.parameters f.body ≡ role → (body_token f x (drop (k + 1) body) role).gives ≡ given_by (advance f)
+given_body f body k x role reads is at ahead = rw (reads, ← ahead, is, drop-some body k x at) refl
 
 pub given_end : (f : Frame) (body : List Token) (k : ℕ) → f.reading ≡ None → f.body ≡ drop k body → slice_get body k ≡ None → None ≡ given_by (advance f)
 given_end f body k reads is at = rw (reads, is, drop-none body k at) refl
@@ -42,18 +44,23 @@ passes_to f advanced given new e = rw e refl
 pub stays : (f : Frame) (advanced : Option Advance) → advanced ≡ None → f ≡ frame_after f advanced
 stays f advanced e = rw e refl
 
+-- a frame that reads no argument goes on after the next token of its body
+pub body_steps : (f : Frame) (body : List Token) (k : ℕ) (x : Token) (role : Role) → f.reading ≡ None → f.body ≡ drop k body
+    → slice_get body k ≡ Some x → role_ahead f.parameters f.body ≡ role → advance f ≡ Some (body_token f x (drop (k + 1) body) role)
+body_steps f body k x role reads is at ahead = rw (reads, ← ahead, is, drop-some body k x at) refl
+
 -- a frame that gives a token of its body goes on after that token
 pub passes_given : (f : Frame) (body : List Token) (k : ℕ) (x : Token) → f.reading ≡ None → f.body ≡ drop k body → slice_get body k ≡ Some x
     → IsSome (given_by (advance f)) → record f { body = drop (k + 1) body } ≡ frame_after f (advance f)
-passes_given f body k x reads is at gives = go (parameter_of f.parameters x.value) refl
+passes_given f body k x reads is at gives = go (role_ahead f.parameters f.body) refl
   where
-    step : (p : Option ℕ) → parameter_of f.parameters x.value ≡ p → advance f ≡ Some (body_token f x (drop (k + 1) body) p)
-    step p e = rw (reads, is, drop-some body k x at, e) refl
-
-    go : (p : Option ℕ) → parameter_of f.parameters x.value ≡ p → record f { body = drop (k + 1) body } ≡ frame_after f (advance f)
-    go None e = rw (step None e) refl
-    go (Some n) e =
-        let none : is_some (given_by (advance f)) ≡ false = rw (step (Some n) e) refl in
+    go : (role : Role) → role_ahead f.parameters f.body ≡ role → record f { body = drop (k + 1) body } ≡ frame_after f (advance f)
+    go Itself e = rw (body_steps f body k x Itself reads is at e) refl
+    go (Parameter n) e =
+        let none : is_some (given_by (advance f)) ≡ false = rw (body_steps f body k x (Parameter n) reads is at e) refl in
+        cc
+    go (LastParameter n) e =
+        let none : is_some (given_by (advance f)) ≡ false = rw (body_steps f body k x (LastParameter n) reads is at e) refl in
         cc
 
 -- a frame that gives a token isn't at the end of its argument or of its body
@@ -66,14 +73,9 @@ gives_something o e some =
 pub body_ends : (f : Frame) (body : List Token) (k : ℕ) → f.reading ≡ None → f.body ≡ drop k body → slice_get body k ≡ None → advance f ≡ None
 body_ends f body k reads is at = rw (reads, is, drop-none body k at) refl
 
--- where its body has a token left, it goes on after it
-pub body_steps : (f : Frame) (body : List Token) (k : ℕ) (x : Token) (p : Option ℕ) → f.reading ≡ None → f.body ≡ drop k body
-    → slice_get body k ≡ Some x → parameter_of f.parameters x.value ≡ p → advance f ≡ Some (body_token f x (drop (k + 1) body) p)
-body_steps f body k x p reads is at parameter = rw (reads, is, drop-some body k x at, parameter) refl
-
 -- and a token that is no parameter is given
 pub body_gives : {Z : Type 0} (f : Frame) (body : List Token) (k : ℕ) (x : Token) → f.reading ≡ None → f.body ≡ drop k body
-    → slice_get body k ≡ Some x → parameter_of f.parameters x.value ≡ None → given_by (advance f) ≡ None → Z
-body_gives f body k x reads is at parameter none =
-    let some : given_by (advance f) ≡ Some (unpainted x) = ap given_by (body_steps f body k x None reads is at parameter) in
+    → slice_get body k ≡ Some x → role_ahead f.parameters f.body ≡ Itself → given_by (advance f) ≡ None → Z
+body_gives f body k x reads is at ahead none =
+    let some : given_by (advance f) ≡ Some (unpainted x) = ap given_by (body_steps f body k x Itself reads is at ahead) in
     cc

@@ -1,12 +1,13 @@
 -- Open macros, which the expander keeps with the innermost last.
 use Rattle.std.proofs.Common.{◌≡◌, ◌∙◌, ◌⊎◌, inl, inr, ℕ, suc, ◌-◌, ◌<◌, ◌≤◌, Bool, true, false, ◌||◌, List, [], ◌∷◌, ◌++◌, length, get_or, take, drop, reverse, set, refl, ap, sym, arith, Option, Some, None, slice_get, get_or-set_same}
 use Rattle.std.specs.List.{list_any}
-use Rattle.std.specs.Prelude.{is_none, is_some, IsSome}
+use Rattle.std.specs.Prelude.{is_none, is_some, IsSome, MatchOption}
 use Rattle.std.proofs.Math.Seq.{take-append_seam}
-use Rattle.std.proofs.lemmas.List.{reverse-append, length-map, length-reverse, length-take-le, length-drop, take-append-drop, length-set, take-set}
+use Rattle.std.proofs.lemmas.List.{reverse-append, length-map, length-reverse, length-take-le, length-drop, take-append-drop, length-set, take-set, set-get_or}
 use Rattle.std.proofs.lemmas.Bool.{cases_lt}
 use Rattle.std.proofs.lemmas.List.Folds.{list_any-append}
 use Rattle.pp_model.specs.Names.{Name, is_in, is_same_name}
+use Rattle.pp_model.specs.declared.read.Read.{Read}
 use Rattle.pp_macros.specs.inner.Frames.{Frame, Advance, advance, names_of, outermost_frame_line}
 use Rattle.pp_macros.specs.inner.Ahead.{given_by, given_next, frame_after, frames_after}
 use Rattle.pp_macros.specs.inner.Turns.{frame_move}
@@ -91,6 +92,22 @@ last_passes fs f v n e some last goes passes =
     let more = rw e at some in
     let is = rw e at last in
     rw (e, reverse_last fs f more, ← is, reverse_set_last fs v more) (frame_passes (advance f) f v (reverse (take (length fs - 1) fs)) goes passes)
+
+-- nor is what gives this token
+has_given : (advanced : Option Advance) (read : Read) → given_by advanced ≡ Some read → is_none advanced ≡ false
+has_given (Some a) read gives = refl
+has_given None read gives = cc
+
+-- what the last of them moves out is given by the frames
+pub last_takes : (fs : List Frame) (f v : Frame) (n : ℕ) (taken : Option Read) → n ≡ length fs → 0 < n → f ≡ get_or fs (n - 1) f
+    → MatchOption taken (v ≡ f) (λ read. (given_by (advance f) ≡ Some read) × (v ≡ frame_after f (advance f)))
+    → MatchOption taken (reverse (set fs (n - 1) v) ≡ reverse fs)
+    (λ read. (given_next (reverse fs) ≡ Some read) × (reverse (set fs (n - 1) v) ≡ frames_after (reverse fs)))
+last_takes fs f v n None e some last same = ap reverse (ap (set fs (n - 1)) (same ∙ last) ∙ set-get_or fs (n - 1) f)
+last_takes fs f v n (Some read) e some last takes = (
+  last_gives fs f n e some last ∙ takes.0,
+  last_passes fs f v n e some last (has_given (advance f) read takes.0) takes.1,
+)
 
 -- what has a step isn't at its end
 pub has_step : (advanced : Option Advance) → is_some advanced ≡ true → is_none advanced ≡ false

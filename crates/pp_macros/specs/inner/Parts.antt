@@ -1,5 +1,5 @@
 -- Lists of tokens, each a part of one list.
-use Rattle.std.specs.Prelude.{ℕ, ◌≤◌, List, [], ◌∷◌, map, slice_range, length, drop, Option, Some, None}
+use Rattle.std.specs.Prelude.{⊤, ℕ, ◌≤◌, ◌⊎◌, List, [], ◌∷◌, map, slice_range, length, drop, Option, Some, None}
 use Rattle.pp_model.specs.declared.read.Read.{Read}
 use Rattle.pp_macros.specs.declared.argument_lists.Part.{Part}
 
@@ -15,6 +15,11 @@ lists_of tokens parts = map (list_of tokens) parts
 abbrev pub AreInOrder : ℕ → List Part → ℕ → Type 0
 AreInOrder from [] to = from ≤ to
 AreInOrder from (part ∷ parts) to = (from ≤ part.start) × (part.start ≤ part.end) × AreInOrder part.end parts to
+
+-- no other part has a token of this one
+abbrev pub AreApart : Part → List Part → Type 0
+AreApart part [] = ⊤
+AreApart part (other ∷ others) = ((other.end ≤ part.start) ⊎ (part.end ≤ other.start)) × AreApart part others
 
 -- what was appended to these tokens
 abbrev pub addition : List Read → List Read → List Read

@@ -19,5 +19,5 @@ returns-clause-holds c =
     let within : 0 < length c.self.inside.tokens.now - c.self.inside.position =
     rw (← length-drop c.self.inside.position c.self.inside.tokens.now) (subst (λ (l : Listing). 0 < length l.tokens) (sym c.self.view_is) c.requires) in
     let here : drop c.self.inside.position c.self.inside.tokens.now ≡ c.take_out-read.result ∷ drop (c.self.inside.position + 1) c.self.inside.tokens.now
-    = rw c.take_out-read.ensures (drop_more c.self.inside.tokens.now c.self.inside.position c.index-self-self.result (omega (arith, within))) in
+    = rw c.take_out-read.ensures.is (drop_more c.self.inside.tokens.now c.self.inside.position c.index-self-self.result (omega (arith, within))) in
     All-head (λ (read : Read). HoldsOrdinary read.token.value) c.take_out-read.result _ (rw here at c.self.invariant)
