@@ -1,12 +1,14 @@
 //! Macros.
 
-ghost use Rattle.std.specs.Prelude.{◌≡◌, ◌↔◌, true, IsTrue, All, IfOk, OnOk, OnErr, map, slice_get};
+ghost use Rattle.std.specs.Prelude.{◌≡◌, ◌↔◌, ◌∷◌, true, List, IsTrue, All, IfOk, OnOk, OnErr, drop, length, slice_get};
+ghost use Rattle.pp_lexer.specs.declared.token.Token.{Token};
 ghost use Rattle.pp_lexer.specs.TokenValue.{is_ordinary};
 ghost use Rattle.pp_lexer.specs.Spelling.{values_of};
 ghost use Rattle.pp_model.specs.Definitions.{IsSameDefinition, object_like};
 ghost use Rattle.pp_model.specs.SpliceList.{parameter_of};
 ghost use Rattle.pp_macros.specs.inner.Marks.{mark_of};
 ghost use Rattle.pp_macros.specs.inner.ParameterPositions.{parameter_at};
+ghost use Rattle.pp_macros.specs.inner.Roles.{AreSeen, role_ahead, role_named, roles_of};
 
 use crate::macros::{MacroId, Macros};
 use crate::marks::mark_of;
@@ -15,14 +17,25 @@ use pp_lexer::token::{Text, Token, TokenValue};
 use std::alloc::{AllocError, Global};
 use std::marker::Model;
 
-/// The definition of a macro. Each token of its body that is a parameter has that parameter's position beside it.
+/// What a token of a body is.
+#[derive(Clone, Copy)]
+pub enum Role {
+    /// Itself: it is no parameter.
+    Itself,
+    /// The parameter at this position, which the rest of the body has again.
+    Parameter(usize),
+    /// The parameter at this position, which the rest of the body has not.
+    LastParameter(usize),
+}
+
+/// The definition of a macro. Each token of its body has its role beside it.
 #[derive(Drop)]
 pub struct Define {
     function_like: bool,
     parameters: Vec<Text>,
     body: Vec<Token>,
-    // for each token of the body the position of its parameter, if it is one; empty for a macro without parentheses
-    positions: Vec<Option<usize>>,
+    // for each token of the body its role; empty for a macro without parentheses
+    roles: Vec<Role>,
     // for each token of the body the number of the macro that it names, if it named one when the line was read; empty
     // if none did
     numbers: Vec<Option<MacroId>>,
@@ -32,14 +45,14 @@ impl Model for Define {
     ghost use Rattle.std.specs.Prelude.{All, IsTrue};
     ghost use Rattle.pp_lexer.specs.TokenValue.{is_ordinary};
     ghost use Rattle.pp_model.specs.Definitions.{Definition};
-    ghost use Rattle.pp_macros.specs.inner.ParameterPositions.{PlacesEach};
+    ghost use Rattle.pp_macros.specs.inner.Roles.{HasRoles};
 
     ghost Value = { Definition };
 
     ghost view = { λ d. record { function_like = d.function_like; parameters = d.parameters.items; body = d.body.items } };
 
     ghost invariant = { λ d. All (λ token. IsTrue (is_ordinary token.value)) d.body.items
-        × PlacesEach d.parameters.items d.body.items d.positions.items };
+        × HasRoles d.parameters.items d.body.items d.roles.items };
 }
 
 /// A macro: a name and its definition.
@@ -87,20 +100,41 @@ fn without_room(tokens: Vec<Token>) -> Vec<Token>
     tokens
 }
 
-// For each token of a body the position of its parameter, if it is one.
-fn positions_in(
+// The role of a token before the rest of its body. `seen` marks the parameters that the rest has, and afterwards that of
+// the token too.
+fn role_before(parameters: &ParameterNames, token: &Token, seen: &mut [bool]) -> Role
+    requires { length seen.old ≡ length parameters.now }
+    ensures role { (rest : List Token) → AreSeen parameters.now rest seen.old
+        → result ≡ role_named parameters.now rest (parameter_of parameters.now token.now.value) }
+    ensures seen { (rest : List Token) → AreSeen parameters.now rest seen.old
+        → AreSeen parameters.now (token.now ∷ rest) seen.new }
+{
+    let Some(position) = parameters.position_of(&token.value) else {
+        return Role::Itself;
+    };
+    let again = seen[position];
+    seen[position] = true;
+    if again {
+        Role::Parameter(position)
+    } else {
+        Role::LastParameter(position)
+    }
+}
+
+// The roles of the tokens of a body.
+fn roles_in(
     alloc: Global,
     parameters: &ParameterNames,
     body: &[Token],
-) -> Result<Vec<Option<usize>>, AllocError>
-    ensures { IfOk result (λ positions. positions.items
-        ≡ map (λ token. parameter_of parameters.now token.value) body.now) }
+) -> Result<Vec<Role>, AllocError>
+    ensures { IfOk result (λ roles. roles.items ≡ roles_of parameters.now body.now) }
 {
-    let mut positions = Vec::with_capacity(alloc, body.len())?;
-    for token in body {
-        positions.push(parameters.position_of(&token.value))?;
+    let mut seen = vec![in alloc; false; parameters.len()]?;
+    let mut roles = vec![in alloc; Role::Itself; body.len()]?;
+    for i in (0..body.len()).rev() {
+        roles[i] = role_before(parameters, &body[i], &mut seen);
     }
-    Ok(positions)
+    Ok(roles)
 }
 
 // The number of the macro that the token names, if it is one of these.
@@ -174,7 +208,7 @@ impl Define {
             function_like: false,
             parameters: Vec::new(alloc),
             body,
-            positions: Vec::new(alloc),
+            roles: Vec::new(alloc),
             numbers: Vec::new(alloc),
         }
     }
@@ -192,13 +226,13 @@ impl Define {
           body = body.items;
         }) }
     {
-        let positions = positions_in(alloc, &parameters, &body)?;
+        let roles = roles_in(alloc, &parameters, &body)?;
         let body = without_room(body);
         Ok(Define {
             function_like: true,
             parameters: parameters.into_names(),
             body,
-            positions,
+            roles,
             numbers: Vec::new(alloc),
         })
     }
@@ -229,9 +263,20 @@ impl Define {
     pub fn parameter_at(&self, position: usize) -> Option<usize>
         ensures { result ≡ parameter_at self.now.parameters (slice_get self.now.body position) }
     {
-        match self.positions.get(position) {
-            Some(parameter) => *parameter,
-            None => None,
+        match self.role_at(position) {
+            Role::Itself => None,
+            Role::Parameter(parameter) | Role::LastParameter(parameter) => Some(parameter),
+        }
+    }
+
+    /// What the body's token at this position is. `Itself` after the body's end.
+    #[inline(always)]
+    pub fn role_at(&self, position: usize) -> Role
+        ensures { result ≡ role_ahead self.now.parameters (drop position self.now.body) }
+    {
+        match self.roles.get(position) {
+            Some(role) => *role,
+            None => Role::Itself,
         }
     }
 

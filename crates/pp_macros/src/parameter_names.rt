@@ -1,6 +1,6 @@
 //! The parameters of a macro, each found by its name without a search.
 
-ghost use Rattle.std.specs.Prelude.{◌≡◌, ◌++◌, ◌∷◌, [], false, IfOk, position};
+ghost use Rattle.std.specs.Prelude.{◌≡◌, ◌++◌, ◌∷◌, [], false, IfOk, length, position};
 ghost use Rattle.pp_model.specs.Names.{is_in, is_same_name};
 ghost use Rattle.pp_model.specs.SpliceList.{parameter_of};
 
@@ -37,6 +37,13 @@ impl ParameterNames {
             names: Vec::new(alloc),
             positions: BTreeMap::new(alloc),
         }
+    }
+
+    /// How many they are.
+    pub fn len(&self) -> usize
+        ensures { result ≡ length self.now }
+    {
+        self.names.len()
     }
 
     /// The position of the parameter that has this name.

@@ -1,21 +1,15 @@
 -- The parameters of a macro, found by their names.
-use Rattle.std.proofs.Common.{◌≡◌, ◌∙◌, ℕ, ◌+◌, Bool, true, false, cond, List, [], ◌∷◌, ◌++◌, map, length, Option, Some, None, refl, sym, ap, arith, slice_get}
+use Rattle.std.proofs.Common.{◌≡◌, ◌∙◌, ℕ, ◌+◌, Bool, true, false, cond, List, [], ◌∷◌, ◌++◌, length, Some, None, refl, sym, ap, arith}
 use Rattle.std.specs.Prelude.{◌||◌, is_some, position}
 use Rattle.std.specs.BTreeMap as tree
 use Rattle.std.specs.BTreeMap.{BTreeMap, is_at}
 use Rattle.std.specs.List.{list_any, position_from}
 use Rattle.std.specs.Map.{lookup}
-use Rattle.std.specs.Option.{option_flatten, option_map}
 use Rattle.std.specs.declared.string.String.{String}
 use Rattle.std.specs.String.{string_cmp}
 use Rattle.std.proofs.lemmas.Iterator.Adapters.{position_from-zero}
-use Rattle.std.proofs.lemmas.Option.{slice_get-map}
-use Rattle.pp_lexer.specs.declared.token.Token.{Token}
-use Rattle.pp_lexer.specs.declared.token.TokenValue.{TokenValue}
-use Rattle.pp_lexer.specs.declared.token.TokenValue.TheVariants.{Ident}
 use Rattle.pp_model.specs.Names.{Name, is_same_name, is_in}
-use Rattle.pp_model.specs.SpliceList.{parameter_of}
-use Rattle.pp_macros.specs.inner.ParameterPositions.{FindsEach, PlacesEach, parameter_at}
+use Rattle.pp_macros.specs.inner.ParameterPositions.{FindsEach}
 use Rattle.pp_macros.proofs.defined_names.NameKeysLemmas.{names_same, lookup_changed, text_name, texts_same}
 
 module _ {B : Type 0} (p : B → Bool) where
@@ -71,25 +65,3 @@ finds_more {Z} m n key names updates new finds other = by (is_same_name other (t
         let none : list_any (is_same_name other) names ≡ false = rw (names_same other (text_name key) e) new in
         found true e ∙ sym (position_found (is_same_name other) names (text_name key) none e)
     by false e = found false e ∙ finds other ∙ sym (position_kept (is_same_name other) names (text_name key) e)
-
--- no parameter, no token of a body that is one
-no_parameter : (value : TokenValue) → parameter_of [] value ≡ None
-no_parameter (Ident name) = refl
-no_parameter value = refl
-
--- a body without parameters
-pub places_none : (body : List Token) → PlacesEach [] body []
-places_none body k = by (slice_get body k)
-  where
-    by : (o : Option Token) → None ≡ parameter_at [] o
-    by None = refl
-    by (Some token) = sym (no_parameter token.value)
-
--- the positions of all tokens
-pub places_each : (parameters : List Name) (body : List Token) (positions : List (Option ℕ))
-    → positions ≡ map (λ (t : Token). parameter_of parameters t.value) body → PlacesEach parameters body positions
-places_each parameters body positions is k = rw (is, slice_get-map (λ (t : Token). parameter_of parameters t.value) body k) (by (slice_get body k))
-  where
-    by : (o : Option Token) → option_flatten (option_map (λ (t : Token). parameter_of parameters t.value) o) ≡ parameter_at parameters o
-    by None = refl
-    by (Some token) = refl

@@ -1,7 +1,6 @@
 -- Where the parameters of a macro are, in its list of parameters and in its body.
-use Rattle.std.specs.Prelude.{◌≡◌, ℕ, List, Option, Some, None, slice_get, position, string_bytes}
+use Rattle.std.specs.Prelude.{◌≡◌, ℕ, List, Option, Some, None, position, string_bytes}
 use Rattle.std.specs.Map.{lookup}
-use Rattle.std.specs.Option.{option_flatten}
 use Rattle.std.specs.Str.{chars}
 use Rattle.std.specs.declared.string.String.{String}
 use Rattle.pp_lexer.specs.declared.token.Token.{Token}
@@ -18,8 +17,3 @@ FindsEach {Z} entries parameters = (name : Name)
 abbrev pub parameter_at : List Name → Option Token → Option ℕ
 parameter_at parameters None = None
 parameter_at parameters (Some token) = parameter_of parameters token.value
-
--- each token of the body has the position of the parameter that it is
-abbrev pub PlacesEach : List Name → List Token → List (Option ℕ) → Type 0
-PlacesEach parameters body positions = (k : ℕ)
-    → option_flatten (slice_get positions k) ≡ parameter_at parameters (slice_get body k)

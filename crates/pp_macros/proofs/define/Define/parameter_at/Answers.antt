@@ -1,17 +1,18 @@
-use Rattle.std.proofs.Common.{◌≡◌, ◌∙◌, ◌<◌, ◌≤◌, length, arith, tests, refl, sym, Some, None, ap, slice_get}
-use Rattle.std.specs.Option.{option_flatten}
-use Rattle.std.proofs.lemmas.Option.{slice_get_read, slice_get_past}
+use Rattle.std.proofs.Common.{◌∙◌, suc, drop, sym}
+use Rattle.pp_macros.proofs.defined_names.RolesLemmas.{role_ahead-at, named_itself, named_parameter, named_last}
 use Rattle.pp_macros.proofs.define.Define.parameter_at.Goals as goal
 
-pub returns-in-Some : goal.returns-in-Some
-returns-in-Some c =
-    let less : c.args.position < length c.deref.result.now = grind (arith, tests, c.in-Some.ensures.lookup.0) in
-    let at : slice_get c.deref.result.now c.args.position ≡ Some c.in-Some.parameter.now
-    = slice_get_read c.deref.result.now (length c.deref.result.now) c.args.position c.in-Some.parameter.now refl less c.in-Some.ensures.lookup.1 in
-    rw (← c.self.view_is) (ap option_flatten (rw c.deref.ensures.value at (sym at)) ∙ c.self.invariant.1 c.args.position)
+pub returns-in-Itself : goal.returns-in-Itself
+returns-in-Itself c =
+    sym (named_itself c.args.self.now.parameters (drop (suc c.args.position) c.args.self.now.body) _
+    (sym (role_ahead-at c.args.self.now.parameters c.args.self.now.body c.args.position) ∙ sym (c.in-Itself.ensures)))
 
-pub returns-in-None : goal.returns-in-None
-returns-in-None c =
-    let past : length c.deref.result.now ≤ c.args.position = grind (arith, tests, c.in-None.ensures.lookup.0) in
-    let at : slice_get c.deref.result.now c.args.position ≡ None = slice_get_past c.deref.result.now c.args.position past in
-    rw (← c.self.view_is) (ap option_flatten (rw c.deref.ensures.value at (sym at)) ∙ c.self.invariant.1 c.args.position)
+pub returns-in-Parameter : goal.returns-in-Parameter
+returns-in-Parameter c =
+    sym (named_parameter c.args.self.now.parameters (drop (suc c.args.position) c.args.self.now.body) _ c.in-Parameter.parameter
+    (sym (role_ahead-at c.args.self.now.parameters c.args.self.now.body c.args.position) ∙ sym (c.in-Parameter.ensures))).0
+
+pub returns-in-Parameter-2 : goal.returns-in-Parameter-2
+returns-in-Parameter-2 c =
+    sym (named_last c.args.self.now.parameters (drop (suc c.args.position) c.args.self.now.body) _ c.in-Parameter.parameter
+    (sym (role_ahead-at c.args.self.now.parameters c.args.self.now.body c.args.position) ∙ sym (c.in-Parameter.ensures))).0
