@@ -4,7 +4,7 @@ ghost use Rattle.std.specs.Prelude.{⊤, ◌≡◌, ◌<◌, ◌≤◌, true, le
 ghost use Rattle.std.specs.List.{list_all};
 ghost use Rattle.std.specs.Str.{IsUtf8};
 ghost use Rattle.pp_lexer.specs.Lines.{is_line_break};
-ghost use Rattle.pp_lexer.specs.inner.Fronts.{is_straight};
+ghost use Rattle.pp_lexer.specs.inner.Fronts.{is_straight, is_starless};
 ghost use Rattle.pp_lexer.specs.inner.PlainWords.{IsPlainComment};
 
 /// A comment at the front of a text: how many bytes it takes, and how many newlines are among them.
@@ -41,6 +41,28 @@ pub fn straight_length(bytes: &[u8]) -> usize
 {
     for (i, byte) in bytes.iter().enumerate() {
         if !is_straight(*byte) {
+            return i;
+        }
+    }
+    bytes.len()
+}
+
+// Whether the byte is an ASCII character other than a star, a newline, a carriage return and a backslash.
+#[inline(always)]
+fn is_starless(byte: u8) -> bool
+    ensures { result ≡ is_starless byte }
+{
+    is_straight(byte) && byte != 42
+}
+
+/// How many bytes at the front are ASCII, and neither a star nor a newline nor a backslash.
+#[inline(always)]
+pub fn starless_length(bytes: &[u8]) -> usize
+    ensures within { result ≤ length bytes.now }
+    ensures passes { list_all is_starless (take result bytes.now) ≡ true }
+{
+    for (i, byte) in bytes.iter().enumerate() {
+        if !is_starless(*byte) {
             return i;
         }
     }
