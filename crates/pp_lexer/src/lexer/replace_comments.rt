@@ -77,7 +77,7 @@ fn skip_line(inner: &mut SkipBackslashNewline<'_>)
     }
 }
 
-// Passes the ASCII characters at the front of a block comment's rest, up to a star, a newline or a backslash.
+// Passes the front of a block comment's rest, up to a star, a newline or a backslash.
 fn skip_starless(inner: &mut SkipBackslashNewline<'_>)
     ensures state { past_block inner.new ≡ past_block inner.old }
     ensures forward { inner.old.offset ≤ inner.new.offset }
