@@ -5,7 +5,7 @@ use Rattle.std.specs.Char.{len_utf8}
 use Rattle.std.specs.Str.{chars, IsUtf8, IsCharBoundary}
 use Rattle.std.proofs.lemmas.Bool.{or_cases, eqb-true}
 use Rattle.std.proofs.lemmas.List.{drop-drop}
-use Rattle.std.proofs.lemmas.Str.{IsCharBoundary-start, IsCharBoundary-from_drop, IsUtf8-drop, len_utf8_ascii, chars-nil}
+use Rattle.std.proofs.lemmas.Str.{IsCharBoundary-start, IsCharBoundary-from_drop, IsUtf8-drop, chars-nil}
 use Rattle.std.proofs.Math.Seq.{drop-cons}
 use Rattle.pp_lexer.specs.Comments.{is_slash, is_star, line_length, replaced}
 use Rattle.pp_lexer.specs.Continuations.{continued}
@@ -17,30 +17,10 @@ use Rattle.pp_lexer.specs.inner.PlainWords.{IsPlainComment}
 use Rattle.pp_lexer.specs.inner.Readers.{placed_from, joined, uncommented, past_line, past_block}
 use Rattle.pp_lexer.proofs.characters.CommentsLemmas.{past_block_after, block_goes_on, line_comment_step, block_comment_step}
 use Rattle.pp_lexer.proofs.characters.ContinuationsLemmas.{continued-nil, continued-plain, item_char, item_line}
-use Rattle.pp_lexer.proofs.characters.FrontsLemmas.{ascii_chars, pieces_plain, utf8_after}
+use Rattle.pp_lexer.proofs.characters.FrontsLemmas.{ascii_chars, utf8_after}
 use Rattle.pp_lexer.proofs.characters.NewlinesLemmas.{pieces_newline}
 use Rattle.pp_lexer.proofs.characters.PlainFrontsLemmas.{get_or-drop}
-use Rattle.pp_lexer.proofs.characters.StraightLemmas.{Straight, straight_parts, straight_passed, cut_after_straight}
-
-abbrev reader : List Placed → ℕ → ℕ → Cursor
-reader rest offset total = record { rest = rest; offset = offset; total = total }
-
--- an ASCII character that is no newline and no backslash is read as it is
-joined_first : (line at c : ℕ) (text : List ℕ) → Straight c → IsUtf8 (c ∷ text)
-    → joined (left line at (c ∷ text))
-    ≡ reader (record { char = c; line = line; end = at + 1 } ∷ continued (placed_from line (at + 1) (pieces (chars text)))) at (at + 1 + length text)
-joined_first line at c text p u =
-    let one : len_utf8 c ≡ 1 = len_utf8_ascii c p.small in
-    let here : Placed = record { char = c; line = line; end = at + 1 } in
-    let more = placed_from line (at + 1) (pieces (chars text)) in
-    let placed : placed_from line at (pieces (chars (c ∷ text))) ≡ here ∷ more =
-    ap (λ cs. placed_from line at (pieces cs)) (ascii_chars c text p.small u)
-    ∙ ap (placed_from line at) (pieces_plain c (chars text) p.no_feed p.no_return)
-    ∙ rw (p.no_feed, one) refl in
-    let total : at + length (c ∷ text) ≡ at + 1 + length text = omega arith in
-    ap (λ ps. reader (continued ps) at (at + length (c ∷ text))) placed
-    ∙ ap (λ ps. reader ps at (at + length (c ∷ text))) (continued-plain here more p.no_backslash)
-    ∙ ap (λ n. reader (here ∷ continued more) at n) total
+use Rattle.pp_lexer.proofs.characters.StraightLemmas.{Straight, straight_parts, reader, joined_first, straight_passed, cut_after_straight}
 
 -- the text does not go on with a carriage return, and its first character is ASCII
 abbrev pub NoReturn : List ℕ → Type 0

@@ -1,18 +1,23 @@
--- A line comment's front that no phase changes.
-use Rattle.std.proofs.Common.{◌≡◌, ℕ, zero, suc, ◌+◌, ◌<◌, ◌≤◌, List, [], ◌∷◌, ◌++◌, length, take, drop, get_or, true, false, not, ◌==◌, nat_lt, refl, sym, ◌∙◌, ap, subst, arith, add-one}
+-- A front of a comment's rest that no phase changes.
+use Rattle.std.proofs.Common.{◌≡◌, ℕ, zero, suc, ◌+◌, ◌<◌, ◌≤◌, List, [], ◌∷◌, ◌++◌, length, take, drop, get_or, Bool, true, false, not, ◌==◌, nat_lt, refl, sym, ◌∙◌, ap, subst, arith, add-one, ◌&&◌, inl, inr, append_assoc, length-append, true≢false}
 use Rattle.std.specs.List.{list_all}
 use Rattle.std.specs.Char.{len_utf8}
-use Rattle.std.specs.Str.{chars, IsUtf8, IsCharBoundary}
-use Rattle.std.proofs.lemmas.Bool.{and_parts}
+use Rattle.std.specs.Str.{chars, IsUtf8, IsAscii, IsCharBoundary}
+use Rattle.std.proofs.lemmas.Bool.{and_parts, ne_eqb, cases_lt}
 use Rattle.std.proofs.lemmas.List.{length-take-le}
-use Rattle.std.proofs.lemmas.Str.{IsCharBoundary-after_ascii, len_utf8_ascii}
+use Rattle.std.proofs.lemmas.List.Folds.{list_all-append}
+use Rattle.std.proofs.lemmas.Str.{IsCharBoundary-after_ascii, IsCharBoundary-before_ascii, IsCharBoundary-end, IsUtf8-take, IsUtf8-past_char, chars_past_char, encode_ascii, encodes-IsAscii, len_utf8_ascii, length-encode}
+use Rattle.std.proofs.lemmas.Str.Ascii.{IsAscii-cons}
+use Rattle.std.proofs.Math.Utf8.{encode, encodes}
+use Rattle.pp_lexer.specs.Comments.{is_star}
 use Rattle.pp_lexer.specs.Continuations.{continued}
 use Rattle.pp_lexer.specs.Cursor.{Placed, Cursor}
-use Rattle.pp_lexer.specs.inner.Fronts.{left, is_straight}
+use Rattle.pp_lexer.specs.inner.Fronts.{left, is_straight, is_starless}
 use Rattle.pp_lexer.specs.Lines.{is_newline, pieces}
-use Rattle.pp_lexer.specs.inner.Readers.{placed_from, joined, past_line}
+use Rattle.pp_lexer.specs.inner.Readers.{placed_from, joined, past_line, past_block}
+use Rattle.pp_lexer.proofs.characters.CommentsLemmas.{block_goes_on}
 use Rattle.pp_lexer.proofs.characters.ContinuationsLemmas.{continued-plain}
-use Rattle.pp_lexer.proofs.characters.FrontsLemmas.{ascii_chars, below, negated, pieces_plain, utf8_after}
+use Rattle.pp_lexer.proofs.characters.FrontsLemmas.{below, negated, pieces_plain}
 use Rattle.pp_lexer.proofs.characters.PlainFrontsLemmas.{passes_at, split_at}
 
 pub record Straight (c : ℕ) : Type 0 where
@@ -28,49 +33,173 @@ straight_parts c h =
     let d = and_parts (not (c == 13)) _ b.1 in
     record { small = below c 128 a.0; no_feed = negated _ b.0; no_return = negated _ d.0; no_backslash = negated _ d.1 }
 
+abbrev pub reader : List Placed → ℕ → ℕ → Cursor
+reader rest offset total = record { rest = rest; offset = offset; total = total }
+
+-- a character that is no newline and no backslash
+pub record Kept (c : ℕ) : Type 0 where
+  pub no_feed : (c == 10) ≡ false
+  pub no_return : (c == 13) ≡ false
+  pub no_backslash : (c == 92) ≡ false
+
+-- it is read as it is
+joined_char : (line at c : ℕ) (text : List ℕ) → Kept c → IsUtf8 (encode c ++ text)
+    → joined (left line at (encode c ++ text))
+    ≡ reader (record { char = c; line = line; end = at + len_utf8 c } ∷ continued (placed_from line (at + len_utf8 c) (pieces (chars text)))) at
+    (at + len_utf8 c + length text)
+joined_char line at c text p u =
+    let whole = encode c ++ text in
+    let here : Placed = record { char = c; line = line; end = at + len_utf8 c } in
+    let more = placed_from line (at + len_utf8 c) (pieces (chars text)) in
+    let placed : placed_from line at (pieces (chars whole)) ≡ here ∷ more =
+    ap (λ cs. placed_from line at (pieces cs)) (chars_past_char whole text c u refl)
+    ∙ ap (placed_from line at) (pieces_plain c (chars text) p.no_feed p.no_return)
+    ∙ rw p.no_feed refl in
+    let total : at + length whole ≡ at + len_utf8 c + length text = omega (arith, length-append (encode c) text, length-encode c) in
+    ap (λ ps. reader (continued ps) at (at + length whole)) placed
+    ∙ ap (λ ps. reader ps at (at + length whole)) (continued-plain here more p.no_backslash)
+    ∙ ap (λ n. reader (here ∷ continued more) at n) total
+
+kept : (c : ℕ) → Straight c → Kept c
+kept c p = record { no_feed = p.no_feed; no_return = p.no_return; no_backslash = p.no_backslash }
+
+straight_kept : (c : ℕ) → is_straight c ≡ true → Kept c
+straight_kept c h = kept c (straight_parts c h)
+
+-- an ASCII character
+pub joined_first : (line at c : ℕ) (text : List ℕ) → Straight c → IsUtf8 (c ∷ text)
+    → joined (left line at (c ∷ text))
+    ≡ reader (record { char = c; line = line; end = at + 1 } ∷ continued (placed_from line (at + 1) (pieces (chars text)))) at (at + 1 + length text)
+joined_first line at c text p u =
+    let e : encode c ++ text ≡ c ∷ text = ap (λ bs. bs ++ text) (encode_ascii c p.small) in
+    ap (λ t. joined (left line at t)) (sym e) ∙ joined_char line at c text (kept c p) (subst IsUtf8 (sym e) u)
+    ∙ ap (λ n. reader (record { char = c; line = line; end = at + n } ∷ continued (placed_from line (at + n) (pieces (chars text)))) at (at + n + length text))
+    (len_utf8_ascii c p.small)
+
+-- what holds of a reader and itself, and of a reader and a later one if it does from after the first character on, holds across a run of such characters
+module _ (passes : ℕ → Bool) (passes_kept : (c : ℕ) → passes c ≡ true → Kept c) (Before : Cursor → Cursor → Type 0) (same : (c : Cursor) → Before c c)
+    (step : (p : Placed) (ps : List Placed) (offset total : ℕ) (d : Cursor) → passes p.char ≡ true → Before (reader ps p.end total) d
+    → Before (reader (p ∷ ps) offset total) d) where
+  before_run : (line at : ℕ) (cs text : List ℕ) → list_all passes cs ≡ true → IsUtf8 (encodes cs ++ text)
+      → Before (joined (left line at (encodes cs ++ text))) (joined (left line (at + length (encodes cs)) text))
+  before_run line at [] text h u =
+      let n : at ≡ at + 0 = omega arith in
+      subst (λ k. Before (joined (left line at text)) (joined (left line k text))) n (same (joined (left line at text)))
+  before_run line at (c ∷ cs) text h u =
+      let b = and_parts (passes c) (list_all passes cs) h in
+      let more = encodes cs ++ text in
+      let whole : encodes (c ∷ cs) ++ text ≡ encode c ++ more = append_assoc (encode c) (encodes cs) text in
+      let v : IsUtf8 (encode c ++ more) = subst IsUtf8 whole u in
+      let n : at + len_utf8 c + length (encodes cs) ≡ at + length (encodes (c ∷ cs)) =
+      omega (arith, length-append (encode c) (encodes cs), length-encode c) in
+      let later = joined (left line (at + length (encodes (c ∷ cs))) text) in
+      let after_first : Before (joined (left line (at + len_utf8 c) more)) later =
+      subst (λ k. Before (joined (left line (at + len_utf8 c) more)) (joined (left line k text))) n
+      (before_run line (at + len_utf8 c) cs text b.1 (IsUtf8-past_char (encode c ++ more) more c v refl)) in
+      subst (λ t. Before (joined (left line at t)) later) (sym whole)
+      (subst (λ r. Before r later) (sym (joined_char line at c more (passes_kept c b.0) v))
+      (step (record { char = c; line = line; end = at + len_utf8 c }) (continued (placed_from line (at + len_utf8 c) (pieces (chars more)))) at
+      (at + len_utf8 c + length more) later b.0 after_first))
+
+  pub run_passed : (old new : Cursor) (line at n : ℕ) (cs text rest : List ℕ) → IsUtf8 text → n ≤ length text → encodes cs ≡ take n text
+      → list_all passes cs ≡ true → old ≡ joined (left line at text) → rest ≡ drop n text → new ≡ joined (left line (at + n) rest) → Before old new
+  run_passed old new line at n cs text rest u le w h e g k =
+      let whole : text ≡ encodes cs ++ drop n text = split_at n text ∙ ap (λ bs. bs ++ drop n text) (sym w) in
+      let size : length (encodes cs) ≡ n = ap length w ∙ length-take-le n text le in
+      let there : joined (left line (at + length (encodes cs)) (drop n text)) ≡ new =
+      ap (λ m. joined (left line (at + m) (drop n text))) size ∙ ap (λ t. joined (left line (at + n) t)) (sym g) ∙ sym k in
+      let here : joined (left line at (encodes cs ++ drop n text)) ≡ old = ap (λ t. joined (left line at t)) (sym whole) ∙ sym e in
+      subst (λ d. Before old d) there (subst (λ c. Before c (joined (left line (at + length (encodes cs)) (drop n text)))) here
+      (before_run line at cs (drop n text) h (subst IsUtf8 whole u)))
+
+-- A front of a line comment's rest
+
+straight_ascii : (w : List ℕ) → list_all is_straight w ≡ true → IsAscii w
+straight_ascii [] h = λ i. omega arith
+straight_ascii (c ∷ w) h =
+    let b = and_parts (is_straight c) (list_all is_straight w) h in
+    IsAscii-cons c w (straight_parts c b.0).small (straight_ascii w b.1)
+
 pub cut_after_straight : (n : ℕ) (text : List ℕ) → IsUtf8 text → 0 < n → n ≤ length text → list_all is_straight (take n text) ≡ true → IsCharBoundary text n
 cut_after_straight zero text u some le h = absurd (omega arith)
 cut_after_straight (suc n) text u some le h =
     subst (IsCharBoundary text) (add-one n) (IsCharBoundary-after_ascii text n u (omega arith)
     (straight_parts (get_or text n 0) (passes_at is_straight n text (omega arith) h)).small)
 
-past_step : (p : Placed) (ps : List Placed) (offset total : ℕ) → is_newline p ≡ false
-    → past_line (record { rest = p ∷ ps; offset = offset; total = total }) ≡ past_line (record { rest = ps; offset = p.end; total = total })
+past_step : (p : Placed) (ps : List Placed) (offset total : ℕ) → is_newline p ≡ false → past_line (reader (p ∷ ps) offset total) ≡ past_line (reader ps p.end total)
 past_step p ps offset total h = rw h refl
-
-straight_first : (line at c : ℕ) (text : List ℕ) → is_straight c ≡ true → IsUtf8 (c ∷ text)
-    → past_line (joined (left line at (c ∷ text))) ≡ past_line (joined (left line (at + 1) text))
-straight_first line at c text h u =
-    let p = straight_parts c h in
-    let one : len_utf8 c ≡ 1 = len_utf8_ascii c p.small in
-    let here : Placed = record { char = c; line = line; end = at + 1 } in
-    let more = placed_from line (at + 1) (pieces (chars text)) in
-    let placed : placed_from line at (pieces (chars (c ∷ text))) ≡ here ∷ more =
-    ap (λ cs. placed_from line at (pieces cs)) (ascii_chars c text p.small u)
-    ∙ ap (placed_from line at) (pieces_plain c (chars text) p.no_feed p.no_return)
-    ∙ rw (p.no_feed, one) refl in
-    let total : at + length (c ∷ text) ≡ at + 1 + length text = omega arith in
-    ap (λ ps. past_line (record { rest = continued ps; offset = at; total = at + length (c ∷ text) })) placed
-    ∙ ap (λ ps. past_line (record { rest = ps; offset = at; total = at + length (c ∷ text) })) (continued-plain here more p.no_backslash)
-    ∙ past_step here (continued more) at (at + length (c ∷ text)) p.no_feed
-    ∙ ap (λ n. past_line (record { rest = continued more; offset = at + 1; total = n })) total
-
-straight_past : (line at : ℕ) (w text : List ℕ) → list_all is_straight w ≡ true → IsUtf8 (w ++ text)
-    → past_line (joined (left line at (w ++ text))) ≡ past_line (joined (left line (at + length w) text))
-straight_past line at [] text h u = ap (λ n. past_line (joined (left line n text))) (omega arith)
-straight_past line at (c ∷ w) text h u =
-    let b = and_parts (is_straight c) (list_all is_straight w) h in
-    let n : at + 1 + length w ≡ at + length (c ∷ w) = omega arith in
-    straight_first line at c (w ++ text) b.0 u
-    ∙ straight_past line (at + 1) w text b.1 (utf8_after c (w ++ text) (straight_parts c b.0).small u)
-    ∙ ap (λ k. past_line (joined (left line k text))) n
 
 -- the reader after a straight front ends the line at the same place
 pub straight_passed : (old new : Cursor) (line at n : ℕ) (text rest : List ℕ) → IsUtf8 text → n ≤ length text → list_all is_straight (take n text) ≡ true
     → old ≡ joined (left line at text) → rest ≡ drop n text → new ≡ joined (left line (at + n) rest) → past_line new ≡ past_line old
-straight_passed old new line at n text rest u le h e g k =
-    let whole : text ≡ take n text ++ drop n text = split_at n text in
-    ap past_line k ∙ ap (λ t. past_line (joined (left line (at + n) t))) g
-    ∙ ap (λ m. past_line (joined (left line (at + m) (drop n text)))) (sym (length-take-le n text le))
-    ∙ sym (straight_past line at (take n text) (drop n text) h (subst IsUtf8 whole u))
-    ∙ ap (λ t. past_line (joined (left line at t))) (sym whole) ∙ ap past_line (sym e)
+straight_passed old new line at n text rest u le h =
+    run_passed is_straight straight_kept (λ c d. past_line d ≡ past_line c) (λ c. refl)
+    (λ p ps offset total d h e. e ∙ sym (past_step p ps offset total (straight_parts p.char h).no_feed)) old new line at n (take n text) text rest u le
+    (encodes-IsAscii (take n text) (straight_ascii (take n text) h)) h
+
+-- A front of a block comment's rest
+
+pub record Starless (c : ℕ) : Type 0 where
+  pub kept : Kept c
+  pub no_star : (c == 42) ≡ false
+
+pub starless_parts : (c : ℕ) → is_starless c ≡ true → Starless c
+starless_parts c h =
+    let a = and_parts (not (c == 10)) _ h in
+    let b = and_parts (not (c == 13)) _ a.1 in
+    let d = and_parts (not (c == 92)) _ b.1 in
+    record { kept = record { no_feed = negated _ a.0; no_return = negated _ b.0; no_backslash = negated _ d.0 }; no_star = negated _ d.1 }
+
+starless_kept : (c : ℕ) → is_starless c ≡ true → Kept c
+starless_kept c h = (starless_parts c h).kept
+
+large_starless : (c : ℕ) → 128 ≤ c → is_starless c ≡ true
+large_starless c h =
+    rw (ne_eqb c 10 (λ k. omega arith), ne_eqb c 13 (λ k. omega arith), ne_eqb c 92 (λ k. omega arith), ne_eqb c 42 (λ k. omega arith)) refl
+
+-- the characters of such bytes are such
+starless_chars : (cs : List ℕ) → list_all is_starless (encodes cs) ≡ true → list_all is_starless cs ≡ true
+starless_chars [] h = refl
+starless_chars (c ∷ cs) h =
+    let b = and_parts (list_all is_starless (encode c)) (list_all is_starless (encodes cs)) (sym (list_all-append is_starless (encode c) (encodes cs)) ∙ h) in
+    ap (λ t. t && list_all is_starless cs) (first b.0) ∙ starless_chars cs b.1
+  where
+    first : list_all is_starless (encode c) ≡ true → is_starless c ≡ true
+    first k =
+        elim (cases_lt c 128) [
+          | inl small ↦ (and_parts (is_starless c) true (ap (list_all is_starless) (sym (encode_ascii c small)) ∙ k)).0
+          | inr large ↦ large_starless c large
+        ]
+
+-- such bytes end at the end of a character
+pub cut_after_starless : (n : ℕ) (text : List ℕ) → n ≤ length text → (n < length text → is_starless (get_or text n 0) ≡ false) → IsCharBoundary text n
+cut_after_starless n text le stops =
+    elim (cases_lt n (length text)) [
+      | inl more ↦ IsCharBoundary-before_ascii text n more (small (stops more))
+      | inr none ↦ subst (IsCharBoundary text) (omega arith) (IsCharBoundary-end text)
+    ]
+  where
+    small : is_starless (get_or text n 0) ≡ false → get_or text n 0 < 128
+    small k =
+        elim (cases_lt (get_or text n 0) 128) [
+          | inl h ↦ h
+          | inr h ↦ absurd (true≢false (sym (large_starless (get_or text n 0) h) ∙ k))
+        ]
+
+no_star_step : (p : Placed) (ps : List Placed) (offset total : ℕ) → is_star p ≡ false → past_block (reader (p ∷ ps) offset total) ≡ past_block (reader ps p.end total)
+no_star_step p ps offset total h = block_goes_on total offset p ps ∙ rw h refl
+
+-- the new reader ends the block comment at the same place, and has no more left
+pub record EndsBlockAlike (old new : Cursor) : Type 0 where
+  pub state : past_block new ≡ past_block old
+  pub shorter : length new.rest ≤ length old.rest
+
+pub starless_passed : (old new : Cursor) (line at n : ℕ) (text rest : List ℕ) → IsUtf8 text → IsCharBoundary text n → list_all is_starless (take n text) ≡ true
+    → old ≡ joined (left line at text) → rest ≡ drop n text → new ≡ joined (left line (at + n) rest) → EndsBlockAlike old new
+starless_passed old new line at n text rest u cut h =
+    let front = IsUtf8-take text n u cut in
+    run_passed is_starless starless_kept EndsBlockAlike (λ c. record { state = refl; shorter = omega arith })
+    (λ p ps offset total d h e. record {
+      state = e.state ∙ sym (no_star_step p ps offset total (starless_parts p.char h).no_star);
+      shorter = omega (arith, e.shorter);
+    }) old new line at n front.0 text rest u cut.0 front.1.1 (starless_chars front.0 (ap (list_all is_starless) front.1.1 ∙ h))

@@ -13,7 +13,7 @@ mod comment;
 mod number;
 mod punctuation;
 
-pub use comment::{plain_comment, straight_length};
+pub use comment::{plain_comment, starless_length, straight_length};
 
 /// What a word of ASCII text is.
 #[derive(Clone, Copy)]

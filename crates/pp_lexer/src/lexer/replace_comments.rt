@@ -10,7 +10,7 @@ ghost use Rattle.pp_lexer.specs.inner.Fronts.{left};
 ghost use Rattle.pp_lexer.specs.inner.Readers.{joined, uncommented, past_line, past_block};
 
 use crate::lexer::chars_and_line::{Left, is_char};
-use crate::lexer::plain::straight_length;
+use crate::lexer::plain::{starless_length, straight_length};
 use crate::lexer::skip_backslash_newline::SkipBackslashNewline;
 use std::alloc::AllocError;
 use std::marker::Model;
@@ -77,6 +77,25 @@ fn skip_line(inner: &mut SkipBackslashNewline<'_>)
     }
 }
 
+// Passes the front of a block comment's rest, up to a star, a newline or a backslash.
+fn skip_starless(inner: &mut SkipBackslashNewline<'_>)
+    ensures state { past_block inner.new ≡ past_block inner.old }
+    ensures forward { inner.old.offset ≤ inner.new.offset }
+    ensures shorter { length inner.new.rest ≤ length inner.old.rest }
+{
+    let left = inner.left();
+    let bytes = left.text.as_bytes();
+    let count = starless_length(bytes);
+    if count == 0 {
+        return;
+    }
+    *inner = SkipBackslashNewline::at(Left {
+        text: &left.text[count..],
+        line: left.line,
+        at: left.at + count,
+    });
+}
+
 // Passes the rest of a block comment.
 fn skip_block(inner: &mut SkipBackslashNewline<'_>)
     ensures state { inner.new ≡ past_block inner.old }
@@ -84,6 +103,9 @@ fn skip_block(inner: &mut SkipBackslashNewline<'_>)
 {
     let mut was_star = false;
     'block: loop {
+        if !was_star {
+            skip_starless(inner);
+        }
         let Some((next, _)) = inner.next_item() else {
             return;
         };

@@ -1,10 +1,10 @@
-//! Comments of ASCII text.
+//! Comments of ASCII text, and runs of bytes within comments.
 
-ghost use Rattle.std.specs.Prelude.{⊤, ◌≡◌, ◌<◌, ◌≤◌, true, length, take, slice_index, IsTrue, MatchOption};
+ghost use Rattle.std.specs.Prelude.{⊤, ◌≡◌, ◌<◌, ◌≤◌, true, false, length, take, slice_index, IsTrue, MatchOption};
 ghost use Rattle.std.specs.List.{list_all};
 ghost use Rattle.std.specs.Str.{IsUtf8};
 ghost use Rattle.pp_lexer.specs.Lines.{is_line_break};
-ghost use Rattle.pp_lexer.specs.inner.Fronts.{is_straight};
+ghost use Rattle.pp_lexer.specs.inner.Fronts.{is_straight, is_starless};
 ghost use Rattle.pp_lexer.specs.inner.PlainWords.{IsPlainComment};
 
 /// A comment at the front of a text: how many bytes it takes, and how many newlines are among them.
@@ -25,6 +25,17 @@ static STRAIGHT: [u8; 256] = *b"\
     !!!!!!!!!!!!!!!!!!!!!!!!!!!!!!!!\
     !!!!!!!!!!!!!!!!!!!!!!!!!!!!!!!!";
 
+// A point for each byte other than a star, a newline, a carriage return and a backslash.
+static STARLESS: [u8; 256] = *b"\
+    ..........!..!..................\
+    ..........!.....................\
+    ............................!...\
+    ................................\
+    ................................\
+    ................................\
+    ................................\
+    ................................";
+
 // Whether the byte is an ASCII character other than a newline, a carriage return and a backslash.
 #[inline(always)]
 fn is_straight(byte: u8) -> bool
@@ -41,6 +52,29 @@ pub fn straight_length(bytes: &[u8]) -> usize
 {
     for (i, byte) in bytes.iter().enumerate() {
         if !is_straight(*byte) {
+            return i;
+        }
+    }
+    bytes.len()
+}
+
+// Whether the byte is none of a star, a newline, a carriage return and a backslash.
+#[inline(always)]
+fn is_starless(byte: u8) -> bool
+    ensures { result ≡ is_starless byte }
+{
+    STARLESS[byte as usize] == b'.'
+}
+
+/// How many bytes there are before the next star, newline or backslash, or before the end.
+#[inline(always)]
+pub fn starless_length(bytes: &[u8]) -> usize
+    ensures within { result ≤ length bytes.now }
+    ensures passes { list_all is_starless (take result bytes.now) ≡ true }
+    ensures stops { result < length bytes.now → is_starless (slice_index bytes.now result) ≡ false }
+{
+    for (i, byte) in bytes.iter().enumerate() {
+        if !is_starless(*byte) {
             return i;
         }
     }
