@@ -7,7 +7,6 @@ ghost use Rattle.pp_lexer.specs.Spelling.{values_of};
 ghost use Rattle.pp_model.specs.Definitions.{IsSameDefinition, object_like};
 ghost use Rattle.pp_model.specs.SpliceList.{parameter_of};
 ghost use Rattle.pp_macros.specs.inner.Marks.{mark_of};
-ghost use Rattle.pp_macros.specs.inner.ParameterPositions.{parameter_at};
 ghost use Rattle.pp_macros.specs.inner.Roles.{AreSeen, role_ahead, role_named, roles_of};
 
 use crate::macros::{MacroId, Macros};
@@ -257,16 +256,6 @@ impl Define {
         ensures ordinary { All (λ token. IsTrue (is_ordinary token.value)) result.now }
     {
         &self.body
-    }
-
-    /// The position of the parameter that the body's token at this position names, if it names one.
-    pub fn parameter_at(&self, position: usize) -> Option<usize>
-        ensures { result ≡ parameter_at self.now.parameters (slice_get self.now.body position) }
-    {
-        match self.role_at(position) {
-            Role::Itself => None,
-            Role::Parameter(parameter) | Role::LastParameter(parameter) => Some(parameter),
-        }
     }
 
     /// What the body's token at this position is. `Itself` after the body's end.

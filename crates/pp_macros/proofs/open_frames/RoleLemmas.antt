@@ -1,6 +1,9 @@
 -- An argument whose parameter the rest of a body hasn't may be empty.
-use Rattle.std.proofs.Common.{◌≡◌, ◌∙◌, ◌==◌, ◌||◌, ℕ, zero, suc, ◌+◌, Bool, true, false, List, [], ◌∷◌, refl, ap, Option, Some, None, slice_get}
-use Rattle.std.specs.Prelude.{set, unwrap_or}
+use Rattle.std.proofs.Common.{◌≡◌, ◌∙◌, ◌==◌, ◌||◌, ℕ, zero, suc, ◌+◌, Bool, true, false, List, [], ◌∷◌, refl, sym, ap, arith, Option, Some, None, slice_get}
+use Rattle.std.specs.Prelude.{set}
+use Rattle.std.proofs.lemmas.List.{get_or-set_other}
+use Rattle.std.proofs.lemmas.Option.{unwrap_or-slice_get}
+use Rattle.std.proofs.lemmas.Bool.Decides.{nat_tests}
 use Rattle.pp_lexer.specs.declared.token.Token.{Token}
 use Rattle.pp_model.specs.declared.read.Read.{Read}
 use Rattle.pp_model.specs.Names.{Name}
@@ -12,11 +15,9 @@ use Rattle.pp_macros.specs.inner.Work.{token_steps, body_steps}
 
 -- the other arguments are as they were
 argument_elsewhere : (arguments : List (List Read)) (k j : ℕ) → is_position k (Some j) ≡ false → argument_at (set arguments k []) j ≡ argument_at arguments j
-argument_elsewhere [] k j other = refl
-argument_elsewhere (argument ∷ arguments) zero zero other = cc
-argument_elsewhere (argument ∷ arguments) zero (suc j) other = refl
-argument_elsewhere (argument ∷ arguments) (suc k) zero other = refl
-argument_elsewhere (argument ∷ arguments) (suc k) (suc j) other = argument_elsewhere arguments k j other
+argument_elsewhere arguments k j other =
+    unwrap_or-slice_get (set arguments k []) j [] ∙ get_or-set_other arguments k j [] [] (λ same. grind (arith, nat_tests))
+    ∙ sym (unwrap_or-slice_get arguments j [])
 
 -- neither of two
 pub neither : (a b : Bool) → (a || b) ≡ false → (a ≡ false) × (b ≡ false)

@@ -12,8 +12,3 @@ abbrev pub FindsEach : {Z : Type 0} → List (String Z × ℕ) → List Name →
 FindsEach {Z} entries parameters = (name : Name)
     → lookup (λ (key : String Z). is_same_name name (chars (string_bytes key))) entries
     ≡ position (is_same_name name) parameters
-
--- the position of the parameter that a token is, if there is a token, and it is a parameter
-abbrev pub parameter_at : List Name → Option Token → Option ℕ
-parameter_at parameters None = None
-parameter_at parameters (Some token) = parameter_of parameters token.value
