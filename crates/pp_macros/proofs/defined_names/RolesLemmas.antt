@@ -1,5 +1,5 @@
 -- What the tokens of a macro's body are.
-use Rattle.std.proofs.Common.{◌≡◌, ℕ, suc, zero, List, [], ◌∷◌, None, refl, drop}
+use Rattle.std.proofs.Common.{◌≡◌, suc, zero, List, [], ◌∷◌, None, refl, drop}
 use Rattle.pp_lexer.specs.declared.token.Token.{Token}
 use Rattle.pp_lexer.specs.declared.token.TokenValue.{TokenValue}
 use Rattle.pp_lexer.specs.declared.token.TokenValue.TheVariants.{Ident}

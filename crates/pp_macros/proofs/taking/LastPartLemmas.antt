@@ -1,7 +1,7 @@
 -- A list that is read for the last time: its part is emptied, and no other part has its tokens, so these may be moved out.
-use Rattle.std.proofs.Common.{◌≡◌, ◌∙◌, ◌⊎◌, ℕ, zero, suc, ◌+◌, ◌-◌, ◌<◌, ◌≤◌, List, [], ◌∷◌, length, take, drop, refl, sym, ap, subst, arith, Some, None, slice_get, inl, inr}
-use Rattle.std.specs.Prelude.{map, set}
-use Rattle.std.proofs.lemmas.List.{drop-set-lt, drop-set-add, take-set-le, map-set, set_past}
+use Rattle.std.proofs.Common.{◌≡◌, ◌∙◌, ◌⊎◌, ℕ, zero, suc, ◌+◌, ◌-◌, ◌<◌, ◌≤◌, List, [], ◌∷◌, take, drop, refl, ap, arith, Some, slice_get, inl, inr}
+use Rattle.std.specs.Prelude.{set}
+use Rattle.std.proofs.lemmas.List.{drop-set-lt, drop-set-add, take-set-le, map-set}
 use Rattle.std.proofs.lemmas.Bool.{cases_order}
 use Rattle.pp_model.specs.declared.read.Read.{Read}
 use Rattle.pp_macros.specs.declared.argument_lists.Part.{Part}

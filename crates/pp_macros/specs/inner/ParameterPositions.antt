@@ -1,11 +1,9 @@
 -- Where the parameters of a macro are, in its list of parameters and in its body.
-use Rattle.std.specs.Prelude.{◌≡◌, ℕ, List, Option, Some, None, position, string_bytes}
+use Rattle.std.specs.Prelude.{◌≡◌, ℕ, List, position, string_bytes}
 use Rattle.std.specs.Map.{lookup}
 use Rattle.std.specs.Str.{chars}
 use Rattle.std.specs.declared.string.String.{String}
-use Rattle.pp_lexer.specs.declared.token.Token.{Token}
 use Rattle.pp_model.specs.Names.{Name, is_same_name}
-use Rattle.pp_model.specs.SpliceList.{parameter_of}
 
 -- each name is found at its position among the parameters
 abbrev pub FindsEach : {Z : Type 0} → List (String Z × ℕ) → List Name → Type 0

@@ -1,7 +1,7 @@
 use Rattle.std.proofs.Common.{◌≡◌, ◌∙◌, Option, Some, None, ap, sym, refl, slice_get}
 use Rattle.std.specs.Prelude.{is_some}
 use Rattle.pp_macros.specs.inner.Roles.{role_ahead}
-use Rattle.pp_macros.specs.declared.define.Role.TheVariants.{Itself, Parameter, LastParameter}
+use Rattle.pp_macros.specs.declared.define.Role.TheVariants.{Parameter, LastParameter}
 use Rattle.pp_macros.specs.inner.Frames.{Frame, Advance}
 use Rattle.pp_macros.proofs.open_frames.FrameLemmas.{none_read, body_ends, body_steps, body_gives, passes_to, stays}
 use Rattle.pp_macros.proofs.frames.Frame.pass_pause.Goals as goal

@@ -1,4 +1,4 @@
-use Rattle.std.proofs.Common.{◌≡◌, ◌∙◌, Some, None, ap, sym, slice_get}
+use Rattle.std.proofs.Common.{◌≡◌, ◌∙◌, Some, ap, sym, slice_get}
 use Rattle.pp_macros.specs.inner.Roles.{role_ahead}
 use Rattle.pp_macros.specs.declared.define.Role.TheVariants.{Itself, Parameter, LastParameter}
 use Rattle.pp_macros.specs.inner.Frames.{Frame}
