@@ -202,6 +202,12 @@ impl OpenArguments {
         });
     }
 
+    /// Whether a list is being read for the last time.
+    #[inline(always)]
+    pub(crate) fn is_last(&self) -> bool {
+        self.is_last
+    }
+
     /// Moves out the next token of the list that is being read, if that is the last time. Otherwise nothing changes.
     #[inline(always)]
     pub fn take(&mut self) -> Option<Read>
@@ -264,6 +270,7 @@ impl OpenArguments {
     pub fn end(&mut self)
         ensures { self.new ≡ record self.old { reading = None } }
     {
+        self.is_last = false;
         self.reading = None;
     }
 }

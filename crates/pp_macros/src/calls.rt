@@ -1,6 +1,6 @@
 //! Calls of function-like macros: taking, and the search for their arguments.
 
-ghost use Rattle.std.specs.Prelude.{◌≡◌, ◌⊎◌, ◌∷◌, ◌++◌, if◌then◌else◌, [], OnOk, OnErr, true, false, IfOk, IfSome, Ok, Err, Some, None, IsSome, is_some, option_map};
+ghost use Rattle.std.specs.Prelude.{◌≡◌, ◌⊎◌, ◌∷◌, ◌++◌, if◌then◌else◌, [], OnOk, OnErr, true, false, IfOk, IfSome, MatchOption, Ok, Err, Some, None, IsSome, is_some, option_map};
 ghost use Rattle.pp_lexer.specs.PreprocessorError.{out_of_memory};
 ghost use Rattle.pp_model.specs.Painting.{unpainted, painted_among};
 ghost use Rattle.pp_macros.specs.inner.Seeking.{FindsBy, Enters, FollowsToken};
@@ -722,8 +722,10 @@ impl Expander {
         let Some(_) = self.advance(lexer)? else {
             return Ok(None);
         };
-        if let Some(read) = self.processor.take_token() {
-            return Ok(Some(read.token));
+        if self.processor.reads_last() {
+            if let Some(token) = self.take_last() {
+                return Ok(Some(token));
+            }
         }
         let Some(ahead) = self.processor.token() else {
             unreachable!();
@@ -731,6 +733,42 @@ impl Expander {
         let token = ahead.copied_token(self.alloc)?;
         self.processor.pass_token();
         Ok(Some(token))
+    }
+
+    // Moves out the token that `token` gives, and passes it, if its list gives it for the last time. Otherwise nothing
+    // changes. It is a function of its own, like `put_last`, so that a token that is copied is moved less.
+    #[inline(never)]
+    fn take_last(&mut self) -> Option<Token>
+        ensures takes { MatchOption result (self.new ≡ self.old) (λ token. (token_ahead self.old ≡ Some token)
+            × (self.new ≡ passed self.old)) }
+        ensures holds { IfSome result (λ token. HoldsOrdinary token.value) }
+    {
+        match self.processor.take_token() {
+            Some(read) => Some(read.token),
+            None => None,
+        }
+    }
+
+    // Moves that token to the end of the items, painted or not, and passes it, if its list gives it for the last time.
+    // Returns whether it did. Otherwise nothing changes.
+    #[inline(never)]
+    fn put_last(&mut self, painted: bool, items: &mut Vec<Read>) -> Result<bool, AllocError>
+        ensures passes { IfOk result (λ put. put ≡ true → self.new ≡ passed self.old) }
+        ensures puts { IfOk result (λ put. put ≡ true → (token : Token) → token_ahead self.old ≡ Some token
+            → items.new.items ≡ items.old.items ++ record { token = token; painted = painted } ∷ []) }
+        ensures stays { IfOk result (λ put. put ≡ false → (self.new ≡ self.old)
+            × (items.new.items ≡ items.old.items)) }
+    {
+        match self.processor.take_token() {
+            Some(read) => {
+                items.push(Read {
+                    token: read.token,
+                    painted,
+                })?;
+                Ok(true)
+            }
+            None => Ok(false),
+        }
     }
 
     // Puts the token that `token` gives after the items, painted or not, and passes it. It is copied, unless its list
@@ -742,11 +780,7 @@ impl Expander {
         ensures puts { OnOk result ((token : Token) → token_ahead self.old ≡ Some token
             → items.new.items ≡ items.old.items ++ record { token = token; painted = painted } ∷ []) }
     {
-        if let Some(read) = self.processor.take_token() {
-            items.push(Read {
-                token: read.token,
-                painted,
-            })?;
+        if self.processor.reads_last() && self.put_last(painted, items)? {
             return Ok(());
         }
         let Some(ahead) = self.processor.token() else {

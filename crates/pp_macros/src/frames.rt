@@ -304,6 +304,12 @@ impl Frame {
         self.opened.define().number_at(self.position)
     }
 
+    /// Whether an argument is being read for the last time.
+    #[inline(always)]
+    pub(crate) fn reads_last(&self) -> bool {
+        self.arguments.is_last()
+    }
+
     /// Moves out the token that its next step gives, and advances by that step, if its list gives the token for the last
     /// time. Otherwise nothing changes.
     #[inline(always)]

@@ -301,6 +301,15 @@ impl MacroProcessor {
         }
     }
 
+    /// Whether the innermost frame reads an argument for the last time, so that `take_token` moves a token out.
+    #[inline(always)]
+    pub(crate) fn reads_last(&self) -> bool {
+        match self.frames.last() {
+            Some(frame) => frame.reads_last(),
+            None => false,
+        }
+    }
+
     /// Moves out the token that the innermost frame gives next, and passes it, if its list gives it for the last time.
     /// Otherwise nothing changes.
     #[inline(always)]
@@ -336,8 +345,10 @@ impl MacroProcessor {
         if self.is_idle() {
             return lexer.step();
         }
-        if let Some(read) = self.take_token() {
-            return Ok(read);
+        if self.reads_last() {
+            if let Some(read) = self.take_token() {
+                return Ok(read);
+            }
         }
         let step = match self.token() {
             Some(ahead) => give(self.alloc, ahead),
