@@ -1,5 +1,5 @@
 -- A call of `next` that asks for a word of plain text first.
-use Rattle.std.proofs.Common.{◌≡◌, ◌∙◌, ◌⊎◌, inl, inr, ◌<◌, ◌≤◌, true, false, refl, sym, Option, Some, None, Result, Ok, Err, IfOk, IfErr, arith}
+use Rattle.std.proofs.Common.{◌≡◌, ◌∙◌, ◌⊎◌, inl, inr, ◌<◌, ◌≤◌, true, false, refl, sym, Option, Some, None, Ok, Err, IfOk, IfErr, MatchOption, arith}
 use Rattle.pp_lexer.specs.PreprocessorError.{out_of_memory}
 use Rattle.pp_lexer.specs.declared.lexer.plain_item.PlainItem.{PlainItem}
 use Rattle.pp_lexer.specs.declared.token.Token.{Token}
@@ -76,6 +76,12 @@ passed_word old mid new None fresh p q = record {
   place = q.place ∙ p.place;
   no_more_left = omega (arith, p.no_more_left, q.no_more_left);
 }
+
+-- a word that comes at once, or else once nothing was given, comes from the start
+pub at_once_or_passed_word : (old mid new : Preprocessing) (first answer : Option PlainItem) → is_spent old ≡ false → IsNextWord old first mid
+    → MatchOption first (IsNextWord mid answer new) (λ word. (answer ≡ Some word) × (new ≡ mid)) → IsNextWord old answer new
+at_once_or_passed_word old mid new (Some word) answer fresh is same = rw (same.0, same.1) is
+at_once_or_passed_word old mid new None answer fresh p is = passed_word old mid new answer fresh p is
 
 -- memory runs out where something is left
 pub refused_next : (old new : Preprocessing) → is_spent old ≡ false → is_spent new ≡ true → 0 < most_items old

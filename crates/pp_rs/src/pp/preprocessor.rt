@@ -202,6 +202,18 @@ impl<'a> Preprocessor<'a> {
         }
     }
 
+    // Does what `open_word` does. It is a function of its own, so that the room for what `open_word` returns is cleared
+    // only where a macro may open, and not before each word.
+    #[inline(always)]
+    fn open_if_named(&mut self) -> Result<Option<PlainItem<'a>>, AllocError>
+        ensures gives { IfOk result (λ word. IsNextWord self.old word self.new) }
+        ensures refused { OnErr result (is_spent self.new ≡ true) }
+        ensures some_left { OnErr result (0 < most_items self.old) }
+    {
+        let word = self.open_word()?;
+        Ok(word)
+    }
+
     // The token of the word that `next_word` returned, as an item.
     #[inline(always)]
     fn word_item(&mut self, word: PlainItem<'a>) -> PreprocessorItem
@@ -266,7 +278,7 @@ impl<'a> Preprocessor<'a> {
         if self.is_in_text() {
             let word = match self.next_word() {
                 Some(word) => Some(word),
-                None => match self.open_word() {
+                None => match self.open_if_named() {
                     Ok(word) => word,
                     Err(_) => return Some(Err(out_of_memory())),
                 },
