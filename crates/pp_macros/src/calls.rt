@@ -736,8 +736,8 @@ impl Expander {
     }
 
     // Moves out the token that `token` gives, and passes it, if its list gives it for the last time. Otherwise nothing
-    // changes. It is a function of its own, like `put_last`, so that a token that is copied is moved less.
-    #[inline(never)]
+    // changes. It is a function of its own, so that the room for the token is cleared only if there may be one.
+    #[inline(always)]
     fn take_last(&mut self) -> Option<Token>
         ensures takes { MatchOption result (self.new ≡ self.old) (λ token. (token_ahead self.old ≡ Some token)
             × (self.new ≡ passed self.old)) }
@@ -750,7 +750,7 @@ impl Expander {
     }
 
     // Moves that token to the end of the items, painted or not, and passes it, if its list gives it for the last time.
-    // Returns whether it did. Otherwise nothing changes.
+    // Returns whether it did. Otherwise nothing changes. It is a function of its own for the same reason.
     #[inline(never)]
     fn put_last(&mut self, painted: bool, items: &mut Vec<Read>) -> Result<bool, AllocError>
         ensures passes { IfOk result (λ put. put ≡ true → self.new ≡ passed self.old) }
