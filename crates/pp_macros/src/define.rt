@@ -99,8 +99,8 @@ fn without_room(tokens: Vec<Token>) -> Vec<Token>
     tokens
 }
 
-// The role of a token before the rest of its body. `seen` marks the parameters that the rest has, and afterwards that of
-// the token too.
+// The role of a token before the rest of its body. `seen` marks the parameters that the rest has, and afterwards
+// that of the token too.
 fn role_before(parameters: &ParameterNames, token: &Token, seen: &mut [bool]) -> Role
     requires { length seen.old ≡ length parameters.now }
     ensures role { (rest : List Token) → AreSeen parameters.now rest seen.old

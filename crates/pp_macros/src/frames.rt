@@ -310,8 +310,8 @@ impl Frame {
         self.arguments.is_last()
     }
 
-    /// Moves out the token that its next step gives, and advances by that step, if its list gives the token for the last
-    /// time. Otherwise nothing changes.
+    /// Moves out the token that its next step gives, and advances by that step, if its list gives the token for the
+    /// last time. Otherwise nothing changes.
     #[inline(always)]
     pub fn take_token(&mut self) -> Option<Read>
         ensures takes { MatchOption result (self.new ≡ self.old) (λ read. (given_by (advance self.old) ≡ Some read)

@@ -1,5 +1,5 @@
--- What each token of a macro's body is: itself or a parameter, and if it is a parameter, whether the rest of the body has
--- it again.
+-- What each token of a macro's body is: itself or a parameter, and if it is a parameter, whether the rest of the body
+-- has it again.
 use Rattle.std.specs.Prelude.{◌≡◌, ◌==◌, ◌||◌, ℕ, Bool, false, List, [], ◌∷◌, Option, Some, None, drop}
 use Rattle.std.specs.Prelude.{if◌then◌else◌, slice_index_or}
 use Rattle.pp_lexer.specs.declared.token.Token.{Token}
