@@ -31,7 +31,8 @@ is_plain b = nat_lt b 128 && (not (b == 10) && (not (b == 13) && (not (b == 92) 
 abbrev pub is_straight : ℕ → Bool
 is_straight b = nat_lt b 128 && (not (b == 10) && (not (b == 13) && not (b == 92)))
 
--- a character that a block comment goes on with, whatever comes next, or a byte of one: no star, no newline and no backslash
+-- a character that a block comment goes on with, whatever comes next, or a byte of one: no star, no newline and no
+-- backslash
 abbrev pub is_starless : ℕ → Bool
 is_starless b = not (b == 10) && (not (b == 13) && (not (b == 92) && not (b == 42)))
 
