@@ -722,7 +722,7 @@ impl Expander {
         let Some(_) = self.advance(lexer)? else {
             return Ok(None);
         };
-        if self.processor.reads_last() {
+        if self.processor.moves_next() {
             if let Some(token) = self.take_last() {
                 return Ok(Some(token));
             }
@@ -780,7 +780,7 @@ impl Expander {
         ensures puts { OnOk result ((token : Token) → token_ahead self.old ≡ Some token
             → items.new.items ≡ items.old.items ++ record { token = token; painted = painted } ∷ []) }
     {
-        if self.processor.reads_last() && self.put_last(painted, items)? {
+        if self.processor.moves_next() && self.put_last(painted, items)? {
             return Ok(());
         }
         let Some(ahead) = self.processor.token() else {

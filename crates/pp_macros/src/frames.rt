@@ -304,10 +304,10 @@ impl Frame {
         self.opened.define().number_at(self.position)
     }
 
-    /// Whether an argument is being read for the last time.
+    /// Whether the token that its next step gives is better moved out than copied.
     #[inline(always)]
-    pub(crate) fn reads_last(&self) -> bool {
-        self.arguments.is_last()
+    pub(crate) fn moves_next(&self) -> bool {
+        self.arguments.moves_next()
     }
 
     /// Moves out the token that its next step gives, and advances by that step, if its list gives the token for the
