@@ -8,7 +8,6 @@ ghost use Rattle.pp_macros.specs.inner.Parts.{lists_of, AreInOrder, next_read, a
 ghost use Rattle.pp_macros.specs.inner.Reading.{AllReadOrdinary};
 
 use crate::list_lexer::take_out;
-use pp_lexer::token::TokenValue;
 use pp_model::read::Read;
 use std::alloc::Global;
 use std::marker::Model;
@@ -45,15 +44,6 @@ fn read_at(tokens: &[Read], position: usize) -> Option<&Read>
     ensures holds { IfSome result (λ read. HoldsOrdinary read.now.token.value) }
 {
     tokens.get(position)
-}
-
-// Whether a copy of the value takes memory.
-#[inline(always)]
-fn takes_memory(value: &TokenValue) -> bool {
-    match value {
-        TokenValue::Punct(_) | TokenValue::Integer(_) => false,
-        _ => true,
-    }
 }
 
 impl Model for ArgumentLists {
@@ -212,17 +202,10 @@ impl OpenArguments {
         });
     }
 
-    /// Whether the next token is better moved out than copied: a list is being read for the last time, and a copy of
-    /// its next token would take memory.
+    /// Whether a list is being read for the last time.
     #[inline(always)]
-    pub(crate) fn moves_next(&self) -> bool {
-        if !self.is_last {
-            return false;
-        }
-        match self.token() {
-            Some(read) => takes_memory(&read.token.value),
-            None => false,
-        }
+    pub(crate) fn is_last(&self) -> bool {
+        self.is_last
     }
 
     /// Moves out the next token of the list that is being read, if that is the last time. Otherwise nothing changes.

@@ -722,7 +722,7 @@ impl Expander {
         let Some(_) = self.advance(lexer)? else {
             return Ok(None);
         };
-        if self.processor.moves_next() {
+        if self.processor.reads_last() {
             if let Some(token) = self.take_last() {
                 return Ok(Some(token));
             }
@@ -771,8 +771,21 @@ impl Expander {
         }
     }
 
+    // Whether the token that `token` gives is better moved to a list than copied: its list gives it for the last time,
+    // and a copy takes memory.
+    #[inline(always)]
+    fn moves_next(&self) -> bool {
+        if !self.processor.reads_last() {
+            return false;
+        }
+        match self.processor.token() {
+            Some(ahead) => ahead.takes_memory(),
+            None => false,
+        }
+    }
+
     // Puts the token that `token` gives after the items, painted or not, and passes it. It is copied, unless its list
-    // gives it for the last time.
+    // gives it for the last time and a copy would take memory.
     #[inline(always)]
     fn put_token(&mut self, painted: bool, items: &mut Vec<Read>) -> Result<(), AllocError>
         requires { IsSome (token_ahead self.old) }
@@ -780,7 +793,7 @@ impl Expander {
         ensures puts { OnOk result ((token : Token) → token_ahead self.old ≡ Some token
             → items.new.items ≡ items.old.items ++ record { token = token; painted = painted } ∷ []) }
     {
-        if self.processor.moves_next() && self.put_last(painted, items)? {
+        if self.moves_next() && self.put_last(painted, items)? {
             return Ok(());
         }
         let Some(ahead) = self.processor.token() else {

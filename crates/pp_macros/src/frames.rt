@@ -64,6 +64,15 @@ impl<'a> Ahead<'a> {
         self.painted
     }
 
+    /// Whether a copy of the token takes memory.
+    #[inline(always)]
+    pub(crate) fn takes_memory(&self) -> bool {
+        match self.value() {
+            TokenValue::Punct(_) | TokenValue::Integer(_) => false,
+            _ => true,
+        }
+    }
+
     /// A copy of the token, painted or not.
     pub fn copied_as(&self, alloc: Global, painted: bool) -> Result<Read, AllocError>
         ensures { IfOk result (λ copy. copy ≡ record { token = self.now.token; painted = painted }) }
@@ -304,10 +313,10 @@ impl Frame {
         self.opened.define().number_at(self.position)
     }
 
-    /// Whether the token that its next step gives is better moved out than copied.
+    /// Whether an argument is being read for the last time.
     #[inline(always)]
-    pub(crate) fn moves_next(&self) -> bool {
-        self.arguments.moves_next()
+    pub(crate) fn reads_last(&self) -> bool {
+        self.arguments.is_last()
     }
 
     /// Moves out the token that its next step gives, and advances by that step, if its list gives the token for the

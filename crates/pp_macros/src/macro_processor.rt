@@ -301,11 +301,11 @@ impl MacroProcessor {
         }
     }
 
-    /// Whether the token that the innermost frame gives next is better moved out than copied.
+    /// Whether the innermost frame reads an argument for the last time, so that `take_token` moves a token out.
     #[inline(always)]
-    pub(crate) fn moves_next(&self) -> bool {
+    pub(crate) fn reads_last(&self) -> bool {
         match self.frames.last() {
-            Some(frame) => frame.moves_next(),
+            Some(frame) => frame.reads_last(),
             None => false,
         }
     }
@@ -345,7 +345,7 @@ impl MacroProcessor {
         if self.is_idle() {
             return lexer.step();
         }
-        if self.moves_next() {
+        if self.reads_last() {
             if let Some(read) = self.take_token() {
                 return Ok(read);
             }
