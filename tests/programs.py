@@ -1,6 +1,7 @@
 """The programs of this repository, built if they aren't, and cases that are run and counted."""
 
 import concurrent.futures
+import functools
 import os
 import shutil
 import signal
@@ -42,45 +43,23 @@ def with_dependencies(crate):
     return found
 
 
-def newest_source(crate):
-    """When a source of the crate, or of one that it needs, was changed last."""
-    newest = os.path.getmtime(os.path.join(TOP, "crates.txt"))
-    for name in with_dependencies(crate):
-        for folder, inner, files in os.walk(folder_of(name)):
-            inner[:] = [it for it in inner if it != "out"]
-            for file in files:
-                if file.endswith((".rt", ".antt")):
-                    newest = max(newest, os.path.getmtime(os.path.join(folder, file)))
-    return newest
+@functools.cache
+def found(name):
+    """The path of what dist/find finds or builds of this code: in the folder out, else in dist, else built anew."""
+    done = subprocess.run([os.path.join(TOP, "dist", "find"), name], stdin=subprocess.DEVNULL, stdout=subprocess.PIPE, text=True)
+    if done.returncode != 0:
+        sys.exit(f"there is no {name} of this code")
+    return done.stdout.strip()
 
 
-def build(crate, path, how="run"):
-    """Proves and builds the crate's program, or its library."""
-    print(f"proving and building {crate}", file=sys.stderr)
-    done = subprocess.run(
-        ["rt", how], cwd=folder_of(crate), stdin=subprocess.DEVNULL, stdout=subprocess.PIPE, stderr=subprocess.STDOUT
-    )
-    if done.returncode != 0 or not os.path.exists(path):
-        sys.exit(done.stdout.decode(errors="replace")[-2000:] + f"{crate} could not be built")
-    os.utime(path)
+def program(name):
+    """The path of a program: of one in dist/kept, or of a crate."""
+    return os.path.join(INSTEAD, name) if INSTEAD else found(name)
 
 
-def program(crate):
-    """The path of the crate's program, which is proved and built first if it isn't, or if its sources are newer."""
-    if INSTEAD:
-        return os.path.join(INSTEAD, crate)
-    path = os.path.join(folder_of(crate), "out", crate)
-    if not os.path.exists(path) or os.path.getmtime(path) < newest_source(crate):
-        build(crate, path)
-    return path
-
-
-def library(crate):
-    """The path of the crate's static library, which is proved and built first if it isn't, or if its sources are newer."""
-    path = os.path.join(folder_of(crate), "out", f"lib{crate}.a")
-    if not os.path.exists(path) or os.path.getmtime(path) < newest_source(crate):
-        build(crate, path, "lib")
-    return path
+def library():
+    """The path of the C library."""
+    return found("libpp_c.a")
 
 
 def linked(path, to):
