@@ -129,7 +129,7 @@ def run(path, words, source, seconds=SECONDS, environment=None):
 def worked_sources():
     """The sources of the book of cases."""
     found, lines = [], None
-    with open(os.path.join(folder_of("test_cases"), "stdin"), encoding="utf-8") as book:
+    with open(os.path.join(folder_of("pp_vectors"), "stdin"), encoding="utf-8") as book:
         for line in book.read().split("\n"):
             if line.startswith("## "):
                 lines = []

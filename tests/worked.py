@@ -53,9 +53,9 @@ def split(items):
 
 
 def book():
-    """The cases of crates/test_cases/stdin."""
+    """The cases of crates/pp_vectors/stdin."""
     cases, heading = [], ""
-    with open(os.path.join(programs.folder_of("test_cases"), "stdin"), encoding="utf-8") as file:
+    with open(os.path.join(programs.folder_of("pp_vectors"), "stdin"), encoding="utf-8") as file:
         lines = file.read().split("\n")
     for line in lines:
         mark, _, rest = line.partition(" ")

@@ -1,5 +1,5 @@
 //! Tests that no data can hold: of values that no source gives, of symbols, of readers and writers of std, and of how a
-//! run ends. What data can hold is in `test_cases` and `test_calls`, whose programs read it, and in the scripts of
+//! run ends. What data can hold is in `pp_vectors` and `test_calls`, whose programs read it, and in the scripts of
 //! `tests`. The tests of all crates are here, since a crate with tests is proved twice.
 #![tactic(auto)]
 
