@@ -240,7 +240,7 @@ pub struct Float {
 ///
 /// It is made from a `Vec<Token>` and gives it back without an allocation.
 #[cycle(tokens)]
-#[derive(Debug, Drop)]
+#[derive(Drop)]
 pub struct Tokens {
     items: Vec<Token>,
 }

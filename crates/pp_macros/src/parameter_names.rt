@@ -79,7 +79,7 @@ impl ParameterNames {
             mut names,
             mut positions,
         } = self;
-        let key = name.try_clone(alloc)?.into_string();
+        let key = String::from(name.try_clone(alloc)?);
         positions.insert(key, names.len())?;
         names.push(name)?;
         Ok(ParameterNames { names, positions })

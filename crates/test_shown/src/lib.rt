@@ -185,7 +185,7 @@ fn push_unexpected(text: &mut String, value: &TokenValue) -> Result<(), AllocErr
 // The tokens that a directive item holds, with their places.
 fn push_held(text: &mut String, tokens: &Tokens) -> Result<(), AllocError> {
     text.push_str(" [")?;
-    for (index, token) in tokens.as_slice().iter().enumerate() {
+    for (index, token) in tokens.iter().enumerate() {
         if index > 0 {
             text.push_str(", ")?;
         }

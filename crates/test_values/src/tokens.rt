@@ -43,7 +43,7 @@ fn grows_to(alloc: Global, wanted: &str) -> Result<bool, AllocError> {
     let other = Text::from(String::from_str(alloc, wanted)?);
     let is_wanted = !grown.is_empty() && grown.as_str() == wanted;
     let is_same = grown == copy && grown == other;
-    let string = grown.into_string();
+    let string = String::from(grown);
     Ok(is_empty_first && is_wanted && is_same && string.as_str() == wanted)
 }
 
@@ -61,7 +61,7 @@ fn holds_its_tokens(alloc: Global) -> Result<bool, AllocError> {
     let list = Tokens::from(call_front(alloc)?);
     let is_long = !list.is_empty() && list.len() == 2;
     let is_placed = matches!(list.as_slice(), [_, second] if second.location == PLACE);
-    let is_same = list.into_vec().as_slice() == items.as_slice();
+    let is_same = Vec::from(list).as_slice() == items.as_slice();
     Ok(is_long && is_placed && is_same)
 }
 

@@ -2,7 +2,7 @@
 
 use anyhow::{Context, Result, bail};
 use pp_rs::pp::Preprocessor;
-use pp_rs::token::{Token, TokenValue};
+use pp_rs::token::{Token, TokenValue, Tokens};
 use std::alloc::Global;
 use std::io;
 
@@ -37,21 +37,21 @@ fn show_items(rt: &impl Print, pp: &mut Preprocessor<'_>) -> Result<()> {
 fn show_requirement(rt: &impl Print, token: &Token) -> io::Result<()> {
     let line = token.location.line;
     match &token.value {
-        TokenValue::Version(version) => show_version(rt, line, version.tokens.as_slice()),
-        TokenValue::Extension(extension) => show_extension(rt, line, extension.tokens.as_slice()),
+        TokenValue::Version(version) => show_version(rt, line, &version.tokens),
+        TokenValue::Extension(extension) => show_extension(rt, line, &extension.tokens),
         _ => Ok(()),
     }
 }
 
-fn show_version(rt: &impl Print, line: u32, tokens: &[Token]) -> io::Result<()> {
-    match tokens.first().map(|token| &token.value) {
+fn show_version(rt: &impl Print, line: u32, tokens: &Tokens) -> io::Result<()> {
+    match tokens.iter().next().map(|token| &token.value) {
         Some(TokenValue::Integer(number)) => println!(rt; "line {line}: version {}", number.value),
         _ => println!(rt; "line {line}: version"),
     }
 }
 
-fn show_extension(rt: &impl Print, line: u32, tokens: &[Token]) -> io::Result<()> {
-    match tokens.first().map(|token| &token.value) {
+fn show_extension(rt: &impl Print, line: u32, tokens: &Tokens) -> io::Result<()> {
+    match tokens.iter().next().map(|token| &token.value) {
         Some(TokenValue::Ident(name)) => println!(rt; "line {line}: extension {}", name.as_str()),
         _ => println!(rt; "line {line}: extension"),
     }

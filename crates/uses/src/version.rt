@@ -65,7 +65,7 @@ fn version_of(token: &Token) -> Option<u64>
     let TokenValue::Version(version) = &token.value else {
         return None;
     };
-    match &version.tokens.as_slice().first()?.value {
+    match &version.tokens.iter().next()?.value {
         TokenValue::Integer(number) => Some(number.value),
         _ => None,
     }

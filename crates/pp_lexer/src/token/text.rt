@@ -3,12 +3,13 @@
 ghost use Rattle.std.specs.Prelude.{◌≡◌, ◌++◌, ◌∷◌, [], ◌↔◌, IsTrue, OnOk, OnErr, IfOk, string_bytes};
 
 use std::alloc::{AllocError, Global};
+use std::fmt;
 use std::marker::Model;
 
 /// A text, which contracts see as the list of its characters.
 ///
 /// It is made from a `String` and gives it back without an allocation.
-#[derive(Drop, Debug)]
+#[derive(Drop)]
 pub struct Text {
     text: String,
 }
@@ -56,14 +57,6 @@ impl Text {
         self.text.push(character)
     }
 
-    /// Returns the text as a `String`. It allocates nothing.
-    pub fn into_string(self) -> String
-        ensures { chars (string_bytes result) ≡ self }
-    {
-        let Text { text } = self;
-        text
-    }
-
     /// Returns a copy. The error is that an allocation failed.
     pub fn try_clone(&self, alloc: Global) -> Result<Self, AllocError>
         ensures { IfOk result (λ copy. copy ≡ self.now) }
@@ -81,6 +74,26 @@ impl From<String> for Text {
 
     fn from(text: String) -> Self {
         Text { text }
+    }
+}
+
+/// Gives the string back. It allocates nothing.
+impl From<Text> for String {
+    ghost use Rattle.std.specs.Prelude.{◌≡◌, string_bytes};
+    ghost use Rattle.std.specs.Str.{chars};
+
+    ghost from_gives = { λ text string. chars (string_bytes string) ≡ text };
+
+    fn from(text: Text) -> Self {
+        let Text { text } = text;
+        text
+    }
+}
+
+/// Writes what `Debug` of a `String` writes.
+impl fmt::Debug for Text {
+    fn fmt<W: fmt::Write>(&self, f: &mut fmt::Formatter<W>) -> fmt::Result {
+        fmt::Debug::fmt(&self.text, f)
     }
 }
 
