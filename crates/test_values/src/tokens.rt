@@ -1,8 +1,8 @@
 //! Texts, lists of tokens, errors and exits: what they hold, their copies, and what is no output.
 
-use pp_rs::pp::{EXPANSION_LIMIT, StepExit, are_read_afresh};
+use pp_rs::pp::{EXPANSION_LIMIT, Preprocessor, StepExit, are_read_afresh};
 use pp_rs::token::{
-    Location, PreprocessorError, Punct, Text, Token, TokenValue, Tokens, out_of_memory,
+    Integer, Location, PreprocessorError, Punct, Text, Token, TokenValue, Tokens, out_of_memory,
 };
 use pp_rs::{laws, lexer};
 use std::alloc::{AllocError, Global};
@@ -65,6 +65,54 @@ fn holds_its_tokens(alloc: Global) -> Result<bool, AllocError> {
     Ok(is_long && is_placed && is_same)
 }
 
+// The value of a source's first item.
+fn first_value(alloc: Global, source: &str) -> Option<TokenValue> {
+    let mut pp = Preprocessor::try_new(alloc, source)?;
+    let item = pp.next();
+    drop(pp);
+    match item {
+        Some(Ok(token)) => Some(token.value),
+        _ => None,
+    }
+}
+
+// The tokens of the `#version` that a source begins with.
+fn version_tokens(alloc: Global, source: &str) -> Option<Tokens> {
+    match first_value(alloc, source)? {
+        TokenValue::Version(version) => Some(version.tokens),
+        _ => None,
+    }
+}
+
+// The text of the float that a source begins with.
+fn float_text(alloc: Global, source: &str) -> Option<String> {
+    match first_value(alloc, source)? {
+        TokenValue::Float(float) => Some(String::from(float.text)),
+        _ => None,
+    }
+}
+
+// Whether the tokens are `300` and `es`, the latter at the given place, by each way to them.
+fn are_300_es(tokens: Tokens, second: Location) -> bool {
+    let mut last = NOWHERE;
+    for token in &tokens {
+        last = token.location;
+    }
+    let name = tokens
+        .iter()
+        .position(|token| matches!(token.value, TokenValue::Ident(_)));
+    let number = Integer {
+        value: 300,
+        signed: true,
+        width: 32,
+    };
+    let is_indexed = tokens.len() == 2
+        && tokens[0].value == TokenValue::Integer(number)
+        && tokens[1].location == second;
+    let is_given_back = matches!(Vec::from(tokens).as_slice(), [_, it] if it.location == second);
+    last == second && name == Some(1) && is_indexed && is_given_back
+}
+
 fn is_exit_copied(alloc: Global, exit: StepExit) -> bool {
     match exit.clone(alloc) {
         Ok(copy) => copy == exit,
@@ -87,6 +135,30 @@ fn texts_and_lists_hold_what_they_are_made_of(rt: HostRuntime) -> Result<(), Fai
     assert!(rt; holds_its_tokens(rt.alloc())?);
     let comma = lexer::TokenValue::from(Punct::Comma);
     assert!(rt; comma == lexer::TokenValue::Punct(Punct::Comma));
+    Ok(())
+}
+
+#[test]
+fn tokens_of_a_directive_are_read_as_a_vec(rt: HostRuntime) {
+    let es = Location {
+        start: 13,
+        end: 15,
+        line: 1,
+    };
+    let tokens = version_tokens(rt.alloc(), "#version 300 es\n");
+    assert!(rt; tokens.is_some_and(|tokens| are_300_es(tokens, es)));
+    let text = float_text(rt.alloc(), "1.50f");
+    assert!(rt; text.is_some_and(|text| text.as_str() == "1.50"));
+}
+
+// A text is written as a `String`, and a list as a `Vec`.
+#[test]
+fn debug_is_that_of_the_parts(rt: HostRuntime) -> Result<(), Fail> {
+    let shown = format!(in rt.alloc(); "{:?}", first_value(rt.alloc(), "#pragma on\n"))?;
+    let place = "location: Location { start: 8, end: 10, line: 1 }";
+    let token = format!(in rt.alloc(); "Token {{ value: Ident(\"on\"), {place} }}")?;
+    let wanted = format!(in rt.alloc(); "Some(Pragma(Pragma {{ tokens: [{token}] }}))")?;
+    assert!(rt; shown == wanted, "{shown}");
     Ok(())
 }
 
