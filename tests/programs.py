@@ -166,7 +166,7 @@ class Count:
         sys.exit(1 if self.failed or not self.passed else 0)
 
 
-def side_by_side(job, cases):
-    """What the job returns for each case, in their order, a processor each."""
-    with concurrent.futures.ThreadPoolExecutor(os.cpu_count() or 1) as pool:
+def side_by_side(job, cases, most=0):
+    """What the job returns for each case, in their order, a processor each, or this many at a time."""
+    with concurrent.futures.ThreadPoolExecutor(most or os.cpu_count() or 1) as pool:
         yield from pool.map(job, cases)
