@@ -62,6 +62,16 @@ def library():
     return found("libpp_c.a")
 
 
+def compile_c(words):
+    """Compiles C with these words, by cc or else by the kit's clang."""
+    kit = os.path.dirname(os.path.dirname(os.path.realpath(shutil.which("rt") or "/")))
+    clang = [os.path.join(kit, "toolchain", "bin", "clang"), "-fuse-ld=lld"]
+    for compiler in (["cc"], clang):
+        if shutil.which(compiler[0]) and subprocess.run([*compiler, *words], capture_output=True).returncode == 0:
+            return
+    sys.exit(f"neither cc nor the kit's clang compiles {words[-1]}")
+
+
 def linked(path, to):
     """Gives a file a second name, or copies it to another file system."""
     try:

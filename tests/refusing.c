@@ -6,8 +6,10 @@
                                fails, stops or short
        write HOW N             the Nth write of standard output does so; if HOW is none, it takes nothing
 
-   N counts from 1, and 0 means each. The first time it says "refused" on standard error. If the variable STEP is set,
-   each read of standard input and each write of standard output moves STEP bytes at most. It needs glibc on x86-64. */
+   N counts from 1, and 0 means each. The first time it says "refused" on standard error. If REFUSED is "count", nothing is
+   refused: before each write of standard output it says on standard error how many requests for memory there were. If the
+   variable STEP is set, each read of standard input and each write of standard output moves STEP bytes at most. It needs
+   glibc on x86-64. */
 
 typedef unsigned long size;
 
@@ -50,11 +52,22 @@ static size most(void) {
     return step ? step : -1ul;
 }
 
+/* Says how many requests for memory there were, if that is the wish. */
+static void say_count(void) {
+    char line[24], *at = line + sizeof line;
+    long left = counts['m'];
+    if (request != 'c') return;
+    *--at = '\n';
+    do *--at = '0' + left % 10; while (left /= 10);
+    syscall(WRITE, 2, at, line + sizeof line - at);
+}
+
 /* Whether this request is one to be refused. */
 static int is_refused(char kind) {
     if (number < 0) read_wish();
-    if (kind != request) return 0;
     counts[(int)kind]++;
+    if (kind == 'w') say_count();
+    if (kind != request) return 0;
     if (number && number != counts[(int)kind]) return 0;
     if (!has_said) syscall(WRITE, 2, "refused\n", 8);
     has_said = 1;

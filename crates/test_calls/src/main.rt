@@ -12,7 +12,7 @@
 //! | `drain` | `drain` |
 //! | `errors` | `next` up to the first `None`, and `place` after each error: only errors are printed, with that place |
 //! | `spell`, `afresh` | `spell_tokens` and `are_read_afresh`, of the tokens that were given so far |
-//! | `copy` | `clone`, of all items that were given so far, of what they hold, and of errors of their values |
+//! | `copy` | `clone` of all items so far, of what they hold, of errors of their values, and of steps with the errors |
 //! | `replies`, `plain` | `replies` and the plain program, over the calls of `add_define` and `next` made so far |
 //! | `lexer` | `next` of a `Lexer` of the source, up to the first `None` and then once more |
 //! | `convert` | `clone`, `convert_lexer_token` and `convert_lexer_token_to_step`, of each token of a `Lexer` |

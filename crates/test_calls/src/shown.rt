@@ -290,11 +290,21 @@ pub(crate) fn copy_token(rt: &impl Print, alloc: Global, token: &Token) -> io::R
     copied(rt, alloc, unexpected_copy(alloc, token))
 }
 
-/// Copies an error.
+// Copies a step that gives an error.
+fn exit_copy(
+    alloc: Global,
+    error: &PreprocessorError,
+) -> Result<bool, (PreprocessorError, Location)> {
+    let exit = StepExit::Error((error.clone(alloc)?, Location::default()));
+    Ok(exit.clone(alloc)? == exit)
+}
+
+/// Copies an error, and a step that gives it.
 pub(crate) fn copy_error(
     rt: &impl Print,
     alloc: Global,
     error: &PreprocessorError,
 ) -> io::Result<()> {
-    copied(rt, alloc, error_copy(alloc, error))
+    copied(rt, alloc, error_copy(alloc, error))?;
+    copied(rt, alloc, exit_copy(alloc, error))
 }
