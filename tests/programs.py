@@ -107,6 +107,29 @@ def copy_kept_work(crate, top):
         copy_folder("out/rlib", name, top, linked)
 
 
+def stamps(folder):
+    """The size and the time of each file below a folder."""
+    found = {}
+    for at, _, names in os.walk(folder):
+        for name in names:
+            path = os.path.join(at, name)
+            stat = os.stat(path)
+            found[os.path.relpath(path, folder)] = stat.st_size, stat.st_mtime_ns
+    return found
+
+
+def restore_kept_work(crate, top):
+    """Makes what a copy keeps of a crate equal to what the crate keeps, after a check of an edit."""
+    kept, copy = os.path.join(folder_of(crate), "out", "incremental"), os.path.join(top, "crates", crate, "out", "incremental")
+    wanted, found = stamps(kept), stamps(copy)
+    for path in found.keys() - wanted.keys():
+        os.remove(os.path.join(copy, path))
+    for path, stamp in wanted.items():
+        if found.get(path) != stamp:
+            os.makedirs(os.path.dirname(os.path.join(copy, path)), exist_ok=True)
+            shutil.copy2(os.path.join(kept, path), os.path.join(copy, path))
+
+
 def end_on_signals():
     """Lets a signal end the script as an exit does, so that its folders are removed, and what it started ends."""
     for number in (signal.SIGTERM, signal.SIGHUP, signal.SIGINT):
