@@ -4,7 +4,38 @@ import re
 from definitions import Imports, whole_import
 
 VISIBLE = r'(pub(?:\([^)]*\))? )?'
+FUNCTION = re.compile(VISIBLE + r'(?:const |unsafe |final |extern "C" )*fn\s+(\w+)')
+IMPL = re.compile(r'(?:unsafe )?impl(?:<_*>)?\s+(?:(\S.*?)\s+for\s+)?(\S.*?)(?:\s+where\b.*|\s*\{.*)?$')
 CLAUSE = re.compile(r'\s*(requires|ensures|ghost)\b')
+BEGIN = re.compile(VISIBLE + r'(?:const |unsafe |final |extern "C" )*(?:fn|impl|trait|struct|enum)\b')
+# these words anywhere on a line
+CLAUSE_WORD = re.compile(r'\b(requires|ensures|ghost)\b')
+# what of a line is no code: characters, strings and a comment
+NO_CODE = re.compile(r"'(?:\\(?:u\{[^}]*\}|.)|[^'\\])'|\"(?:[^\"\\]|\\.)*\"|//.*")
+
+
+def masked(text):
+    """A text of the same length, with `_` for all that is inside of brackets."""
+    depth, found = 0, ''
+    for before, sign in zip(' ' + text, text):
+        depth -= sign in '>)]' and before != '-'
+        found += '_' if depth else sign
+        depth += sign in '<(['
+    return found
+
+
+def impl_head(line):
+    """The trait, if any, and the type of an impl that begins on a line, the type without `&` and generics."""
+    head = IMPL.match(masked(line))
+    if not head:
+        return None
+    owner = re.sub(r"^&?(?:'\w+ )?(?:mut )?", '', line[head.start(2) : head.end(2)])
+    trait = line[head.start(1) : head.end(1)] if head[1] else None
+    return trait, re.sub(r'(?<=\w)<.*', '', owner)
+
+
+def indentation(line):
+    return len(line) - len(line.lstrip())
 
 
 class Function:
@@ -12,7 +43,8 @@ class Function:
 
     def __init__(self, source, owner, trait, name, is_public, start, end):
         self.source, self.owner, self.trait, self.name, self.is_public = source, owner, trait, name, is_public
-        self.first = next((n for n in range(start, end + 1) if CLAUSE.match(source.lines[n])), end)
+        # the number of its first clause, or after its head if it has none
+        self.first = next((n for n in range(start, end + 1) if CLAUSE.match(source.lines[n])), end + 1)
         self.start, self.end = start, end
 
     @property
@@ -20,12 +52,20 @@ class Function:
         return f'{self.owner}::{self.name}' if self.owner else self.name
 
     def signature_lines(self):
-        return range(self.start, max(self.first, self.start + 1))
+        return self.written(self.start, self.first)
 
     def clause_lines(self):
-        if self.first == self.end:
-            return []
-        return [n for n in range(self.first, self.end + 1) if self.source.lines[n].strip() not in ('{', '{}', '')]
+        return self.written(self.first, self.end + 1)
+
+    def written(self, start, end):
+        """Some lines of its head, without what begins a body."""
+        return [n for n in range(start, end) if self.source.lines[n].strip() not in ('{', '{}', '')]
+
+    def has_in_body(self, number):
+        """Whether a line is in its body, so far in that it is no clause of its own."""
+        lines, outer = self.source.lines, indentation(self.source.lines[self.start])
+        return (number > self.end and indentation(lines[number]) >= outer + 8
+            and all(indentation(line) > outer for line in lines[self.end + 1 : number] if line))
 
 
 class Ghost:
@@ -57,7 +97,15 @@ class Type:
     def text(self, sources):
         values = self.values(sources)
         seen = [n for n in self.lines if not values or n == self.lines[0] or self.source.lines[n].strip().startswith('pub ')]
-        return '\n'.join([self.source.text(seen), *(s.text(g.lines) for s, g in values)])
+        return '\n'.join([*self.derived(), self.source.text(seen), *(s.text(g.lines) for s, g in values)])
+
+    def derived(self):
+        """The `derive` lines above it: each is an impl with what such an impl ensures."""
+        above = self.lines[0] - 1
+        while above >= 0 and self.source.lines[above].startswith(('///', '#[')):
+            if self.source.lines[above].startswith('#[derive'):
+                yield self.source.lines[above]
+            above -= 1
 
 
 class Source:
@@ -68,6 +116,8 @@ class Source:
         self.lines = path.read_text().split('\n')
         self.imports, self.functions, self.types, self.ghosts, self.traits = Imports(), [], {}, [], set()
         self.owner, self.trait, self.owner_end, self.is_trait_public = None, None, -1, False
+        # the lines on which something begins that was read, and those that hold no clauses
+        self.begun, self.passed = set(), set()
         number = 0
         while number < len(self.lines):
             number = self.take(number) + 1
@@ -85,21 +135,27 @@ class Source:
         if number > self.owner_end:
             self.owner, self.trait, self.is_trait_public = None, None, False
         if line.strip() == '#[cfg(test)]' and self.lines[number + 1].startswith('mod '):
-            return self.end_of_braces(number + 1)
+            return self.pass_to(number, self.end_of_braces(number + 1))
         if line.strip().startswith('ghost use '):
             text, last = whole_import(self.lines, number, r'//.*', lambda t: t.endswith(';'))
             self.imports.add(text)
-            return last
+            return self.pass_to(number, last)
         for take in (self.take_impl, self.take_trait, self.take_ghost, self.take_type, self.take_function):
             last = take(number, line)
             if last is not None:
+                self.begun.add(number)
                 return last
         return number
 
+    def pass_to(self, number, last):
+        self.passed.update(range(number, last + 1))
+        return last
+
     def take_impl(self, number, line):
-        impl = re.match(r'(?:unsafe )?impl(?:<[^>]*>)?\s+(?:(.+?)\s+for\s+)?&?(?:mut )?([A-Z]\w*)', line)
+        impl = impl_head(line)
         if impl:
-            self.trait, self.owner, self.owner_end = impl[1], impl[2], self.end_of_braces(number)
+            self.trait, self.owner = impl
+            self.owner_end = self.end_of_braces(number)
             return number
 
     def take_trait(self, number, line):
@@ -113,7 +169,7 @@ class Source:
 
     def take_ghost(self, number, line):
         ghost = re.match(r'\s*ghost (\w+)\s*[=:]', line)
-        if ghost:
+        if ghost and self.owner:
             end = self.end_of_clause(number)
             self.ghosts.append(Ghost(self.owner, self.trait, ghost[1], number, end))
             return end
@@ -123,10 +179,10 @@ class Source:
         if kind:
             end = self.end_of_braces(number) if kind[2] in ('struct', 'enum') else number
             self.types[kind[3]] = Type(self, kind[3], kind[1] == 'pub ', number, end)
-            return number
+            return end
 
     def take_function(self, number, line):
-        function = re.match(VISIBLE + r'(?:const |unsafe |extern "C" )*fn\s+(\w+)', line.strip())
+        function = FUNCTION.match(line.strip())
         if function:
             end = self.end_of_head(number)
             is_declared = self.trait is not None and self.trait == self.owner
@@ -135,14 +191,14 @@ class Source:
             return end
 
     def code(self, number):
-        return re.sub(r"'[{}]'|\"[^\"]*\"|//.*", '', self.lines[number]).rstrip()
+        return NO_CODE.sub('', self.lines[number]).rstrip()
 
     def braces(self, number):
         """How many more braces are opened on a line than closed."""
         return self.code(number).count('{') - self.code(number).count('}')
 
     def bare(self, number):
-        return re.sub(r'//.*', '', self.lines[number]).strip()
+        return self.code(number).strip()
 
     def end_of_head(self, start):
         """The line with which a function's body begins, or its declaration ends."""
@@ -171,6 +227,17 @@ class Source:
 
     def end_of_braces(self, start):
         return self.end_outside_braces(start, lambda number: '}' in self.code(number) or self.code(number).endswith(';'))
+
+    def unread(self):
+        """The lines that begin a function, a type or an impl, or hold a word of a clause, and were not read as that."""
+        read = {g.lines[0] for g in self.ghosts}
+        read = read.union(*(f.clause_lines() for f in self.functions), *(t.lines for t in self.types.values()))
+        for number, line in enumerate(self.lines):
+            is_lost_clause = (CLAUSE_WORD.search(self.code(number)) and number not in read
+                and not any(f.has_in_body(number) for f in self.functions))
+            is_lost_begin = BEGIN.match(line.strip()) and number not in self.begun
+            if number not in self.passed and (is_lost_clause or is_lost_begin):
+                yield f'{self}:{number + 1} has what this script does not read: {line.strip()}'
 
     def text(self, lines):
         return '\n'.join(re.sub(r'//.*', '', self.lines[n]) for n in lines)

@@ -82,10 +82,16 @@ class Public:
         if name in source.types:
             self.types.append(source.types[name])
         for other in self.tree.sources[source.crate]:
-            for function in other.functions:
-                if function.owner == name and function.is_public and (function.trait in (None, name) or function.clause_lines()):
-                    self.add(of_function(function))
-            self.impls(other, name)
+            for owner in [name, *self.foreign(other, name)]:
+                for function in other.functions:
+                    if function.owner == owner and function.is_public and (function.trait in (None, name) or function.clause_lines()):
+                        self.add(of_function(function))
+                self.impls(other, owner)
+
+    def foreign(self, source, name):
+        """The types of other crates for which this file has an impl that names a type or trait."""
+        named = [i.owner for i in (*source.functions, *source.ghosts) if i.trait and re.search(rf'\b{name}\b', f'{i.owner} {i.trait}')]
+        return [owner for owner in dict.fromkeys(named) if not self.tree.has_type(source.crate, owner)]
 
     def impls(self, source, name):
         ghosts = [g for g in source.ghosts if g.owner == name and g.name not in UNSEEN]

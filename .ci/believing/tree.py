@@ -35,6 +35,13 @@ class Tree:
     def source(self, crate, modules):
         return next((s for s in self.sources[crate] if s.modules == list(modules)), None)
 
+    def has_type(self, crate, name):
+        return any(name in s.types or name in s.traits for s in self.sources[crate])
+
+    def unread(self):
+        """The lines of src/ that are not understood."""
+        return (line for crate in self.crates for s in self.sources[crate] for line in s.unread())
+
     def module(self, path):
         """The file of specs/ that a path means, if the repository has it."""
         there = re.match(r'Rattle\.(\w+)\.specs\.(.+)$', path)
