@@ -4,7 +4,11 @@ from collections import defaultdict
 
 INNER = 'inner'
 CITED = re.compile(r'`([A-Z]\w*): ([^`]+)`')
-
+# a citation, some words in code in parentheses, or words in code that are said to be cases
+CASES = re.compile(r'`([A-Z]\w*: [^`]+)`|(\((?:`\w+`(?:, )?)+\))|\bcases? (`\w+`(?:(?:, | and )`\w+`)*)')
+# the book of worked cases, which pages cite in italics in a column with this title
+BOOK, COLUMN = 'crates/test_cases/stdin', 'case'
+ITALICS = re.compile(r'\*([^*]+)\*')
 
 QUOTED = re.compile(r'`(crates/[\w/]+\.rt)`[^\n]*\n\n```rust\n(.*?)```', re.S)
 
@@ -45,6 +49,7 @@ class Docs:
         self.quotes(path.read_text())
         for number, line in enumerate(path.read_text().split('\n'), 1):
             self.line(f'{path.relative_to(self.root)}:{number}', line)
+        self.worked(path.read_text())
 
     def line(self, where, line):
         self.paths(where, line)
@@ -61,6 +66,21 @@ class Docs:
             file = self.root / cited
             if file.exists() and code not in file.read_text():
                 self.wrong.append(f'{self.path.name} quotes {cited} otherwise than it stands there')
+
+    def worked(self, text):
+        """The column of worked cases names cases of the book, in italics, and nothing else."""
+        names, column = set(re.findall(r'^## (.*)$', (self.root / BOOK).read_text(), re.M)), None
+        for number, line in enumerate(text.split('\n'), 1):
+            cells = [cell.strip() for cell in line.strip('|').split('|')]
+            column = None if not line.startswith('|') else cells.index(COLUMN) if COLUMN in cells else column
+            if column is None or cells[column] in (COLUMN, '---'):
+                continue
+            where = f'{self.path.relative_to(self.root)}:{number}'
+            for name in ITALICS.findall(cells[column]):
+                if name not in names:
+                    self.missing(where, f'the worked case "{name}"')
+            if ITALICS.sub('', cells[column]).strip(';, '):
+                self.wrong.append(f'{where} has more than names of worked cases in italics in the column "{COLUMN}"')
 
     def paths(self, where, line):
         for cited in re.findall(r'`([\w.][\w.-]*/[\w./-]*)', line) + re.findall(r'(?<![\w/`.-])((?:specs|proofs|src|docs|tests|crates)/\w[\w./-]*)', line):
@@ -79,12 +99,13 @@ class Docs:
             yield from crates.glob(f'*/{path.split("/")[0]}/**/{name}.*')
 
     def definitions(self, where, line):
-        last, cites_cases = None, self.path.name == 'RULES.md' and line.startswith('|')
-        for cited, bracket in re.findall(r'`([A-Z]\w*: [^`]+)`|\(((?:`\w+`(?:, )?)+)\)', line):
+        last, end = None, 0
+        for found in CASES.finditer(line):
+            cited, bracket, named = found.groups()
             if cited:
-                last = self.cited(where, *cited.split(': ', 1), last)
-            elif last and cites_cases:
-                self.cases(where, re.findall(r'`(\w+)`', bracket), last)
+                last, end = self.cited(where, *cited.split(': ', 1), last), found.end()
+            elif last and (named or line.startswith('|') or not line[end : found.start()].strip()):
+                self.cases(where, re.findall(r'`(\w+)`', named or bracket), last)
 
     def cases(self, where, cases, definitions):
         for case in cases:
