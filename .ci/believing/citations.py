@@ -143,3 +143,14 @@ def unnamed_files(page, definitions):
         if str(module) not in text and not any((module.folders[-1], n) in cited for n in names):
             unnamed[str(module)] = sorted(names)
     return unnamed
+
+
+def unnamed_types(page, types):
+    """The files of these types of src/ that a page doesn't name, each with the types. A line names a file by its path, or
+    by its name beside the folder of its crate."""
+    lines, unnamed = page.read_text().split('\n'), defaultdict(list)
+    for declared in types:
+        folder, _, name = declared.file.partition('/src/')
+        if not any(f'`{declared.file}`' in line or f'`{folder}/src`' in line and f'`{name}`' in line for line in lines):
+            unnamed[declared.file].append(declared.name)
+    return unnamed
