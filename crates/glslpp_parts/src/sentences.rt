@@ -21,7 +21,7 @@ pub(crate) fn push_more(
         PreprocessorError::ErrorDirective => push_reason(text, place.behind.trim()),
         PreprocessorError::UnknownDirective => push_directive_name(text, place.here),
         PreprocessorError::UnexpectedHash if is_in_define(place.before) => {
-            text.push_str(": GLSL has no operators `#` and `##`")
+            text.push_str(": GLSL ES has no operators `#` and `##`")
         }
         PreprocessorError::UnexpectedCharacter => push_character(text, place.here),
         PreprocessorError::TooFewDefineArguments | PreprocessorError::TooManyDefineArguments => {
