@@ -4,10 +4,10 @@ import os
 
 import programs
 
-# Wrong bodies that no prover can refuse; their paths begin at the top of the repository.
-CASES = "cases"
-
 EDITS = os.path.join(programs.TOP, "tests", "edits")
+
+# Wrong bodies that no prover can refuse, in a folder for each program that shows them.
+CASES = os.path.join(EDITS, "cases")
 
 
 def text_of(path):
@@ -45,6 +45,13 @@ def all_edits():
         names = names_in(os.path.join(EDITS, crate)) + names_in(must_fail(crate))
         if names:
             yield crate, names
+
+
+def cases():
+    """The wrong bodies that no prover can refuse, as pairs of a program and the list of names. Their paths begin at the top
+    of the repository."""
+    for crate in sorted(os.listdir(CASES)):
+        yield crate, names_in(os.path.join(CASES, crate))
 
 
 def pairs_of(text):
