@@ -7,7 +7,7 @@ CITED = re.compile(r'`([A-Z]\w*): ([^`]+)`')
 # a citation, some words in code in parentheses, or words in code that are said to be cases
 CASES = re.compile(r'`([A-Z]\w*: [^`]+)`|(\((?:`\w+`(?:, )?)+\))|\bcases? (`\w+`(?:(?:, | and )`\w+`)*)')
 # the book of worked cases, which pages cite in italics in a column with this title
-BOOK, COLUMN = 'crates/test_cases/stdin', 'case'
+BOOK, COLUMN = 'crates/pp_vectors/stdin', 'case'
 ITALICS = re.compile(r'\*([^*]+)\*')
 
 QUOTED = re.compile(r'`(crates/[\w/]+\.rt)`[^\n]*\n\n```rust\n(.*?)```', re.S)
